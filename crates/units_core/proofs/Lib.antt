@@ -1,0 +1,4 @@
+pub mod NameFacts
+pub mod NumberFacts
+pub mod DayFacts
+pub mod DayOrder

@@ -1,0 +1,14 @@
+use Rattle.std.proofs.Common.{◌≡◌, ℕ, List, ◌++◌, length, take, drop, replicate, IsTrue, sym, ap}
+use Rattle.std.proofs.Math.Seq.{take-append_seam}
+use Rattle.std.proofs.lemmas.List.{drop-replicate}
+use Rattle.units_core.specs.Name.{is_name, IsKeptName}
+
+-- a name that is written over sixteen zeros is kept as names are
+pub kept : (text : List ℕ) → IsTrue (is_name text) → IsKeptName (text ++ drop (length text) (replicate 16 0)) (length text)
+kept text form =
+    let front : take (length text) (text ++ drop (length text) (replicate 16 0)) ≡ text = take-append_seam text _ in
+    record {
+      padded = rw front (ap (λ zs. text ++ zs) (sym (drop-replicate (length text) 16 0)));
+      sized = rw front;
+      form = rw front form;
+    }

@@ -1,0 +1,71 @@
+//! Signed whole numbers in decimal digits, with one spelling each.
+ghost use Rattle.std.specs.Prelude.{◌≡◌};
+ghost use Rattle.units_core.specs.Number.{number_of};
+ghost use Rattle.units_core.specs.Signed.{signed_of, minus_of, plus_of};
+
+use crate::number::{NumberFault, read_number};
+
+// The most that a number may be above or below 0.
+const MOST: u64 = 1_000_000;
+
+// The number of the digits behind a minus sign.
+fn read_minus(digits: &[u8]) -> Result<i32, NumberFault>
+    ensures { result ≡ minus_of (number_of digits.now 1000000) }
+{
+    match read_number(digits, MOST) {
+        Ok(0) => Err(NumberFault::Zero),
+        Ok(size) => Ok(-(size as i32)),
+        Err(NumberFault::NotDigit { at }) => Err(NumberFault::NotDigit { at: at + 1 }),
+        Err(fault) => Err(fault),
+    }
+}
+
+// The number of digits with no sign in front.
+fn read_plus(digits: &[u8]) -> Result<i32, NumberFault>
+    ensures { result ≡ plus_of (number_of digits.now 1000000) }
+{
+    match read_number(digits, MOST) {
+        Ok(size) => Ok(size as i32),
+        Err(fault) => Err(fault),
+    }
+}
+
+/// The number from -1,000,000 to 1,000,000 that a text writes, as digits with or without a `-` in front, or the
+/// first fault of the text. The fault of `-0` is `Zero`, and the place in a fault counts from the text's start.
+pub fn read_signed(text: &[u8]) -> Result<i32, NumberFault>
+    ensures { result ≡ signed_of text.now }
+{
+    if !text.is_empty() && text[0] == b'-' {
+        return read_minus(&text[1..]);
+    }
+    read_plus(text)
+}
+
+#[cfg(test)]
+mod tests {
+    use super::*;
+    use std::test::Fail;
+
+    #[test]
+    fn reads_signed_numbers_and_tells_the_first_fault(rt: HostRuntime) -> Result<(), Fail> {
+        let rows: [(&str, Result<i32, NumberFault>); 13] = [
+            ("", Err(NumberFault::Empty)),
+            ("-", Err(NumberFault::Empty)),
+            ("0", Ok(0)),
+            ("-0", Err(NumberFault::Zero)),
+            ("-00", Err(NumberFault::LeadingZero)),
+            ("7", Ok(7)),
+            ("-7", Ok(-7)),
+            ("1000000", Ok(1_000_000)),
+            ("-1000000", Ok(-1_000_000)),
+            ("1000001", Err(NumberFault::TooLarge)),
+            ("-1000001", Err(NumberFault::TooLarge)),
+            ("--1", Err(NumberFault::NotDigit { at: 1 })),
+            ("-12x", Err(NumberFault::NotDigit { at: 3 })),
+        ];
+        for (text, want) in rows {
+            assert_eq!(rt; read_signed(text.as_bytes()), want, "{text}");
+        }
+        Ok(())
+    }
+}
