@@ -1,0 +1,61 @@
+//! Sinks of bytes, and how a whole text goes into one.
+ghost use Rattle.std.specs.Prelude.{◌≡◌, ℕ, ◌<◌, ◌≤◌, Option, List, take, length, IfOk, OnOk, OnErr};
+ghost use Rattle.outside.specs.Faults.{Rose};
+ghost use Rattle.outside.specs.Flow.{Takes, TakesFront};
+
+use crate::Failed;
+
+/// Where output goes. A sink counts the calls that failed.
+pub trait Sink {
+    // The bytes that it took, where it tells them.
+    ghost taken: { Self → Option (List ℕ) };
+
+    // How many of its calls failed. It never falls, and stands still at the largest number that it can keep.
+    ghost faults: { Self → ℕ };
+
+    /// Takes a front of the bytes, at least one of them where there is one, and says how many. Where it fails, it took
+    /// nothing and counted a fault.
+    fn write(&mut self, bytes: &[u8]) -> Result<usize, Failed>
+        ensures count { IfOk result (λ n. n ≤ length bytes.now) }
+        ensures some { IfOk result (λ n. 0 < length bytes.now → 0 < n) }
+        ensures takes { IfOk result (λ n. Takes (taken self.old) (taken self.new) (take n bytes.now)) }
+        ensures nothing { OnErr result (taken self.new ≡ taken self.old) }
+        ensures never_falls { faults self.old ≤ faults self.new }
+        ensures failed { OnErr result (Rose (faults self.old) (faults self.new)) };
+}
+
+/// Gives a sink all the bytes, or a front of them that leaves one out, and fails as the sink's call did.
+pub fn write_all<K: Sink>(sink: &mut K, bytes: &[u8]) -> Result<(), Failed>
+    ensures takes { OnOk result (Takes (K.taken sink.old) (K.taken sink.new) bytes.now) }
+    ensures front { OnErr result (TakesFront (K.taken sink.old) (K.taken sink.new) bytes.now) }
+    ensures never_falls { K.faults sink.old ≤ K.faults sink.new }
+    ensures failed { OnErr result (Rose (K.faults sink.old) (K.faults sink.new)) }
+{
+    let mut done = 0;
+    while done < bytes.len() {
+        done += sink.write(&bytes[done..])?;
+    }
+    Ok(())
+}
+
+#[cfg(test)]
+mod tests {
+    use super::*;
+    use crate::MemorySink;
+    use std::test::Fail;
+
+    #[test]
+    fn a_whole_text_goes_out_or_a_front_of_it_and_the_fault_is_told(
+        rt: HostRuntime,
+    ) -> Result<(), Fail> {
+        let mut sink = MemorySink::new(rt.alloc(), 8)?;
+        sink.fail_at(2)?;
+        assert_eq!(rt; write_all(&mut sink, b"OK 1\n"), Ok(()));
+        assert_eq!(rt; write_all(&mut sink, b"OK 2\n"), Err(Failed));
+        assert!(rt; sink.bytes() == b"OK 1\n".as_slice());
+        assert_eq!(rt; write_all(&mut sink, b"OK 3\n"), Err(Failed));
+        assert!(rt; sink.bytes() == b"OK 1\nOK ".as_slice());
+        assert_eq!(rt; write_all(&mut sink, b""), Ok(()));
+        Ok(())
+    }
+}
