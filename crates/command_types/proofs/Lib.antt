@@ -1,0 +1,3 @@
+pub mod HistoryFacts
+pub mod LineFacts
+pub mod TalkFacts

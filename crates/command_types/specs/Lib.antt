@@ -1,0 +1,9 @@
+pub mod Roster
+pub mod Trades
+pub mod Machine
+pub mod History
+pub mod Sizes
+pub mod Told
+pub mod Lines
+pub mod Text
+pub mod Session
