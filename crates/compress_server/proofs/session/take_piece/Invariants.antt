@@ -1,0 +1,11 @@
+use Rattle.std.proofs.Common.{ℕ, ◌≤◌, ◌++◌, take, List, Option}
+use Rattle.compress_server.specs.Serving.{Sight, sight, Served}
+use Rattle.compress_server.proofs.session.take_piece.Given as goal
+
+abbrev pub invariant-loop-byte : goal.invariant-loop-byte
+invariant-loop-byte g l = record {
+  served : (start : Sight) (begun : Option (List ℕ)) (bytes : List ℕ) →
+      Served l.fn.seat start begun (g.K.Sink.taken l.fn.sink) (sight g.T.Desk.figures g.T.Desk.history g.T.Desk.stopped l.fn.desk) l.fn.speaker l.fn.line bytes →
+      Served l.fn.seat start begun (g.K.Sink.taken l.sink) (sight g.T.Desk.figures g.T.Desk.history g.T.Desk.stopped l.desk) l.speaker l.line (bytes ++ take l.byte-index l.piece);
+  never_falls : g.K.Sink.faults l.fn.sink ≤ g.K.Sink.faults l.sink;
+}

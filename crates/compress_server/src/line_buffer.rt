@@ -1,0 +1,59 @@
+//! The line that is being read.
+
+use std::alloc::{AllocError, Global};
+use std::marker::Model;
+
+// How much of a line is kept: one byte more than a line may have.
+const ROOM: usize = 4097;
+
+/// The first 4,097 bytes of the line that is being read.
+#[derive(Drop)]
+pub struct LineBuffer {
+    bytes: Vec<u8>,
+}
+
+impl Model for LineBuffer {
+    ghost use Rattle.std.specs.Prelude.{List, ℕ, ◌≤◌, vec_capacity, vec_len};
+
+    ghost Value = { List ℕ };
+
+    ghost view = { λ b. b.bytes.items };
+
+    ghost invariant = { λ b. (vec_len b.bytes ≤ 4097) × (4097 ≤ vec_capacity b.bytes) };
+}
+
+impl LineBuffer {
+    ghost use Rattle.std.specs.Prelude.{◌≡◌, [], ◌∷◌, ◌++◌, take, IfOk};
+
+    /// An empty line. It takes all its memory now.
+    pub fn new(alloc: Global) -> Result<LineBuffer, AllocError>
+        ensures { IfOk result (λ b. b ≡ []) }
+    {
+        Ok(LineBuffer {
+            bytes: Vec::with_capacity(alloc, ROOM)?,
+        })
+    }
+
+    /// One more byte of the line.
+    pub fn push(&mut self, byte: u8)
+        ensures { self.new ≡ take 4097 (self.old ++ byte ∷ []) }
+    {
+        if self.bytes.len() < ROOM {
+            self.bytes.push_reserved(byte);
+        }
+    }
+
+    /// Begins the next line.
+    pub fn clear(&mut self)
+        ensures { self.new ≡ [] }
+    {
+        self.bytes.clear();
+    }
+
+    /// What is kept.
+    pub fn bytes(&self) -> &[u8]
+        ensures { result.now ≡ self.now }
+    {
+        &self.bytes
+    }
+}

@@ -1,0 +1,50 @@
+//! Parties and products of the roster, as the machine looks them up.
+
+ghost use Rattle.std.specs.Prelude.{◌≡◌, Some, unwrap_or};
+ghost use Rattle.command_types.specs.Roster.{is_party, is_member_at, is_member_row, member_place, product_place};
+
+use command_types::{MemberRow, Roster};
+use units_core::{MemberNo, Name, ProductNo};
+
+/// Whether the name is a member's or the operator's.
+pub(super) fn is_party(roster: &Roster, name: &Name) -> bool
+    ensures { result ≡ is_party roster.now (Some name.now) }
+{
+    roster.member_named(name).is_some() || roster.is_operator(name)
+}
+
+fn is_named(row: Option<MemberRow>, name: &Name) -> bool
+    ensures { result ≡ is_member_row row name.now }
+{
+    match row {
+        None => false,
+        Some(member) => member.name.is(name),
+    }
+}
+
+/// Whether the member at this place has this name.
+pub(super) fn is_member_at(roster: &Roster, member: MemberNo, name: &Name) -> bool
+    ensures { result ≡ is_member_at roster.now member name.now }
+{
+    is_named(roster.members().get(member.0 as usize).copied(), name)
+}
+
+/// The place of the member with this name; 0 where there is none.
+pub(super) fn place_of_member(roster: &Roster, name: &Name) -> MemberNo
+    ensures { result ≡ unwrap_or (member_place roster.now name.now) 0 }
+{
+    match roster.member_named(name) {
+        None => MemberNo(0),
+        Some(place) => place,
+    }
+}
+
+/// The place of the product with this name; 0 where there is none.
+pub(super) fn place_of_product(roster: &Roster, name: &Name) -> ProductNo
+    ensures { result ≡ unwrap_or (product_place roster.now name.now) 0 }
+{
+    match roster.product_named(name) {
+        None => ProductNo(0),
+        Some(place) => place,
+    }
+}

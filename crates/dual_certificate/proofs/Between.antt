@@ -1,0 +1,24 @@
+-- Bounds on both sides.
+use Rattle.std.proofs.Common.{ℕ, suc, ◌+◌, ◌*◌, ◌≤◌, ℤ, pos, negsuc, ◌+ℤ◌, ◌*ℤ◌, arith}
+use Rattle.std.proofs.lemmas.Int.{ints}
+use Rattle.dual_certificate.specs.Bounds.{IsBetween}
+
+pub add_between : (m n k : ℕ) (a b : ℤ) → IsBetween m a → IsBetween n b → m + n ≤ k → IsBetween k (a +ℤ b)
+add_between m n k a b h h' le = record { low = omega (arith, ints, h.low, h'.low); high = omega (arith, ints, h.high, h'.high) }
+
+mul_le : (a b m n : ℕ) → a ≤ m → b ≤ n → a * b ≤ m * n
+mul_le a b m n h h' = grind arith
+
+pub mul_between : (m n : ℕ) (a b : ℤ) → IsBetween m a → IsBetween n b → IsBetween (m * n) (a *ℤ b)
+mul_between m n (pos a) (pos b) h h' =
+    let le = mul_le a b m n (omega (arith, ints, h.high)) (omega (arith, ints, h'.high)) in
+    record { low = omega (arith, ints); high = omega (arith, ints) }
+mul_between m n (pos a) (negsuc b) h h' =
+    let le = mul_le a (suc b) m n (omega (arith, ints, h.high)) (omega (arith, ints, h'.low)) in
+    record { low = omega (arith, ints); high = omega (arith, ints) }
+mul_between m n (negsuc a) (pos b) h h' =
+    let le = mul_le (suc a) b m n (omega (arith, ints, h.low)) (omega (arith, ints, h'.high)) in
+    record { low = omega (arith, ints); high = omega (arith, ints) }
+mul_between m n (negsuc a) (negsuc b) h h' =
+    let le = mul_le (suc a) (suc b) m n (omega (arith, ints, h.low)) (omega (arith, ints, h'.low)) in
+    record { low = omega (arith, ints); high = omega (arith, ints) }

@@ -1,0 +1,25 @@
+-- Parts of the dual bound.
+use Rattle.std.specs.Prelude.{◌≡◌, ℕ, ◌<◌, None, List, ℤ, pos, neg_ℤ, ◌≤ℤ◌}
+use Rattle.network_laws.specs.declared.rows.LimitRow.{LimitRow}
+use Rattle.network_laws.specs.Limits.{lower_in, upper_in, reduced, least_cost, int_sum_below}
+
+-- a pair with no upper bound has no negative reduced cost
+abbrev pub IsOpenPriced : List LimitRow → List ℤ → ℕ → ℕ → Type 0
+IsOpenPriced limits p i j = upper_in limits i j ≡ None → pos 0 ≤ℤ reduced p i j
+
+-- no pair with no upper bound has one
+abbrev pub AreOpenPriced : List LimitRow → List ℤ → ℕ → Type 0
+AreOpenPriced limits p n = (i j : ℕ) → i < n → j < n → IsOpenPriced limits p i j
+
+-- the least that the amount of a pair costs
+abbrev pub rows_cost : List LimitRow → List ℤ → ℕ → ℕ → ℤ
+rows_cost limits p i j = least_cost (reduced p i j) (lower_in limits i j) (upper_in limits i j)
+
+-- the least that the amounts of a seller cost
+abbrev pub seller_sum : List LimitRow → List ℤ → ℕ → ℕ → ℤ
+seller_sum limits p n i = int_sum_below n (rows_cost limits p i)
+
+-- an integer is at most n from 0
+pub record IsBetween (n : ℕ) (z : ℤ) : Type 0 where
+  pub low : neg_ℤ (pos n) ≤ℤ z
+  pub high : z ≤ℤ pos n

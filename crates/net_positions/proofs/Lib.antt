@@ -1,0 +1,2 @@
+pub mod PairsByRows
+pub mod Totals

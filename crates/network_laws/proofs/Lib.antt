@@ -1,0 +1,14 @@
+pub mod Ring
+pub mod Sums
+pub mod RowSums
+pub mod Duality
+pub mod RowOrder
+pub mod LimitOrder
+pub mod Figures
+pub mod Same
+pub mod FreeLimits
+pub mod NoCycle
+pub mod Clashes
+pub mod Results
+pub mod FaultsDiffer
+pub mod LimitFaultsDiffer

@@ -1,0 +1,26 @@
+-- What each fault of limit rows says.
+use Rattle.std.specs.Prelude.{◌≡◌, ℕ, ◌-◌, ◌<◌, ◌≤◌, List, length, take, slice_index_or}
+use Rattle.network_laws.specs.declared.rows.LimitRow.{LimitRow}
+use Rattle.network_laws.specs.declared.limits.LimitFault.{LimitFault}
+use Rattle.network_laws.specs.declared.limits.LimitFault.TheVariants.{Members, Member, Same, Order, Crossed}
+use Rattle.network_laws.specs.Limits.{AreLimitRows, IsWithin, limit_place}
+
+-- the rows before are those of limits, and there is a row here
+pub record IsFirstBadLimit (members : ℕ) (rows : List LimitRow) (at : ℕ) : Type 0 where
+  pub few : members ≤ 256
+  pub before : AreLimitRows members (take at rows)
+  pub here : at < length rows
+
+abbrev pub IsLimitMember : ℕ → LimitRow → Type 0
+IsLimitMember members row = (row.seller < members) × (row.buyer < members)
+
+abbrev pub IsLimitFault : ℕ → List LimitRow → LimitFault → Type 0
+IsLimitFault members rows Members = 256 < members
+IsLimitFault members rows (Member at) =
+    IsFirstBadLimit members rows at × ((d : LimitRow) → IsLimitMember members (slice_index_or rows at d) → ⊥)
+IsLimitFault members rows (Same at) =
+    IsFirstBadLimit members rows at × ((d : LimitRow) → let row = slice_index_or rows at d in IsLimitMember members row × (row.seller ≡ row.buyer))
+IsLimitFault members rows (Order at) =
+    IsFirstBadLimit members rows at × ((d : LimitRow) → let row = slice_index_or rows at d in IsLimitMember members row × (row.seller ≡ row.buyer → ⊥)) × (0 < at) × ((d : LimitRow) → limit_place (slice_index_or rows at d) ≤ limit_place (slice_index_or rows (at - 1) d))
+IsLimitFault members rows (Crossed at) =
+    IsFirstBadLimit members rows at × ((d : LimitRow) → let row = slice_index_or rows at d in IsLimitMember members row × (row.seller ≡ row.buyer → ⊥)) × ((d : LimitRow) → 0 < at → limit_place (slice_index_or rows (at - 1) d) < limit_place (slice_index_or rows at d)) × ((d : LimitRow) → let row = slice_index_or rows at d in IsWithin row.lower row.upper → ⊥)
