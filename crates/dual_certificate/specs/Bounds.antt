@@ -3,11 +3,11 @@ use Rattle.std.specs.Prelude.{◌≡◌, ℕ, ◌<◌, None, List, ℤ, pos, neg
 use Rattle.network_laws.specs.declared.rows.LimitRow.{LimitRow}
 use Rattle.network_laws.specs.Limits.{lower_in, upper_in, reduced, least_cost, int_sum_below}
 
--- a pair with no upper bound has no negative reduced cost
+-- where a pair has no upper bound, its reduced cost is not negative
 abbrev pub IsOpenPriced : List LimitRow → List ℤ → ℕ → ℕ → Type 0
 IsOpenPriced limits p i j = upper_in limits i j ≡ None → pos 0 ≤ℤ reduced p i j
 
--- no pair with no upper bound has one
+-- no pair without an upper bound has a negative reduced cost
 abbrev pub AreOpenPriced : List LimitRow → List ℤ → ℕ → Type 0
 AreOpenPriced limits p n = (i j : ℕ) → i < n → j < n → IsOpenPriced limits p i j
 

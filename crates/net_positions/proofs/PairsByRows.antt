@@ -1,11 +1,11 @@
 -- The sum over pairs of what does not cancel is the sum over rows of what the amount the other way does not cancel.
-use Rattle.std.proofs.Common.{◌≡◌, ◌≢◌, ℕ, zero, suc, ◌+◌, ◌-◌, ◌*◌, ◌<◌, ◌≤◌, List, [], ◌∷◌, length, get_or, sum_by, All, refl, sym, ap, ◌∙◌, arith, ⊎_elim}
+use Rattle.std.proofs.Common.{◌≡◌, ◌≢◌, ℕ, zero, suc, ◌+◌, ◌-◌, ◌<◌, List, [], ◌∷◌, sum_by, refl, ap, ◌∙◌, arith, ⊎_elim}
 use Rattle.std.proofs.lemmas.Bool.{cases_eq}
 use Rattle.std.proofs.lemmas.List.Elements.{All-head, All-tail}
 use Rattle.std.proofs.lemmas.List.Sums.{sum_by-cons}
 use Rattle.network_laws.specs.declared.rows.Row.{Row}
-use Rattle.network_laws.specs.Networks.{NetworkData, IsNetwork, AreInRange, IsRising, place, at, amount_in, pair_part, pair_gap, member_gaps, bilateral, sum_below}
-use Rattle.network_laws.proofs.Figures.{sum_below-same, sum_below-add, sum_below-zeros, sum_below-none}
+use Rattle.network_laws.specs.Networks.{NetworkData, IsNetwork, AreInRange, IsRising, at, amount_in, pair_part, bilateral, sum_below}
+use Rattle.network_laws.proofs.Figures.{sum_below-same, sum_below-add, sum_below-none}
 use Rattle.network_laws.proofs.RowOrder.{amount_none}
 use Rattle.network_laws.proofs.RowSums.{pair_part-same, pair_part-seller, pair_part-buyer}
 use Rattle.net_positions.specs.Tables.{unmatched_part}

@@ -1,5 +1,5 @@
 -- Tables of what each member sold and bought.
-use Rattle.std.specs.Prelude.{◌≡◌, ℕ, ◌+◌, ◌-◌, ◌<◌, List, length, slice_index}
+use Rattle.std.specs.Prelude.{◌≡◌, ℕ, ◌-◌, ◌<◌, List, length, slice_index}
 use Rattle.network_laws.specs.declared.rows.Row.{Row}
 use Rattle.network_laws.specs.Networks.{NetworkData, at, sold_in, bought_in}
 

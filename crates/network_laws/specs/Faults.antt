@@ -1,4 +1,4 @@
--- What each fault of rows says: the rows before are good, and this one is the first that is not.
+-- What each fault of rows says: the rows before are good, and this one is not, for no earlier reason.
 use Rattle.std.specs.Prelude.{◌≡◌, ℕ, ◌+◌, ◌-◌, ◌<◌, ◌≤◌, ◌^◌, List, length, take, slice_index_or}
 use Rattle.network_laws.specs.declared.rows.Row.{Row}
 use Rattle.network_laws.specs.declared.network.NetworkFault.{NetworkFault}
@@ -11,9 +11,11 @@ pub record IsFirstBad (members : ℕ) (rows : List Row) (at : ℕ) : Type 0 wher
   pub before : AreRows members (take at rows)
   pub here : at < length rows
 
+-- seller and buyer of a row are members
 abbrev pub IsMember : ℕ → Row → Type 0
 IsMember members row = (row.seller < members) × (row.buyer < members)
 
+-- the fault is the first of the rows: at most one fault is, and none where the rows are a network
 abbrev pub IsFault : ℕ → List Row → NetworkFault → Type 0
 IsFault members rows Members = 256 < members
 IsFault members rows (Member at) =

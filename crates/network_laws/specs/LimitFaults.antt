@@ -1,4 +1,4 @@
--- What each fault of limit rows says.
+-- What each fault of limit rows says: the rows before are good, and this one is not, for no earlier reason.
 use Rattle.std.specs.Prelude.{◌≡◌, ℕ, ◌-◌, ◌<◌, ◌≤◌, List, length, take, slice_index_or}
 use Rattle.network_laws.specs.declared.rows.LimitRow.{LimitRow}
 use Rattle.network_laws.specs.declared.limits.LimitFault.{LimitFault}
@@ -11,9 +11,11 @@ pub record IsFirstBadLimit (members : ℕ) (rows : List LimitRow) (at : ℕ) : T
   pub before : AreLimitRows members (take at rows)
   pub here : at < length rows
 
+-- seller and buyer of a row are members
 abbrev pub IsLimitMember : ℕ → LimitRow → Type 0
 IsLimitMember members row = (row.seller < members) × (row.buyer < members)
 
+-- the fault is the first of the rows: at most one fault is, and none where the rows are limits
 abbrev pub IsLimitFault : ℕ → List LimitRow → LimitFault → Type 0
 IsLimitFault members rows Members = 256 < members
 IsLimitFault members rows (Member at) =

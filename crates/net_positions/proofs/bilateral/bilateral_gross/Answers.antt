@@ -1,8 +1,7 @@
-use Rattle.std.proofs.Common.{◌≡◌, ◌-◌, ◌≤◌, get_or, length, take, sum_by, arith, ap, ◌∙◌, sym}
+use Rattle.std.proofs.Common.{◌≡◌, length, take, sum_by, arith, ap, ◌∙◌, sym}
 use Rattle.std.proofs.lemmas.List.{take_all}
 use Rattle.std.proofs.lemmas.List.Sums.{sum_by_more_le_part}
 use Rattle.network_laws.specs.declared.rows.Row.{Row}
-use Rattle.network_laws.specs.Networks.{at}
 use Rattle.net_positions.specs.Tables.{unmatched_part}
 use Rattle.net_positions.proofs.PairsByRows.{bilateral_by_rows}
 use Rattle.net_positions.proofs.bilateral.bilateral_gross.Goals as goal

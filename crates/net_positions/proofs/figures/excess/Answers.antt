@@ -1,5 +1,5 @@
-use Rattle.std.proofs.Common.{◌≡◌, ◌≤◌, ◌-◌, arith, ap, ◌∙◌}
-use Rattle.network_laws.specs.Networks.{sum_below, floor_m}
+use Rattle.std.proofs.Common.{arith, ap}
+use Rattle.network_laws.specs.Networks.{sum_below}
 use Rattle.net_positions.specs.Tables.{positive_at}
 use Rattle.net_positions.proofs.Totals.{positive_sum-is, floor_m-within}
 use Rattle.net_positions.proofs.figures.excess.Goals as goal

@@ -1,4 +1,4 @@
-use Rattle.std.proofs.Common.{◌≡◌, ◌≤◌, ◌<◌, ◌^◌, get_or, ℤ, pos, ◌-ℤ◌, SFits, w64, rules, arith}
+use Rattle.std.proofs.Common.{arith}
 use Rattle.std.proofs.lemmas.Int.{ints}
 use Rattle.net_positions.proofs.Totals.{sold_in-le, bought_in-le}
 use Rattle.net_positions.proofs.figures.net.Goals as goal

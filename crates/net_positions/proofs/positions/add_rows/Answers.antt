@@ -1,4 +1,4 @@
-use Rattle.std.proofs.Common.{◌≡◌, ◌+◌, ◌<◌, ◌≤◌, get_or, arith}
+use Rattle.std.proofs.Common.{get_or, arith}
 use Rattle.std.proofs.lemmas.List.Sums.{sum_by_more}
 use Rattle.network_laws.specs.declared.rows.Row.{Row}
 use Rattle.net_positions.proofs.Totals.{totals_more, sold_fits, bought_fits}

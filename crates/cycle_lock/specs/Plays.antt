@@ -1,0 +1,67 @@
+-- What each step tells the seat that makes it.
+use Rattle.std.specs.Prelude.{◌≡◌, ◌≢◌, ℕ, ◌+◌, ◌%◌, ◌^◌, ◌<◌, ◌≤◌, Bool, true, false, List, [], ◌∷◌, ◌++◌, length, MatchBool, Option, Some, drop}
+use Rattle.atomic_table.specs.Table.{Me, Step, rest}
+use Rattle.command_types.specs.declared.ask.Entry.{Entry}
+use Rattle.command_types.specs.declared.figures.Figures.{Figures}
+use Rattle.command_types.specs.History.{History, IsLegal, end_of}
+use Rattle.cycle_lock.specs.declared.rule.View.{View}
+use Rattle.cycle_lock.specs.declared.rule.Stage.TheVariants.{Waiting, HasTurn, Drawn}
+use Rattle.cycle_lock.specs.Accounts.{whole, opening_count, by, times, longest, Extends}
+use Rattle.cycle_lock.specs.Views.{placed, resting, with_number, merged}
+use Rattle.cycle_lock.specs.Kept.{IsDesk}
+
+-- The desk's history begins with what the pass has seen, and has no more entries of its numbers.
+pub record Newer (v : View) : Type 0 where
+  pub begins : Extends v.known v.account.seen
+  pub later : opening_count v.account.figures ≤ length v.known
+  pub earlier : opening_count v.account.figures ≤ length v.account.seen
+  pub mine : 1 ≤ times v.account.number v.account.stands
+  pub stops : v.account.stop ≡ true → v.halted ≡ true
+  pub made : (n : ℕ) → 1 ≤ times n v.account.stands → by n (drop (opening_count v.account.figures) v.known) ≡ by n (drop (opening_count v.account.figures) v.account.seen)
+  pub entries : (n : ℕ) → 4294967296 ≤ n + v.account.left → by n (drop (opening_count v.account.figures) v.known) ≡ []
+
+-- a view with the slots that its seat holds
+abbrev pub Sat : Type 0 → Type 0
+Sat T = Me (Option T) View
+
+module _ {T : Type 0} where
+  abbrev pub drew : Step (Option T) → Sat T → ℕ → Sat T → Type 0
+  drew st m n w = (w.0.stage ≡ Waiting) × (n ≡ w.0.ticket % 2 ^ 64) × (w.0.account ≡ m.0.account) × (w.1 ≡ m.1)
+
+  abbrev pub passed : Sat T → Sat T → Type 0
+  passed m w = (w.0 ≡ resting m.0.account) × (w.1 ≡ rest m.1)
+
+  -- the number n was drawn, and nobody has made an entry of it
+  abbrev pub numbered : Sat T → ℕ → Sat T → Type 0
+  numbered m n w = (w.0 ≡ placed Drawn 0 [] false (with_number n m.0.account)) × (w.1 ≡ m.1) × (n + m.0.account.left ≡ 4294967296) × (times n m.0.account.stands ≡ 0)
+      × (1 ≤ times m.0.account.number m.0.account.stands) × (by n (drop (opening_count m.0.account.figures) m.0.account.seen) ≡ [])
+
+  -- the pass and the one that it took in have seen beginnings of one history, in which each has its own entries
+  abbrev pub settled : Sat T → Sat T → Type 0
+  settled m w = let a = m.0.account in let b = m.0.guest in let all = longest a.seen b.seen in (
+      (w.0 ≡ resting (merged a b)) × (w.1 ≡ m.1) × (b.figures ≡ a.figures) × Extends all a.seen × Extends all b.seen
+      × ((n : ℕ) → 1 ≤ times n a.stands → by n (drop (opening_count a.figures) all) ≡ by n (drop (opening_count a.figures) a.seen))
+      × ((n : ℕ) → 1 ≤ times n b.stands → by n (drop (opening_count a.figures) all) ≡ by n (drop (opening_count a.figures) b.seen)))
+
+  -- what the desk has become is known, and the pass has seen it
+  abbrev pub noted : List Entry → Bool → Sat T → Sat T → Type 0
+  noted log stop m w = (w.0.stage ≡ HasTurn) × (w.0.known ≡ log) × (w.0.halted ≡ stop) × (w.0.account ≡ record m.0.account { seen = log; stop = stop }) × (w.1 ≡ m.1)
+
+  -- the desk has the history that the seat knows, with one entry of its number if it grew
+  pub record Becomes (history : T → History) (stopped : T → Bool) (v : View) (grew : Bool) (d : T) : Type 0 where
+    pub live : v.account.spent ≡ false
+    pub mine : 1 ≤ times v.account.number v.account.stands
+    pub grown : MatchBool grew
+        ((e : Entry) × (e.seat ≡ v.account.number) × (history d ≡ whole v.account.figures (v.known ++ e ∷ [])))
+        (history d ≡ whole v.account.figures v.known)
+    pub legal : IsLegal (history d)
+    pub short : end_of (history d) < 2 ^ 63
+    pub still : v.halted ≡ true → stopped d ≡ true
+
+  module _ (history : T → History) (figures_of : T → Figures) (stopped : T → Bool) where
+    -- the seat has its turn and the slot, in which this desk lies
+    abbrev pub Took : List (ℕ × Option T) → Sat T → Type 0
+    Took slots w = (w.0.stage ≡ HasTurn) × Newer w.0 × ((d : T) × (w.1 ≡ (0, Some d) ∷ slots) × IsDesk history figures_of stopped w.0.known w.0.halted w.0.account.figures d)
+
+    abbrev pub looked : Step (Option T) → Sat T → ℕ → Sat T → Type 0
+    looked st m n w = (w.0.account ≡ m.0.account) × (n ≡ m.0.ticket % 2 ^ 64 → Took m.1 w) × (n ≢ m.0.ticket % 2 ^ 64 → w ≡ m)

@@ -1,0 +1,104 @@
+//! What each step at the table tells. These types are for the proofs alone: no value of them is made.
+
+use crate::rule::View;
+use atomic_table::{Join, Play, Split};
+use command_types::Desk;
+use std::marker::{Brand, PhantomData};
+
+/// A ticket is drawn.
+pub struct Draw;
+
+impl<T> Play<Option<T>, View> for Draw {
+    ghost use Rattle.cycle_lock.specs.Plays.{drew};
+
+    ghost then = { drew };
+}
+
+/// The ticket that is served is looked at. Where it is the seat's, the seat takes the slot.
+pub struct Look<T> {
+    desk: PhantomData<T>,
+}
+
+impl<T: Desk> Play<Option<T>, View> for Look<T> {
+    ghost use Rattle.cycle_lock.specs.Plays.{looked};
+
+    ghost then = { looked T.history T.figures T.stopped };
+}
+
+/// What the desk in hand has become. Each call picks it.
+pub trait Outcome {
+    ghost use Rattle.std.specs.Prelude.{Bool, List};
+    ghost use Rattle.command_types.specs.declared.ask.Entry.{Entry};
+
+    ghost log: { List Entry };
+
+    ghost stop: { Bool };
+}
+
+impl Outcome for Brand {
+    ghost use Rattle.std.specs.Prelude.{false, []};
+
+    ghost log = { [] };
+
+    ghost stop = { false };
+}
+
+/// The desk's history is seen, with the entry if it was recorded.
+pub struct Note<M> {
+    outcome: PhantomData<M>,
+}
+
+impl<T, M: Outcome> Play<Option<T>, View> for Note<M> {
+    ghost use Rattle.cycle_lock.specs.Plays.{noted};
+
+    ghost then = { λ s m n w. noted M.log M.stop m w };
+}
+
+/// The turn is passed on.
+pub struct PassOn;
+
+impl<T> Play<Option<T>, View> for PassOn {
+    ghost use Rattle.cycle_lock.specs.Plays.{passed};
+
+    ghost then = { λ s m n w. passed m w };
+}
+
+/// A number is drawn.
+pub struct Number;
+
+impl<T> Play<Option<T>, View> for Number {
+    ghost use Rattle.cycle_lock.specs.Plays.{numbered};
+
+    ghost then = { λ s m n w. numbered m n w };
+}
+
+/// The number that was drawn goes to a new seat.
+pub struct Cut;
+
+impl Split<View> for Cut {
+    ghost use Rattle.cycle_lock.specs.Views.{parent, child};
+
+    ghost left = { parent };
+
+    ghost right = { child };
+}
+
+/// Another seat is taken in.
+pub struct Host;
+
+impl Join<View> for Host {
+    ghost use Rattle.cycle_lock.specs.Views.{hosting, resting, blank};
+
+    ghost both = { hosting };
+
+    ghost spent = { resting blank };
+}
+
+/// What two seats have seen is laid together.
+pub struct Settle;
+
+impl<T> Play<Option<T>, View> for Settle {
+    ghost use Rattle.cycle_lock.specs.Plays.{settled};
+
+    ghost then = { λ s m n w. settled m w };
+}

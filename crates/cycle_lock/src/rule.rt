@@ -1,0 +1,59 @@
+//! What a seat at the table knows, and the rule that every step keeps. Word 0 of the table is the history's length,
+//! word 1 the next ticket, word 2 the ticket that is served, word 3 the next number. The one slot has the desk.
+
+use atomic_table::TableRule;
+use command_types::{Desk, Entry, Figures};
+use std::collections::LinkedList;
+use std::marker::PhantomData;
+use std::snapshot::Snapshot;
+
+/// How far a seat has come.
+pub enum Stage {
+    /// It is between two calls.
+    Resting,
+    /// It has a ticket.
+    Waiting,
+    /// Its ticket is served, and it has the slot.
+    HasTurn,
+    /// The first of the numbers that it stands for is still to be given.
+    Drawn,
+    /// It has taken in another pass.
+    Joined,
+}
+
+/// What a pass has seen. No value of it is made.
+pub struct Account {
+    pub number: u32,
+    /// The numbers whose entries are its own.
+    pub stands: LinkedList<u32>,
+    /// How many passes it may still split off.
+    pub left: u64,
+    pub spent: bool,
+    pub seen: LinkedList<Entry>,
+    pub stop: bool,
+    pub figures: Figures,
+}
+
+/// What a seat knows. No value of it is made.
+pub struct View {
+    pub stage: Stage,
+    pub ticket: u64,
+    pub known: LinkedList<Entry>,
+    pub halted: bool,
+    pub account: Account,
+    pub guest: Account,
+}
+
+/// The rule of the table.
+pub struct TurnRule<T> {
+    desk: PhantomData<T>,
+}
+
+impl<T: Desk> TableRule<Option<T>, View, Snapshot<T>> for TurnRule<T> {
+    ghost use Rattle.cycle_lock.specs.Kept.{Kept};
+    ghost use Rattle.cycle_lock.specs.Views.{newcomer};
+
+    ghost holds = { λ key. Kept T.history T.figures T.stopped (T.figures key.value) };
+
+    ghost first = { λ key. newcomer (T.history key.value).entries (T.stopped key.value) (T.figures key.value) };
+}

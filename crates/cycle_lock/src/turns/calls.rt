@@ -1,0 +1,54 @@
+//! A call in its turn.
+ghost use Rattle.std.specs.Prelude.{◌≡◌, ◌≢◌, ℕ, Bool, true, false, ◌++◌, IsTrue};
+ghost use Rattle.command_types.specs.History.{IsLegal, end_of, recorded, is_recorded};
+ghost use Rattle.command_types.specs.Told.{IsTold};
+ghost use Rattle.cycle_lock.specs.Passes.{IsPassOf, seat_of, figures_of, seen, saw_stop, may_split, numbers, StandsFor, made_by, made, Continues, tells_stop};
+
+use super::Turns;
+use super::steps::SeatOf;
+use crate::pass::Pass;
+use crate::plays::PassOn;
+use atomic_table::Badge;
+use command_types::{Ask, Desk, Reply};
+use std::marker::Brand;
+use std::mem;
+use std::sync::Wait;
+
+impl<T: Desk> Turns<T> {
+    /// Waits for its turn, and asks the desk under the pass's number. The pass has then seen a history that ends at the
+    /// reply's position. The lock itself takes no memory: only the desk's answer can be that there is none.
+    pub fn call<R: Wait>(&self, rt: &R, pass: &mut Pass, ask: Ask) -> Reply
+        requires own { IsPassOf self.now pass.old }
+        ensures own { IsPassOf self.now pass.new }
+        ensures seat { seat_of pass.new ≡ seat_of pass.old }
+        ensures figures { figures_of pass.new ≡ figures_of pass.old }
+        ensures stands { (numbers pass.new ≡ numbers pass.old) × (may_split pass.new ≡ may_split pass.old) }
+
+        // The history: it goes on from what the pass had seen, and ends at the reply's position.
+        ensures seen { Continues (seen pass.new) (seen pass.old) }
+        ensures place { result.at ≡ end_of (seen pass.new) }
+        ensures legal { IsLegal (seen pass.new) }
+        ensures told { (before : Bool) × (saw_stop pass.old ≡ true → before ≡ true) × (before ≡ true → saw_stop pass.new ≡ true) × IsTold (figures_of pass.new) before (saw_stop pass.new) (seen pass.new) (seat_of pass.new) ask result }
+
+        // The entries: this call's, exactly where the reply tells that it is recorded.
+        ensures made { made pass.new ≡ made pass.old ++ recorded (seat_of pass.old) ask result.answer }
+        ensures others { (n : ℕ) → StandsFor pass.old n → n ≢ seat_of pass.old → made_by n pass.new ≡ made_by n pass.old }
+
+        // The stop.
+        ensures stop { IsTrue (tells_stop result.answer) → saw_stop pass.new ≡ true }
+        ensures stays { saw_stop pass.old ≡ true → saw_stop pass.new ≡ true }
+        ensures runs { IsTrue (is_recorded ask.what result.answer) → saw_stop pass.new ≡ false }
+    {
+        let mut seat: SeatOf<T> = mem::replace(&mut pass.badge, Badge::blank()).into_seat();
+        self.enter(rt, &mut seat);
+        let mut desk = self.take_out(&mut seat);
+        let before = desk.length();
+        let reply = desk.ask(pass.number, ask);
+        self.note::<Brand>(&mut seat, &desk, reply.at > before);
+        self.put_in(&mut seat, desk);
+        self.table.shared.fetch_add::<PassOn>(&mut seat, 2, 1);
+        self.table.shared.wake_all(2);
+        pass.badge = seat.into_badge();
+        reply
+    }
+}

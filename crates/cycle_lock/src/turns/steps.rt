@@ -1,0 +1,77 @@
+//! One turn, step by step.
+ghost use Rattle.std.specs.Prelude.{◌≡◌, ℕ, ◌+◌, ◌%◌, ◌^◌, ◌<◌, ◌≤◌, Bool, true, false, List, [], ◌∷◌, ◌++◌, length, drop, Some, None};
+ghost use Rattle.cycle_lock.specs.declared.rule.Stage.TheVariants.{Resting, HasTurn};
+ghost use Rattle.cycle_lock.specs.Plays.{Took, noted, Becomes};
+
+use super::Turns;
+use crate::plays::{Draw, Look, Note, Outcome};
+use crate::rule::View;
+use atomic_table::Seat;
+use command_types::Desk;
+use std::sync::Wait;
+
+pub(super) type SeatOf<T> = Seat<Option<T>, View>;
+
+impl<T: Desk> Turns<T> {
+    // Draws a ticket, and waits until it is served. Then the seat has the slot.
+    pub(super) fn enter<R: Wait>(&self, rt: &R, seat: &mut SeatOf<T>)
+        requires own { seat.old.table_id ≡ self.now.table.shared.table_id }
+        requires resting { (seat.old.me.0.stage ≡ Resting) × (seat.old.me.0.account.spent ≡ false) }
+        ensures own { (seat.new.table_id ≡ seat.old.table_id) × (seat.new.id ≡ seat.old.id) }
+        ensures same { seat.new.me.0.account ≡ seat.old.me.0.account }
+        ensures took { Took T.history T.figures T.stopped seat.old.me.1 seat.new.me }
+    {
+        let ticket = self.table.shared.fetch_add::<Draw>(seat, 1, 1);
+        for _ in rt.forever() {
+            let served = self.table.shared.load::<Look<T>>(seat, 2);
+            if served == ticket {
+                return;
+            }
+            self.table.shared.park(rt, 2, (served % (1 << 32)) as u32);
+        }
+        unreachable!()
+    }
+
+    // The desk leaves the slot.
+    pub(super) fn take_out(&self, seat: &mut SeatOf<T>) -> T
+        requires own { seat.old.table_id ≡ self.now.table.shared.table_id }
+        requires took { (d : T) × (seat.old.me.1 ≡ (0, Some d) ∷ []) }
+        ensures own { (seat.new.table_id ≡ seat.old.table_id) × (seat.new.id ≡ seat.old.id) }
+        ensures seat { seat.new.me ≡ (seat.old.me.0, (0, None) ∷ []) }
+        ensures desk { seat.old.me.1 ≡ (0, Some result) ∷ [] }
+    {
+        match self.table.shared.exchange(seat, 0, None) {
+            Some(desk) => desk,
+            None => unreachable!(),
+        }
+    }
+
+    // The desk goes into the slot.
+    pub(super) fn put_in(&self, seat: &mut SeatOf<T>, desk: T)
+        requires own { seat.old.table_id ≡ self.now.table.shared.table_id }
+        requires empty { seat.old.me.1 ≡ (0, None) ∷ [] }
+        ensures own { (seat.new.table_id ≡ seat.old.table_id) × (seat.new.id ≡ seat.old.id) }
+        ensures seat { seat.new.me ≡ (seat.old.me.0, (0, Some desk) ∷ []) }
+    {
+        match self.table.shared.exchange(seat, 0, Some(desk)) {
+            None => {}
+            Some(_) => unreachable!(),
+        }
+    }
+
+    // The history's length follows the desk, and what the desk has become is seen.
+    pub(super) fn note<M: Outcome>(&self, seat: &mut SeatOf<T>, desk: &T, grew: bool)
+        requires own { seat.old.table_id ≡ self.now.table.shared.table_id }
+        requires turn { seat.old.me.0.stage ≡ HasTurn }
+        requires outcome { (M.log ≡ (T.history desk.now).entries) × (M.stop ≡ T.stopped desk.now) }
+        requires desk { Becomes T.history T.stopped seat.old.me.0 grew desk.now }
+        ensures own { (seat.new.table_id ≡ seat.old.table_id) × (seat.new.id ≡ seat.old.id) }
+        ensures noted { noted (T.history desk.now).entries (T.stopped desk.now) seat.old.me seat.new.me }
+    {
+        if grew {
+            self.table.shared.fetch_add::<Note<M>>(seat, 0, 1);
+        } else {
+            self.table.shared.load::<Note<M>>(seat, 0);
+        }
+    }
+}
