@@ -3,3 +3,9 @@ pub mod Faults
 pub mod MemorySource
 pub mod MemorySink
 pub mod Streams
+pub mod Files
+pub mod MemoryFiles
+pub mod SystemFiles
+pub mod Disk
+pub mod MemoryDisk
+pub mod FileDisk

@@ -1,16 +1,31 @@
-//! What lies outside the program: where its input comes from, and where its output goes.
+//! What lies outside the program: where its input comes from, where its output goes, the files that it reads by name,
+//! and the disk that keeps its journal.
 #![tactic(auto)]
 
+pub mod disk;
 pub mod failed;
+pub mod file_disk;
+pub mod files;
+pub mod memory_disk;
+pub mod memory_files;
 pub mod memory_sink;
 pub mod memory_source;
 pub mod sink;
 pub mod source;
 pub mod streams;
+pub mod system_files;
+pub mod trouble;
 
+pub use disk::Disk;
 pub use failed::Failed;
+pub use file_disk::FileDisk;
+pub use files::Files;
+pub use memory_disk::MemoryDisk;
+pub use memory_files::MemoryFiles;
 pub use memory_sink::MemorySink;
 pub use memory_source::MemorySource;
 pub use sink::{Sink, write_all};
 pub use source::Source;
 pub use streams::{StreamSink, StreamSource};
+pub use system_files::SystemFiles;
+pub use trouble::Trouble;

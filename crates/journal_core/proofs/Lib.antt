@@ -1,0 +1,3 @@
+pub mod MomentFacts
+pub mod JournalFacts
+pub mod WalkFacts

@@ -1,0 +1,207 @@
+-- What a walk over a journal's file finds.
+use Rattle.std.proofs.Common.{◌≡◌, ◌≢◌, ◌⊎◌, inl, inr, ⊎_elim, ℕ, zero, suc, ◌+◌, ◌-◌, ◌≤◌, ◌<◌, ◌^◌, min, List, [], ◌∷◌, ◌++◌, length, take, drop, get_or, map, Result, Ok, Err, IfOk, IfErr, Option, Some, None, refl, sym, ◌∙◌, subst, ap, arith, append_assoc, length-append, take-append-drop}
+use Rattle.std.proofs.lemmas.List.{append-nil, take_at, take_all, drop_all, take-append-le, length-take, length-drop, map-append}
+use Rattle.std.proofs.Math.Seq.{take-append-add}
+use Rattle.std.proofs.lemmas.Nat.{from_le_bytes-to_le_bytes_4}
+use Rattle.std.specs.Int.{w32, to_le_bytes, from_le_bytes}
+use Rattle.std.specs.List.{flat_map}
+use Rattle.outside.specs.Disk.{History, HasLength, Reads}
+use Rattle.journal_core.specs.Holds.{header, limit, frame, front, end_of, IsJournal, Holds}
+use Rattle.journal_core.specs.Walk.{placed, place_and_bytes, NamesNoRecord, IsWalked, IsDamaged, IsFault, FindsRecords, FindsFault}
+use Rattle.journal_core.specs.declared.walked.Walked.{Walked}
+use Rattle.journal_core.specs.declared.walked.RecordAt.{RecordAt}
+use Rattle.journal_core.specs.declared.walked.WalkFault.{WalkFault}
+use Rattle.journal_core.specs.declared.walked.WalkFault.TheVariants.{Damaged, DiskFault, Memory}
+use Rattle.journal_core.proofs.JournalFacts.{length-frame, front-push, lt_or_le}
+
+-- the bytes of the records
+abbrev pub all_bytes : List RecordAt → List (List ℕ)
+all_bytes records = map (λ (r : RecordAt). r.bytes.items) records
+
+placed-push : (place : ℕ) (records : List (List ℕ)) (bytes : List ℕ) → placed place (records ++ bytes ∷ []) ≡ placed place records ++ (place + length (flat_map frame records), bytes) ∷ []
+placed-push place [] bytes = let same : place ≡ place + 0 = omega arith in ap (λ (n : ℕ). (n, bytes) ∷ []) same
+placed-push place (r ∷ records) bytes =
+    let same : place + (5 + length r) + length (flat_map frame records) ≡ place + length (flat_map frame (r ∷ records)) =
+    omega (arith, length-append (frame r) (flat_map frame records), length-frame r) in
+    ap (λ (l : List (ℕ × List ℕ)). (place, r) ∷ l) (placed-push (place + (5 + length r)) records bytes ∙ ap (λ (n : ℕ). placed (place + (5 + length r)) records ++ (n, bytes) ∷ []) same)
+
+-- what a walk has found so far in the bytes
+pub record SoFar (bytes : List ℕ) (records : List RecordAt) (at : ℕ) (rest : List ℕ) : Type 0 where
+  pub split : bytes ≡ front (all_bytes records) ++ rest
+  pub places : map place_and_bytes records ≡ placed 8 (all_bytes records)
+  pub here : at ≡ length (front (all_bytes records))
+  pub within : at < limit
+
+pub at_header : (bytes rest : List ℕ) → bytes ≡ header ++ rest → SoFar bytes [] 8 rest
+at_header bytes rest is = record { split = is; places = refl; here = refl; within = omega arith }
+
+pub one_more : (bytes : List ℕ) (records : List RecordAt) (at : ℕ) (rest body after : List ℕ) (r : RecordAt) → SoFar bytes records at rest → rest ≡ 1 ∷ body
+    → body ≡ to_le_bytes w32 (length r.bytes.items) ++ r.bytes.items ++ after → r.at ≡ at → at + 5 + length r.bytes.items < limit
+    → SoFar bytes (records ++ r ∷ []) (at + 5 + length r.bytes.items) after
+one_more bytes records at rest body after r so_far is_open is_record place small =
+    let before = all_bytes records in
+    let b = r.bytes.items in
+    let pushed : all_bytes (records ++ r ∷ []) ≡ before ++ b ∷ [] = map-append (λ (x : RecordAt). x.bytes.items) records (r ∷ []) in
+    let longer : front (all_bytes (records ++ r ∷ [])) ≡ front before ++ frame b = ap front pushed ∙ front-push before b in
+    let gap : length (front before) ≡ 8 + length (flat_map frame before) = omega arith in
+    record {
+      split = so_far.split ∙ ap (λ (l : List ℕ). front before ++ l) (is_open ∙ ap (λ (l : List ℕ). 1 ∷ l) is_record) ∙ sym (append_assoc (front before) (frame b) after) ∙ ap (λ (l : List ℕ). l ++ after) (sym longer);
+      places =
+          map-append place_and_bytes records (r ∷ []) ∙ ap (λ (l : List (ℕ × List ℕ)). l ++ (r.at, b) ∷ []) so_far.places
+          ∙ ap (λ (n : ℕ). placed 8 before ++ (n, b) ∷ []) (place ∙ so_far.here ∙ gap) ∙ sym (placed-push 8 before b) ∙ ap (placed 8) (sym pushed);
+      here = omega (arith, so_far.here, ap length longer, length-append (front before) (frame b), length-frame b);
+      within = small;
+    }
+
+-- a gate that is not open
+pub ended : (bytes : List ℕ) (records : List RecordAt) (at : ℕ) (rest : List ℕ) → SoFar bytes records at rest → 0 < length rest → ((body : List ℕ) → rest ≢ 1 ∷ body) → IsJournal bytes (all_bytes records)
+ended bytes records at [] so_far some shut = absurd (omega (arith, some))
+ended bytes records at (gate ∷ rest) so_far some shut =
+    record { gate = gate; rest = rest; split = so_far.split; closed = λ is. shut rest (ap (λ (g : ℕ). g ∷ rest) is); within = omega (arith, so_far.here, so_far.within) }
+
+pub is_walked : (bytes : List ℕ) (records : List RecordAt) (at : ℕ) (rest : List ℕ) (w : Walked) → SoFar bytes records at rest → 0 < length rest → ((body : List ℕ) → rest ≢ 1 ∷ body) → 10 ≤ length bytes
+    → w.records.items ≡ records → w.end ≡ at + 1 → IsWalked bytes w
+is_walked bytes records at rest w so_far some shut long found end =
+    (all_bytes records, inr (long, ended bytes records at rest so_far some shut), ap (λ (l : List RecordAt). map place_and_bytes l) found ∙ so_far.places, end ∙ ap (λ (n : ℕ). n + 1) so_far.here)
+
+-- no gate at all
+pub no_gate : (bytes : List ℕ) (records : List RecordAt) (at : ℕ) (rest : List ℕ) → SoFar bytes records at rest → length rest ≡ 0 → 10 ≤ length bytes → IsDamaged bytes at
+no_gate bytes records at [] so_far none long = (long, inr (all_bytes records, [], so_far.split, so_far.here, so_far.within, λ gate rest is. absurd (omega (arith, ap length is)), λ b rest is. absurd (omega (arith, ap length is, length-append (frame b) rest))))
+no_gate bytes records at (x ∷ rest) so_far none long = absurd (omega (arith, none))
+
+-- an open gate with no record behind it
+pub no_record : (bytes : List ℕ) (records : List RecordAt) (at : ℕ) (rest body : List ℕ) → SoFar bytes records at rest → rest ≡ 1 ∷ body
+    → ((b more : List ℕ) → body ≡ to_le_bytes w32 (length b) ++ b ++ more → limit ≤ at + (5 + length b)) → 10 ≤ length bytes → IsDamaged bytes at
+no_record bytes records at rest body so_far is_open none long = (
+  long,
+  inr (
+    all_bytes records,
+    rest,
+    so_far.split,
+    so_far.here,
+    so_far.within,
+    λ gate more is. sym (ap (λ (l : List ℕ). get_or l 0 0) (sym is_open ∙ is)),
+    λ b more is. none b more (ap (λ (l : List ℕ). drop 1 l) (sym is_open ∙ is)),
+  ),
+)
+
+pub none_fits : (at : ℕ) (body : List ℕ) → NamesNoRecord body → (b more : List ℕ) → body ≡ to_le_bytes w32 (length b) ++ b ++ more → limit ≤ at + (5 + length b)
+none_fits at body none b more is = omega (arith, none b more is)
+
+same_size : (m n : ℕ) → m < 2 ^ 32 → n < 2 ^ 32 → to_le_bytes w32 m ≡ to_le_bytes w32 n → m ≡ n
+same_size m n small small' is = sym (from_le_bytes-to_le_bytes_4 m small) ∙ ap (from_le_bytes w32) is ∙ from_le_bytes-to_le_bytes_4 n small'
+
+pub one_is_large : (at : ℕ) (body a after : List ℕ) → body ≡ to_le_bytes w32 (length a) ++ a ++ after → length a < 2 ^ 32 → limit ≤ at + 5 + length a
+    → (b more : List ℕ) → body ≡ to_le_bytes w32 (length b) ++ b ++ more → limit ≤ at + (5 + length b)
+one_is_large at body a after is_a small large b more is_b = ⊎_elim (λ lt. omega (arith, large, same_size (length b) (length a) lt small (same_front lt))) (λ le. omega (arith, le)) (lt_or_le (length b) (2 ^ 32))
+  where
+    same_front : length b < 2 ^ 32 → to_le_bytes w32 (length b) ≡ to_le_bytes w32 (length a)
+    same_front lt = ap (λ (l : List ℕ). take 4 l) (sym is_b ∙ is_a)
+
+-- the same of a record that was copied
+pub copied_one : (bytes : List ℕ) (records more : List RecordAt) (at : ℕ) (rest body after b : List ℕ) (r : RecordAt) → more ≡ records ++ r ∷ [] → r.bytes.items ≡ b → SoFar bytes records at rest → rest ≡ 1 ∷ body
+    → body ≡ to_le_bytes w32 (length b) ++ b ++ after → r.at ≡ at → at + 5 + length b < limit → SoFar bytes more (at + 5 + length b) after
+copied_one bytes records more at rest body after b r more_is b_is so_far is_open is_record place small =
+    subst (λ (l : List RecordAt). SoFar bytes l (at + 5 + length b) after) (sym more_is)
+    (subst (λ (x : List ℕ). SoFar bytes (records ++ r ∷ []) (at + 5 + length x) after) b_is
+    (one_more bytes records at rest body after r so_far is_open (subst (λ (x : List ℕ). body ≡ to_le_bytes w32 (length x) ++ x ++ after) (sym b_is) is_record) place
+    (subst (λ (x : List ℕ). at + 5 + length x < limit) (sym b_is) small)))
+
+-- What stands in a front of the file stands in the file.
+module _ (file : List ℕ) (k : ℕ) (cut : k ≡ min (length file) limit) where
+  whole : file ≡ take k file ++ drop k file
+  whole = sym (take-append-drop k file)
+
+  size : length (take k file) ≡ k
+  size = omega (arith, length-take k file, cut)
+
+  pub holds_all : (records : List (List ℕ)) → Holds (take k file) records → Holds file records
+  holds_all records (inl short) = inl (omega (arith, short.0, size, cut), short.1)
+  holds_all records (inr j) = inr (
+    omega (arith, j.0, size, cut),
+    record {
+      gate = j.1.gate;
+      rest = j.1.rest ++ drop k file;
+      split = whole ∙ ap (λ (l : List ℕ). l ++ drop k file) j.1.split ∙ append_assoc (front records) (j.1.gate ∷ j.1.rest) (drop k file);
+      closed = j.1.closed;
+      within = j.1.within;
+    },
+  )
+
+  pub walked_all : (w : Walked) → IsWalked (take k file) w → IsWalked file w
+  walked_all w is = (is.0, holds_all is.0 is.1, is.2, is.3)
+
+  no_header : 10 ≤ length (take k file) → ((rest : List ℕ) → take k file ≢ header ++ rest) → (rest : List ℕ) → file ≢ header ++ rest
+  no_header long none rest is =
+      let split : k ≡ 8 + (k - 8) = omega (arith, long, size) in
+      none (take (k - 8) rest) (ap (λ (l : List ℕ). take k l) is ∙ ap (λ (n : ℕ). take n (header ++ rest)) split ∙ take-append-add header rest (k - 8))
+
+  module _ (records : List (List ℕ)) (tail : List ℕ) (split : take k file ≡ front records ++ tail) (within : length (front records) < limit) where
+    count : length (front records) + length tail ≡ k
+    count = omega (arith, size, ap length split, length-append (front records) tail)
+
+    -- a shorter list in front of the rest stands in it
+    in_tail : (xs rest : List ℕ) → tail ++ drop k file ≡ xs ++ rest → length xs ≤ length tail → tail ≡ xs ++ drop (length xs) tail
+    in_tail xs rest is le =
+        sym (take-append-drop (length xs) tail)
+        ∙ ap (λ (l : List ℕ). l ++ drop (length xs) tail) (sym (take-append-le (length xs) tail (drop k file) le) ∙ ap (λ (l : List ℕ). take (length xs) l) is ∙ take_at xs rest (length xs) refl)
+
+    -- where it doesn't, the limit is near
+    near : (xs rest : List ℕ) → tail ++ drop k file ≡ xs ++ rest → length tail < length xs → k ≡ limit
+    near xs rest is more =
+        omega (arith, ap length is, length-append tail (drop k file), length-append xs rest, length-drop k file, more, cut)
+
+    gates : ((gate : ℕ) (rest : List ℕ) → tail ≡ gate ∷ rest → gate ≡ 1) → (gate : ℕ) (rest : List ℕ) → tail ++ drop k file ≡ gate ∷ rest → gate ≡ 1
+    gates open_gate gate rest is = ⊎_elim
+        (λ few. absurd (omega (arith, near (gate ∷ []) rest is few, few, count, within)))
+        (λ some. open_gate gate (drop 1 tail) (in_tail (gate ∷ []) rest is some))
+        (lt_or_le (length tail) 1)
+
+    frames : ((b rest : List ℕ) → tail ≡ frame b ++ rest → limit ≤ length (front records) + (5 + length b)) → (b rest : List ℕ) → tail ++ drop k file ≡ frame b ++ rest → limit ≤ length (front records) + (5 + length b)
+    frames none b rest is = ⊎_elim
+        (λ few. omega (arith, near (frame b) rest is few, few, count, length-frame b))
+        (λ some. none b (drop (length (frame b)) tail) (in_tail (frame b) rest is some))
+        (lt_or_le (length tail) (length (frame b)))
+
+  pub damaged_all : (place : ℕ) → IsDamaged (take k file) place → IsDamaged file place
+  damaged_all place (long, inl start) = (omega (arith, long, size, cut), inl (start.0, no_header long start.1))
+  damaged_all place (long, inr d) =
+      let within : length (front d.0) < limit = omega (arith, d.3, d.4) in (
+        omega (arith, long, size, cut),
+        inr (
+          d.0,
+          d.1 ++ drop k file,
+          whole ∙ ap (λ (l : List ℕ). l ++ drop k file) d.2 ∙ append_assoc (front d.0) d.1 (drop k file),
+          d.3,
+          d.4,
+          gates d.0 d.1 d.2 within d.5,
+          λ b rest is. omega (arith, d.3, frames d.0 d.1 d.2 within (λ b more at. omega (arith, d.3, d.6 b more at)) b rest is),
+        ),
+      )
+
+  pub fault_all : (fault : WalkFault) → IsFault (take k file) fault → IsFault file fault
+  fault_all (Damaged place) damaged = damaged_all place damaged
+  fault_all DiskFault damaged = tt
+  fault_all Memory damaged = tt
+
+-- the bytes are the front of the content that a journal may have
+abbrev pub IsPiece : Option History → List ℕ → Type 0
+IsPiece None piece = Unit {0}
+IsPiece (Some h) piece = (k : ℕ) × (k ≡ min (length h.content) limit) × (piece ≡ take k h.content)
+
+pub piece_of : (o : Option History) (size n : ℕ) (old new : List ℕ) → HasLength o size → length old ≡ min size limit → Reads o 0 n old new → IsPiece o (take n new)
+piece_of None size n old new long room reads = tt
+piece_of (Some h) size n old new long room reads =
+    let count : n ≡ min (length h.content) limit = omega (arith, reads.0, room, long) in
+    let taken : length (take n h.content) ≡ n = omega (arith, length-take n h.content, count) in
+    (n, count, ap (λ (l : List ℕ). take n l) reads.1 ∙ take_at (take n h.content) (drop n old) n taken)
+
+pub walked_of : (r : Result Walked WalkFault) (o : Option History) (piece : List ℕ) → IsPiece o piece → IfOk r (IsWalked piece) → IfOk r (FindsRecords o)
+walked_of (Ok w) None piece is walked = tt
+walked_of (Ok w) (Some h) piece is walked = walked_all h.content is.0 is.1 w (subst (λ (l : List ℕ). IsWalked l w) is.2 walked)
+walked_of (Err fault) o piece is walked = tt
+
+pub fault_of : (r : Result Walked WalkFault) (o : Option History) (piece : List ℕ) → IsPiece o piece → IfErr r (IsFault piece) → IfErr r (FindsFault o)
+fault_of (Ok w) o piece is fault = tt
+fault_of (Err fault) None piece is told = tt
+fault_of (Err fault) (Some h) piece is told = fault_all h.content is.0 is.1 fault (subst (λ (l : List ℕ). IsFault l fault) is.2 told)

@@ -1,0 +1,49 @@
+use Rattle.std.proofs.Common.{◌≡◌, ◌+◌, ◌≤◌, List, ℕ, length, subst, ap, ◌∙◌, arith}
+use Rattle.journal_core.specs.Holds.{limit}
+use Rattle.journal_core.specs.Moments.{Puts}
+use Rattle.journal_core.specs.Journal.{HoldsWithOrWithout}
+use Rattle.journal_core.proofs.MomentFacts.{leaves_both}
+use Rattle.journal_core.proofs.JournalFacts.{first_moments, second_moments, appended, length-staged}
+use Rattle.journal_core.proofs.journal.Journal.append.Goals as goal
+
+pub returns-in_err-put-clause-any_moment : goal.returns-in_err-put-clause-any_moment
+returns-in_err-put-clause-any_moment g c = λ records rest.
+    first_moments records c.args.frame.now _ _ c.args.self.now.end (length c.behind_gate-behind.result.now) rest c.put.ensures.any_moment
+
+pub returns-in_err-put-2-clause-any_moment : goal.returns-in_err-put-2-clause-any_moment
+returns-in_err-put-2-clause-any_moment g c = λ records rest.
+    let was = g.D.Disk.history c.args.self.now.disk in
+    let mid = g.D.Disk.history c.put.new.disk in
+    let after = g.D.Disk.history c.put-2.new.disk in
+    let end = c.args.self.now.end in
+    let record_bytes = c.args.frame.now in
+    let fits : end + 5 + length record_bytes ≤ limit = omega (arith, c.requires.fits) in
+    let puts = subst (λ (b : List ℕ). Puts was end b mid) c.behind_gate-behind.ensures c.in_ok-put.ensures.done in
+    leaves_both was mid after (HoldsWithOrWithout records record_bytes)
+    (first_moments records record_bytes was mid end (length c.behind_gate-behind.result.now) rest c.put.ensures.any_moment)
+    (second_moments records record_bytes was mid after end c.saturating_sub-gate.result rest c.saturating_sub-gate.ensures fits puts c.put-2.ensures.any_moment)
+
+pub returns-clause-any_moment : goal.returns-clause-any_moment
+returns-clause-any_moment g c = λ records rest.
+    let was = g.D.Disk.history c.args.self.now.disk in
+    let mid = g.D.Disk.history c.put.new.disk in
+    let after = g.D.Disk.history c.put-2.new.disk in
+    let end = c.args.self.now.end in
+    let record_bytes = c.args.frame.now in
+    let fits : end + 5 + length record_bytes ≤ limit = omega (arith, c.requires.fits) in
+    let puts = subst (λ (b : List ℕ). Puts was end b mid) c.behind_gate-behind.ensures c.in_ok-put.ensures.done in
+    leaves_both was mid after (HoldsWithOrWithout records record_bytes)
+    (first_moments records record_bytes was mid end (length c.behind_gate-behind.result.now) rest c.put.ensures.any_moment)
+    (second_moments records record_bytes was mid after end c.saturating_sub-gate.result rest c.saturating_sub-gate.ensures fits puts c.put-2.ensures.any_moment)
+
+pub returns-clause-done : goal.returns-clause-done
+returns-clause-done g c = λ records rest.
+    let was = g.D.Disk.history c.args.self.now.disk in
+    let mid = g.D.Disk.history c.put.new.disk in
+    let after = g.D.Disk.history c.put-2.new.disk in
+    let end = c.args.self.now.end in
+    let record_bytes = c.args.frame.now in
+    let fits : end + 5 + length record_bytes ≤ limit = omega (arith, c.requires.fits) in
+    let puts = subst (λ (b : List ℕ). Puts was end b mid) c.behind_gate-behind.ensures c.in_ok-put.ensures.done in
+    let size : end + length c.behind_gate-behind.result.now ≡ end + (5 + length record_bytes) = omega (arith, ap length c.behind_gate-behind.ensures, length-staged record_bytes) in
+    appended records record_bytes was mid after end c.saturating_sub-gate.result (end + length c.behind_gate-behind.result.now) rest c.saturating_sub-gate.ensures fits size puts c.in_ok-put-2.ensures.done

@@ -1,0 +1,5 @@
+pub mod Holds
+pub mod Moments
+pub mod Walk
+pub mod Journal
+pub mod Frame

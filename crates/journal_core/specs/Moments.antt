@@ -1,0 +1,26 @@
+-- What a crash at each moment of a call leaves.
+use Rattle.std.specs.Prelude.{◌≡◌, ◌⊎◌, ◌≤◌, ℕ, List, length, Option, Some, None}
+use Rattle.outside.specs.Disk.{History, moment, left_since, overwritten, IsTorn, IsSettled}
+
+-- From old to new, a crash at each moment, the first and the last among them, leaves what has P.
+pub record EachMoment (old new : History) (P : List ℕ → Type 0) : Type 0 where
+  pub later : moment old ≤ moment new
+  pub each : (image : List ℕ) → left_since new (moment old) image → P image
+  -- for a run that began earlier
+  pub before : (since : ℕ) (image : List ℕ) → since ≤ moment old → left_since new since image → left_since old since image ⊎ P image
+
+-- the same where the disk tells what it holds
+abbrev pub LeavesOnly : Option History → Option History → (List ℕ → Type 0) → Type 0
+LeavesOnly None after P = Unit {0}
+LeavesOnly (Some old) None P = ⊥
+LeavesOnly (Some old) (Some new) P = EachMoment old new P
+
+-- a write of so many bytes at a place of the content, broken off or not, leaves this image
+abbrev pub TornOf : Option History → ℕ → ℕ → List ℕ → Type 0
+TornOf None place count image = Unit {0}
+TornOf (Some h) place count image = IsTorn place count h.content image
+
+-- from before to after, these bytes came to stand at a place, and all is on the disk
+abbrev pub Puts : Option History → ℕ → List ℕ → Option History → Type 0
+Puts None place bytes after = after ≡ None
+Puts (Some h) place bytes after = (new : History) × (after ≡ Some new) × (new.content ≡ overwritten place bytes h.content) × IsSettled (Some new)

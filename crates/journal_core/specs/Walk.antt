@@ -1,0 +1,54 @@
+-- What a walk over a journal's file finds.
+use Rattle.std.specs.Prelude.{◌≡◌, ◌≢◌, ◌⊎◌, ◌<◌, ◌≤◌, ℕ, ◌+◌, ◌^◌, List, [], ◌∷◌, ◌++◌, length, map, Option, Some, None}
+use Rattle.std.specs.Int.{w32, to_le_bytes}
+use Rattle.outside.specs.Disk.{History}
+use Rattle.journal_core.specs.Holds.{header, limit, frame, front, end_of, Holds}
+use Rattle.journal_core.specs.declared.walked.Walked.{Walked}
+use Rattle.journal_core.specs.declared.walked.RecordAt.{RecordAt}
+use Rattle.journal_core.specs.declared.walked.WalkFault.{WalkFault}
+use Rattle.journal_core.specs.declared.walked.WalkFault.TheVariants.{Damaged, DiskFault, Memory}
+
+-- the records with the places of their gates, of which the first is this one
+abbrev pub placed : ℕ → List (List ℕ) → List (ℕ × List ℕ)
+placed place [] = []
+placed place (bytes ∷ records) = (place, bytes) ∷ placed (place + (5 + length bytes)) records
+
+-- the place of a record's gate, and its bytes
+abbrev pub place_and_bytes : RecordAt → ℕ × List ℕ
+place_and_bytes r = (r.at, r.bytes.items)
+
+-- the records that a walk found, with the places of their gates
+abbrev pub found : Walked → List (ℕ × List ℕ)
+found w = map place_and_bytes w.records.items
+
+-- the walk found the records that the file holds, the places of their gates and the end
+abbrev pub IsWalked : List ℕ → Walked → Type 0
+IsWalked file w = (records : List (List ℕ)) × Holds file records × (found w ≡ placed 8 records) × (w.end ≡ end_of records)
+
+-- the bytes begin with no record's length and the record behind it
+abbrev pub NamesNoRecord : List ℕ → Type 0
+NamesNoRecord body = (bytes rest : List ℕ) → body ≡ to_le_bytes w32 (length bytes) ++ bytes ++ rest → 2 ^ 32 ≤ length bytes
+
+-- A file of ten bytes or more is damaged at 0 if it doesn't begin with the header, and else where a gate is due at the
+-- place, behind whole records, and there stands neither a gate that is not open nor a record that ends before the limit.
+abbrev pub IsDamaged : List ℕ → ℕ → Type 0
+IsDamaged file place = (10 ≤ length file) × (
+    ((place ≡ 0) × ((rest : List ℕ) → file ≢ header ++ rest))
+    ⊎ ((records : List (List ℕ)) × (tail : List ℕ) × (file ≡ front records ++ tail) × (place ≡ length (front records)) × (place < limit)
+    × ((gate : ℕ) (rest : List ℕ) → tail ≡ gate ∷ rest → gate ≡ 1)
+    × ((bytes rest : List ℕ) → tail ≡ frame bytes ++ rest → limit ≤ place + (5 + length bytes))))
+
+-- a fault of a walk over this file tells true
+abbrev pub IsFault : List ℕ → WalkFault → Type 0
+IsFault file (Damaged place) = IsDamaged file place
+IsFault file DiskFault = Unit {0}
+IsFault file Memory = Unit {0}
+
+-- the same where the disk tells what it holds
+abbrev pub FindsRecords : Option History → Walked → Type 0
+FindsRecords None w = Unit {0}
+FindsRecords (Some h) w = IsWalked h.content w
+
+abbrev pub FindsFault : Option History → WalkFault → Type 0
+FindsFault None fault = Unit {0}
+FindsFault (Some h) fault = IsFault h.content fault

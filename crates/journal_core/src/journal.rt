@@ -1,0 +1,148 @@
+//! A journal on a disk.
+ghost use Rattle.std.specs.Prelude.{◌≡◌, ◌≤◌, ◌<◌, ◌↔◌, ◌+◌, [], ◌∷◌, ◌++◌, List, ℕ, length, IsTrue, OnOk, OnErr, IfOk, IfErr};
+ghost use Rattle.outside.specs.Disk.{IsSettled};
+ghost use Rattle.outside.specs.Faults.{Rose};
+ghost use Rattle.journal_core.specs.Holds.{Holds, end_of, limit};
+ghost use Rattle.journal_core.specs.Moments.{LeavesOnly};
+ghost use Rattle.journal_core.specs.Journal.{DiskHolds, IsAtRest, disk_of, size_of, IsReady, HoldsWithOrWithout};
+
+use crate::Frame;
+use crate::put::put;
+use outside::{Disk, Failed};
+
+/// The most bytes that a journal has.
+pub(crate) const LIMIT: u64 = 268_435_456;
+
+/// A journal on a disk, whose records end before a closed gate.
+#[derive(Drop)]
+pub struct Journal<D: Disk> {
+    disk: D,
+    end: u64,
+}
+
+// Gives a file of fewer than ten bytes its header and a closed gate.
+fn prepare<D: Disk>(disk: &mut D) -> Result<(), Failed>
+    requires { IsSettled (D.history disk.old) }
+    ensures at_rest { (records : List (List ℕ)) → DiskHolds (D.history disk.old) records → OnOk result (IsAtRest (D.history disk.new) (end_of records) records) }
+    ensures any_moment { (records : List (List ℕ)) → DiskHolds (D.history disk.old) records → LeavesOnly (D.history disk.old) (D.history disk.new) (λ image. Holds image records) }
+    ensures never_falls { D.fault_count disk.old ≤ D.fault_count disk.new }
+    ensures failed { OnErr result (Rose (D.fault_count disk.old) (D.fault_count disk.new)) }
+{
+    let length = disk.length()?;
+    if length >= 10 {
+        return Ok(());
+    }
+    put(disk, 0, b"OTCJRNL1\0")?;
+    Ok(())
+}
+
+impl<D: Disk> Journal<D> {
+    /// A journal on a settled disk whose records end at this place, as a walk found. A file of fewer than ten bytes gets
+    /// its header and a closed gate. A crash at any moment leaves a file that holds the same records.
+    pub fn start(disk: D, end: u64) -> Result<Journal<D>, (Failed, D)>
+        requires { IsSettled (D.history disk) }
+        ensures at_rest { (records : List (List ℕ)) → DiskHolds (D.history disk) records → end ≡ end_of records → IfOk result (λ j. IsAtRest (D.history (disk_of j)) end records) }
+        ensures end { IfOk result (λ j. size_of j ≡ end) }
+        ensures any_moment { (records : List (List ℕ)) → DiskHolds (D.history disk) records → IfOk result (λ j. LeavesOnly (D.history disk) (D.history (disk_of j)) (λ image. Holds image records)) }
+        ensures any_moment_failed { (records : List (List ℕ)) → DiskHolds (D.history disk) records → IfErr result (λ e. LeavesOnly (D.history disk) (D.history e.1) (λ image. Holds image records)) }
+        ensures never_falls { IfOk result (λ j. D.fault_count disk ≤ D.fault_count (disk_of j)) }
+        ensures failed { IfErr result (λ e. Rose (D.fault_count disk) (D.fault_count e.1)) }
+    {
+        let mut disk = disk;
+        match prepare(&mut disk) {
+            Ok(()) => Ok(Journal { disk, end }),
+            Err(failed) => Err((failed, disk)),
+        }
+    }
+
+    /// How many bytes the journal has.
+    pub fn bytes(&self) -> u64
+        ensures { result ≡ size_of self.now }
+    {
+        self.end
+    }
+
+    /// Whether a record of this length fits below the limit.
+    pub fn fits(&self, length: u64) -> bool
+        ensures { IsTrue result ↔ (size_of self.now + 4 + length + 1 ≤ limit) }
+    {
+        self.end.saturating_add(length).saturating_add(5) <= LIMIT
+    }
+
+    /// Puts a record behind the others, in four calls of the disk and without memory. When it is done, each crash leaves
+    /// a file that holds it too. A crash at any moment before leaves one that holds the records from before, with the
+    /// new one or without. After a fault the journal is to be opened again.
+    pub fn append(&mut self, frame: &Frame) -> Result<(), Failed>
+        requires ready { IsReady (D.history (disk_of self.old)) (size_of self.old) }
+        requires fits { size_of self.old + 4 + length frame.now + 1 ≤ limit }
+        ensures done { (records : List (List ℕ)) → IsAtRest (D.history (disk_of self.old)) (size_of self.old) records → OnOk result (IsAtRest (D.history (disk_of self.new)) (size_of self.new) (records ++ frame.now ∷ [])) }
+        ensures size { OnOk result (size_of self.new ≡ size_of self.old + (5 + length frame.now)) }
+        ensures same_size { OnErr result (size_of self.new ≡ size_of self.old) }
+        ensures any_moment { (records : List (List ℕ)) → IsAtRest (D.history (disk_of self.old)) (size_of self.old) records → LeavesOnly (D.history (disk_of self.old)) (D.history (disk_of self.new)) (HoldsWithOrWithout records frame.now) }
+        ensures never_falls { D.fault_count (disk_of self.old) ≤ D.fault_count (disk_of self.new) }
+        ensures failed { OnErr result (Rose (D.fault_count (disk_of self.old)) (D.fault_count (disk_of self.new))) }
+    {
+        let behind = frame.behind_gate();
+        let gate = self.end.saturating_sub(1);
+        put(&mut self.disk, self.end, behind)?;
+        // The record has to be on the disk first: behind a gate that is torn open, what stands there counts.
+        put(&mut self.disk, gate, &[1])?;
+        self.end += behind.len() as u64;
+        Ok(())
+    }
+
+    /// The disk below it.
+    pub fn end(self) -> D
+        ensures { result ≡ disk_of self }
+    {
+        self.disk
+    }
+}
+
+#[cfg(test)]
+mod tests {
+    use super::*;
+    use crate::walk;
+    use outside::MemoryDisk;
+    use std::test::Fail;
+
+    #[test]
+    fn the_size_at_the_limit_fits_and_one_byte_more_does_not(rt: HostRuntime) -> Result<(), Fail> {
+        let disk = MemoryDisk::new(rt.alloc(), 16, 8)?;
+        match Journal::start(disk, 39) {
+            Ok(journal) => {
+                assert_eq!(rt; journal.bytes(), 39);
+                assert!(rt; journal.fits(268_435_412));
+                assert!(rt; !journal.fits(268_435_413));
+            }
+            Err((failed, _)) => return Err(failed.into()),
+        }
+        Ok(())
+    }
+
+    #[test]
+    fn an_append_writes_the_worked_file(rt: HostRuntime) -> Result<(), Fail> {
+        let alloc = rt.alloc();
+        let disk = MemoryDisk::new(alloc, 128, 8)?;
+        match Journal::start(disk, 9) {
+            Ok(mut journal) => {
+                let frame = Frame::of(
+                    alloc,
+                    b"\0\0\0\0\x01A\x01\x01A\x01B\x01P\x0a\0\0\0\0\0\0\0\xea\x07\x03\x02",
+                )?;
+                journal.append(&frame)?;
+                assert_eq!(rt; journal.bytes(), 39);
+                let mut disk = journal.end().crash();
+                let mut file = [0; 40];
+                assert_eq!(rt; disk.read(0, &mut file), Ok(39));
+                assert!(rt;
+                    file.as_slice()
+                        == b"OTCJRNL1\x01\x19\0\0\0\0\0\0\0\x01A\x01\x01A\x01B\x01P\x0a\0\0\0\0\0\0\0\xea\x07\x03\x02\0\0".as_slice()
+                );
+                assert_eq!(rt; walk(alloc, &mut disk)?.end, 39);
+            }
+            Err((failed, _)) => return Err(failed.into()),
+        }
+        Ok(())
+    }
+}

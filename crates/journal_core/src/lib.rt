@@ -1,0 +1,13 @@
+//! The journal: byte records in a file, each on the disk before its append is answered.
+#![tactic(auto)]
+
+pub mod frame;
+pub mod journal;
+mod put;
+pub mod walked;
+mod walking;
+
+pub use frame::Frame;
+pub use journal::Journal;
+pub use walked::{RecordAt, WalkFault, Walked};
+pub use walking::walk;
