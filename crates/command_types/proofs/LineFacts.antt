@@ -1,11 +1,11 @@
 -- Lines, byte by byte.
-use Rattle.std.proofs.Common.{◌≡◌, ℕ, zero, suc, ◌≤◌, ◌<◌, ◌==◌, nat_lt, Bool, true, false, List, [], ◌∷◌, ◌++◌, length, take, fold, arith, refl, sym, ap, ◌∙◌, append_assoc, cond}
+use Rattle.std.proofs.Common.{◌≡◌, ℕ, zero, suc, ◌≤◌, ◌<◌, ◌==◌, nat_lt, Bool, true, false, List, [], ◌∷◌, ◌++◌, length, take, fold, Result, Ok, Err, arith, refl, sym, ap, ◌∙◌, append_assoc, cond}
 use Rattle.std.proofs.lemmas.Bool.Decides.{nat_tests}
 use Rattle.std.proofs.lemmas.List.{append-nil, take_all, length-take}
 use Rattle.std.proofs.lemmas.List.Sums.{fold-append}
-use Rattle.command_types.specs.declared.ask.What.{What}
-use Rattle.command_types.specs.declared.ask.What.TheVariants.{Unreadable}
-use Rattle.command_types.specs.Lines.{Cut, cut_on, cut_of, empty_cut, ended_line, without_return, what_of, what_of_line, line_of_words, words_of, last_line}
+use Rattle.command_types.specs.declared.line.Line.{Line}
+use Rattle.command_types.specs.Lines.{Cut, cut_on, cut_of, empty_cut, ended_line, without_return, last_line, lines_of}
+use Rattle.command_types.specs.Grammar.{line_of, line_within}
 
 cut_more : (bytes : List ℕ) (b : ℕ) → cut_of (bytes ++ b ∷ []) ≡ cut_on (cut_of bytes) b
 cut_more bytes b = fold-append cut_on empty_cut bytes (b ∷ [])
@@ -48,8 +48,8 @@ le_from : (n m : ℕ) → nat_lt n m ≡ false → m ≤ n
 le_from n m e = grind (arith, nat_tests)
 
 -- a line that is too long can't be read
-pub what_long : (line : List ℕ) → 4096 < length line → what_of line ≡ Unreadable 0
-what_long line long = ap (λ t. cond {A = What} t (Unreadable 0) (what_of_line (line_of_words (words_of line)))) (lt_true 4096 (length line) long)
+pub line_long : (line : List ℕ) → 4096 < length line → line_within line ≡ Err 4096
+line_long line long = ap (λ t. cond {A = Result Line ℕ} t (Err 4096) (line_of line)) (lt_true 4096 (length line) long)
 
 -- and stays as it is where a line feed ends it
 pub ended_long : (line : List ℕ) → 4096 < length line → ended_line line ≡ line
@@ -61,30 +61,30 @@ ended_short line short = ap (λ t. cond {A = List ℕ} t line (without_return li
 long_front : (line : List ℕ) → 4096 < length line → 4096 < length (take 4097 line)
 long_front line long = omega (arith, length-take 4097 line)
 
-ended_front_by : (line : List ℕ) (t : Bool) → nat_lt 4096 (length line) ≡ t → what_of (ended_line (take 4097 line)) ≡ what_of (ended_line line)
+ended_front_by : (line : List ℕ) (t : Bool) → nat_lt 4096 (length line) ≡ t → line_within (ended_line (take 4097 line)) ≡ line_within (ended_line line)
 ended_front_by line true e =
     let long : 4096 < length line = lt_from 4096 (length line) e in
     let front : 4096 < length (take 4097 line) = long_front line long in
-    ap what_of (ended_long (take 4097 line) front) ∙ what_long (take 4097 line) front ∙ sym (ap what_of (ended_long line long) ∙ what_long line long)
+    ap line_within (ended_long (take 4097 line) front) ∙ line_long (take 4097 line) front ∙ sym (ap line_within (ended_long line long) ∙ line_long line long)
 ended_front_by line false e =
     let short : length line ≤ 4096 = le_from 4096 (length line) e in
-    ap (λ l. what_of (ended_line l)) (take_all 4097 line (omega arith))
+    ap (λ l. line_within (ended_line l)) (take_all 4097 line (omega arith))
 
 -- a line that was ended is read by its first 4,097 bytes
-pub what_of_ended_front : (line : List ℕ) → what_of (ended_line (take 4097 line)) ≡ what_of (ended_line line)
-what_of_ended_front line = ended_front_by line (nat_lt 4096 (length line)) refl
+pub read_of_ended_front : (line : List ℕ) → line_within (ended_line (take 4097 line)) ≡ line_within (ended_line line)
+read_of_ended_front line = ended_front_by line (nat_lt 4096 (length line)) refl
 
-front_by : (line : List ℕ) (t : Bool) → nat_lt 4096 (length line) ≡ t → what_of (take 4097 line) ≡ what_of line
+front_by : (line : List ℕ) (t : Bool) → nat_lt 4096 (length line) ≡ t → line_within (take 4097 line) ≡ line_within line
 front_by line true e =
     let long : 4096 < length line = lt_from 4096 (length line) e in
-    what_long (take 4097 line) (long_front line long) ∙ sym (what_long line long)
+    line_long (take 4097 line) (long_front line long) ∙ sym (line_long line long)
 front_by line false e =
     let short : length line ≤ 4096 = le_from 4096 (length line) e in
-    ap what_of (take_all 4097 line (omega arith))
+    ap line_within (take_all 4097 line (omega arith))
 
 -- and so is a last line
-pub what_of_front : (line : List ℕ) → what_of (take 4097 line) ≡ what_of line
-what_of_front line = front_by line (nat_lt 4096 (length line)) refl
+pub read_of_front : (line : List ℕ) → line_within (take 4097 line) ≡ line_within line
+read_of_front line = front_by line (nat_lt 4096 (length line)) refl
 
 -- one more byte behind what is kept of a line
 pub take_push : (n : ℕ) (rest : List ℕ) (b : ℕ) → take n (take n rest ++ b ∷ []) ≡ take n (rest ++ b ∷ [])

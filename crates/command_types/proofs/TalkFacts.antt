@@ -13,7 +13,8 @@ pub answered_longer : (figures : Figures) (h : History) (more : List Entry) (sea
 answered_longer figures h more seat from line head first to a = record {
   reply = a.reply;
   before = a.before;
-  told = told_longer figures a.before to.stopped h more seat (ask_of from.speaker line) a.reply a.told;
+  open_yet = a.open_yet;
+  told = told_longer figures a.before to.stopped h more seat (ask_of h.base.state.roster from.speaker line) a.reply a.told;
   later = a.later;
   known = a.known;
   stays = a.stays;
@@ -21,6 +22,7 @@ answered_longer figures h more seat from line head first to a = record {
   made = a.made;
   position = a.position;
   speaker = a.speaker;
+  over = a.over;
 }
 
 pub talk_longer : (figures : Figures) (h : History) (more : List Entry) (seat : ℕ) (from : Standing) (lines : List (List ℕ)) (text : List ℕ) (made : List Entry) (to : Standing) →
@@ -68,4 +70,4 @@ talk_own figures h seat from [] text made to (no_text, no_made, same) = rw no_ma
 talk_own figures h seat from (line ∷ lines) text made to (next, head, rest, first, others, answered, is_text, is_made, talk) =
     let P : List Entry → Type 0 = λ es. filter (λ entry. entry.seat == seat) es ≡ es in
     let own = talk_own figures h seat next lines rest others to talk in
-    subst P (sym (is_made ∙ ap (λ es. es ++ others) answered.made)) (recorded_own seat (ask_of from.speaker line) answered.reply.answer others own)
+    subst P (sym (is_made ∙ ap (λ es. es ++ others) answered.made)) (recorded_own seat (ask_of h.base.state.roster from.speaker line) answered.reply.answer others own)

@@ -1,9 +1,17 @@
 pub mod Roster
 pub mod Trades
+pub mod Books
+pub mod Tolerances
+pub mod Plans
+pub mod Cycles
+pub mod CycleRefusals
+pub mod CycleSteps
 pub mod Machine
 pub mod History
 pub mod Sizes
+pub mod Spelling
 pub mod Told
 pub mod Lines
+pub mod Grammar
 pub mod Text
 pub mod Session

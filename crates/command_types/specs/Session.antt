@@ -1,14 +1,24 @@
 -- A session: lines in, the texts of their replies out.
-use Rattle.std.specs.Prelude.{◌≡◌, ℕ, ◌≤◌, Bool, true, List, [], ◌∷◌, ◌++◌, Option, Some, None}
+use Rattle.std.specs.Prelude.{◌≡◌, ℕ, ◌+◌, ◌≤◌, ℤ, pos, Bool, true, false, ◌&&◌, nat_lt, List, [], ◌∷◌, ◌++◌, length, sum_by, Option, Some, None, Result, Ok, Err, if◌then◌else◌}
+use Rattle.std.specs.Str.{bytes_eq}
+use Rattle.network_laws.specs.declared.rows.Row.{Row as NetworkRow}
+use Rattle.network_laws.specs.Solutions.{SolutionData}
 use Rattle.command_types.specs.declared.ask.Ask.{Ask}
 use Rattle.command_types.specs.declared.ask.Entry.{Entry}
+use Rattle.command_types.specs.declared.ask.What.{What}
+use Rattle.command_types.specs.declared.ask.What.TheVariants.{Hello as AskHello, Trade as AskTrade, Affirm as AskAffirm, End as AskEnd, Hold as AskHold, Free as AskFree, Tol as AskTol, Nets as AskNets, Statement as AskStatement, Freeze as AskFreeze, Begin as AskBegin, Limits as AskLimits, Row as AskRow, Pot as AskPot, Post as AskPost, Fetch, Plan as AskPlan, Accept as AskAccept, Decline as AskDecline, Cancel as AskCancel, Bye as AskBye, Unreadable}
+use Rattle.command_types.specs.declared.line.Line.{Line}
+use Rattle.command_types.specs.declared.line.Line.TheVariants.{Hello, Trade, Affirm, End, Hold, Free, Tol, Nets, Statement, Freeze, Begin, Limits, Row, Pot, Post, Propose, Plan, Accept, Decline, Cancel, Bye}
 use Rattle.command_types.specs.declared.answer.Answer.{Answer}
-use Rattle.command_types.specs.declared.answer.Answer.TheVariants.{Hello}
+use Rattle.command_types.specs.declared.answer.Answer.TheVariants.{Hello as Greeted, Noted, Proposed, Nothing, Bye as Left}
 use Rattle.command_types.specs.declared.answer.Reply.{Reply}
 use Rattle.command_types.specs.declared.figures.Figures.{Figures}
+use Rattle.command_types.specs.declared.roster.MemberRow.{MemberRow}
+use Rattle.command_types.specs.declared.roster.ProductRow.{ProductRow}
+use Rattle.command_types.specs.Roster.{Rows}
 use Rattle.command_types.specs.History.{History, recorded, entries_of_seat}
 use Rattle.command_types.specs.Told.{IsTold}
-use Rattle.command_types.specs.Lines.{what_of}
+use Rattle.command_types.specs.Grammar.{line_within}
 use Rattle.command_types.specs.Text.{reply_text}
 
 -- a row of a draft: an amount for a product and a pair of members, by their names
@@ -18,12 +28,102 @@ pub record DraftRow : Type 0 where
   pub buyer : List ℕ
   pub amount : ℕ
 
--- the rows that a session has noted for a posting; no command of today notes one
+-- a potential of a draft, for a product and a member
+pub record DraftPotential : Type 0 where
+  pub product : List ℕ
+  pub member : List ℕ
+  pub value : ℤ
+
+-- the rows and potentials that a session has noted for a posting
 pub record Draft : Type 0 where
   pub rows : List DraftRow
+  pub potentials : List DraftPotential
 
 abbrev pub empty_draft : Draft
-empty_draft = record { rows = [] }
+empty_draft = record { rows = []; potentials = [] }
+
+abbrev pub is_same_row : DraftRow → DraftRow → Bool
+is_same_row a b = bytes_eq a.product b.product && bytes_eq a.seller b.seller && bytes_eq a.buyer b.buyer
+
+-- a row replaces an earlier one of its product and pair
+abbrev pub with_draft_row : DraftRow → List DraftRow → List DraftRow
+with_draft_row new [] = new ∷ []
+with_draft_row new (row ∷ rows) = if is_same_row new row then new ∷ rows else row ∷ with_draft_row new rows
+
+abbrev pub is_same_potential : DraftPotential → DraftPotential → Bool
+is_same_potential a b = bytes_eq a.product b.product && bytes_eq a.member b.member
+
+-- a potential replaces an earlier one of its product and member
+abbrev pub with_draft_potential : DraftPotential → List DraftPotential → List DraftPotential
+with_draft_potential new [] = new ∷ []
+with_draft_potential new (potential ∷ potentials) =
+    if is_same_potential new potential then new ∷ potentials else potential ∷ with_draft_potential new potentials
+
+-- how many rows and potentials a draft has
+abbrev pub draft_size : Draft → ℕ
+draft_size draft = length draft.rows + length draft.potentials
+
+-- the amounts of a product in a draft
+abbrev pub draft_sum : List ℕ → List DraftRow → ℕ
+draft_sum product rows = sum_by (λ row. if bytes_eq row.product product then row.amount else 0) rows
+
+-- a sum as a command carries it: one above the largest gross stands for all that are above it
+abbrev pub capped : ℕ → ℕ
+capped sum = if nat_lt 1000000000000000000 sum then 1000000000000000001 else sum
+
+abbrev pub noted_row : Draft → List ℕ → List ℕ → List ℕ → ℕ → Draft
+noted_row draft product seller buyer amount =
+    record draft { rows = with_draft_row (record { product = product; seller = seller; buyer = buyer; amount = amount }) draft.rows }
+
+abbrev pub noted_potential : Draft → List ℕ → List ℕ → ℤ → Draft
+noted_potential draft product member value =
+    record draft { potentials = with_draft_potential (record { product = product; member = member; value = value }) draft.potentials }
+
+-- what a draft has for a pair of names in a product
+abbrev pub draft_amount : List ℕ → List ℕ → List ℕ → List DraftRow → ℕ
+draft_amount product seller buyer rows =
+    sum_by (λ row. if bytes_eq row.product product && bytes_eq row.seller seller && bytes_eq row.buyer buyer then row.amount else 0) rows
+
+abbrev pub positive_row : ℕ → ℕ → ℕ → List NetworkRow
+positive_row i j amount = if nat_lt 0 amount then record { seller = i; buyer = j; amount = amount } ∷ [] else []
+
+-- the rows of a seller, in the order of buyers, of which the first has this place
+abbrev pub seller_rows : (List ℕ → ℕ) → ℕ → ℕ → List MemberRow → List NetworkRow
+seller_rows amount_to i j [] = []
+seller_rows amount_to i j (buyer ∷ buyers) = positive_row i j (amount_to buyer.name) ++ seller_rows amount_to i (1 + j) buyers
+
+-- the rows of all sellers, in their order, of whom the first has this place
+abbrev pub network_rows : (List ℕ → List ℕ → ℕ) → List MemberRow → ℕ → List MemberRow → List NetworkRow
+network_rows amount_of members i [] = []
+network_rows amount_of members i (seller ∷ sellers) = seller_rows (amount_of seller.name) i 0 members ++ network_rows amount_of members (1 + i) sellers
+
+-- what a draft has for a member in a product, or 0
+abbrev pub draft_potential : List ℕ → List ℕ → List DraftPotential → ℤ
+draft_potential product member [] = pos 0
+draft_potential product member (potential ∷ potentials) =
+    if bytes_eq potential.product product && bytes_eq potential.member member then potential.value else draft_potential product member potentials
+
+abbrev pub potentials_for : (List ℕ → ℤ) → List MemberRow → List ℤ
+potentials_for value_of [] = []
+potentials_for value_of (member ∷ members) = value_of member.name ∷ potentials_for value_of members
+
+-- the solution of a product that a draft has; what it has not is 0
+abbrev pub draft_solution : List MemberRow → Draft → List ℕ → SolutionData
+draft_solution members draft product = record {
+  network = record {
+    members = length members;
+    rows = network_rows (λ seller buyer. draft_amount product seller buyer draft.rows) members 0 members;
+  };
+  potentials = potentials_for (λ member. draft_potential product member draft.potentials) members;
+}
+
+abbrev pub solutions_for : List MemberRow → Draft → List ProductRow → List SolutionData
+solutions_for members draft [] = []
+solutions_for members draft (product ∷ products) = draft_solution members draft product.name ∷ solutions_for members draft products
+
+-- one solution for each product, from a draft
+abbrev pub draft_solutions : Rows → Draft → List SolutionData
+draft_solutions rows draft = solutions_for rows.members draft rows.products
 
 -- what a session keeps between two lines: the party that has greeted, and its draft
 pub record Speaker : Type 0 where
@@ -33,33 +133,84 @@ pub record Speaker : Type 0 where
 abbrev pub nobody : Speaker
 nobody = record { party = None; draft = empty_draft }
 
+-- the command of a line of the grammar; a ROW and a POT carry the draft's size as it would be, and a POST the draft's solutions
+abbrev pub what_by : Rows → Draft → Line → What
+what_by rows draft (Hello name key) = AskHello name key
+what_by rows draft (Trade seller buyer product amount day) = AskTrade seller buyer product amount day
+what_by rows draft (Affirm trade) = AskAffirm trade
+what_by rows draft (End trade) = AskEnd trade
+what_by rows draft (Hold trade) = AskHold trade
+what_by rows draft (Free trade) = AskFree trade
+what_by rows draft (Tol other product side floor ceiling) = AskTol other product side floor ceiling
+what_by rows draft (Nets product) = AskNets product
+what_by rows draft Statement = AskStatement
+what_by rows draft (Freeze day) = AskFreeze day
+what_by rows draft (Begin cycle mode) = AskBegin cycle mode
+what_by rows draft (Limits product) = AskLimits product
+what_by rows draft (Row product seller buyer amount) =
+    AskRow product seller buyer amount (draft_size (noted_row draft product seller buyer amount)) (capped (draft_sum product (noted_row draft product seller buyer amount).rows))
+what_by rows draft (Pot product member value) = AskPot product member value (draft_size (noted_potential draft product member value))
+what_by rows draft (Post cycle version) = AskPost cycle version (draft_solutions rows draft)
+what_by rows draft (Propose cycle mode) = Fetch cycle 0
+what_by rows draft (Plan cycle) = AskPlan cycle
+what_by rows draft (Accept cycle version) = AskAccept cycle version
+what_by rows draft (Decline cycle version) = AskDecline cycle version
+what_by rows draft (Cancel cycle) = AskCancel cycle
+what_by rows draft Bye = AskBye
+
+abbrev pub what_or_fault : Rows → Draft → Result Line ℕ → What
+what_or_fault rows draft (Ok line) = what_by rows draft line
+what_or_fault rows draft (Err at) = Unreadable at
+
 -- the command of a line
-abbrev pub ask_of : Speaker → List ℕ → Ask
-ask_of speaker line = record { by = speaker.party; what = what_of line }
+abbrev pub ask_of : Rows → Speaker → List ℕ → Ask
+ask_of rows speaker line = record { by = speaker.party; what = what_or_fault rows speaker.draft (line_within line) }
 
--- an accepted greeting sets the party and clears the draft
-abbrev pub speaker_after : Speaker → Answer → Speaker
-speaker_after speaker (Hello name) = record { party = Some name; draft = empty_draft }
-speaker_after speaker answer = speaker
+-- the draft after a line that was noted
+abbrev pub draft_after : Draft → Result Line ℕ → Draft
+draft_after draft (Ok (Row product seller buyer amount)) = noted_row draft product seller buyer amount
+draft_after draft (Ok (Pot product member value)) = noted_potential draft product member value
+draft_after draft line = draft
 
--- how a session stands between two lines: the position that it has seen, what it keeps, and whether it knows that the desk is stopped
+-- the draft after an accepted posting: a POST clears it
+abbrev pub draft_posted : Draft → Result Line ℕ → Draft
+draft_posted draft (Ok (Post cycle version)) = empty_draft
+draft_posted draft line = draft
+
+-- an accepted greeting sets the party and clears the draft; what is noted goes into the draft, and an accepted POST clears it
+abbrev pub speaker_after : Speaker → Result Line ℕ → Answer → Speaker
+speaker_after speaker line (Greeted name) = record { party = Some name; draft = empty_draft }
+speaker_after speaker line (Noted size) = record speaker { draft = draft_after speaker.draft line }
+speaker_after speaker line (Proposed cycle version before after) = record speaker { draft = draft_posted speaker.draft line }
+speaker_after speaker line (Nothing cycle version) = record speaker { draft = draft_posted speaker.draft line }
+speaker_after speaker line answer = speaker
+
+-- the answer to an accepted BYE
+abbrev pub is_bye : Answer → Bool
+is_bye Left = true
+is_bye answer = false
+
+-- how a session stands between two lines: the position that it has seen, what it keeps, whether it knows that the desk is stopped, and whether it has said BYE
 pub record Standing : Type 0 where
   pub position : ℕ
   pub speaker : Speaker
   pub stopped : Bool
+  pub over : Bool
 
--- A line is replied to, at a position not below the one before. A stop may begin before the command or in it, and never ends.
+-- A line is replied to, at a position not below the one before. A stop may begin before the command or in it, and never ends. After an accepted BYE no line is replied to.
 pub record IsAnswered (figures : Figures) (h : History) (seat : ℕ) (from : Standing) (line head : List ℕ) (first : List Entry) (to : Standing) : Type 0 where
   pub reply : Reply
   pub before : Bool
-  pub told : IsTold figures before to.stopped h seat (ask_of from.speaker line) reply
+  pub open_yet : from.over ≡ false
+  pub told : IsTold figures before to.stopped h seat (ask_of h.base.state.roster from.speaker line) reply
   pub later : from.position ≤ reply.at
   pub known : from.stopped ≡ true → before ≡ true
   pub stays : before ≡ true → to.stopped ≡ true
   pub text : head ≡ reply_text h.base.state.roster reply
-  pub made : first ≡ recorded seat (ask_of from.speaker line) reply.answer
+  pub made : first ≡ recorded seat (ask_of h.base.state.roster from.speaker line) reply.answer
   pub position : to.position ≡ reply.at
-  pub speaker : to.speaker ≡ speaker_after from.speaker reply.answer
+  pub speaker : to.speaker ≡ speaker_after from.speaker (line_within line) reply.answer
+  pub over : to.over ≡ is_bye reply.answer
 
 -- One line after another is answered, and their texts are the text. `made` is recorded on the way.
 abbrev pub IsTalk : Figures → History → ℕ → Standing → List (List ℕ) → List ℕ → List Entry → Standing → Type 0

@@ -4,8 +4,8 @@ use Rattle.command_types.specs.declared.ask.Ask.{Ask}
 use Rattle.command_types.specs.declared.ask.Entry.{Entry}
 use Rattle.command_types.specs.declared.answer.Answer.{Answer}
 use Rattle.command_types.specs.declared.answer.Answer.TheVariants.{No}
-use Rattle.command_types.specs.declared.answer.Refusal.{Refusal}
-use Rattle.command_types.specs.declared.answer.Refusal.TheVariants.{JournalFull, Stopped, Memory, DiskFault}
+use Rattle.command_types.specs.declared.refusal.Refusal.{Refusal}
+use Rattle.command_types.specs.declared.refusal.Refusal.TheVariants.{JournalFull, Stopped, Memory, DiskFault}
 use Rattle.command_types.specs.declared.answer.Reply.{Reply}
 use Rattle.command_types.specs.declared.figures.State.{State}
 use Rattle.command_types.specs.declared.figures.Figures.{Figures}

@@ -1,9 +1,14 @@
 //! Commands, and the changes that the history keeps.
 
+use crate::cycle::Mode;
+use crate::level::Level;
+use crate::listed::Listed;
+use crate::trade::Side;
+use network_laws::Solution;
 use units_core::{Amount, Day, Name};
 
 /// A command.
-#[derive(Drop, PartialEq, Eq)]
+#[derive(Drop)]
 pub enum What {
     /// Speak for this party, by its key.
     Hello {
@@ -22,25 +27,107 @@ pub enum What {
     Affirm {
         trade: u64,
     },
-    /// Ask for one's own position in a product.
+    /// Ask to end a trade; it ends where both parties asked.
+    End {
+        trade: u64,
+    },
+    /// Keep a trade out of compression.
+    Hold {
+        trade: u64,
+    },
+    /// Take one's hold away.
+    Free {
+        trade: u64,
+    },
+    /// Set what one's amount towards another member may fall to and grow to; no ceiling is none.
+    Tol {
+        other: Name,
+        product: Name,
+        side: Side,
+        floor: Level,
+        ceiling: Option<Level>,
+    },
+    /// Ask for one's own position in a product, or, as the operator, for the market's figures.
     Nets {
         product: Name,
     },
-    /// A line that is not in the grammar; `at` is the offset of the byte that breaks it.
+    /// Ask for all one's trades.
+    Statement,
+    /// Open a cycle over the live trades of the products that mature after the day.
+    Freeze {
+        day: Day,
+    },
+    /// Take the limits, and begin a version.
+    Begin {
+        cycle: u64,
+        mode: Mode,
+    },
+    /// Ask for the limits of a product.
+    Limits {
+        product: Name,
+    },
+    /// Note a row of the draft; `size` and `sum` are the draft's size and the product's draft sum as they would be.
+    Row {
+        product: Name,
+        seller: Name,
+        buyer: Name,
+        amount: Amount,
+        size: u32,
+        sum: u64,
+    },
+    /// Note a potential of the draft; `size` is the draft's size as it would be.
+    Pot {
+        product: Name,
+        member: Name,
+        value: i32,
+        size: u32,
+    },
+    /// Post one solution for each product.
+    Post {
+        cycle: u64,
+        version: u64,
+        solutions: Listed<Solution>,
+    },
+    /// Ask for the problems of the begun version. Sessions alone ask it.
+    Fetch {
+        cycle: u64,
+        version: u64,
+    },
+    /// Ask for the proposed plan.
+    Plan {
+        cycle: u64,
+    },
+    /// Agree to the proposal.
+    Accept {
+        cycle: u64,
+        version: u64,
+    },
+    /// Refuse the proposal.
+    Decline {
+        cycle: u64,
+        version: u64,
+    },
+    /// End the cycle.
+    Cancel {
+        cycle: u64,
+    },
+    /// End the session.
+    Bye,
+    /// A line that is not in the grammar; `at` is the offset of the first word that is not of the form.
     Unreadable {
         at: u32,
     },
 }
 
 /// A command, and the party that gives it, if one has greeted.
-#[derive(Drop, PartialEq, Eq)]
+#[derive(Drop)]
 pub struct Ask {
     pub by: Option<Name>,
     pub what: What,
 }
 
 /// A change that was accepted, under the seat that asked for it.
-#[derive(Drop, PartialEq, Eq)]
+#[derive(Drop)]
 pub struct Entry {
     pub seat: u32,
     pub ask: Ask,

@@ -1,14 +1,43 @@
 //! What a desk was when it was made, and the state that its history begins with. Contracts alone speak of these
 //! types: no value of them is made.
 
+use crate::cycle::Phase;
+use crate::plan::PlanRow;
 use crate::roster::Roster;
+use crate::tolerance::ToleranceRow;
 use crate::trade::TradeRow;
+use network_laws::{Problem, Solution};
 use std::collections::LinkedList;
+use units_core::{Day, MemberNo};
+
+/// The compression cycle: two numbers that stay, and what its phase needs. Where no cycle is open there is nothing
+/// but the two numbers.
+pub struct Cycle {
+    /// How many cycles were opened so far.
+    pub number: u64,
+    /// How many versions were begun since this one was opened.
+    pub version: u64,
+    pub phase: Phase,
+    /// The day of its freeze.
+    pub day: Option<Day>,
+    /// The limits and the frozen network of each product, as the version began with them.
+    pub begun: LinkedList<Problem>,
+    /// The posted solution of each product.
+    pub solutions: LinkedList<Solution>,
+    /// What the posted solutions change.
+    pub plan: LinkedList<PlanRow>,
+    /// The members that have accepted the plan.
+    pub votes: LinkedList<MemberNo>,
+    /// The frozen trade whose end broke the cycle.
+    pub broken_by: Option<u64>,
+}
 
 /// What the machine knows.
 pub struct State {
     pub roster: Roster,
     pub trades: LinkedList<TradeRow>,
+    pub tolerances: LinkedList<ToleranceRow>,
+    pub cycle: Cycle,
 }
 
 /// Where a history begins: a position, and the state there.

@@ -4,18 +4,33 @@
 
 mod answer;
 mod ask;
+mod cycle;
 mod desk;
 mod figures;
+mod file_fault;
+mod level;
 mod line;
+mod listed;
+mod plan;
+mod refusal;
 mod roster;
+mod tolerance;
 mod trade;
 
-pub use answer::{Answer, Refusal, Reply};
+pub use answer::{Answer, Reply};
 pub use ask::{Ask, Entry, What};
+pub use cycle::{Mode, Phase};
 pub use desk::Desk;
-pub use figures::{Base, Figures, JournalFigures, State};
+pub use figures::{Base, Cycle, Figures, JournalFigures, State};
+pub use file_fault::FileFault;
+pub use level::Level;
 pub use line::Line;
+pub use listed::Listed;
+pub use network_laws::Clash;
+pub use plan::{LimitLine, PlanRow};
+pub use refusal::{BadPost, Refusal};
 pub use roster::{MemberRow, OperatorRow, ProductRow, Role, Roster};
+pub use tolerance::ToleranceRow;
 pub use trade::{Side, TradeRow, TradeState};
 
 #[cfg(test)]

@@ -3,7 +3,7 @@
 ghost use Rattle.std.specs.Prelude.{◌≡◌, IfOk, Some};
 ghost use Rattle.units_core.specs.Day.{day_of};
 
-use crate::{MemberRow, OperatorRow, ProductRow, Role, Roster};
+use crate::{Level, Listed, MemberRow, OperatorRow, ProductRow, Role, Roster};
 use std::alloc::{AllocError, Global};
 use std::test::Fail;
 use units_core::{Day, MemberNo, Name, ProductNo};
@@ -80,5 +80,28 @@ fn keys_belong_to_their_names(rt: HostRuntime) -> Result<(), Fail> {
     }
     assert!(rt; roster.is_operator(&name(b"OPS")?));
     assert!(rt; !roster.is_operator(&name(b"A")?));
+    Ok(())
+}
+
+#[test]
+fn levels_end_at_ten_to_the_eighteen(rt: HostRuntime) -> Result<(), Fail> {
+    for (n, want) in [
+        (0, true),
+        (1_000_000_000_000_000_000, true),
+        (1_000_000_000_000_000_001, false),
+    ] {
+        assert_eq!(rt; Level::new(n).map(|level| level.get()), want.then_some(n));
+    }
+    Ok(())
+}
+
+#[test]
+fn a_list_gives_its_rows_back(rt: HostRuntime) -> Result<(), Fail> {
+    let mut rows = Vec::new(rt.alloc());
+    rows.push(7u64)?;
+    rows.push(9u64)?;
+    let listed = Listed::new(rows);
+    assert_eq!(rt; listed.rows().len(), 2);
+    assert!(rt; listed.into_rows().as_slice() == [7u64, 9].as_slice());
     Ok(())
 }

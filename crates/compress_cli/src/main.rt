@@ -1,9 +1,9 @@
-//! The program: the service over the system's streams.
+//! The program: the service over the system's files and streams.
 #![tactic(auto)]
 
 use compress_server::run;
 use outside::sink::write_all;
-use outside::{StreamSink, StreamSource};
+use outside::{StreamSink, StreamSource, SystemFiles};
 use std::alloc::AllocGlobal;
 use std::env::Env;
 use std::process::ExitCode;
@@ -19,6 +19,7 @@ fn words(rt: &(impl Env + AllocGlobal)) -> io::Result<Vec<String>> {
 }
 
 fn main(rt: HostRuntime) -> ExitCode {
+    let mut files = SystemFiles::new(&rt);
     let mut input = StreamSource::new(rt.stdin());
     let mut output = StreamSink::new(rt.stdout());
     let mut errors = StreamSink::new(rt.stderr());
@@ -27,6 +28,7 @@ fn main(rt: HostRuntime) -> ExitCode {
             &rt,
             rt.alloc(),
             &words,
+            &mut files,
             &mut input,
             &mut output,
             &mut errors,

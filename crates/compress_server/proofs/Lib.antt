@@ -1,10 +1,1 @@
-pub mod BufferFacts
-pub mod WordFacts
-pub mod NameFacts
-pub mod StreamFacts
-pub mod SumFacts
-pub mod PlaceFacts
-pub mod MachineFacts
-pub mod DeskFacts
-pub mod ServedFacts
 pub mod RunFacts

@@ -1,5 +1,5 @@
-pub mod Machine
-pub mod PlainDesk
-pub mod Serving
-pub mod Ending
+pub mod Words
+pub mod Faults
 pub mod Run
+pub mod Load
+pub mod Script

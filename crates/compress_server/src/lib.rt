@@ -1,14 +1,9 @@
-//! The service: lines of a session in, the texts of their replies out.
+//! The program: its words, its files and its streams.
 #![tactic(auto)]
 
-mod built_in;
-mod head;
-mod line_buffer;
-mod line_reader;
-mod machine;
-mod plain_desk;
-mod session;
-mod speaker;
+mod faults;
+mod load;
+mod script;
 mod top;
 mod words;
 

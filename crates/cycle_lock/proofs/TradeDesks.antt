@@ -8,17 +8,17 @@ use Rattle.std.proofs.lemmas.Bool.Decides.{nat_tests}
 use Rattle.units_core.specs.Day.{DayParts, is_before}
 use Rattle.command_types.specs.declared.ask.Ask.{Ask}
 use Rattle.command_types.specs.declared.ask.What.{What}
-use Rattle.command_types.specs.declared.ask.What.TheVariants.{Hello, Trade, Affirm, Nets, Unreadable}
+use Rattle.command_types.specs.declared.ask.What.TheVariants.{Hello, Trade, Affirm, End, Hold, Free, Tol, Nets, Statement, Freeze, Begin, Limits, Row, Pot, Post, Fetch, Plan, Accept, Decline, Cancel, Bye, Unreadable}
 use Rattle.command_types.specs.declared.ask.Entry.{Entry}
 use Rattle.command_types.specs.declared.answer.Answer.TheVariants.{Traded, No}
-use Rattle.command_types.specs.declared.answer.Refusal.{Refusal}
-use Rattle.command_types.specs.declared.answer.Refusal.TheVariants.{Memory}
+use Rattle.command_types.specs.declared.refusal.Refusal.{Refusal}
+use Rattle.command_types.specs.declared.refusal.Refusal.TheVariants.{Memory}
 use Rattle.command_types.specs.declared.figures.State.{State}
 use Rattle.command_types.specs.declared.roster.ProductRow.{ProductRow}
 use Rattle.command_types.specs.declared.trade.TradeRow.{TradeRow}
 use Rattle.command_types.specs.Roster.{Rows, member_place, product_place, is_party, is_operator}
-use Rattle.command_types.specs.Trades.{counts, gross_of, submitted_count}
-use Rattle.command_types.specs.Machine.{empty_state, first_of, refusals, refused_or, answer_to, state_after, state_by, changes, product_of, is_matured_row, alleged_row}
+use Rattle.command_types.specs.Trades.{counts, gross_of, submitted_count, alleged_row}
+use Rattle.command_types.specs.Machine.{empty_state, first_of, refusals, refused_or, answer_to, state_after, state_by, changes, member_of, product_of, maturity_refusal, side_of}
 use Rattle.command_types.specs.History.{replayed_from, is_recorded, IsLegalFrom}
 use Rattle.command_types.specs.Told.{IsTold}
 use Rattle.cycle_lock.specs.Accounts.{whole}
@@ -57,11 +57,11 @@ no_refusal : (rows : List (Bool × Refusal)) → NoneHolds rows → first_of row
 no_refusal [] h = refl
 no_refusal (row ∷ rows) h = ap (λ (b : Bool). if b then Some row.1 else first_of rows) h.0 ∙ no_refusal rows h.1
 
-runs_row : (row : Option ProductRow) (day : DayParts) → is_running_row row day ≡ true → is_matured_row row day ≡ false
+runs_row : (row : Option ProductRow) (day : DayParts) → is_running_row row day ≡ true → (maturity_refusal row day).0 ≡ false
 runs_row None day e = absurd (cc)
 runs_row (Some row) day e = flip_true (is_before day row.maturity) e
 
-runs_at : (rows : Rows) (place : Option ℕ) (day : DayParts) → is_running_row (row_at rows place) day ≡ true → (is_none place ≡ false) × (is_matured_row (slice_get rows.products (unwrap_or place 0)) day ≡ false)
+runs_at : (rows : Rows) (place : Option ℕ) (day : DayParts) → is_running_row (row_at rows place) day ≡ true → (is_none place ≡ false) × ((maturity_refusal (slice_get rows.products (unwrap_or place 0)) day).0 ≡ false)
 runs_at rows None day e = absurd (cc)
 runs_at rows (Some place) day e = (refl, runs_row (slice_get rows.products place) day e)
 
@@ -99,15 +99,37 @@ in_order : (rows : Rows) (count total : ℕ) (by seller buyer product : List ℕ
 in_order rows count total by seller buyer product amount day e = nine (is_member rows by) (is_member rows seller) (is_member rows buyer) (not (bytes_eq seller buyer)) (bytes_eq by seller || bytes_eq by buyer)
     (is_running rows product day) (nat_le amount 1000000000000000) (nat_le (total + amount) 1000000000000000000) (nat_lt count 100000) e
 
--- what is in order is accepted
-pub accepts : (s : State) (count total : ℕ) (by : Option (List ℕ)) (what : What) → ((product : ℕ) → gross_of product s.trades ≤ total) → length s.trades ≡ count → is_in_order_by s.roster count total by what ≡ true
-    → answer_to s record { by = by; what = what } ≡ Traded (count + 1)
-accepts s count total None what gross long e = absurd (cc)
-accepts s count total (Some by) (Hello name key) gross long e = absurd (cc)
-accepts s count total (Some by) (Affirm trade) gross long e = absurd (cc)
-accepts s count total (Some by) (Nets product) gross long e = absurd (cc)
-accepts s count total (Some by) (Unreadable at) gross long e = absurd (cc)
-accepts s count total (Some by) (Trade seller buyer product amount day) gross long e =
+-- what is in order is a trade that somebody asks for
+by_trade : (rows : Rows) (count total : ℕ) (P : Option (List ℕ) → What → Type 0)
+    → ((by seller buyer product : List ℕ) (amount : ℕ) (day : DayParts) → is_in_order_by rows count total (Some by) (Trade seller buyer product amount day) ≡ true → P (Some by) (Trade seller buyer product amount day))
+    → (by : Option (List ℕ)) (what : What) → is_in_order_by rows count total by what ≡ true → P by what
+by_trade rows count total P trades None what e = absurd (cc)
+by_trade rows count total P trades (Some by) (Hello name key) e = absurd (cc)
+by_trade rows count total P trades (Some by) (Trade seller buyer product amount day) e = trades by seller buyer product amount day e
+by_trade rows count total P trades (Some by) (Affirm trade) e = absurd (cc)
+by_trade rows count total P trades (Some by) (End trade) e = absurd (cc)
+by_trade rows count total P trades (Some by) (Hold trade) e = absurd (cc)
+by_trade rows count total P trades (Some by) (Free trade) e = absurd (cc)
+by_trade rows count total P trades (Some by) (Tol other product side floor ceiling) e = absurd (cc)
+by_trade rows count total P trades (Some by) (Nets product) e = absurd (cc)
+by_trade rows count total P trades (Some by) Statement e = absurd (cc)
+by_trade rows count total P trades (Some by) (Freeze day) e = absurd (cc)
+by_trade rows count total P trades (Some by) (Begin cycle mode) e = absurd (cc)
+by_trade rows count total P trades (Some by) (Limits product) e = absurd (cc)
+by_trade rows count total P trades (Some by) (Row product seller buyer amount size sum) e = absurd (cc)
+by_trade rows count total P trades (Some by) (Pot product member value size) e = absurd (cc)
+by_trade rows count total P trades (Some by) (Post cycle version solutions) e = absurd (cc)
+by_trade rows count total P trades (Some by) (Fetch cycle version) e = absurd (cc)
+by_trade rows count total P trades (Some by) (Plan cycle) e = absurd (cc)
+by_trade rows count total P trades (Some by) (Accept cycle version) e = absurd (cc)
+by_trade rows count total P trades (Some by) (Decline cycle version) e = absurd (cc)
+by_trade rows count total P trades (Some by) (Cancel cycle) e = absurd (cc)
+by_trade rows count total P trades (Some by) Bye e = absurd (cc)
+by_trade rows count total P trades (Some by) (Unreadable at) e = absurd (cc)
+
+accepts_trade : (s : State) (count total : ℕ) → ((product : ℕ) → gross_of product s.trades ≤ total) → length s.trades ≡ count → (by seller buyer product : List ℕ) (amount : ℕ) (day : DayParts)
+    → is_in_order_by s.roster count total (Some by) (Trade seller buyer product amount day) ≡ true → answer_to s record { by = Some by; what = Trade seller buyer product amount day } ≡ Traded (count + 1)
+accepts_trade s count total gross long by seller buyer product amount day e =
     let rows : Rows = s.roster in
     let o = in_order rows count total by seller buyer product amount day e in
     let party : is_party rows (Some by) ≡ true = or_left (is_some (member_place rows by)) (is_operator rows by) o.0 in
@@ -120,20 +142,23 @@ accepts s count total (Some by) (Trade seller buyer product amount day) gross lo
     (no_refusal (refusals s (Some by) (Trade seller buyer product amount day)) (
       flip_true (is_party rows (Some by)) party,
       (
-        not_both _ _ (found (member_place rows seller) o.1) (found (member_place rows buyer) o.2),
+        refl,
         (
-          runs.0,
+          not_both _ _ (found (member_place rows seller) o.1) (found (member_place rows buyer) o.2),
           (
-            flip_back (bytes_eq seller buyer) o.3,
+            runs.0,
             (
-              flip_true (bytes_eq by seller || bytes_eq by buyer) o.4,
+              flip_back (bytes_eq seller buyer) o.3,
               (
-                is_at_most amount 1000000000000000 o.6,
+                flip_true (bytes_eq by seller || bytes_eq by buyer) o.4,
                 (
-                  runs.1,
+                  is_at_most amount 1000000000000000 o.6,
                   (
-                    not_above (gross_of (product_of s product) s.trades + amount) 1000000000000000000 (omega arith),
-                    (is_below (submitted_count s.trades) 100000 (omega arith), tt),
+                    runs.1,
+                    (
+                      not_above (gross_of (product_of s product) s.trades + amount) 1000000000000000000 (omega arith),
+                      (is_below (submitted_count s.trades) 100000 (omega arith), tt),
+                    ),
                   ),
                 ),
               ),
@@ -144,16 +169,19 @@ accepts s count total (Some by) (Trade seller buyer product amount day) gross lo
     ))
     ∙ ap (λ (n : ℕ). Traded (n + 1)) long
 
+-- what is in order is accepted
+pub accepts : (s : State) (count total : ℕ) (by : Option (List ℕ)) (what : What) → ((product : ℕ) → gross_of product s.trades ≤ total) → length s.trades ≡ count → is_in_order_by s.roster count total by what ≡ true
+    → answer_to s record { by = by; what = what } ≡ Traded (count + 1)
+accepts s count total by what gross long e =
+    by_trade s.roster count total (λ (by : Option (List ℕ)) (what : What). answer_to s record { by = by; what = what } ≡ Traded (count + 1)) (accepts_trade s count total gross long) by what e
+
 -- and it is a trade, within the limits
 within : (rows : Rows) (count total : ℕ) (by : Option (List ℕ)) (what : What) → is_in_order_by rows count total by what ≡ true → (count < 100000) × (total + amount_in what ≤ 1000000000000000000) × (changes what ≡ true)
-within rows count total None what e = absurd (cc)
-within rows count total (Some by) (Hello name key) e = absurd (cc)
-within rows count total (Some by) (Affirm trade) e = absurd (cc)
-within rows count total (Some by) (Nets product) e = absurd (cc)
-within rows count total (Some by) (Unreadable at) e = absurd (cc)
-within rows count total (Some by) (Trade seller buyer product amount day) e =
-    let o = in_order rows count total by seller buyer product amount day e in
-    (less count 100000 o.8, at_most (total + amount) 1000000000000000000 o.7, refl)
+within rows count total by what e =
+    by_trade rows count total (λ (by : Option (List ℕ)) (what : What). (count < 100000) × (total + amount_in what ≤ 1000000000000000000) × (changes what ≡ true))
+    (λ by seller buyer product amount day e. let o = in_order rows count total by seller buyer product amount day e in
+    (less count 100000 o.8, at_most (total + amount) 1000000000000000000 o.7, refl))
+    by what e
 
 gross_row : (product : ℕ) (rows : List TradeRow) (row : TradeRow) → gross_of product (rows ++ row ∷ []) ≤ gross_of product rows + row.amount
 gross_row product rows row = at_most_whole ((row.product == product) && counts row.state) (sum_by-append amount_if rows (row ∷ [])) where
@@ -171,13 +199,12 @@ pub record After (s s' : State) (amount : ℕ) : Type 0 where
   pub gross : (product : ℕ) → gross_of product s'.trades ≤ gross_of product s.trades + amount
 
 after : (s : State) (rows : Rows) (count total : ℕ) (by : Option (List ℕ)) (what : What) → is_in_order_by rows count total by what ≡ true → After s (state_by s by what) (amount_in what)
-after s rows count total None what e = absurd (cc)
-after s rows count total (Some by) (Hello name key) e = absurd (cc)
-after s rows count total (Some by) (Affirm trade) e = absurd (cc)
-after s rows count total (Some by) (Nets product) e = absurd (cc)
-after s rows count total (Some by) (Unreadable at) e = absurd (cc)
-after s rows count total (Some by) (Trade seller buyer product amount day) e = let row : TradeRow = alleged_row s by seller buyer product amount day in
-    record { roster = refl; count = length-append s.trades (row ∷ []); gross = λ p. gross_row p s.trades row }
+after s rows count total by what e =
+    by_trade rows count total (λ (by : Option (List ℕ)) (what : What). After s (state_by s by what) (amount_in what))
+    (λ by seller buyer product amount day e.
+    let row : TradeRow = alleged_row (length s.trades + 1) (member_of s seller) (member_of s buyer) (product_of s product) amount day (side_of by seller) in
+    record { roster = refl; count = length-append s.trades (row ∷ []); gross = λ p. gross_row p s.trades row })
+    by what e
 
 pub legal_of : (s : State) (log : List Entry) → IsTrue (is_legal_from s log) → IsLegalFrom s log
 legal_of s [] e = tt
@@ -231,7 +258,24 @@ told_by : (rows : Rows) (log : List Entry) (seat at : ℕ) (by : Option (List �
 told_by rows log seat at by (Hello name key) is = told_memory rows log seat at _ is
 told_by rows log seat at by (Trade seller buyer product amount day) is = told_memory rows log seat at _ is
 told_by rows log seat at by (Affirm trade) is = told_memory rows log seat at _ is
+told_by rows log seat at by (End trade) is = told_memory rows log seat at _ is
+told_by rows log seat at by (Hold trade) is = told_memory rows log seat at _ is
+told_by rows log seat at by (Free trade) is = told_memory rows log seat at _ is
+told_by rows log seat at by (Tol other product side floor ceiling) is = told_memory rows log seat at _ is
 told_by rows log seat at by (Nets product) is = told_memory rows log seat at _ is
+told_by rows log seat at by Statement is = told_memory rows log seat at _ is
+told_by rows log seat at by (Freeze day) is = told_memory rows log seat at _ is
+told_by rows log seat at by (Begin cycle mode) is = told_memory rows log seat at _ is
+told_by rows log seat at by (Limits product) is = told_memory rows log seat at _ is
+told_by rows log seat at by (Row product seller buyer amount size sum) is = told_memory rows log seat at _ is
+told_by rows log seat at by (Pot product member value size) is = told_memory rows log seat at _ is
+told_by rows log seat at by (Post cycle version solutions) is = told_memory rows log seat at _ is
+told_by rows log seat at by (Fetch cycle version) is = told_memory rows log seat at _ is
+told_by rows log seat at by (Plan cycle) is = told_memory rows log seat at _ is
+told_by rows log seat at by (Accept cycle version) is = told_memory rows log seat at _ is
+told_by rows log seat at by (Decline cycle version) is = told_memory rows log seat at _ is
+told_by rows log seat at by (Cancel cycle) is = told_memory rows log seat at _ is
+told_by rows log seat at by Bye is = told_memory rows log seat at _ is
 told_by rows log seat at by (Unreadable line) is = record { front = log; back = []; split = sym (append-nil log); place = omega arith; one = inr (inl record { no_change = refl; same = refl }) }
 
 pub told_other : (rows : Rows) (log : List Entry) (seat at : ℕ) (ask : Ask) → at ≡ length log

@@ -3,7 +3,7 @@ use Rattle.std.specs.Prelude.{◌≡◌, ℕ, ◌≤◌, nat_lt, Bool, true, fal
 use Rattle.command_types.specs.declared.ask.Entry.{Entry}
 use Rattle.command_types.specs.declared.answer.Answer.{Answer}
 use Rattle.command_types.specs.declared.answer.Answer.TheVariants.{No}
-use Rattle.command_types.specs.declared.answer.Refusal.TheVariants.{Stopped, DiskFault}
+use Rattle.command_types.specs.declared.refusal.Refusal.TheVariants.{Stopped, DiskFault}
 use Rattle.command_types.specs.declared.figures.Figures.{Figures}
 use Rattle.command_types.specs.History.{History, longer, entries_of_seat}
 use Rattle.cycle_lock.specs.declared.pass.Pass.{Pass}

@@ -5,8 +5,8 @@ use Rattle.units_core.specs.Day.{DayParts, is_before}
 use Rattle.command_types.specs.declared.ask.Ask.{Ask}
 use Rattle.command_types.specs.declared.ask.What.{What}
 use Rattle.command_types.specs.declared.ask.What.TheVariants.{Trade, Unreadable}
-use Rattle.command_types.specs.declared.answer.Refusal.{Refusal}
-use Rattle.command_types.specs.declared.answer.Refusal.TheVariants.{BadLine, Memory}
+use Rattle.command_types.specs.declared.refusal.Refusal.{Refusal}
+use Rattle.command_types.specs.declared.refusal.Refusal.TheVariants.{BadLine, Memory}
 use Rattle.command_types.specs.declared.ask.Entry.{Entry}
 use Rattle.command_types.specs.declared.figures.Figures.{Figures}
 use Rattle.command_types.specs.declared.figures.State.{State}

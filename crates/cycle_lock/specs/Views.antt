@@ -2,6 +2,7 @@
 use Rattle.std.specs.Prelude.{ℕ, ◌+◌, ◌-◌, ◌||◌, Bool, true, false, List, [], ◌∷◌, ◌++◌, None}
 use Rattle.command_types.specs.declared.ask.Entry.{Entry}
 use Rattle.command_types.specs.declared.figures.Figures.{Figures}
+use Rattle.command_types.specs.Machine.{empty_state}
 use Rattle.cycle_lock.specs.declared.rule.Account.{Account}
 use Rattle.cycle_lock.specs.declared.rule.View.{View}
 use Rattle.cycle_lock.specs.declared.rule.Stage.{Stage}
@@ -38,7 +39,7 @@ total f (v ∷ vs) = f v + total f vs
 
 abbrev pub no_figures : Figures
 no_figures = record {
-  base = record { position = 0; state = record { roster = record { members = []; products = []; operator = None }; trades = [] } };
+  base = record { position = 0; state = empty_state record { members = []; products = []; operator = None } };
   opening = 0;
   journal = None;
 }

@@ -30,12 +30,12 @@ fn one_pass_is_answered_at_each_length(rt: HostRuntime) -> Result<(), Fail> {
     };
     let trade = parties.trade(0).expect(&rt, "an amount");
     let reply = turns.call(&rt, &mut pass, trade);
-    assert!(rt; reply.at == 1 && reply.answer == Answer::Traded { trade: 1 });
+    assert!(rt; reply.at == 1 && matches!(reply.answer, Answer::Traded { trade: 1 }));
     let reply = turns.call(&rt, &mut pass, unreadable(3));
-    assert!(rt; reply.at == 1 && reply.answer == Answer::No(Refusal::BadLine { at: 3 }));
+    assert!(rt; reply.at == 1 && matches!(reply.answer, Answer::No(Refusal::BadLine { at: 3 })));
     let trade = parties.trade(1).expect(&rt, "an amount");
     let reply = turns.call(&rt, &mut pass, trade);
-    assert!(rt; reply.at == 2 && reply.answer == Answer::Traded { trade: 2 });
+    assert!(rt; reply.at == 2 && matches!(reply.answer, Answer::Traded { trade: 2 }));
     let desk = turns.close(&rt, pass);
     assert!(rt; desk.log.len() == 2 && are_in_turn(&desk.log, 0, 2));
     Ok(())
@@ -51,12 +51,12 @@ fn the_second_pass_is_answered_from_what_the_first_made(rt: HostRuntime) -> Resu
     let mut other = turns.split(&mut pass);
     let trade = parties.trade(0).expect(&rt, "an amount");
     let reply = turns.call(&rt, &mut pass, trade);
-    assert!(rt; reply.at == 1 && reply.answer == Answer::Traded { trade: 1 });
+    assert!(rt; reply.at == 1 && matches!(reply.answer, Answer::Traded { trade: 1 }));
     let trade = parties.trade(0).expect(&rt, "an amount");
     let reply = turns.call(&rt, &mut other, trade);
-    assert!(rt; reply.at == 2 && reply.answer == Answer::Traded { trade: 2 });
+    assert!(rt; reply.at == 2 && matches!(reply.answer, Answer::Traded { trade: 2 }));
     let reply = turns.call(&rt, &mut pass, unreadable(7));
-    assert!(rt; reply.at == 2 && reply.answer == Answer::No(Refusal::BadLine { at: 7 }));
+    assert!(rt; reply.at == 2 && matches!(reply.answer, Answer::No(Refusal::BadLine { at: 7 })));
     turns.join(&mut pass, other);
     let desk = turns.close(&rt, pass);
     assert!(rt;

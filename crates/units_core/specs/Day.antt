@@ -17,6 +17,12 @@ digit_at text k = slice_index text k - 48
 abbrev pub is_civil : DayParts → Bool
 is_civil d = nat_le 1 d.month && nat_le d.month 12 && nat_le 1 d.day && nat_le d.day (days_in_month (pos d.year) d.month)
 
+-- the day of these numbers, of the years 0000 to 9999
+abbrev pub day_numbered : ℕ → ℕ → ℕ → Option DayParts
+day_numbered year month day =
+    if nat_le year 9999 && is_civil (record { year = year; month = month; day = day }) then Some (record { year = year; month = month; day = day })
+    else None
+
 -- four digits, a dash, two digits, a dash, two digits
 abbrev pub is_day_form : List ℕ → Bool
 is_day_form text =

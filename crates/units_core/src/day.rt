@@ -1,5 +1,5 @@
 //! Civil days, as the calendar has them.
-ghost use Rattle.std.specs.Prelude.{◌≡◌, ◌≤◌, ◌<◌, ◌+◌, ◌*◌, pos, if◌then◌else◌, Some, None, length, slice_index};
+ghost use Rattle.std.specs.Prelude.{◌≡◌, ◌≤◌, ◌<◌, ◌+◌, ◌*◌, pos, if◌then◌else◌, Some, None, IsTrue, length, slice_index};
 ghost use Rattle.units_core.specs.Number.{is_digit};
 
 use jiff::civil::{self, Date};
@@ -26,7 +26,7 @@ impl Model for Day {
     ghost inverse = { λ d. record { year = d.year; month = d.month; day = d.day } };
 }
 
-ghost use Rattle.units_core.specs.Day.{DayParts, digit_at, is_civil, is_day_form, day_parts, day_of, day_text, is_before};
+ghost use Rattle.units_core.specs.Day.{DayParts, digit_at, is_civil, is_day_form, day_parts, day_numbered, day_of, day_text, is_before};
 
 fn is_form(text: &[u8]) -> bool
     ensures { result ≡ is_day_form text.now }
@@ -84,10 +84,25 @@ impl Day {
         Some(Day { year, month, day })
     }
 
+    /// The day of these numbers, exactly where the year is at most 9999 and the calendar has the day.
+    pub fn new(year: u16, month: u8, day: u8) -> Option<Day>
+        ensures { result ≡ day_numbered year month day }
+    {
+        if year > 9999 || month > 12 || day > 31 {
+            return None;
+        }
+        let in_calendar = exists(year, month, day);
+        if !in_calendar {
+            return None;
+        }
+        Some(Day { year, month, day })
+    }
+
     /// The year, from 0 to 9999.
     pub fn year(self) -> u16
         ensures value { result ≡ self.year }
         ensures most { result ≤ 9999 }
+        ensures civil { IsTrue (is_civil self) }
     {
         self.year
     }
@@ -180,6 +195,16 @@ mod tests {
                 None => assert!(rt; !want, "{text}"),
             }
         }
+        Ok(())
+    }
+
+    #[test]
+    fn makes_days_that_exist(rt: HostRuntime) -> Result<(), Fail> {
+        assert!(rt; Day::new(2024, 2, 29) == Day::read(b"2024-02-29"));
+        assert!(rt; Day::new(2023, 2, 29).is_none());
+        assert!(rt; Day::new(2026, 0, 1).is_none());
+        assert!(rt; Day::new(2026, 13, 1).is_none());
+        assert!(rt; Day::new(10000, 1, 1).is_none());
         Ok(())
     }
 

@@ -3,38 +3,67 @@
 mod sources;
 
 use super::run;
-use outside::{MemorySink, MemorySource};
+use outside::{MemoryFiles, MemorySink, MemorySource, Source};
 use sources::{Endless, Trickle};
 use std::alloc::AllocError;
 use std::test::Fail;
+
+const ROSTER: &str =
+    "name,role,key\nA,dealer,KA\nB,dealer,KB\nC,dealer,KC\nOPS,operator,KO\nP,product,2031-06-30\n";
 
 const SESSION: &str = "HELLO A KA\nTRADE A B P 10 2026-03-02\nHELLO B KB\nAFFIRM 1\nNETS P\n";
 
 const REPLIES: &str = "ok 0 hello A\nok 1 trade 1\nok 1 hello B\nok 2 live 1\nok 2 nets 0 10 -10\n";
 
-fn words(rt: &HostRuntime, of: &[&str]) -> Result<Vec<String>, AllocError> {
+#[derive(Drop)]
+struct Ran {
+    status: u8,
+    output: MemorySink,
+    errors: MemorySink,
+}
+
+// Runs these words over this source, with one file: the roster under the name T.
+fn ran_with<S: Source>(
+    rt: &HostRuntime,
+    of: &[&str],
+    roster: &str,
+    source: &mut S,
+    mut output: MemorySink,
+) -> Result<Ran, AllocError> {
     let mut words = Vec::new(rt.alloc());
     for word in of {
         words.push(String::from_str(rt.alloc(), word)?)?;
     }
-    Ok(words)
-}
-
-// The text of this input, or the status where it is not 0.
-fn replies(rt: &HostRuntime, input: &[u8]) -> Result<(u8, MemorySink), AllocError> {
-    let mut source = MemorySource::new(rt.alloc(), input)?;
-    let mut output = MemorySink::new(rt.alloc(), 65536)?;
+    let mut files = MemoryFiles::new(rt.alloc())?;
+    files.put("T", roster.as_bytes())?;
     let mut errors = MemorySink::new(rt.alloc(), 256)?;
-    let script = words(rt, &["script", "T", "j"])?;
     let status = run(
         rt,
         rt.alloc(),
-        &script,
-        &mut source,
+        &words,
+        &mut files,
+        source,
         &mut output,
         &mut errors,
     );
-    Ok((status, output))
+    Ok(Ran {
+        status,
+        output,
+        errors,
+    })
+}
+
+fn script<S: Source>(
+    rt: &HostRuntime,
+    source: &mut S,
+    output: MemorySink,
+) -> Result<Ran, AllocError> {
+    ran_with(rt, &["script", "T", "j"], ROSTER, source, output)
+}
+
+fn answers(rt: &HostRuntime, input: &[u8]) -> Result<Ran, AllocError> {
+    let mut source = MemorySource::new(rt.alloc(), input)?;
+    script(rt, &mut source, MemorySink::new(rt.alloc(), 65536)?)
 }
 
 #[test]
@@ -42,55 +71,68 @@ fn sessions_are_answered_byte_for_byte(rt: HostRuntime) -> Result<(), Fail> {
     for (input, want) in [
         (SESSION, REPLIES),
         ("", ""),
-        ("NETS P\n", "no 0 1 not-greeted\n"),
-        ("HELLO A KB\n", "no 0 2 bad-key\n"),
         (
-            "HELLO A KA\nTRADE A A P 1 2026-03-02\nBYE\n",
-            "ok 0 hello A\nno 0 30 not-built\nno 0 3 bad-line 0\n",
+            "NETS P\nHELLO A KB\nTRADE A B P 10\nTRADE A  B P\nhello A KA\n",
+            "no 0 1 not-greeted\nno 0 2 bad-key\nno 0 3 bad-line 14\nno 0 3 bad-line 8\nno 0 3 bad-line 0\n",
         ),
         (
-            "HELLO OPS KO\nNETS P\nNETS Q\n",
-            "ok 0 hello OPS\nno 0 30 not-built\nno 0 30 not-built\n",
+            "HELLO A KA\nTRADE A B P 10 2031-06-30\nTRADE A A P 1 2026-03-02\nTRADE B C P 1 2026-03-02\nAFFIRM 1\n",
+            "ok 0 hello A\nno 0 22 matured 2031-06-30\nno 0 6 own-trade\nno 0 7 not-party\nno 0 11 unknown-trade\n",
         ),
+        (
+            "HELLO A KA\nTRADE A B P 1000000000000000 2026-03-02\nTRADE A B P 1000000000000001 2026-03-02\nTRADE A X P 1 2026-03-02\nTRADE A B Q 1 2026-03-02\n",
+            "ok 0 hello A\nok 1 trade 1\nno 1 8 amount-over\nno 1 4 unknown-member\nno 1 5 unknown-product\n",
+        ),
+        (
+            "HELLO A KA\nTRADE A B P 10 2026-03-02\nHELLO B KB\nAFFIRM 1\nHELLO A KA\nEND 1\nEND 1\nHELLO B KB\nEND 1\nHOLD 1\nEND 2\n",
+            "ok 0 hello A\nok 1 trade 1\nok 1 hello B\nok 2 live 1\nok 2 hello A\nok 3 ending 1\nno 3 12 wrong-trade-state live\nok 3 hello B\nok 4 ended 1\nno 4 12 wrong-trade-state ended\nno 4 11 unknown-trade\n",
+        ),
+        (
+            "HELLO A KA\nTRADE A B P 10 2026-03-02\nHOLD 1\nHELLO B KB\nAFFIRM 1\nHOLD 1\nHOLD 1\nFREE 1\nFREE 1\nNETS P\n",
+            "ok 0 hello A\nok 1 trade 1\nno 1 12 wrong-trade-state alleged\nok 1 hello B\nok 2 live 1\nok 3 held 1\nno 3 12 wrong-trade-state live\nok 4 freed 1\nno 4 12 wrong-trade-state live\nok 4 nets 0 10 -10\n",
+        ),
+        // What is not built yet wants a greeting first.
+        (
+            "FREEZE 2026-03-31\nPROPOSE 1 hybrid\nHELLO OPS KO\nFREEZE 2026-03-31\nPROPOSE 1 hybrid\nPOST 1 1\nROW P A B 4\nPOT P A -1\nNETS P\nNETS Q\n",
+            "no 0 1 not-greeted\nno 0 1 not-greeted\nok 0 hello OPS\nno 0 30 not-built\nno 0 30 not-built\nno 0 30 not-built\nno 0 30 not-built\nno 0 30 not-built\nno 0 30 not-built\nno 0 30 not-built\n",
+        ),
+        // A BYE ends the session, whoever says it, and what stands behind it is dropped.
+        ("HELLO A KA\nBYE\nNETS P\n", "ok 0 hello A\nok 0 bye\n"),
+        ("BYE\nBYE\n", "ok 0 bye\n"),
         // Line ends: one carriage return before a line feed is dropped, one without it is not.
         (
             "HELLO A KA\r\nNETS P\r\n",
             "ok 0 hello A\nok 0 nets 0 0 0\n",
         ),
-        ("HELLO A KA\nNETS P\r", "ok 0 hello A\nno 0 3 bad-line 0\n"),
-        ("HELLO A KA\r\r\n", "no 0 3 bad-line 0\n"),
+        ("HELLO A KA\nNETS P\r", "ok 0 hello A\nno 0 3 bad-line 5\n"),
         ("HELLO A KA\nNETS P", "ok 0 hello A\nok 0 nets 0 0 0\n"),
         ("\n\r\n", "no 0 3 bad-line 0\nno 0 3 bad-line 0\n"),
-        // A refused greeting keeps the party, and a change by one party is seen by the other.
+        // A refused greeting keeps the party.
         (
             "HELLO A KA\nHELLO B KA\nTRADE A B P 1 2031-06-29\n",
             "ok 0 hello A\nno 0 2 bad-key\nok 1 trade 1\n",
         ),
-        (
-            "HELLO A KA\nTRADE B A P 7 2026-03-02\nAFFIRM 1\nHELLO B KB\nAFFIRM 1\nAFFIRM 1\nNETS P\n",
-            "ok 0 hello A\nok 1 trade 1\nno 1 30 not-built\nok 1 hello B\nok 2 live 1\nno 2 30 not-built\nok 2 nets 7 0 7\n",
-        ),
-        // What the grammar does not have.
-        (
-            "hello A KA\nHELLO  A KA\nHELLO A\nHELLO A KA \nAFFIRM 01\nAFFIRM 1000000000000000001\nTRADE A B P 0 2026-03-02\nTRADE A B P 1 2026-02-29\n",
-            "no 0 3 bad-line 0\nno 0 3 bad-line 0\nno 0 3 bad-line 0\nno 0 3 bad-line 0\nno 0 3 bad-line 0\nno 0 3 bad-line 0\nno 0 3 bad-line 0\nno 0 3 bad-line 0\n",
-        ),
     ] {
-        let (status, output) = replies(&rt, input.as_bytes())?;
-        assert_eq!(rt; status, 0, "{input}");
-        assert!(rt; output.bytes() == want.as_bytes(), "{input}");
+        let ran = answers(&rt, input.as_bytes())?;
+        assert_eq!(rt; ran.status, 0, "{input}");
+        assert!(rt; ran.output.bytes() == want.as_bytes(), "{input}");
+        assert!(rt; ran.errors.bytes().is_empty(), "{input}");
     }
     Ok(())
 }
 
 #[test]
 fn a_line_of_4096_bytes_and_a_longer_one_are_one_line_each(rt: HostRuntime) -> Result<(), Fail> {
-    for size in [4096usize, 4097, 70000] {
+    for (size, want) in [
+        (4096usize, "no 0 3 bad-line 0\nno 0 1 not-greeted\n"),
+        (4097, "no 0 3 bad-line 4096\nno 0 1 not-greeted\n"),
+        (70000, "no 0 3 bad-line 4096\nno 0 1 not-greeted\n"),
+    ] {
         let mut input = vec![in rt.alloc(); b'X'; size]?;
         input.extend_from_slice(b"\nNETS P\n")?;
-        let (status, output) = replies(&rt, &input)?;
-        assert_eq!(rt; status, 0);
-        assert!(rt; output.bytes() == b"no 0 3 bad-line 0\nno 0 1 not-greeted\n".as_slice());
+        let ran = answers(&rt, &input)?;
+        assert_eq!(rt; ran.status, 0);
+        assert!(rt; ran.output.bytes() == want.as_bytes());
     }
     Ok(())
 }
@@ -101,26 +143,58 @@ fn other_words_are_out_of_form(rt: HostRuntime) -> Result<(), Fail> {
         &["script"] as &[&str],
         &["script", "T"],
         &["script", "T", "-j"],
-        &["script", "U", "j"],
+        &["script", "-T", "j"],
         &["Script", "T", "j"],
         &["script", "T", "j", "k"],
         &[],
     ] {
         let mut source = MemorySource::new(rt.alloc(), SESSION.as_bytes())?;
-        let mut output = MemorySink::new(rt.alloc(), 256)?;
-        let mut errors = MemorySink::new(rt.alloc(), 256)?;
-        let words = words(&rt, of)?;
-        let status = run(
+        let ran = ran_with(
             &rt,
-            rt.alloc(),
-            &words,
+            of,
+            ROSTER,
             &mut source,
-            &mut output,
-            &mut errors,
-        );
-        assert_eq!(rt; status, 2);
-        assert!(rt; output.bytes().is_empty());
-        assert!(rt; errors.bytes() == b"bad words\n".as_slice());
+            MemorySink::new(rt.alloc(), 256)?,
+        )?;
+        assert_eq!(rt; ran.status, 2);
+        assert!(rt; ran.output.bytes().is_empty());
+        assert!(rt; ran.errors.bytes() == b"bad words\n".as_slice());
+    }
+    Ok(())
+}
+
+#[test]
+fn a_roster_with_a_fault_or_without_a_file_ends_before_the_session(
+    rt: HostRuntime,
+) -> Result<(), Fail> {
+    for (name, roster, status, line) in [
+        (
+            "T",
+            "name,role,key\nA,dealer,KA\nB,broker,KB\n",
+            3,
+            "roster row 3: bad-role\n",
+        ),
+        ("T", "name,role\n", 3, "roster row 1: columns\n"),
+        ("T", "", 3, "roster row 1: columns\n"),
+        (
+            "T",
+            "name,role,key\nA,dealer,KA\nA,dealer,KB\n",
+            3,
+            "roster row 3: twice\n",
+        ),
+        ("U", ROSTER, 11, "file fault\n"),
+    ] {
+        let mut source = MemorySource::new(rt.alloc(), SESSION.as_bytes())?;
+        let ran = ran_with(
+            &rt,
+            &["script", name, "j"],
+            roster,
+            &mut source,
+            MemorySink::new(rt.alloc(), 256)?,
+        )?;
+        assert_eq!(rt; ran.status, status);
+        assert!(rt; ran.output.bytes().is_empty());
+        assert!(rt; ran.errors.bytes() == line.as_bytes());
     }
     Ok(())
 }
@@ -145,136 +219,80 @@ fn lines_in(text: &[u8]) -> usize {
 
 #[test]
 fn a_read_that_fails_ends_the_session_after_its_whole_lines(rt: HostRuntime) -> Result<(), Fail> {
-    let script = words(&rt, &["script", "T", "j"])?;
     let input = SESSION.as_bytes();
     for call in 1..=input.len() + 1 {
         let mut source = Trickle::new(rt.alloc(), input)?;
         source.fail_at(call as u64)?;
-        let mut output = MemorySink::new(rt.alloc(), 256)?;
-        let mut errors = MemorySink::new(rt.alloc(), 256)?;
-        let status = run(
-            &rt,
-            rt.alloc(),
-            &script,
-            &mut source,
-            &mut output,
-            &mut errors,
-        );
+        let ran = script(&rt, &mut source, MemorySink::new(rt.alloc(), 256)?)?;
         let read = &input[..call.saturating_sub(1).min(input.len())];
-        let want = &REPLIES.as_bytes()[..length_of_lines(REPLIES.as_bytes(), lines_in(read)).min(
-            REPLIES.len(),
-        )];
-        assert_eq!(rt; status, 4);
-        assert!(rt; output.bytes() == want);
-        assert!(rt; errors.bytes() == b"source fault\n".as_slice());
+        let end = length_of_lines(REPLIES.as_bytes(), lines_in(read)).min(REPLIES.len());
+        assert_eq!(rt; ran.status, 4);
+        assert!(rt; ran.output.bytes() == &REPLIES.as_bytes()[..end]);
+        assert!(rt; ran.errors.bytes() == b"source fault\n".as_slice());
     }
     Ok(())
 }
 
 #[test]
 fn a_source_that_gives_one_byte_at_a_time_is_read_to_its_end(rt: HostRuntime) -> Result<(), Fail> {
-    let script = words(&rt, &["script", "T", "j"])?;
     let mut source = Trickle::new(rt.alloc(), SESSION.as_bytes())?;
-    let mut output = MemorySink::new(rt.alloc(), 256)?;
-    let mut errors = MemorySink::new(rt.alloc(), 256)?;
-    let status = run(
-        &rt,
-        rt.alloc(),
-        &script,
-        &mut source,
-        &mut output,
-        &mut errors,
-    );
-    assert_eq!(rt; status, 0);
-    assert!(rt; output.bytes() == REPLIES.as_bytes());
-    assert!(rt; errors.bytes().is_empty());
+    let ran = script(&rt, &mut source, MemorySink::new(rt.alloc(), 256)?)?;
+    assert_eq!(rt; ran.status, 0);
+    assert!(rt; ran.output.bytes() == REPLIES.as_bytes());
     Ok(())
 }
 
 #[test]
 fn a_write_that_fails_ends_the_session_before_its_reply(rt: HostRuntime) -> Result<(), Fail> {
-    let script = words(&rt, &["script", "T", "j"])?;
     for call in 1..=5usize {
         let mut source = MemorySource::new(rt.alloc(), SESSION.as_bytes())?;
         let mut output = MemorySink::new(rt.alloc(), 256)?;
         output.fail_at(call as u64)?;
-        let mut errors = MemorySink::new(rt.alloc(), 256)?;
-        let status = run(
-            &rt,
-            rt.alloc(),
-            &script,
-            &mut source,
-            &mut output,
-            &mut errors,
-        );
-        let want = &REPLIES.as_bytes()[..length_of_lines(
-            REPLIES.as_bytes(),
-            call.saturating_sub(1),
-        ).min(REPLIES.len())];
-        assert_eq!(rt; status, 5);
-        assert!(rt; output.bytes() == want);
-        assert!(rt; errors.bytes() == b"sink fault\n".as_slice());
+        let ran = script(&rt, &mut source, output)?;
+        let end = length_of_lines(REPLIES.as_bytes(), call.saturating_sub(1)).min(REPLIES.len());
+        assert_eq!(rt; ran.status, 5);
+        assert!(rt; ran.output.bytes() == &REPLIES.as_bytes()[..end]);
+        assert!(rt; ran.errors.bytes() == b"sink fault\n".as_slice());
     }
     Ok(())
 }
 
 #[test]
 fn a_sink_without_room_keeps_a_front_of_the_replies(rt: HostRuntime) -> Result<(), Fail> {
-    let script = words(&rt, &["script", "T", "j"])?;
     for room in 0..REPLIES.len() {
         let mut source = MemorySource::new(rt.alloc(), SESSION.as_bytes())?;
-        let mut output = MemorySink::new(rt.alloc(), room)?;
-        let mut errors = MemorySink::new(rt.alloc(), 256)?;
-        let status = run(
-            &rt,
-            rt.alloc(),
-            &script,
-            &mut source,
-            &mut output,
-            &mut errors,
-        );
-        assert_eq!(rt; status, 5);
-        assert!(rt; output.bytes() == &REPLIES.as_bytes()[..room]);
+        let ran = script(&rt, &mut source, MemorySink::new(rt.alloc(), room)?)?;
+        assert_eq!(rt; ran.status, 5);
+        assert!(rt; ran.output.bytes() == &REPLIES.as_bytes()[..room]);
     }
     Ok(())
 }
 
 #[test]
-fn a_fault_of_the_errors_changes_nothing(rt: HostRuntime) -> Result<(), Fail> {
-    let mut source = MemorySource::new(rt.alloc(), b"")?;
-    let mut output = MemorySink::new(rt.alloc(), 0)?;
-    let mut errors = MemorySink::new(rt.alloc(), 3)?;
-    let words = words(&rt, &["scripts"])?;
-    let status = run(
-        &rt,
-        rt.alloc(),
-        &words,
-        &mut source,
-        &mut output,
-        &mut errors,
+fn a_product_is_full_at_a_thousand_of_the_largest_trades(rt: HostRuntime) -> Result<(), Fail> {
+    let mut input = Vec::new(rt.alloc());
+    input.extend_from_slice(b"HELLO A KA\n")?;
+    for _ in 0..1000 {
+        input.extend_from_slice(b"TRADE A B P 1000000000000000 2026-03-02\n")?;
+    }
+    input.extend_from_slice(b"TRADE A B P 1 2026-03-02\n")?;
+    let ran = answers(&rt, &input)?;
+    assert_eq!(rt; ran.status, 0);
+    assert!(rt;
+        ran.output
+            .bytes()
+            .ends_with(b"ok 1000 trade 1000\nno 1000 9 gross-over\n")
     );
-    assert_eq!(rt; status, 2);
-    assert!(rt; errors.bytes() == b"bad".as_slice());
     Ok(())
 }
 
 #[test]
 fn a_session_takes_two_to_the_thirty_bytes_at_most(rt: HostRuntime) -> Result<(), Fail> {
-    let script = words(&rt, &["script", "T", "j"])?;
     let mut source = Endless::new();
-    let mut output = MemorySink::new(rt.alloc(), 256)?;
-    let mut errors = MemorySink::new(rt.alloc(), 256)?;
-    let status = run(
-        &rt,
-        rt.alloc(),
-        &script,
-        &mut source,
-        &mut output,
-        &mut errors,
-    );
-    assert_eq!(rt; status, 8);
+    let ran = script(&rt, &mut source, MemorySink::new(rt.alloc(), 256)?)?;
+    assert_eq!(rt; ran.status, 8);
     assert_eq!(rt; source.given(), 1_073_741_824);
-    assert!(rt; output.bytes().is_empty());
-    assert!(rt; errors.bytes() == b"session limit\n".as_slice());
+    assert!(rt; ran.output.bytes().is_empty());
+    assert!(rt; ran.errors.bytes() == b"session limit\n".as_slice());
     Ok(())
 }

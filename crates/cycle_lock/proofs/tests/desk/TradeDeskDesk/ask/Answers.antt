@@ -3,7 +3,7 @@ use Rattle.std.specs.Prelude.{if◌then◌else◌}
 use Rattle.command_types.specs.declared.ask.Entry.{Entry}
 use Rattle.command_types.specs.Machine.{empty_state}
 use Rattle.command_types.specs.declared.answer.Answer.TheVariants.{Traded, No}
-use Rattle.command_types.specs.declared.answer.Refusal.TheVariants.{Memory}
+use Rattle.command_types.specs.declared.refusal.Refusal.TheVariants.{Memory}
 use Rattle.command_types.specs.Told.{IsTold}
 use Rattle.command_types.specs.History.{IsLegal}
 use Rattle.cycle_lock.specs.Accounts.{whole}

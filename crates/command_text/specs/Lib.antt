@@ -1,0 +1,3 @@
+pub mod ReadOf
+pub mod Reading
+pub mod Writing

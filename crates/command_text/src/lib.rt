@@ -1,0 +1,22 @@
+//! The text of a session: lines are read into what they say, and head lines of replies are written.
+#![tactic(auto)]
+
+mod answer_text;
+mod bad_line;
+mod commands;
+mod fields;
+mod head;
+mod kinds;
+mod line_reader;
+mod put;
+mod refusal_text;
+mod words;
+
+pub use bad_line::BadLine;
+pub use head::write_head;
+pub use line_reader::read_line;
+
+#[cfg(test)]
+mod head_tests;
+#[cfg(test)]
+mod line_tests;

@@ -1,7 +1,0 @@
-use Rattle.compress_server.proofs.machine.trades.Trades.gross.Goals as goal
-
-pub gross-requires : goal.gross-requires
-gross-requires c = rw c.deref.ensures.value (c.self.invariant.each c.args.product)
-
-pub returns-clause-most : goal.returns-clause-most
-returns-clause-most c = rw (c.gross.ensures, c.deref.ensures.value) (c.self.invariant.each c.args.product)

@@ -1,0 +1,2 @@
+pub mod MachineFacts
+pub mod DeskFacts

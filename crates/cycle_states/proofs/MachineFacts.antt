@@ -1,0 +1,172 @@
+-- What is known of a command by its kind, and of one of which no refusal's condition holds.
+use Rattle.std.proofs.Common.{◌≡◌, ◌≢◌, ℕ, ◌+◌, ◌≤◌, ◌<◌, ◌&&◌, ◌||◌, not, nat_lt, Bool, true, false, List, [], ◌∷◌, ◌++◌, length, get_or, position, Option, Some, None, is_none, IsTrue, unwrap_or, if◌then◌else◌, arith, refl, ap, sym, subst, ◌∙◌}
+use Rattle.std.proofs.lemmas.Bool.{false≢true}
+use Rattle.std.proofs.lemmas.Bool.Decides.{nat_tests}
+use Rattle.std.proofs.lemmas.List.Quantifiers.{position-Some}
+use Rattle.std.proofs.lemmas.Slice.Eq.{bytes_eq-Decides}
+use Rattle.std.specs.Str.{bytes_eq}
+use Rattle.units_core.specs.Day.{DayParts}
+use Rattle.command_types.specs.declared.ask.Ask.{Ask}
+use Rattle.command_types.specs.declared.ask.What.{What}
+use Rattle.command_types.specs.declared.ask.What.TheVariants.{Hello, Trade, Affirm, End, Hold, Free, Tol, Nets, Statement, Freeze, Begin, Limits, Row, Pot, Post, Fetch, Plan, Accept, Decline, Cancel, Bye, Unreadable}
+use Rattle.command_types.specs.declared.answer.Answer.{Answer}
+use Rattle.command_types.specs.declared.refusal.Refusal.{Refusal}
+use Rattle.command_types.specs.declared.refusal.Refusal.TheVariants.{NotGreeted}
+use Rattle.network_laws.specs.Solutions.{SolutionData}
+use Rattle.command_types.specs.declared.figures.State.{State}
+use Rattle.command_types.specs.declared.plan.PlanRow.{PlanRow}
+use Rattle.command_types.specs.declared.roster.Role.TheVariants.{Dealer}
+use Rattle.command_types.specs.declared.roster.MemberRow.{MemberRow}
+use Rattle.command_types.specs.Roster.{member_place, is_party, is_operator}
+use Rattle.command_types.specs.Trades.{gross_of}
+use Rattle.command_types.specs.Machine.{first_of, refusals, party_refusals, is_built, trade_refusals, product_of, member_of, position_of, changes, is_refusal, refused_or, accepted, answer_to, state_by, state_after}
+use Rattle.command_types.specs.Cycles.{posted_plan}
+use Rattle.command_types.specs.CycleSteps.{market_in, proposed_or_done, touched_in, after_vote, left_after}
+use Rattle.command_types.specs.History.{is_recorded}
+use Rattle.product_book.specs.Book.{gross_limit}
+
+roster_posted : (s : State) (solutions : List SolutionData) (plan : List PlanRow) (touched : List ℕ) → (proposed_or_done s solutions plan touched).roster ≡ s.roster
+roster_posted s solutions plan [] = refl
+roster_posted s solutions plan (member ∷ members) = refl
+
+roster_voted : (s : State) (member : ℕ) (left : List ℕ) → (after_vote s member left).roster ≡ s.roster
+roster_voted s member [] = refl
+roster_voted s member (voter ∷ voters) = refl
+
+roster_by : (s : State) (by : Option (List ℕ)) (what : What) → (state_by s by what).roster ≡ s.roster
+roster_by s by (Hello name key) = refl
+roster_by s by (Trade seller buyer product amount day) = refl
+roster_by s by (Affirm trade) = refl
+roster_by s by (End trade) = refl
+roster_by s by (Hold trade) = refl
+roster_by s by (Free trade) = refl
+roster_by s by (Tol other product side floor ceiling) = refl
+roster_by s by (Nets product) = refl
+roster_by s by Statement = refl
+roster_by s by (Freeze day) = refl
+roster_by s by (Begin cycle mode) = refl
+roster_by s by (Limits product) = refl
+roster_by s by (Row product seller buyer amount size sum) = refl
+roster_by s by (Pot product member value size) = refl
+roster_by s by (Post cycle version solutions) =
+    roster_posted s solutions (posted_plan s.cycle s.trades solutions) (touched_in s (posted_plan s.cycle s.trades solutions))
+roster_by s by (Fetch cycle version) = refl
+roster_by s by (Plan cycle) = refl
+roster_by s by (Accept cycle version) = roster_voted s (member_of s (unwrap_or by [])) (left_after s (member_of s (unwrap_or by [])))
+roster_by s by (Decline cycle version) = refl
+roster_by s by (Cancel cycle) = refl
+roster_by s by Bye = refl
+roster_by s by (Unreadable at) = refl
+
+-- no command changes the roster
+pub roster_after : (s : State) (ask : Ask) → (state_after s ask).roster ≡ s.roster
+roster_after s ask = roster_by s ask.by ask.what
+
+-- what the first conditions refuse is refused, whatever follows
+pub first_of_front : (xs ys : List (Bool × Refusal)) (found : Refusal) → first_of xs ≡ Some found → first_of (xs ++ ys) ≡ Some found
+first_of_front [] ys found is = cc
+first_of_front ((true, refusal) ∷ xs) ys found is = is
+first_of_front ((false, refusal) ∷ xs) ys found is = first_of_front xs ys found is
+
+-- and where none of them holds, the others tell
+pub first_of_behind : (xs ys : List (Bool × Refusal)) → first_of xs ≡ None → first_of (xs ++ ys) ≡ first_of ys
+first_of_behind [] ys none = refl
+first_of_behind ((true, refusal) ∷ xs) ys none = cc
+first_of_behind ((false, refusal) ∷ xs) ys none = first_of_behind xs ys none
+
+-- a condition that does not hold is passed over
+pub passed : (test : Bool) (refusal : Refusal) (rows : List (Bool × Refusal)) → test ≡ false → first_of rows ≡ first_of ((test, refusal) ∷ rows)
+passed test refusal rows is = ap (λ (t : Bool). first_of ((t, refusal) ∷ rows)) (sym is)
+
+-- where no condition holds, the first doesn't, nor one of the others
+none_of : (test : Bool) (refusal : Refusal) (rows : List (Bool × Refusal)) → first_of ((test, refusal) ∷ rows) ≡ None → (test ≡ false) × (first_of rows ≡ None)
+none_of true refusal rows none = cc
+none_of false refusal rows none = (refl, none)
+
+abbrev NoneHolds : List (Bool × Refusal) → Type 0
+NoneHolds [] = Unit {0}
+NoneHolds (row ∷ rows) = (row.0 ≡ false) × NoneHolds rows
+
+none_holds : (rows : List (Bool × Refusal)) → first_of rows ≡ None → NoneHolds rows
+none_holds [] none = tt
+none_holds (row ∷ rows) none = let parts = none_of row.0 row.1 rows none in (parts.0, none_holds rows parts.1)
+
+not_false : (b : Bool) → not b ≡ false → b ≡ true
+not_false true h = refl
+not_false false h = cc
+
+within : (n m : ℕ) → nat_lt n m ≡ false → m ≤ n
+within n m h = grind (arith, nat_tests)
+
+-- the terms of an accepted TRADE are not refused
+terms_stand : (s : State) (by : Option (List ℕ)) (name seller buyer product : List ℕ) (amount : ℕ) (day : DayParts) → by ≡ Some name → first_of (refusals s by (Trade seller buyer product amount day)) ≡ None →
+    NoneHolds (trade_refusals s name seller buyer product amount day)
+terms_stand s by name seller buyer product amount day greeted none =
+    let P : Option (List ℕ) → Type 0 = λ b. first_of (refusals s b (Trade seller buyer product amount day)) ≡ None in
+    none_holds (trade_refusals s name seller buyer product amount day) (none_of _ NotGreeted (party_refusals s name (Trade seller buyer product amount day)) (subst P greeted none)).1
+
+-- an accepted TRADE fits its product's gross
+pub trade_fits : (s : State) (by : Option (List ℕ)) (name seller buyer product : List ℕ) (amount : ℕ) (day : DayParts) → by ≡ Some name → first_of (refusals s by (Trade seller buyer product amount day)) ≡ None →
+    gross_of (product_of s product) s.trades + amount ≤ gross_limit
+trade_fits s by name seller buyer product amount day greeted none =
+    within gross_limit (gross_of (product_of s product) s.trades + amount) (terms_stand s by name seller buyer product amount day greeted none).1.1.1.1.1.1.0
+
+some_member : MemberRow
+some_member = record { name = []; role = Dealer; key = [] }
+
+found_by : {X : Type 0} (p : X → Bool) (xs : List X) (d : X) (o : Option ℕ) → position p xs ≡ o → is_none o ≡ false → (unwrap_or o 0 < length xs) × (p (get_or xs (unwrap_or o 0) d) ≡ true)
+found_by p xs d None is there = absurd (false≢true (sym there))
+found_by p xs d (Some i) is there = let at_place = position-Some p xs i d is in (at_place.0, at_place.1)
+
+neither : (a b : Bool) → (a || b) ≡ false → (a ≡ false) × (b ≡ false)
+neither true b h = cc
+neither false b h = (refl, h)
+
+one_name : (row : MemberRow) (seller buyer : List ℕ) → bytes_eq row.name seller ≡ true → bytes_eq row.name buyer ≡ true → bytes_eq seller buyer ≡ true
+one_name row seller buyer first second =
+    let same : seller ≡ buyer = sym ((bytes_eq-Decides row.name seller).0 first) ∙ (bytes_eq-Decides row.name buyer).0 second in
+    (bytes_eq-Decides seller buyer).1 same
+
+-- its members differ
+pub parties_differ : (s : State) (by : Option (List ℕ)) (name seller buyer product : List ℕ) (amount : ℕ) (day : DayParts) → by ≡ Some name → first_of (refusals s by (Trade seller buyer product amount day)) ≡ None →
+    member_of s seller ≢ member_of s buyer
+parties_differ s by name seller buyer product amount day greeted none same =
+    let stand = terms_stand s by name seller buyer product amount day greeted none in
+    let there = neither (is_none (member_place s.roster seller)) (is_none (member_place s.roster buyer)) stand.0 in
+    let first = (found_by (λ row. bytes_eq row.name seller) s.roster.members some_member (member_place s.roster seller) refl there.0).1 in
+    let second = (found_by (λ row. bytes_eq row.name buyer) s.roster.members some_member (member_place s.roster buyer) refl there.1).1 in
+    let P : ℕ → Type 0 = λ i. bytes_eq (get_or s.roster.members i some_member).name seller ≡ true in
+    false≢true (sym stand.1.1.0 ∙ one_name (get_or s.roster.members (member_of s buyer) some_member) seller buyer (subst P same first) second)
+
+change_by : (change : Bool) (answer : Answer) (refusal : Option Refusal) → IsTrue (change && not (is_refusal (refused_or answer refusal))) → refusal ≡ None
+change_by change answer None h = refl
+change_by true answer (Some refusal) h = cc
+change_by false answer (Some refusal) h = cc
+
+-- what is recorded is not refused
+pub not_refused : (s : State) (ask : Ask) → IsTrue (is_recorded ask.what (answer_to s ask)) → first_of (refusals s ask.by ask.what) ≡ None
+not_refused s ask change = change_by (changes ask.what) (accepted s ask.by ask.what) (first_of (refusals s ask.by ask.what)) change
+
+-- what is not refused is answered as accepted
+pub accepted_answer : (s : State) (ask : Ask) → first_of (refusals s ask.by ask.what) ≡ None → answer_to s ask ≡ accepted s ask.by ask.what
+accepted_answer s ask none = ap (λ r. refused_or (accepted s ask.by ask.what) r) none
+
+-- a party's command that is not refused is one that the machine does
+built : (s : State) (by : Option (List ℕ)) (what : What) → first_of ((not (is_party s.roster by), NotGreeted) ∷ party_refusals s (unwrap_or by []) what) ≡ None → is_built s (unwrap_or by []) what ≡ true
+built s by what none =
+    let tests = none_holds ((not (is_party s.roster by), NotGreeted) ∷ party_refusals s (unwrap_or by []) what) none in
+    not_false (is_built s (unwrap_or by []) what) tests.1.0
+
+-- the operator's NETS is not built
+nets_by : (operator : Bool) (own market : Answer) → not operator ≡ true → own ≡ (if operator then market else own)
+nets_by true own market member = absurd (false≢true member)
+nets_by false own market member = refl
+
+-- a member's own position is what its NETS is answered
+pub own_answer : (s : State) (by : Option (List ℕ)) (name product : List ℕ) (p m : ℕ) → by ≡ Some name → p ≡ product_of s product → m ≡ member_of s name → first_of (refusals s by (Nets product)) ≡ None →
+    position_of p m s.trades ≡ accepted s by (Nets product)
+own_answer s by name product p m greeted at_place place none =
+    let P : Option (List ℕ) → Type 0 = λ b. first_of (refusals s b (Nets product)) ≡ None in
+    ap (λ n. position_of n m s.trades) at_place ∙ ap (λ n. position_of (product_of s product) n s.trades) place
+    ∙ nets_by (is_operator s.roster name) (position_of (product_of s product) (member_of s name) s.trades) (market_in s (product_of s product)) (built s (Some name) (Nets product) (subst P greeted none))
+    ∙ ap (λ b. accepted s b (Nets product)) (sym greeted)

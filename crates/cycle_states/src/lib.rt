@@ -1,0 +1,11 @@
+//! The machine that answers one command at a time, and a desk over it without a journal.
+#![tactic(auto)]
+
+mod machine;
+mod plain_desk;
+
+pub use machine::{Machine, Ready};
+pub use plain_desk::PlainDesk;
+
+#[cfg(test)]
+mod tests;

@@ -1,0 +1,63 @@
+//! Where a party stands in a trade. The roster and the trade itself tell, whatever the other trades are.
+
+ghost use Rattle.std.specs.Prelude.{◌≡◌};
+ghost use Rattle.command_types.specs.Machine.{empty_state, is_on_side, is_party_of, is_submitter, side_in, side_at, side_of};
+
+use super::parties::is_member_at;
+use command_types::{Roster, Side, TradeRow};
+use units_core::Name;
+
+// Whether the party stands on this side of the trade.
+fn is_on_side(roster: &Roster, by: &Name, row: &TradeRow, side: Side) -> bool
+    ensures { result ≡ is_on_side (empty_state roster.now) by.now row.now side }
+{
+    match side {
+        Side::Out => is_member_at(roster, row.seller, by),
+        Side::In => is_member_at(roster, row.buyer, by),
+    }
+}
+
+/// Whether the party is one of the trade's two.
+pub(super) fn is_party_of(roster: &Roster, by: &Name, row: &TradeRow) -> bool
+    ensures { result ≡ is_party_of (empty_state roster.now) by.now row.now }
+{
+    is_on_side(roster, by, row, Side::Out) || is_on_side(roster, by, row, Side::In)
+}
+
+/// Whether the party submitted the trade.
+pub(super) fn is_submitter(roster: &Roster, by: &Name, row: &TradeRow) -> bool
+    ensures { result ≡ is_submitter (empty_state roster.now) by.now row.now row.now.submitter }
+{
+    match row.submitter {
+        None => false,
+        Some(side) => is_on_side(roster, by, row, side),
+    }
+}
+
+/// The side of a party of the trade.
+pub(super) fn side_in(roster: &Roster, by: &Name, row: &TradeRow) -> Side
+    ensures { result ≡ side_in (empty_state roster.now) by.now row.now }
+{
+    if is_on_side(roster, by, row, Side::Out) {
+        Side::Out
+    } else {
+        Side::In
+    }
+}
+
+/// The side of a party of the trade, if it is there.
+pub(super) fn side_at(roster: &Roster, by: &Name, row: Option<TradeRow>) -> Side
+    ensures { result ≡ side_at (empty_state roster.now) by.now row }
+{
+    match row {
+        None => Side::Out,
+        Some(row) => side_in(roster, by, &row),
+    }
+}
+
+/// The side that the party takes in a trade with this seller.
+pub(super) fn side_of(by: &Name, seller: &Name) -> Side
+    ensures { result ≡ side_of by.now seller.now }
+{
+    if by.is(seller) { Side::Out } else { Side::In }
+}

@@ -1,0 +1,147 @@
+//! A desk without a journal: a machine, and the list of its changes.
+
+ghost use Rattle.std.specs.Prelude.{◌≡◌, ◌<◌, [], ◌∷◌, ◌++◌, IsTrue, IfOk, OnOk, OnErr, vec_len, vec_capacity};
+ghost use Rattle.command_types.specs.Machine.{answer_to, state_after, changes, is_refusal};
+ghost use Rattle.command_types.specs.History.{is_recorded};
+
+use crate::machine::Machine;
+use command_types::{Answer, Ask, Desk, Entry, Refusal, Reply, What};
+use std::alloc::{AllocError, Global};
+use std::marker::Model;
+
+fn is_change(what: &What) -> bool
+    ensures { result ≡ changes what.now }
+{
+    matches!(
+        what,
+        What::Trade { .. }
+            | What::Affirm { .. }
+            | What::End { .. }
+            | What::Hold { .. }
+            | What::Free { .. }
+            | What::Tol { .. }
+            | What::Freeze { .. }
+            | What::Begin { .. }
+            | What::Post { .. }
+            | What::Accept { .. }
+            | What::Decline { .. }
+            | What::Cancel { .. }
+    )
+}
+
+fn is_refusal(answer: &Answer) -> bool
+    ensures { result ≡ is_refusal answer.now }
+{
+    matches!(answer, Answer::No(_))
+}
+
+// Whether the history keeps a command that is answered so.
+fn is_recorded(what: &What, answer: &Answer) -> bool
+    ensures { result ≡ is_recorded what.now answer.now }
+{
+    is_change(what) && !is_refusal(answer)
+}
+
+// The reply where no memory is to be had.
+fn no_memory(at: u64) -> Reply
+    ensures { result ≡ record { at = at; answer = Answer.No Refusal.Memory } }
+{
+    Reply {
+        at,
+        answer: Answer::No(Refusal::Memory),
+    }
+}
+
+// Makes room for one more entry.
+fn make_room(entries: &mut Vec<Entry>) -> Result<(), AllocError>
+    ensures items { entries.new.items ≡ entries.old.items }
+    ensures room { OnOk result (vec_len entries.new < vec_capacity entries.new) }
+{
+    entries.reserve(1)?;
+    Ok(())
+}
+
+// Makes an accepted change, and puts it last. Nothing changes where no memory is to be had.
+fn record(
+    machine: &mut Machine,
+    entries: &mut Vec<Entry>,
+    entry: Entry,
+) -> Result<Answer, AllocError>
+    requires { IsTrue (is_recorded entry.ask.what (answer_to machine.old.state entry.ask)) }
+    ensures answer { IfOk result (λ answer. answer ≡ answer_to machine.old.state entry.ask) }
+    ensures state { OnOk result (machine.new.state ≡ state_after machine.old.state entry.ask) }
+    ensures entries { OnOk result (entries.new.items ≡ entries.old.items ++ entry ∷ []) }
+    ensures same_state { OnErr result (machine.new.state ≡ machine.old.state) }
+    ensures same_entries { OnErr result (entries.new.items ≡ entries.old.items) }
+{
+    make_room(entries)?;
+    let ready = machine.prepare(entry)?;
+    let (entry, answer) = machine.commit(ready);
+    entries.push_reserved(entry);
+    Ok(answer)
+}
+
+/// A machine, and its accepted changes. It has no journal, and is never stopped.
+#[derive(Drop)]
+pub struct PlainDesk {
+    machine: Machine,
+    entries: Vec<Entry>,
+}
+
+impl Model for PlainDesk {
+    ghost use Rattle.command_types.specs.History.{History};
+    ghost use Rattle.cycle_states.specs.PlainDesk.{history_of, IsReplayed};
+
+    ghost Value = { History };
+
+    ghost view = { λ desk. history_of desk.machine.state desk.entries.items };
+
+    ghost invariant = { λ desk. IsReplayed desk.machine.state desk.entries.items };
+}
+
+impl PlainDesk {
+    ghost use Rattle.command_types.specs.Machine.{empty_state};
+    ghost use Rattle.command_types.specs.History.{new_history};
+
+    /// A desk before the first command. It takes no memory.
+    pub fn new(alloc: Global, machine: Machine) -> PlainDesk
+        requires { machine.state ≡ empty_state machine.state.roster }
+        ensures { result ≡ new_history (empty_state machine.state.roster) }
+    {
+        PlainDesk {
+            machine,
+            entries: Vec::new(alloc),
+        }
+    }
+}
+
+impl Desk for PlainDesk {
+    ghost use Rattle.std.specs.Prelude.{false};
+    ghost use Rattle.cycle_states.specs.PlainDesk.{plain_figures};
+
+    ghost history = { λ desk. desk };
+
+    ghost figures = { plain_figures };
+
+    ghost stopped = { λ _. false };
+
+    fn ask(&mut self, seat: u32, ask: Ask) -> Reply {
+        let at = self.entries.len() as u64;
+        let answer = match self.machine.answer(&ask) {
+            Ok(answer) => answer,
+            Err(_) => return no_memory(at),
+        };
+        if !is_recorded(&ask.what, &answer) {
+            return Reply { at, answer };
+        }
+        let answer = match record(&mut self.machine, &mut self.entries, Entry { seat, ask }) {
+            Ok(answer) => answer,
+            Err(_) => return no_memory(at),
+        };
+        Reply { at: at + 1, answer }
+    }
+
+    fn length(&self) -> u64 {
+        self.entries.len() as u64
+    }
+}

@@ -1,0 +1,303 @@
+//! The desk over three dealers, their operator and one product.
+
+ghost use Rattle.std.specs.Prelude.{◌≡◌, IsTrue};
+ghost use Rattle.units_core.specs.Name.{is_name};
+
+use crate::{Machine, PlainDesk};
+use command_types::{
+    Answer, Ask, Desk, MemberRow, OperatorRow, ProductRow, Refusal, Role, Roster, TradeState, What,
+};
+use std::alloc::{AllocError, Global};
+use std::process::Abort;
+use std::test::Fail;
+use units_core::{Amount, Day, Name};
+
+fn named(text: &[u8]) -> Name
+    requires { IsTrue (is_name text.now) }
+    ensures { result ≡ text.now }
+{
+    match Name::read(text) {
+        None => unreachable!(),
+        Some(name) => name,
+    }
+}
+
+fn dealer(name: Name, key: Name) -> MemberRow
+    ensures { result ≡ record { name = name; role = Role.Dealer; key = key } }
+{
+    MemberRow {
+        name,
+        role: Role::Dealer,
+        key,
+    }
+}
+
+// Dealers A, B and C with the keys KA, KB and KC, the operator OPS with KO, and the product P.
+fn three_dealers(alloc: Global, maturity: Day) -> Result<Roster, AllocError> {
+    let a = dealer(named(b"A"), named(b"KA"));
+    let b = dealer(named(b"B"), named(b"KB"));
+    let c = dealer(named(b"C"), named(b"KC"));
+    let members = Vec::from_array(alloc, [a, b, c])?;
+    let products = Vec::from_array(
+        alloc,
+        [ProductRow {
+            name: named(b"P"),
+            maturity,
+        }],
+    )?;
+    let operator = OperatorRow {
+        name: named(b"OPS"),
+        key: named(b"KO"),
+    };
+    Ok(Roster::new(members, products, Some(operator)))
+}
+
+fn day(rt: &impl Abort, text: &[u8]) -> Day {
+    Day::read(text).expect(rt, "a day")
+}
+
+fn empty_desk(rt: &impl Abort, alloc: Global) -> Result<PlainDesk, AllocError> {
+    let roster = three_dealers(alloc, day(rt, b"2031-06-30"))?;
+    let machine = Machine::new(alloc, roster)?;
+    Ok(PlainDesk::new(alloc, machine))
+}
+
+// A TRADE of the product P.
+fn trade(rt: &impl Abort, seller: Name, buyer: Name, size: u64, date: &[u8]) -> What {
+    What::Trade {
+        seller,
+        buyer,
+        product: named(b"P"),
+        amount: Amount::new(size).expect(rt, "an amount"),
+        day: day(rt, date),
+    }
+}
+
+// Whether the answers are the same, of those that the desk gives.
+fn is_same(answer: &Answer, want: &Answer) -> bool {
+    match (answer, want) {
+        (Answer::Hello { name }, Answer::Hello { name: want }) => name.is(want),
+        (Answer::Traded { trade }, Answer::Traded { trade: want }) => trade == want,
+        (Answer::Affirmed { trade }, Answer::Affirmed { trade: want }) => trade == want,
+        (Answer::Marked { trade }, Answer::Marked { trade: want }) => trade == want,
+        (Answer::Ended { trade }, Answer::Ended { trade: want }) => trade == want,
+        (Answer::Held { trade }, Answer::Held { trade: want }) => trade == want,
+        (Answer::Freed { trade }, Answer::Freed { trade: want }) => trade == want,
+        (
+            Answer::Own { out, into, net },
+            Answer::Own {
+                out: want_out,
+                into: want_into,
+                net: want_net,
+            },
+        ) => out == want_out && into == want_into && net == want_net,
+        (Answer::Bye, Answer::Bye) => true,
+        (Answer::No(refusal), Answer::No(want)) => refusal == want,
+        _ => false,
+    }
+}
+
+// The command is answered so, at this position.
+fn answers(
+    rt: &impl Abort,
+    desk: &mut PlainDesk,
+    by: Option<Name>,
+    what: What,
+    at: u64,
+    answer: Answer,
+) {
+    let reply = desk.ask(7, Ask { by, what });
+    assert_eq!(rt; reply.at, at);
+    assert!(rt; is_same(&reply.answer, &answer));
+    assert_eq!(rt; desk.length(), at);
+}
+
+// A party's command is refused so, at this position.
+fn refuses(rt: &impl Abort, desk: &mut PlainDesk, by: Name, what: What, at: u64, refusal: Refusal) {
+    answers(rt, desk, Some(by), what, at, Answer::No(refusal));
+}
+
+// A alleges a trade of 10 with B, and B affirms it.
+fn one_live_trade(rt: &impl Abort, desk: &mut PlainDesk) {
+    let (a, b) = (named(b"A"), named(b"B"));
+    let sale = trade(rt, a, b, 10, b"2026-03-02");
+    answers(rt, desk, Some(a), sale, 1, Answer::Traded { trade: 1 });
+    let live = Answer::Affirmed { trade: 1 };
+    answers(rt, desk, Some(b), What::Affirm { trade: 1 }, 2, live);
+}
+
+const ALLEGED: Refusal = Refusal::WrongTradeState {
+    state: TradeState::Alleged,
+};
+
+const LIVE: Refusal = Refusal::WrongTradeState {
+    state: TradeState::Live,
+};
+
+const ENDED: Refusal = Refusal::WrongTradeState {
+    state: TradeState::Ended,
+};
+
+#[test]
+fn a_trade_counts_until_both_parties_ended_it(rt: HostRuntime) -> Result<(), Fail> {
+    let (a, b, product) = (named(b"A"), named(b"B"), named(b"P"));
+    let mut desk = empty_desk(&rt, rt.alloc())?;
+    let desk = &mut desk;
+    one_live_trade(&rt, desk);
+    let owed = Answer::Own {
+        out: 0,
+        into: 10,
+        net: -10,
+    };
+    answers(&rt, desk, Some(b), What::Nets { product }, 2, owed);
+    let marked = Answer::Marked { trade: 1 };
+    answers(&rt, desk, Some(a), What::End { trade: 1 }, 3, marked);
+    refuses(&rt, desk, a, What::End { trade: 1 }, 3, LIVE);
+    let ended = Answer::Ended { trade: 1 };
+    answers(&rt, desk, Some(b), What::End { trade: 1 }, 4, ended);
+    refuses(&rt, desk, b, What::Hold { trade: 1 }, 4, ENDED);
+    refuses(
+        &rt,
+        desk,
+        b,
+        What::End { trade: 2 },
+        4,
+        Refusal::UnknownTrade,
+    );
+    let nothing = Answer::Own {
+        out: 0,
+        into: 0,
+        net: 0,
+    };
+    answers(&rt, desk, Some(a), What::Nets { product }, 4, nothing);
+    Ok(())
+}
+
+#[test]
+fn a_hold_is_set_and_taken_away_once(rt: HostRuntime) -> Result<(), Fail> {
+    let (b, c) = (named(b"B"), named(b"C"));
+    let mut desk = empty_desk(&rt, rt.alloc())?;
+    let desk = &mut desk;
+    one_live_trade(&rt, desk);
+    refuses(&rt, desk, c, What::Hold { trade: 1 }, 2, Refusal::NotParty);
+    let held = Answer::Held { trade: 1 };
+    answers(&rt, desk, Some(b), What::Hold { trade: 1 }, 3, held);
+    refuses(&rt, desk, b, What::Hold { trade: 1 }, 3, LIVE);
+    let freed = Answer::Freed { trade: 1 };
+    answers(&rt, desk, Some(b), What::Free { trade: 1 }, 4, freed);
+    refuses(&rt, desk, b, What::Free { trade: 1 }, 4, LIVE);
+    Ok(())
+}
+
+#[test]
+fn an_alleged_trade_is_ended_by_one_party(rt: HostRuntime) -> Result<(), Fail> {
+    let (a, b) = (named(b"A"), named(b"B"));
+    let mut desk = empty_desk(&rt, rt.alloc())?;
+    let desk = &mut desk;
+    for (number, by) in [(1, a), (2, b)] {
+        let at = 2 * number;
+        let sale = trade(&rt, a, b, 10, b"2026-03-02");
+        let new = Answer::Traded { trade: number };
+        answers(&rt, desk, Some(a), sale, at - 1, new);
+        refuses(&rt, desk, a, What::Hold { trade: number }, at - 1, ALLEGED);
+        let ended = Answer::Ended { trade: number };
+        answers(&rt, desk, Some(by), What::End { trade: number }, at, ended);
+    }
+    Ok(())
+}
+
+// Nobody, or a stranger, asks: a statement is refused, a line that can't be read is told, and BYE is accepted.
+fn may_only_leave(rt: &impl Abort, desk: &mut PlainDesk, stranger: Name) {
+    let not_greeted = Answer::No(Refusal::NotGreeted);
+    answers(rt, desk, None, What::Statement, 0, not_greeted);
+    let not_greeted = Answer::No(Refusal::NotGreeted);
+    answers(rt, desk, Some(stranger), What::Statement, 0, not_greeted);
+    let bad_line = Answer::No(Refusal::BadLine { at: 5 });
+    answers(rt, desk, None, What::Unreadable { at: 5 }, 0, bad_line);
+    answers(rt, desk, None, What::Bye, 0, Answer::Bye);
+}
+
+#[test]
+fn a_greeting_wants_the_key_of_its_name(rt: HostRuntime) -> Result<(), Fail> {
+    let (a, ka, ops, ko) = (named(b"A"), named(b"KA"), named(b"OPS"), named(b"KO"));
+    let mut desk = empty_desk(&rt, rt.alloc())?;
+    let desk = &mut desk;
+    for (name, key) in [(a, ka), (ops, ko)] {
+        let hello = Answer::Hello { name };
+        answers(&rt, desk, None, What::Hello { name, key }, 0, hello);
+    }
+    for (name, key) in [(a, ko), (ops, ka), (ka, ka)] {
+        let bad_key = Answer::No(Refusal::BadKey);
+        answers(&rt, desk, None, What::Hello { name, key }, 0, bad_key);
+    }
+    may_only_leave(&rt, desk, ka);
+    let market = What::Nets {
+        product: named(b"P"),
+    };
+    refuses(&rt, desk, ops, market, 0, Refusal::NotBuilt);
+    refuses(&rt, desk, a, What::Statement, 0, Refusal::NotBuilt);
+    Ok(())
+}
+
+#[test]
+fn a_refused_trade_has_its_cause(rt: HostRuntime) -> Result<(), Fail> {
+    let (a, b, c, ops) = (named(b"A"), named(b"B"), named(b"C"), named(b"OPS"));
+    let mut desk = empty_desk(&rt, rt.alloc())?;
+    let desk = &mut desk;
+    let late = trade(&rt, a, b, 10, b"2031-06-30");
+    let maturity = day(&rt, b"2031-06-30");
+    refuses(&rt, desk, a, late, 0, Refusal::Matured { maturity });
+    for (seller, buyer, refusal) in [
+        (a, ops, Refusal::UnknownMember),
+        (a, a, Refusal::OwnTrade),
+        (b, c, Refusal::NotParty),
+    ] {
+        let refused = trade(&rt, seller, buyer, 1, b"2026-03-02");
+        refuses(&rt, desk, a, refused, 0, refusal);
+    }
+    refuses(
+        &rt,
+        desk,
+        a,
+        What::Affirm { trade: 1 },
+        0,
+        Refusal::UnknownTrade,
+    );
+    refuses(
+        &rt,
+        desk,
+        a,
+        What::Nets { product: a },
+        0,
+        Refusal::UnknownProduct,
+    );
+    let largest = trade(&rt, a, b, 1_000_000_000_000_000, b"2031-06-29");
+    answers(&rt, desk, Some(b), largest, 1, Answer::Traded { trade: 1 });
+    let larger = trade(&rt, a, b, 1_000_000_000_000_001, b"2026-03-02");
+    refuses(&rt, desk, a, larger, 1, Refusal::AmountOver);
+    refuses(
+        &rt,
+        desk,
+        b,
+        What::Affirm { trade: 1 },
+        1,
+        Refusal::NotParty,
+    );
+    Ok(())
+}
+
+#[test]
+fn a_product_is_full_at_a_thousand_of_the_largest_trades(rt: HostRuntime) -> Result<(), Fail> {
+    let (a, b) = (named(b"A"), named(b"B"));
+    let mut desk = empty_desk(&rt, rt.alloc())?;
+    let desk = &mut desk;
+    for trades in 0..1000 {
+        let largest = trade(&rt, a, b, 1_000_000_000_000_000, b"2026-03-02");
+        let number = trades + 1;
+        let new = Answer::Traded { trade: number };
+        answers(&rt, desk, Some(a), largest, number, new);
+    }
+    let one_more = trade(&rt, a, b, 1, b"2026-03-02");
+    refuses(&rt, desk, a, one_more, 1000, Refusal::GrossOver);
+    Ok(())
+}

@@ -1,0 +1,226 @@
+//! The book of trades, in the order of their numbers.
+
+ghost use Rattle.std.specs.Prelude.{◌≡◌, ◌≢◌, ◌+◌, ◌-◌, ◌≤◌, ◌<◌, ◌^◌, [], ◌∷◌, ◌++◌, length, IsTrue, OnOk, OnErr, IfOk, IfSome, vec_len, vec_capacity, option_copied};
+ghost use Rattle.command_types.specs.Trades.{gross_of, sold_by, bought_by, pair_sum_of, submitted_count, trade_numbered, with_alleged, affirmed, ended_by, held_by, freed_by, row_ended_by};
+ghost use Rattle.product_book.specs.Book.{gross_limit, IsTrade, may_affirm, may_end, may_hold, may_free};
+
+use crate::row::{ended_by, live, put_row, row_at, with_hold};
+use crate::sums;
+use command_types::{Side, TradeRow, TradeState};
+use std::alloc::{AllocError, Global};
+use std::marker::Model;
+use units_core::{Amount, Day, MemberNo, ProductNo};
+
+// Makes room for so many more rows.
+fn make_room(rows: &mut Vec<TradeRow>, count: usize) -> Result<(), AllocError>
+    ensures items { rows.new.items ≡ rows.old.items }
+    ensures len { vec_len rows.new ≡ vec_len rows.old }
+    ensures keeps { vec_capacity rows.old ≤ vec_capacity rows.new }
+    ensures room { OnOk result (vec_len rows.new + count ≤ vec_capacity rows.new) }
+    ensures err { OnErr result (vec_capacity rows.new ≡ vec_capacity rows.old) }
+{
+    rows.reserve(count)
+}
+
+// Puts a row last, in the room that there is.
+fn append(rows: &mut Vec<TradeRow>, row: TradeRow)
+    requires { vec_len rows.old < vec_capacity rows.old }
+    ensures items { rows.new.items ≡ rows.old.items ++ row ∷ [] }
+    ensures len { vec_len rows.new ≡ vec_len rows.old + 1 }
+    ensures capacity { vec_capacity rows.new ≡ vec_capacity rows.old }
+{
+    rows.push_reserved(row);
+}
+
+/// What a member owes in a product and what it is owed, in units of the contract's currency.
+#[derive(Clone, Copy, Debug, PartialEq, Eq)]
+pub struct Position {
+    pub sold: u64,
+    pub bought: u64,
+}
+
+/// All trades of a market. Trades are numbered from 1 in the order in which they came. The alleged and live amounts
+/// of a product come to at most 10^18.
+///
+/// Only [`Book::new`] and [`Book::reserve`] take memory.
+#[derive(Drop)]
+pub struct Book {
+    rows: Vec<TradeRow>,
+    members: u16,
+    products: u16,
+    submitted: u64,
+}
+
+impl Model for Book {
+    ghost use Rattle.std.specs.Prelude.{◌-◌, vec_len, vec_capacity};
+    ghost use Rattle.product_book.specs.Book.{BookView, IsBook};
+
+    ghost Value = { BookView };
+
+    ghost view = { λ b. record { rows = b.rows.items; spare = vec_capacity b.rows - vec_len b.rows; members = b.members; products = b.products } };
+
+    ghost invariant = { λ b. IsBook b.members b.products b.submitted b.rows.items };
+}
+
+impl Book {
+    /// A book without trades, of so many members and products: at most 256 and 64. The only error is want of memory.
+    pub fn new(alloc: Global, members: u16, products: u16) -> Result<Book, AllocError>
+        requires few_members { members ≤ 256 }
+        requires few_products { products ≤ 64 }
+        ensures rows { IfOk result (λ book. book.rows ≡ []) }
+        ensures members { IfOk result (λ book. book.members ≡ members) }
+        ensures products { IfOk result (λ book. book.products ≡ products) }
+    {
+        Ok(Book {
+            rows: Vec::new(alloc),
+            members,
+            products,
+            submitted: 0,
+        })
+    }
+
+    /// Makes room for so many more trades. The only error is want of memory, and it changes nothing.
+    pub fn reserve(&mut self, trades: u32) -> Result<(), AllocError>
+        ensures same { self.new ≡ record self.old { spare = self.new.spare } }
+        ensures keeps { self.old.spare ≤ self.new.spare }
+        ensures room { OnOk result (trades ≤ self.new.spare) }
+        ensures err { OnErr result (self.new ≡ self.old) }
+    {
+        make_room(&mut self.rows, trades as usize)
+    }
+
+    /// How many trades there are. It takes no memory.
+    pub fn count(&self) -> u64
+        ensures count { result ≡ length self.now.rows }
+        ensures few { result < 2 ^ 63 }
+    {
+        self.rows.len() as u64
+    }
+
+    /// The trade with this number; none exactly where no trade has it. It takes no memory.
+    pub fn get(&self, trade: u64) -> Option<&TradeRow>
+        ensures found { option_copied result ≡ trade_numbered self.now.rows trade }
+        ensures sound { IfSome result (λ row. IsTrade self.now.members self.now.products trade row.now) }
+    {
+        if trade == 0 {
+            return None;
+        }
+        self.rows.get((trade - 1) as usize)
+    }
+
+    /// The alleged and live amounts of the product. It takes no memory.
+    pub fn product_sum(&self, product: ProductNo) -> u64
+        ensures sum { result ≡ gross_of product self.now.rows }
+        ensures most { result ≤ gross_limit }
+    {
+        sums::gross(&self.rows, product)
+    }
+
+    /// What the seller owes the buyer in the product, over their live trades. It takes no memory.
+    pub fn pair_sum(&self, product: ProductNo, seller: MemberNo, buyer: MemberNo) -> u64
+        ensures sum { result ≡ pair_sum_of product seller buyer self.now.rows }
+        ensures most { result ≤ gross_limit }
+    {
+        sums::pair_total(&self.rows, product, seller, buyer)
+    }
+
+    /// The member's position in the product, over its live trades. It takes no memory.
+    pub fn position(&self, product: ProductNo, member: MemberNo) -> Position
+        ensures sold { result.sold ≡ sold_by product member self.now.rows }
+        ensures bought { result.bought ≡ bought_by product member self.now.rows }
+        ensures most_sold { result.sold ≤ gross_limit }
+        ensures most_bought { result.bought ≤ gross_limit }
+    {
+        let (sold, bought) = sums::position(&self.rows, product, member);
+        Position { sold, bought }
+    }
+
+    /// How many of the trades a party submitted. It takes no memory.
+    pub fn submitted_count(&self) -> u64
+        ensures { result ≡ submitted_count self.now.rows }
+    {
+        self.submitted
+    }
+
+    /// Puts a new alleged trade last, and gives its number. It takes no memory, by the room of [`Book::reserve`].
+    pub fn allege(
+        &mut self,
+        seller: MemberNo,
+        buyer: MemberNo,
+        product: ProductNo,
+        amount: Amount,
+        day: Day,
+        submitter: Side,
+    ) -> u64
+        requires room { 1 ≤ self.old.spare }
+        requires seller { seller < self.old.members }
+        requires buyer { buyer < self.old.members }
+        requires product { product < self.old.products }
+        requires different { seller ≢ buyer }
+        requires bound { gross_of product self.old.rows + amount ≤ gross_limit }
+        ensures number { result ≡ length self.old.rows + 1 }
+        ensures state { self.new ≡ record self.old { rows = with_alleged self.old.rows seller buyer product amount day submitter; spare = self.old.spare - 1 } }
+    {
+        let number = self.rows.len() as u64 + 1;
+        self.submitted += 1;
+        append(
+            &mut self.rows,
+            TradeRow {
+                number,
+                seller,
+                buyer,
+                product,
+                amount,
+                day,
+                state: TradeState::Alleged,
+                submitter: Some(submitter),
+                mark: None,
+                hold_out: false,
+                hold_in: false,
+                frozen: false,
+            },
+        );
+        number
+    }
+
+    /// Makes an alleged trade live. It takes no memory.
+    pub fn affirm(&mut self, trade: u64)
+        requires { IsTrue (may_affirm (trade_numbered self.old.rows trade)) }
+        ensures { self.new ≡ record self.old { rows = affirmed self.old.rows trade } }
+    {
+        let row = row_at(&self.rows, trade);
+        put_row(&mut self.rows, trade, live(row));
+    }
+
+    /// A party of this side asks to end a trade: an alleged trade ends, and so does a live one that the other party
+    /// has marked; else the trade is marked. It gives the trade's state afterwards, and takes no memory.
+    pub fn end_by(&mut self, trade: u64, side: Side) -> TradeState
+        requires { IsTrue (may_end side (trade_numbered self.old.rows trade)) }
+        ensures state { self.new ≡ record self.old { rows = ended_by side self.old.rows trade } }
+        ensures afterwards { IfSome (trade_numbered self.old.rows trade) (λ row. result ≡ (row_ended_by side row).state) }
+    {
+        let row = row_at(&self.rows, trade);
+        let row = ended_by(row, side);
+        let state = row.state;
+        put_row(&mut self.rows, trade, row);
+        state
+    }
+
+    /// Sets the hold of this side's party on a live trade. It takes no memory.
+    pub fn hold(&mut self, trade: u64, side: Side)
+        requires { IsTrue (may_hold side (trade_numbered self.old.rows trade)) }
+        ensures { self.new ≡ record self.old { rows = held_by side self.old.rows trade } }
+    {
+        let row = row_at(&self.rows, trade);
+        put_row(&mut self.rows, trade, with_hold(row, true, side));
+    }
+
+    /// Takes the hold of this side's party on a live trade away. It takes no memory.
+    pub fn free(&mut self, trade: u64, side: Side)
+        requires { IsTrue (may_free side (trade_numbered self.old.rows trade)) }
+        ensures { self.new ≡ record self.old { rows = freed_by side self.old.rows trade } }
+    {
+        let row = row_at(&self.rows, trade);
+        put_row(&mut self.rows, trade, with_hold(row, false, side));
+    }
+}

@@ -1,0 +1,5 @@
+pub mod Asks
+pub mod Drafts
+pub mod Plain
+pub mod Serving
+pub mod Ending

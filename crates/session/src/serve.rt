@@ -1,0 +1,268 @@
+//! The session loop: every whole line that was read is answered, in one write, before more is read.
+
+ghost use Rattle.std.specs.Prelude.{◌≡◌, ℕ, ◌≤◌, ◌<◌, ◌≢◌, List, [], ◌∷◌, ◌++◌, length, Option, IfOk, OnOk, OnErr, Ok};
+ghost use Rattle.outside.specs.Faults.{Rose};
+ghost use Rattle.command_types.specs.Lines.{cut_of, lines_of};
+ghost use Rattle.session.specs.Serving.{Sight, sight, roster_of, step_of, RepliesWhole, RepliesInPart, Served, Written, Left, CutOff};
+ghost use Rattle.session.specs.Ending.{Ends};
+
+use crate::asks::ended;
+use crate::line_buffer::LineBuffer;
+use crate::replies::reply_to;
+use crate::speaker::Speaker;
+use command_text::write_head;
+use command_types::{Answer, Desk, Roster};
+use outside::sink::write_all;
+use outside::{Failed, Sink, Source};
+use std::alloc::Global;
+
+/// How a session ended.
+#[derive(Clone, Copy, Debug, PartialEq, Eq)]
+pub enum SessionEnd {
+    /// The input was read to its end, or a BYE was accepted.
+    Ended,
+    /// The source failed.
+    SourceFault,
+    /// The sink failed.
+    SinkFault,
+    /// The session took as many bytes as one may.
+    Limit,
+    /// The buffers could not be had at the start; nothing was read.
+    Memory,
+}
+
+/// Whether a session goes on after a line.
+#[derive(Clone, Copy, Debug, PartialEq, Eq)]
+pub enum Step {
+    On,
+    /// A BYE was accepted.
+    Over,
+}
+
+// How many bytes a session takes at most.
+const LIMIT: usize = 1_073_741_824;
+
+fn step_after(answer: &Answer) -> Step
+    ensures { result ≡ step_of answer.now }
+{
+    if matches!(answer, Answer::Bye) {
+        return Step::Over;
+    }
+    Step::On
+}
+
+// Replies to a line, in one write.
+fn answer_line<T: Desk, K: Sink>(
+    alloc: Global,
+    desk: &mut T,
+    seat: u32,
+    roster: &Roster,
+    speaker: &mut Speaker,
+    text: &mut [u8; 4096],
+    sink: &mut K,
+    line: &[u8],
+) -> Result<Step, Failed>
+    requires { roster.now ≡ roster_of (sight T.figures T.history T.stopped desk.old) }
+    ensures whole { IfOk result (RepliesWhole (sight T.figures T.history T.stopped desk.old) (sight T.figures T.history T.stopped desk.new) seat speaker.old speaker.new line.now (K.taken sink.old) (K.taken sink.new)) }
+    ensures in_part { OnErr result (RepliesInPart (sight T.figures T.history T.stopped desk.old) (sight T.figures T.history T.stopped desk.new) seat speaker.old speaker.new line.now (K.taken sink.old) (K.taken sink.new)) }
+    ensures never_falls { K.faults sink.old ≤ K.faults sink.new }
+    ensures failed { OnErr result (Rose (K.faults sink.old) (K.faults sink.new)) }
+{
+    let reply = reply_to(alloc, desk, seat, roster, speaker, line);
+    let end = write_head(&reply, roster, text);
+    match write_all(sink, &text[..end]) {
+        Ok(()) => Ok(step_after(&reply.answer)),
+        Err(fault) => Err(fault),
+    }
+}
+
+// Takes one byte of the input. A line feed ends a line, which is replied to.
+fn take_byte<T: Desk, K: Sink>(
+    alloc: Global,
+    desk: &mut T,
+    seat: u32,
+    roster: &Roster,
+    speaker: &mut Speaker,
+    line: &mut LineBuffer,
+    text: &mut [u8; 4096],
+    sink: &mut K,
+    byte: u8,
+) -> Result<Step, Failed>
+    requires { roster.now ≡ roster_of (sight T.figures T.history T.stopped desk.old) }
+    ensures on { result ≡ Ok Step.On → (start : Sight) (begun : Option (List ℕ)) (bytes : List ℕ) →
+        Served seat start begun (K.taken sink.old) (sight T.figures T.history T.stopped desk.old) speaker.old line.old bytes →
+        Served seat start begun (K.taken sink.new) (sight T.figures T.history T.stopped desk.new) speaker.new line.new (bytes ++ byte ∷ []) }
+    ensures over { result ≡ Ok Step.Over → (start : Sight) (begun : Option (List ℕ)) (bytes : List ℕ) →
+        Served seat start begun (K.taken sink.old) (sight T.figures T.history T.stopped desk.old) speaker.old line.old bytes →
+        Left seat start begun (K.taken sink.new) (sight T.figures T.history T.stopped desk.new) (cut_of (bytes ++ byte ∷ [])).whole }
+    ensures cut_off { OnErr result ((start : Sight) (begun : Option (List ℕ)) (bytes : List ℕ) →
+        Served seat start begun (K.taken sink.old) (sight T.figures T.history T.stopped desk.old) speaker.old line.old bytes →
+        CutOff seat start begun (K.taken sink.new) (sight T.figures T.history T.stopped desk.new) (cut_of (bytes ++ byte ∷ [])).whole) }
+    ensures roster { roster.now ≡ roster_of (sight T.figures T.history T.stopped desk.new) }
+    ensures never_falls { K.faults sink.old ≤ K.faults sink.new }
+    ensures failed { OnErr result (Rose (K.faults sink.old) (K.faults sink.new)) }
+{
+    if byte != b'\n' {
+        line.push(byte);
+        return Ok(Step::On);
+    }
+    let step = answer_line(
+        alloc,
+        desk,
+        seat,
+        roster,
+        speaker,
+        text,
+        sink,
+        ended(line.bytes()),
+    );
+    line.clear();
+    step
+}
+
+// Takes a piece of the input, up to a BYE.
+fn take_piece<T: Desk, K: Sink>(
+    alloc: Global,
+    desk: &mut T,
+    seat: u32,
+    roster: &Roster,
+    speaker: &mut Speaker,
+    line: &mut LineBuffer,
+    text: &mut [u8; 4096],
+    sink: &mut K,
+    piece: &[u8],
+) -> Result<Step, Failed>
+    requires { roster.now ≡ roster_of (sight T.figures T.history T.stopped desk.old) }
+    ensures on { result ≡ Ok Step.On → (start : Sight) (begun : Option (List ℕ)) (bytes : List ℕ) →
+        Served seat start begun (K.taken sink.old) (sight T.figures T.history T.stopped desk.old) speaker.old line.old bytes →
+        Served seat start begun (K.taken sink.new) (sight T.figures T.history T.stopped desk.new) speaker.new line.new (bytes ++ piece.now) }
+    ensures over { result ≡ Ok Step.Over → (start : Sight) (begun : Option (List ℕ)) (bytes : List ℕ) →
+        Served seat start begun (K.taken sink.old) (sight T.figures T.history T.stopped desk.old) speaker.old line.old bytes →
+        Left seat start begun (K.taken sink.new) (sight T.figures T.history T.stopped desk.new) (cut_of (bytes ++ piece.now)).whole }
+    ensures cut_off { OnErr result ((start : Sight) (begun : Option (List ℕ)) (bytes : List ℕ) →
+        Served seat start begun (K.taken sink.old) (sight T.figures T.history T.stopped desk.old) speaker.old line.old bytes →
+        CutOff seat start begun (K.taken sink.new) (sight T.figures T.history T.stopped desk.new) (cut_of (bytes ++ piece.now)).whole) }
+    ensures roster { roster.now ≡ roster_of (sight T.figures T.history T.stopped desk.new) }
+    ensures never_falls { K.faults sink.old ≤ K.faults sink.new }
+    ensures failed { OnErr result (Rose (K.faults sink.old) (K.faults sink.new)) }
+{
+    for byte in piece {
+        match take_byte(alloc, desk, seat, roster, speaker, line, text, sink, *byte) {
+            Ok(Step::On) => {}
+            Ok(Step::Over) => return Ok(Step::Over),
+            Err(fault) => return Err(fault),
+        }
+    }
+    Ok(Step::On)
+}
+
+// Replies to a last line without a line feed, if it is not empty.
+fn take_end<T: Desk, K: Sink>(
+    alloc: Global,
+    desk: &mut T,
+    seat: u32,
+    roster: &Roster,
+    speaker: &mut Speaker,
+    line: &LineBuffer,
+    text: &mut [u8; 4096],
+    sink: &mut K,
+) -> Result<(), Failed>
+    requires { roster.now ≡ roster_of (sight T.figures T.history T.stopped desk.old) }
+    ensures written { OnOk result ((start : Sight) (begun : Option (List ℕ)) (bytes : List ℕ) →
+        Served seat start begun (K.taken sink.old) (sight T.figures T.history T.stopped desk.old) speaker.old line.now bytes →
+        Written seat start begun (K.taken sink.new) (sight T.figures T.history T.stopped desk.new) (lines_of bytes)) }
+    ensures cut_off { OnErr result ((start : Sight) (begun : Option (List ℕ)) (bytes : List ℕ) →
+        Served seat start begun (K.taken sink.old) (sight T.figures T.history T.stopped desk.old) speaker.old line.now bytes →
+        CutOff seat start begun (K.taken sink.new) (sight T.figures T.history T.stopped desk.new) (lines_of bytes)) }
+    ensures never_falls { K.faults sink.old ≤ K.faults sink.new }
+    ensures failed { OnErr result (Rose (K.faults sink.old) (K.faults sink.new)) }
+{
+    if line.bytes().is_empty() {
+        return Ok(());
+    }
+    match answer_line(alloc, desk, seat, roster, speaker, text, sink, line.bytes()) {
+        Ok(_) => Ok(()),
+        Err(fault) => Err(fault),
+    }
+}
+
+// Replies to the lines of a source, with buffers for the begun line, for a reply and for what is read.
+fn serve_over<T: Desk, S: Source, K: Sink>(
+    alloc: Global,
+    desk: &mut T,
+    seat: u32,
+    roster: &Roster,
+    line: &mut LineBuffer,
+    text: &mut [u8; 4096],
+    piece: &mut [u8],
+    source: &mut S,
+    sink: &mut K,
+) -> SessionEnd
+    requires piece { 0 < length piece.old }
+    requires line { line.old ≡ [] }
+    requires roster { roster.now ≡ roster_of (sight T.figures T.history T.stopped desk.old) }
+    ensures ends { Ends seat (sight T.figures T.history T.stopped desk.old) (S.flow source.old) (S.flow source.new) (K.taken sink.old) (K.taken sink.new) (sight T.figures T.history T.stopped desk.new) result }
+    ensures memory { result ≢ SessionEnd.Memory }
+    ensures source_fault { result ≡ SessionEnd.SourceFault → Rose (S.faults source.old) (S.faults source.new) }
+    ensures sink_fault { result ≡ SessionEnd.SinkFault → Rose (K.faults sink.old) (K.faults sink.new) }
+{
+    let mut speaker = Speaker::nobody();
+    let mut taken = 0usize;
+    while taken < LIMIT {
+        let room = piece.len().min(LIMIT - taken);
+        let n = match source.read(&mut piece[..room]) {
+            Ok(n) => n,
+            Err(Failed) => return SessionEnd::SourceFault,
+        };
+        if n == 0 {
+            return match take_end(alloc, desk, seat, roster, &mut speaker, line, text, sink) {
+                Ok(()) => SessionEnd::Ended,
+                Err(Failed) => SessionEnd::SinkFault,
+            };
+        }
+        match take_piece(
+            alloc,
+            desk,
+            seat,
+            roster,
+            &mut speaker,
+            line,
+            text,
+            sink,
+            &piece[..n],
+        ) {
+            Ok(Step::On) => taken += n,
+            Ok(Step::Over) => return SessionEnd::Ended,
+            Err(Failed) => return SessionEnd::SinkFault,
+        }
+    }
+    SessionEnd::Limit
+}
+
+/// Replies to the lines of a source for one seat, up to the input's end, an accepted BYE or the session's limit of 2^30
+/// bytes. Every whole line that was read is answered before more is read; what was read behind an accepted BYE is
+/// dropped. It takes its memory before it reads. The roster is the desk's.
+pub fn serve_desk<T: Desk, S: Source, K: Sink>(
+    alloc: Global,
+    desk: &mut T,
+    seat: u32,
+    roster: &Roster,
+    source: &mut S,
+    sink: &mut K,
+) -> SessionEnd
+    requires { roster.now ≡ roster_of (sight T.figures T.history T.stopped desk.old) }
+    ensures ends { Ends seat (sight T.figures T.history T.stopped desk.old) (S.flow source.old) (S.flow source.new) (K.taken sink.old) (K.taken sink.new) (sight T.figures T.history T.stopped desk.new) result }
+    ensures source_fault { result ≡ SessionEnd.SourceFault → Rose (S.faults source.old) (S.faults source.new) }
+    ensures sink_fault { result ≡ SessionEnd.SinkFault → Rose (K.faults sink.old) (K.faults sink.new) }
+{
+    let Ok(mut line) = LineBuffer::new(alloc) else {
+        return SessionEnd::Memory;
+    };
+    let Ok(mut piece) = vec![in alloc; 0u8; 65536] else {
+        return SessionEnd::Memory;
+    };
+    let mut text = [0; 4096];
+    serve_over(
+        alloc, desk, seat, roster, &mut line, &mut text, &mut piece, source, sink,
+    )
+}

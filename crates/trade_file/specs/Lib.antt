@@ -1,0 +1,3 @@
+pub mod RosterRow
+pub mod RosterFile
+pub mod Draft
