@@ -1,7 +1,7 @@
 -- Journals as lists of bytes, and what a write into one leaves.
-use Rattle.std.proofs.Common.{◌≡◌, ◌≢◌, ◌⊎◌, inl, inr, ⊎_elim, ℕ, zero, suc, ◌+◌, ◌-◌, ◌≤◌, ◌<◌, max, List, [], ◌∷◌, ◌++◌, length, take, drop, get_or, Option, Some, None, refl, sym, ◌∙◌, subst, ap, arith, append_assoc, length-append, take-append-drop}
+use Rattle.std.proofs.Common.{◌≡◌, ◌⊎◌, inl, inr, ⊎_elim, ℕ, zero, suc, ◌+◌, ◌-◌, ◌≤◌, ◌<◌, List, [], ◌∷◌, ◌++◌, length, take, drop, get_or, Option, Some, None, refl, sym, ◌∙◌, subst, ap, arith, append_assoc, length-append, take-append-drop}
 use Rattle.std.proofs.lemmas.Bool.{cases_eq}
-use Rattle.std.proofs.lemmas.List.{append-nil, take_at, drop_at, drop_more, drop_all, length-take, length-drop, flat_map_more}
+use Rattle.std.proofs.lemmas.List.{take_at, drop_at, drop_more, drop_all, length-take, flat_map_more}
 use Rattle.std.proofs.Math.Seq.{drop-append-add}
 use Rattle.std.specs.Int.{w32, to_le_bytes}
 use Rattle.std.specs.List.{flat_map}
@@ -9,6 +9,7 @@ use Rattle.outside.specs.Disk.{History, IsTorn, IsSettled, IsPlace, HasLength, o
 use Rattle.journal_core.specs.Holds.{header, limit, frame, front, end_of, IsJournal, Holds}
 use Rattle.journal_core.specs.Frame.{staged}
 use Rattle.journal_core.specs.Moments.{LeavesOnly, TornOf, Puts}
+use Rattle.journal_core.specs.Walk.{EndsAt}
 use Rattle.journal_core.specs.Journal.{DiskHolds, IsAtRest, IsReady, HoldsWithOrWithout}
 use Rattle.journal_core.proofs.MomentFacts.{started, leaves_more}
 
@@ -210,3 +211,21 @@ stays (Some h) size records settled same long (inr j) = (settled, j.1, refl)
 pub holds_now : (o : Option History) (records : List (List ℕ)) → IsSettled o → DiskHolds o records → LeavesOnly o o (λ image. Holds image records)
 holds_now None records settled holds = tt
 holds_now (Some h) records settled holds = started h (λ image. Holds image records) (λ image now. subst (λ (f : List ℕ). Holds f records) (sym (settled image now)) holds)
+
+-- after these a journal is ready
+pub begun_ready : (o after : Option History) (size end : ℕ) → HasLength o size → size < 10 → EndsAt o end → Puts o 0 empty_journal after → IsReady after end
+begun_ready None after size end long short ends puts = subst (λ (a : Option History). IsReady a end) (sym puts) tt
+begun_ready (Some h) after size end long short ends puts =
+    let rest : IsAtRest (Some puts.0) (end_of ends.0) ends.0 = begun (Some h) (Some puts.0) size ends.0 long short ends.1 (puts.0, refl, puts.2, puts.3) in
+    subst (λ (a : Option History). IsReady a end) (sym puts.1) (ends.0, subst (λ (n : ℕ). IsAtRest (Some puts.0) n ends.0) (sym ends.2) rest)
+
+pub stays_ready : (o : Option History) (size end : ℕ) → IsSettled o → HasLength o size → 10 ≤ size → EndsAt o end → IsReady o end
+stays_ready None size end settled same long ends = tt
+stays_ready (Some h) size end settled same long ends =
+    (ends.0, subst (λ (n : ℕ). IsAtRest (Some h) n ends.0) (sym ends.2) (stays (Some h) size ends.0 settled same long ends.1))
+
+pub ready_again : (o after : Option History) (end next : ℕ) (bytes : List ℕ) → IsReady o end → ((records : List (List ℕ)) → IsAtRest o end records → IsAtRest after next (records ++ bytes ∷ [])) → IsReady after next
+ready_again None None end next bytes ready rest = tt
+ready_again None (Some k) end next bytes ready rest = (bytes ∷ [], rest [] tt)
+ready_again (Some h) None end next bytes ready rest = tt
+ready_again (Some h) (Some k) end next bytes ready rest = (ready.0 ++ bytes ∷ [], rest ready.0 ready.1)

@@ -1,3 +1,4 @@
 pub mod MomentFacts
 pub mod JournalFacts
 pub mod WalkFacts
+pub mod OneReading

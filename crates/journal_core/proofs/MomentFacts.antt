@@ -1,7 +1,7 @@
 -- How the moments of a disk's calls follow each other.
-use Rattle.std.proofs.Common.{◌≡◌, ◌⊎◌, inl, inr, ⊎_elim, ℕ, suc, ◌+◌, ◌-◌, ◌≤◌, ◌<◌, max, List, [], ◌∷◌, ◌++◌, length, take, drop, Option, Some, None, refl, sym, ◌∙◌, subst, ap, arith, append_assoc, length-append}
+use Rattle.std.proofs.Common.{◌≡◌, inl, inr, ⊎_elim, ℕ, ◌+◌, ◌-◌, ◌≤◌, ◌<◌, max, List, [], ◌∷◌, ◌++◌, length, take, drop, Option, Some, None, refl, sym, ◌∙◌, subst, ap, arith, append_assoc, length-append}
 use Rattle.std.proofs.lemmas.List.{take_at, drop_at, length-take-le, length-drop}
-use Rattle.outside.specs.Disk.{Change, Alters, LeftOf, Moment, History, settled_moment, IsPlace, moment, LeftAt, left_since, may_leave, IsTorn, IsSettled, Steps, Breaks, changed, overwritten, after_write, after_sync}
+use Rattle.outside.specs.Disk.{Change, LeftOf, Moment, History, settled_moment, IsPlace, moment, LeftAt, left_since, may_leave, IsTorn, IsSettled, Steps, Breaks, changed, overwritten, after_write, after_sync}
 use Rattle.journal_core.specs.Moments.{EachMoment, LeavesOnly, TornOf, Puts}
 
 -- no moment has a number as large as their count

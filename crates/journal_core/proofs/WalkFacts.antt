@@ -1,13 +1,13 @@
 -- What a walk over a journal's file finds.
-use Rattle.std.proofs.Common.{◌≡◌, ◌≢◌, ◌⊎◌, inl, inr, ⊎_elim, ℕ, zero, suc, ◌+◌, ◌-◌, ◌≤◌, ◌<◌, ◌^◌, min, List, [], ◌∷◌, ◌++◌, length, take, drop, get_or, map, Result, Ok, Err, IfOk, IfErr, Option, Some, None, refl, sym, ◌∙◌, subst, ap, arith, append_assoc, length-append, take-append-drop}
-use Rattle.std.proofs.lemmas.List.{append-nil, take_at, take_all, drop_all, take-append-le, length-take, length-drop, map-append}
+use Rattle.std.proofs.Common.{◌≡◌, ◌≢◌, inl, inr, ⊎_elim, ℕ, ◌+◌, ◌-◌, ◌≤◌, ◌<◌, ◌^◌, min, List, [], ◌∷◌, ◌++◌, length, take, drop, get_or, map, Option, Some, None, refl, sym, ◌∙◌, subst, ap, arith, append_assoc, length-append, take-append-drop}
+use Rattle.std.proofs.lemmas.List.{take_at, take-append-le, length-take, length-drop, map-append}
 use Rattle.std.proofs.Math.Seq.{take-append-add}
 use Rattle.std.proofs.lemmas.Nat.{from_le_bytes-to_le_bytes_4}
 use Rattle.std.specs.Int.{w32, to_le_bytes, from_le_bytes}
 use Rattle.std.specs.List.{flat_map}
 use Rattle.outside.specs.Disk.{History, HasLength, Reads}
-use Rattle.journal_core.specs.Holds.{header, limit, frame, front, end_of, IsJournal, Holds}
-use Rattle.journal_core.specs.Walk.{placed, place_and_bytes, NamesNoRecord, IsWalked, IsDamaged, IsFault, FindsRecords, FindsFault}
+use Rattle.journal_core.specs.Holds.{header, limit, frame, front, IsJournal, Holds}
+use Rattle.journal_core.specs.Walk.{placed, place_and_bytes, NamesNoRecord, IsWalked, IsDamaged, IsFault}
 use Rattle.journal_core.specs.declared.walked.Walked.{Walked}
 use Rattle.journal_core.specs.declared.walked.RecordAt.{RecordAt}
 use Rattle.journal_core.specs.declared.walked.WalkFault.{WalkFault}
@@ -88,7 +88,7 @@ no_record bytes records at rest body so_far is_open none long = (
 pub none_fits : (at : ℕ) (body : List ℕ) → NamesNoRecord body → (b more : List ℕ) → body ≡ to_le_bytes w32 (length b) ++ b ++ more → limit ≤ at + (5 + length b)
 none_fits at body none b more is = omega (arith, none b more is)
 
-same_size : (m n : ℕ) → m < 2 ^ 32 → n < 2 ^ 32 → to_le_bytes w32 m ≡ to_le_bytes w32 n → m ≡ n
+pub same_size : (m n : ℕ) → m < 2 ^ 32 → n < 2 ^ 32 → to_le_bytes w32 m ≡ to_le_bytes w32 n → m ≡ n
 same_size m n small small' is = sym (from_le_bytes-to_le_bytes_4 m small) ∙ ap (from_le_bytes w32) is ∙ from_le_bytes-to_le_bytes_4 n small'
 
 pub one_is_large : (at : ℕ) (body a after : List ℕ) → body ≡ to_le_bytes w32 (length a) ++ a ++ after → length a < 2 ^ 32 → limit ≤ at + 5 + length a
@@ -195,13 +195,3 @@ piece_of (Some h) size n old new long room reads =
     let count : n ≡ min (length h.content) limit = omega (arith, reads.0, room, long) in
     let taken : length (take n h.content) ≡ n = omega (arith, length-take n h.content, count) in
     (n, count, ap (λ (l : List ℕ). take n l) reads.1 ∙ take_at (take n h.content) (drop n old) n taken)
-
-pub walked_of : (r : Result Walked WalkFault) (o : Option History) (piece : List ℕ) → IsPiece o piece → IfOk r (IsWalked piece) → IfOk r (FindsRecords o)
-walked_of (Ok w) None piece is walked = tt
-walked_of (Ok w) (Some h) piece is walked = walked_all h.content is.0 is.1 w (subst (λ (l : List ℕ). IsWalked l w) is.2 walked)
-walked_of (Err fault) o piece is walked = tt
-
-pub fault_of : (r : Result Walked WalkFault) (o : Option History) (piece : List ℕ) → IsPiece o piece → IfErr r (IsFault piece) → IfErr r (FindsFault o)
-fault_of (Ok w) o piece is fault = tt
-fault_of (Err fault) None piece is told = tt
-fault_of (Err fault) (Some h) piece is told = fault_all h.content is.0 is.1 fault (subst (λ (l : List ℕ). IsFault l fault) is.2 told)

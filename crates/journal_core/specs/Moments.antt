@@ -1,5 +1,5 @@
 -- What a crash at each moment of a call leaves.
-use Rattle.std.specs.Prelude.{◌≡◌, ◌⊎◌, ◌≤◌, ℕ, List, length, Option, Some, None}
+use Rattle.std.specs.Prelude.{◌≡◌, ◌⊎◌, ◌≤◌, ℕ, List, Option, Some, None}
 use Rattle.outside.specs.Disk.{History, moment, left_since, overwritten, IsTorn, IsSettled}
 
 -- From old to new, a crash at each moment, the first and the last among them, leaves what has P.

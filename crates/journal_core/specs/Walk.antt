@@ -21,7 +21,11 @@ place_and_bytes r = (r.at, r.bytes.items)
 abbrev pub found : Walked → List (ℕ × List ℕ)
 found w = map place_and_bytes w.records.items
 
--- the walk found the records that the file holds, the places of their gates and the end
+-- the walk found these records, the places of their gates and their end
+abbrev pub HasFound : Walked → List (List ℕ) → Type 0
+HasFound w records = (found w ≡ placed 8 records) × (w.end ≡ end_of records)
+
+-- the walk found the records that the file holds
 abbrev pub IsWalked : List ℕ → Walked → Type 0
 IsWalked file w = (records : List (List ℕ)) × Holds file records × (found w ≡ placed 8 records) × (w.end ≡ end_of records)
 
@@ -44,11 +48,23 @@ IsFault file (Damaged place) = IsDamaged file place
 IsFault file DiskFault = Unit {0}
 IsFault file Memory = Unit {0}
 
--- the same where the disk tells what it holds
+-- no other damage can be told of the file, and it holds no records
+abbrev pub IsOnlyFault : List ℕ → WalkFault → Type 0
+IsOnlyFault file (Damaged place) = ((other : ℕ) → IsDamaged file other → other ≡ place) × ((records : List (List ℕ)) → Holds file records → ⊥)
+IsOnlyFault file DiskFault = Unit {0}
+IsOnlyFault file Memory = Unit {0}
+
+-- where the disk tells what it holds, the walk found the records that it holds, and it holds no others
 abbrev pub FindsRecords : Option History → Walked → Type 0
 FindsRecords None w = Unit {0}
-FindsRecords (Some h) w = IsWalked h.content w
+FindsRecords (Some h) w = IsWalked h.content w × ((records : List (List ℕ)) → Holds h.content records → HasFound w records)
 
+-- and the fault tells true, and is the only one
 abbrev pub FindsFault : Option History → WalkFault → Type 0
 FindsFault None fault = Unit {0}
-FindsFault (Some h) fault = IsFault h.content fault
+FindsFault (Some h) fault = IsFault h.content fault × IsOnlyFault h.content fault
+
+-- where the disk tells what it holds, these are records that end at the place
+abbrev pub EndsAt : Option History → ℕ → Type 0
+EndsAt None end = Unit {0}
+EndsAt (Some h) end = (records : List (List ℕ)) × Holds h.content records × (end ≡ end_of records)

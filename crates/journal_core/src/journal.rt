@@ -4,6 +4,7 @@ ghost use Rattle.outside.specs.Disk.{IsSettled};
 ghost use Rattle.outside.specs.Faults.{Rose};
 ghost use Rattle.journal_core.specs.Holds.{Holds, end_of, limit};
 ghost use Rattle.journal_core.specs.Moments.{LeavesOnly};
+ghost use Rattle.journal_core.specs.Walk.{EndsAt};
 ghost use Rattle.journal_core.specs.Journal.{DiskHolds, IsAtRest, disk_of, size_of, IsReady, HoldsWithOrWithout};
 
 use crate::Frame;
@@ -24,6 +25,7 @@ pub struct Journal<D: Disk> {
 fn prepare<D: Disk>(disk: &mut D) -> Result<(), Failed>
     requires { IsSettled (D.history disk.old) }
     ensures at_rest { (records : List (List ℕ)) → DiskHolds (D.history disk.old) records → OnOk result (IsAtRest (D.history disk.new) (end_of records) records) }
+    ensures ready { (end : ℕ) → EndsAt (D.history disk.old) end → OnOk result (IsReady (D.history disk.new) end) }
     ensures any_moment { (records : List (List ℕ)) → DiskHolds (D.history disk.old) records → LeavesOnly (D.history disk.old) (D.history disk.new) (λ image. Holds image records) }
     ensures never_falls { D.fault_count disk.old ≤ D.fault_count disk.new }
     ensures failed { OnErr result (Rose (D.fault_count disk.old) (D.fault_count disk.new)) }
@@ -42,6 +44,7 @@ impl<D: Disk> Journal<D> {
     pub fn start(disk: D, end: u64) -> Result<Journal<D>, (Failed, D)>
         requires { IsSettled (D.history disk) }
         ensures at_rest { (records : List (List ℕ)) → DiskHolds (D.history disk) records → end ≡ end_of records → IfOk result (λ j. IsAtRest (D.history (disk_of j)) end records) }
+        ensures ready { EndsAt (D.history disk) end → IfOk result (λ j. IsReady (D.history (disk_of j)) (size_of j)) }
         ensures end { IfOk result (λ j. size_of j ≡ end) }
         ensures any_moment { (records : List (List ℕ)) → DiskHolds (D.history disk) records → IfOk result (λ j. LeavesOnly (D.history disk) (D.history (disk_of j)) (λ image. Holds image records)) }
         ensures any_moment_failed { (records : List (List ℕ)) → DiskHolds (D.history disk) records → IfErr result (λ e. LeavesOnly (D.history disk) (D.history e.1) (λ image. Holds image records)) }
@@ -76,6 +79,7 @@ impl<D: Disk> Journal<D> {
         requires ready { IsReady (D.history (disk_of self.old)) (size_of self.old) }
         requires fits { size_of self.old + 4 + length frame.now + 1 ≤ limit }
         ensures done { (records : List (List ℕ)) → IsAtRest (D.history (disk_of self.old)) (size_of self.old) records → OnOk result (IsAtRest (D.history (disk_of self.new)) (size_of self.new) (records ++ frame.now ∷ [])) }
+        ensures ready { OnOk result (IsReady (D.history (disk_of self.new)) (size_of self.new)) }
         ensures size { OnOk result (size_of self.new ≡ size_of self.old + (5 + length frame.now)) }
         ensures same_size { OnErr result (size_of self.new ≡ size_of self.old) }
         ensures any_moment { (records : List (List ℕ)) → IsAtRest (D.history (disk_of self.old)) (size_of self.old) records → LeavesOnly (D.history (disk_of self.old)) (D.history (disk_of self.new)) (HoldsWithOrWithout records frame.now) }

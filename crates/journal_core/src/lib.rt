@@ -11,3 +11,6 @@ pub use frame::Frame;
 pub use journal::Journal;
 pub use walked::{RecordAt, WalkFault, Walked};
 pub use walking::walk;
+
+#[cfg(test)]
+mod tests;

@@ -3,7 +3,7 @@ ghost use Rattle.std.specs.Prelude.{◌≡◌, ◌≢◌, ◌≤◌, ◌<◌, �
 ghost use Rattle.std.specs.Int.{w32, to_le_bytes};
 ghost use Rattle.outside.specs.Faults.{Rose};
 ghost use Rattle.journal_core.specs.Holds.{header, limit};
-ghost use Rattle.journal_core.specs.Walk.{IsWalked, IsFault, FindsRecords, FindsFault, NamesNoRecord};
+ghost use Rattle.journal_core.specs.Walk.{IsWalked, IsFault, FindsRecords, FindsFault, NamesNoRecord, EndsAt};
 
 use crate::journal::LIMIT;
 use crate::{RecordAt, WalkFault, Walked};
@@ -99,9 +99,11 @@ fn read_records(alloc: Global, bytes: &[u8]) -> Result<Walked, WalkFault>
 }
 
 /// The records that a journal's file holds, with the places of their gates, and the place just past the gate behind
-/// them. It reads the file in one piece, at most as much of it as a journal may have, and writes nothing.
+/// them. `Damaged` comes only where it holds none, with the one place at which it is damaged. It reads the file in one
+/// piece, at most as much of it as a journal may have, and writes nothing.
 pub fn walk<D: Disk>(alloc: Global, disk: &mut D) -> Result<Walked, WalkFault>
     ensures found { IfOk result (FindsRecords (D.history disk.old)) }
+    ensures ends { IfOk result (λ w. EndsAt (D.history disk.old) w.end) }
     ensures fault { IfErr result (FindsFault (D.history disk.old)) }
     ensures same { D.history disk.new ≡ D.history disk.old }
     ensures never_falls { D.fault_count disk.old ≤ D.fault_count disk.new }

@@ -3,3 +3,8 @@ pub mod FieldFacts
 pub mod NameFacts
 pub mod DraftFacts
 pub mod RosterFacts
+pub mod TradeFieldFacts
+pub mod TradeFacts
+pub mod PlaceFacts
+pub mod GivenFacts
+pub mod TableFacts

@@ -1,4 +1,4 @@
-use Rattle.std.proofs.Common.{◌≡◌, ◌≢◌, ◌+◌, ◌<◌, ◌≤◌, ◌∷◌, List, ℕ, length, refl, arith, rules}
+use Rattle.std.proofs.Common.{◌≡◌, ◌≢◌, ◌+◌, ◌<◌, ◌∷◌, List, ℕ, length, refl, arith, rules}
 use Rattle.journal_core.specs.declared.walked.RecordAt.{RecordAt}
 use Rattle.journal_core.proofs.WalkFacts.{copied_one, is_walked}
 use Rattle.journal_core.proofs.walking.read_records.Goals as goal

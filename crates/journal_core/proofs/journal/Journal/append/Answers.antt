@@ -1,9 +1,9 @@
-use Rattle.std.proofs.Common.{◌≡◌, ◌+◌, ◌≤◌, List, ℕ, length, subst, ap, ◌∙◌, arith}
+use Rattle.std.proofs.Common.{◌≡◌, ◌+◌, ◌≤◌, List, ℕ, length, subst, ap, arith}
 use Rattle.journal_core.specs.Holds.{limit}
 use Rattle.journal_core.specs.Moments.{Puts}
 use Rattle.journal_core.specs.Journal.{HoldsWithOrWithout}
 use Rattle.journal_core.proofs.MomentFacts.{leaves_both}
-use Rattle.journal_core.proofs.JournalFacts.{first_moments, second_moments, appended, length-staged}
+use Rattle.journal_core.proofs.JournalFacts.{first_moments, second_moments, appended, ready_again, length-staged}
 use Rattle.journal_core.proofs.journal.Journal.append.Goals as goal
 
 pub returns-in_err-put-clause-any_moment : goal.returns-in_err-put-clause-any_moment
@@ -47,3 +47,9 @@ returns-clause-done g c = λ records rest.
     let puts = subst (λ (b : List ℕ). Puts was end b mid) c.behind_gate-behind.ensures c.in_ok-put.ensures.done in
     let size : end + length c.behind_gate-behind.result.now ≡ end + (5 + length record_bytes) = omega (arith, ap length c.behind_gate-behind.ensures, length-staged record_bytes) in
     appended records record_bytes was mid after end c.saturating_sub-gate.result (end + length c.behind_gate-behind.result.now) rest c.saturating_sub-gate.ensures fits size puts c.in_ok-put-2.ensures.done
+
+pub returns-clause-ready : goal.returns-clause-ready
+returns-clause-ready g c =
+    let was = g.D.Disk.history c.args.self.now.disk in
+    let after = g.D.Disk.history c.put-2.new.disk in
+    ready_again was after c.args.self.now.end (c.args.self.now.end + length c.behind_gate-behind.result.now) c.args.frame.now c.requires.ready (returns-clause-done g c)

@@ -1,0 +1,7 @@
+pub mod RoundSteps
+pub mod Cycles
+pub mod LevelTable
+pub mod Tracing
+pub mod Cancelling
+pub mod Certify
+pub mod Kept

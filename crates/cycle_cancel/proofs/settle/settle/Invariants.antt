@@ -1,0 +1,10 @@
+use Rattle.network_laws.specs.Networks.{total}
+use Rattle.residual_graph.specs.Residual.{flow_rows}
+use Rattle.cycle_cancel.specs.Cancels.{IsKept}
+use Rattle.cycle_cancel.proofs.settle.settle.Given as goal
+
+abbrev pub invariant-loop-labels : goal.invariant-loop-labels
+invariant-loop-labels l = IsKept l.cancelled l.initial.residual l.residual
+
+abbrev pub decreases-loop-labels : goal.decreases-loop-labels
+decreases-loop-labels l = total (flow_rows l.residual.flows)

@@ -1,0 +1,33 @@
+-- A table of rounds, and cycles found in it.
+use Rattle.std.specs.Prelude.{◌≡◌, ◌≢◌, ℕ, suc, ◌<◌, List, [], ◌∷◌, length, slice_index_or, AllPairs, All, Option, ℤ, pos, ◌+ℤ◌, ◌<ℤ◌}
+use Rattle.std.specs.declared.alloc.Global.{Global}
+use Rattle.std.specs.declared.vec.Vec.{Vec}
+use Rattle.residual_graph.specs.declared.flow.Flow.{Flow}
+use Rattle.residual_graph.specs.Arcs.{arc_count, head, tail, room, cost}
+use Rattle.cycle_cancel.specs.declared.round.Step.{Step}
+use Rattle.cycle_cancel.specs.Rounds.{first_step, IsRound}
+
+abbrev pub arc_at : List Step → ℕ → Option ℕ
+arc_at steps v = (slice_index_or steps v first_step).arc
+
+abbrev pub costs : List ℕ → ℤ
+costs [] = pos 0
+costs (a ∷ arcs) = cost a +ℤ costs arcs
+
+-- from w back along the arcs to v
+abbrev pub IsWalkBack : List Flow → ℕ → List ℕ → ℕ → Type 0
+IsWalkBack flows w [] v = w ≡ v
+IsWalkBack flows w (a ∷ arcs) v = (head flows a ≡ w) × (a < arc_count flows) × IsWalkBack flows (tail flows a) arcs v
+
+-- a closed walk of different arcs with room, which costs less than nothing
+pub record IsGain (flows : List Flow) (arcs : List ℕ) : Type 0 where
+  pub at_member : ℕ
+  pub closed : IsWalkBack flows at_member arcs at_member
+  pub roomy : All (λ a. (a < arc_count flows) × (0 < room flows a)) arcs
+  pub different : AllPairs (λ a b. a ≢ b) arcs
+  pub gains : costs arcs <ℤ pos 0
+
+-- each level is a round of the one before, over this many members
+pub record IsTable (flows : List Flow) (members : ℕ) (levels : List (Vec Step Global)) : Type 0 where
+  pub wide : All (λ level. length level.items ≡ members) levels
+  pub rounds : (k : ℕ) (d : Vec Step Global) → suc k < length levels → IsRound flows (slice_index_or levels k d).items (slice_index_or levels (suc k) d).items (arc_count flows)

@@ -1,0 +1,5 @@
+pub mod Building
+pub mod Kept
+pub mod PushSteps
+pub mod Labels
+pub mod Built

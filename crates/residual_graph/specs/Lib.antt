@@ -1,0 +1,4 @@
+pub mod Residual
+pub mod Arcs
+pub mod Labels
+pub mod Built

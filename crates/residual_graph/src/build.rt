@@ -1,0 +1,68 @@
+//! From limit rows to pairs, and from pairs to the rows of a network.
+
+ghost use Rattle.std.specs.Prelude.{◌≡◌, ◌≤◌, map, filter, All, IfOk};
+ghost use Rattle.network_laws.specs.Networks.{at};
+ghost use Rattle.residual_graph.specs.Residual.{capped, flow_with, flow_of, flow_rows, has_amount, IsFlow};
+ghost use Rattle.residual_graph.specs.Built.{IsBetween, IsSmall};
+
+use crate::flow::Flow;
+use network_laws::{LimitRow, Network, Row};
+use std::alloc::{AllocError, Global};
+
+/// A pair for each limit row, with the network's amount.
+pub fn flows_of(
+    alloc: Global,
+    rows: &[LimitRow],
+    network: &Network,
+    cap: u64,
+) -> Result<Vec<Flow>, AllocError>
+    requires within { All (IsBetween cap network.now) rows.now }
+    ensures value { IfOk result (λ flows. flows.items ≡ map (flow_of cap network.now) rows.now) }
+    ensures small { IfOk result (λ flows. All IsSmall flows.items) }
+{
+    let mut flows = Vec::new(alloc);
+    for row in rows {
+        let amount = network.amount(row.seller, row.buyer);
+        flows.push(flow_of(*row, amount, cap))?;
+    }
+    Ok(flows)
+}
+
+/// The pair of a limit row with an amount.
+fn flow_of(row: LimitRow, amount: u64, cap: u64) -> Flow
+    requires low { row.lower ≤ amount }
+    requires high { amount ≤ capped cap row.upper }
+    ensures value { result ≡ flow_with cap row amount }
+    ensures small { IsSmall result }
+{
+    let most = match row.upper {
+        Some(most) => most,
+        None => cap,
+    };
+    Flow {
+        seller: row.seller,
+        buyer: row.buyer,
+        lower: row.lower,
+        back: amount - row.lower,
+        room: most - amount,
+    }
+}
+
+/// The rows of the pairs that have an amount.
+pub fn rows_of(alloc: Global, flows: &[Flow], members: u16) -> Result<Vec<Row>, AllocError>
+    requires good { All (IsFlow members) flows.now }
+    ensures { IfOk result (λ rows. rows.items ≡ filter has_amount (flow_rows flows.now)) }
+{
+    let mut rows = Vec::new(alloc);
+    for flow in flows {
+        let amount = flow.lower + flow.back;
+        if amount > 0 {
+            rows.push(Row {
+                seller: flow.seller,
+                buyer: flow.buyer,
+                amount,
+            })?;
+        }
+    }
+    Ok(rows)
+}

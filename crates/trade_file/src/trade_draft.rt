@@ -1,0 +1,66 @@
+//! The trades of a trade file, as far as it was read.
+ghost use Rattle.std.specs.Prelude.{◌≡◌, ◌<◌, [], nat_le, length, Ok};
+ghost use Rattle.trade_file.specs.TradeFile.{with_trade};
+ghost use Rattle.trade_file.specs.TradeDraft.{IsTradeDraft, trades_of_draft, TradeSteps};
+
+use crate::file_trade::FileTrade;
+use command_types::FileFault;
+use std::alloc::Global;
+
+/// The most trades that a file may have.
+const MOST_TRADES: usize = 100_000;
+
+/// The most that a product's amounts may add up to.
+const MOST_GROSS: u64 = 1_000_000_000_000_000_000;
+
+/// The trades so far, and the sum of each product's amounts.
+#[derive(Drop)]
+pub(crate) struct TradeDraft {
+    trades: Vec<FileTrade>,
+    totals: [u64; 64],
+}
+
+impl TradeDraft {
+    pub(crate) fn new(alloc: Global) -> TradeDraft
+        ensures trades { trades_of_draft result ≡ [] }
+        ensures draft { IsTradeDraft result }
+    {
+        TradeDraft {
+            trades: Vec::new(alloc),
+            totals: [0; 64],
+        }
+    }
+
+    /// Whether there is no room for one more trade.
+    pub(crate) fn is_full(&self) -> bool
+        ensures { result ≡ nat_le 100000 (length (trades_of_draft self.now)) }
+    {
+        self.trades.len() >= MOST_TRADES
+    }
+
+    /// Puts the trade of the record with this number last.
+    pub(crate) fn add(&mut self, number: u64, trade: FileTrade) -> Result<(), FileFault>
+        requires draft { IsTradeDraft self.old }
+        requires product { trade.product < 64 }
+        ensures { TradeSteps (with_trade number (trades_of_draft self.old) (Ok trade)) self.new result }
+    {
+        let product = trade.product.index();
+        let total = self.totals[product] + trade.amount.get();
+        if total > MOST_GROSS {
+            return Err(FileFault::GrossLimit { row: number });
+        }
+        if self.trades.push(trade).is_err() {
+            return Err(FileFault::Memory);
+        }
+        self.totals[product] = total;
+        Ok(())
+    }
+
+    /// The trades.
+    pub(crate) fn into_trades(self) -> Vec<FileTrade>
+        ensures { result.items ≡ trades_of_draft self }
+    {
+        let TradeDraft { trades, totals: _ } = self;
+        trades
+    }
+}

@@ -1,0 +1,97 @@
+//! Reading a trade file.
+ghost use Rattle.std.specs.Prelude.{◌≡◌, ◌≤◌, ◌⊎◌, length, Ok, Err, IfOk, IfErr};
+ghost use Rattle.csv.specs.Records.{fields_of};
+ghost use Rattle.command_types.specs.declared.file_fault.FileFault.TheVariants.{Memory};
+ghost use Rattle.trade_file.specs.RosterFile.{records_of};
+ghost use Rattle.trade_file.specs.TradeFile.{trade_file, trades_of, with_trade_record, AreFileTrades};
+ghost use Rattle.trade_file.specs.TradeDraft.{IsTradeDraft, trades_of_draft, TradeSteps};
+
+use crate::directory::Directory;
+use crate::file_trade::FileTrade;
+use crate::trade_draft::TradeDraft;
+use crate::trade_row::{read_row, reads_header};
+use command_types::{FileFault, Roster};
+use csv::{ByteRecord, ReaderBuilder};
+use std::alloc::Global;
+
+// Takes the record with this number into the draft.
+fn take_record(
+    draft: &mut TradeDraft,
+    directory: &Directory<'_>,
+    number: u64,
+    record: &ByteRecord,
+) -> Result<(), FileFault>
+    requires { IsTradeDraft draft.old }
+    ensures { TradeSteps (with_trade_record directory.now number (trades_of_draft draft.old) (fields_of record.now)) draft.new result }
+{
+    if number == 1 {
+        if reads_header(record) {
+            return Ok(());
+        }
+        return Err(FileFault::Columns { row: 1 });
+    }
+    if draft.is_full() {
+        return Err(FileFault::RowLimit { row: number });
+    }
+    match read_row(directory, number, record) {
+        Ok(trade) => draft.add(number, trade),
+        Err(fault) => Err(fault),
+    }
+}
+
+// The draft of all records of a file.
+fn read_records(
+    alloc: Global,
+    bytes: &[u8],
+    directory: &Directory<'_>,
+) -> Result<TradeDraft, FileFault>
+    requires { length bytes.now ≤ 67108864 }
+    ensures trades { IfOk result (λ draft. trades_of directory.now (records_of bytes.now) ≡ Ok (trades_of_draft draft)) }
+    ensures fault { IfErr result (λ fault. (fault ≡ Memory) ⊎ (trades_of directory.now (records_of bytes.now) ≡ Err fault)) }
+{
+    let reader = ReaderBuilder::new()
+        .has_headers(false)
+        .flexible(true)
+        .from_reader(alloc, bytes);
+    let mut draft = TradeDraft::new(alloc);
+    let mut number = 0;
+    for record in reader.into_byte_records() {
+        let Ok(record) = record else {
+            return Err(FileFault::Memory);
+        };
+        number += 1;
+        match take_record(&mut draft, directory, number, &record) {
+            Ok(()) => {}
+            Err(fault) => return Err(fault),
+        }
+    }
+    if number == 0 {
+        return Err(FileFault::Columns { row: 1 });
+    }
+    Ok(draft)
+}
+
+/// The trades that a file's bytes say, in the order of their records, or the file's first fault, with the number of
+/// its record, counted from 1. The records are those of comma-separated text with double quotes; the first is
+/// `seller,buyer,product,amount`, and each other one a trade of the roster's members and products. Amounts are in the
+/// contract's currency unit. Want of memory may come at any place.
+pub fn read_trades(
+    alloc: Global,
+    bytes: &[u8],
+    roster: &Roster,
+) -> Result<Vec<FileTrade>, FileFault>
+    ensures trades { IfOk result (λ trades. trade_file roster.now bytes.now ≡ Ok trades.items) }
+    ensures within { IfOk result (λ trades. AreFileTrades roster.now trades.items) }
+    ensures fault { IfErr result (λ fault. (fault ≡ Memory) ⊎ (trade_file roster.now bytes.now ≡ Err fault)) }
+{
+    if bytes.len() > 67_108_864 {
+        return Err(FileFault::TooLong);
+    }
+    let Ok(directory) = Directory::of(alloc, roster) else {
+        return Err(FileFault::Memory);
+    };
+    match read_records(alloc, bytes, &directory) {
+        Ok(draft) => Ok(draft.into_trades()),
+        Err(fault) => Err(fault),
+    }
+}
