@@ -135,14 +135,15 @@ command_refusals s by (Decline cycle version) = decline_refusals s by cycle vers
 command_refusals s by (Cancel cycle) = cancel_refusals s by cycle
 command_refusals s by what = []
 
--- what the machine does not do yet: the commands of tolerances and of the cycle, STATEMENT, and the operator's NETS
+-- what the machine does not do yet: the commands of the cycle, and STATEMENT
 abbrev pub is_built : State → List ℕ → What → Bool
 is_built s by (Trade seller buyer product amount day) = true
 is_built s by (Affirm trade) = true
 is_built s by (End trade) = true
 is_built s by (Hold trade) = true
 is_built s by (Free trade) = true
-is_built s by (Nets product) = not (is_operator s.roster by)
+is_built s by (Tol other product side floor ceiling) = true
+is_built s by (Nets product) = true
 is_built s by what = false
 
 abbrev pub party_refusals : State → List ℕ → What → List (Bool × Refusal)

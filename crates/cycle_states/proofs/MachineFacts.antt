@@ -15,15 +15,22 @@ use Rattle.command_types.specs.declared.refusal.Refusal.TheVariants.{NotGreeted}
 use Rattle.network_laws.specs.Solutions.{SolutionData}
 use Rattle.command_types.specs.declared.figures.State.{State}
 use Rattle.command_types.specs.declared.plan.PlanRow.{PlanRow}
+use Rattle.command_types.specs.declared.tolerance.ToleranceRow.{ToleranceRow}
+use Rattle.command_types.specs.declared.trade.Side.{Side}
+use Rattle.command_types.specs.declared.trade.TradeRow.{TradeRow}
 use Rattle.command_types.specs.declared.roster.Role.TheVariants.{Dealer}
 use Rattle.command_types.specs.declared.roster.MemberRow.{MemberRow}
-use Rattle.command_types.specs.Roster.{member_place, is_party, is_operator}
+use Rattle.command_types.specs.Roster.{Rows, member_place, is_party, is_operator}
 use Rattle.command_types.specs.Trades.{gross_of}
 use Rattle.command_types.specs.Machine.{first_of, refusals, party_refusals, is_built, trade_refusals, product_of, member_of, position_of, changes, is_refusal, refused_or, accepted, answer_to, state_by, state_after}
 use Rattle.command_types.specs.Cycles.{posted_plan}
-use Rattle.command_types.specs.CycleSteps.{market_in, proposed_or_done, touched_in, after_vote, left_after}
+use Rattle.command_types.specs.Books.{live_network}
+use Rattle.command_types.specs.CycleRefusals.{is_crossed}
+use Rattle.command_types.specs.Tolerances.{with_setting}
+use Rattle.command_types.specs.CycleSteps.{with_tolerance, market_of, market_in, proposed_or_done, touched_in, after_vote, left_after}
 use Rattle.command_types.specs.History.{is_recorded}
 use Rattle.product_book.specs.Book.{gross_limit}
+use Rattle.cycle_states.specs.Machine.{state_of, state_with}
 
 roster_posted : (s : State) (solutions : List SolutionData) (plan : List PlanRow) (touched : List ℕ) → (proposed_or_done s solutions plan touched).roster ≡ s.roster
 roster_posted s solutions plan [] = refl
@@ -152,21 +159,65 @@ pub accepted_answer : (s : State) (ask : Ask) → first_of (refusals s ask.by as
 accepted_answer s ask none = ap (λ r. refused_or (accepted s ask.by ask.what) r) none
 
 -- a party's command that is not refused is one that the machine does
-built : (s : State) (by : Option (List ℕ)) (what : What) → first_of ((not (is_party s.roster by), NotGreeted) ∷ party_refusals s (unwrap_or by []) what) ≡ None → is_built s (unwrap_or by []) what ≡ true
+pub built : (s : State) (by : Option (List ℕ)) (what : What) → first_of ((not (is_party s.roster by), NotGreeted) ∷ party_refusals s (unwrap_or by []) what) ≡ None → is_built s (unwrap_or by []) what ≡ true
 built s by what none =
     let tests = none_holds ((not (is_party s.roster by), NotGreeted) ∷ party_refusals s (unwrap_or by []) what) none in
     not_false (is_built s (unwrap_or by []) what) tests.1.0
 
--- the operator's NETS is not built
-nets_by : (operator : Bool) (own market : Answer) → not operator ≡ true → own ≡ (if operator then market else own)
-nets_by true own market member = absurd (false≢true member)
-nets_by false own market member = refl
-
--- a member's own position is what its NETS is answered
-pub own_answer : (s : State) (by : Option (List ℕ)) (name product : List ℕ) (p m : ℕ) → by ≡ Some name → p ≡ product_of s product → m ≡ member_of s name → first_of (refusals s by (Nets product)) ≡ None →
+-- a NETS shows a member its own position
+pub own_answer : (s : State) (by : Option (List ℕ)) (name product : List ℕ) (p m : ℕ) → by ≡ Some name → p ≡ product_of s product → m ≡ member_of s name → is_operator s.roster name ≡ false →
     position_of p m s.trades ≡ accepted s by (Nets product)
-own_answer s by name product p m greeted at_place place none =
-    let P : Option (List ℕ) → Type 0 = λ b. first_of (refusals s b (Nets product)) ≡ None in
+own_answer s by name product p m greeted at_place place member =
     ap (λ n. position_of n m s.trades) at_place ∙ ap (λ n. position_of (product_of s product) n s.trades) place
-    ∙ nets_by (is_operator s.roster name) (position_of (product_of s product) (member_of s name) s.trades) (market_in s (product_of s product)) (built s (Some name) (Nets product) (subst P greeted none))
+    ∙ ap (λ (t : Bool). if t then market_in s (product_of s product) else position_of (product_of s product) (member_of s name) s.trades) (sym member)
     ∙ ap (λ b. accepted s b (Nets product)) (sym greeted)
+
+-- and the operator the product's figures
+pub market_answer : (s : State) (by : Option (List ℕ)) (name product : List ℕ) (members p : ℕ) → by ≡ Some name → members ≡ length s.roster.members → p ≡ product_of s product → is_operator s.roster name ≡ true →
+    market_of (live_network members p s.trades) ≡ accepted s by (Nets product)
+market_answer s by name product members p greeted all at_place operator =
+    ap (λ n. market_of (live_network n p s.trades)) all ∙ ap (λ n. market_in s n) at_place
+    ∙ ap (λ (t : Bool). if t then market_in s (product_of s product) else position_of (product_of s product) (member_of s name) s.trades) (sym operator)
+    ∙ ap (λ b. accepted s b (Nets product)) (sym greeted)
+
+-- an accepted TOL has no ceiling below its floor
+pub tol_fits : (s : State) (by : Option (List ℕ)) (name other product : List ℕ) (side : Side) (floor : ℕ) (ceiling : Option ℕ) → by ≡ Some name → first_of (refusals s by (Tol other product side floor ceiling)) ≡ None →
+    is_crossed floor ceiling ≡ false
+tol_fits s by name other product side floor ceiling greeted none =
+    let P : Option (List ℕ) → Type 0 = λ b. first_of (refusals s b (Tol other product side floor ceiling)) ≡ None in
+    (none_holds (refusals s (Some name) (Tol other product side floor ceiling)) (subst P greeted none)).1.1.1.1.1.1.0
+
+-- settings are told of by no refusal of today
+pub refusals_stand : (roster : Rows) (rows : List TradeRow) (settings : List ToleranceRow) (by : Option (List ℕ)) (what : What) → refusals (state_of roster rows) by what ≡ refusals (state_with roster rows settings) by what
+refusals_stand roster rows settings by (Hello name key) = refl
+refusals_stand roster rows settings by (Trade seller buyer product amount day) = refl
+refusals_stand roster rows settings by (Affirm trade) = refl
+refusals_stand roster rows settings by (End trade) = refl
+refusals_stand roster rows settings by (Hold trade) = refl
+refusals_stand roster rows settings by (Free trade) = refl
+refusals_stand roster rows settings by (Tol other product side floor ceiling) = refl
+refusals_stand roster rows settings by (Nets product) = refl
+refusals_stand roster rows settings by Statement = refl
+refusals_stand roster rows settings by (Freeze day) = refl
+refusals_stand roster rows settings by (Begin cycle mode) = refl
+refusals_stand roster rows settings by (Limits product) = refl
+refusals_stand roster rows settings by (Row product seller buyer amount size sum) = refl
+refusals_stand roster rows settings by (Pot product member value size) = refl
+refusals_stand roster rows settings by (Post cycle version solutions) = refl
+refusals_stand roster rows settings by (Fetch cycle version) = refl
+refusals_stand roster rows settings by (Plan cycle) = refl
+refusals_stand roster rows settings by (Accept cycle version) = refl
+refusals_stand roster rows settings by (Decline cycle version) = refl
+refusals_stand roster rows settings by (Cancel cycle) = refl
+refusals_stand roster rows settings by Bye = refl
+refusals_stand roster rows settings by (Unreadable at) = refl
+
+-- the setting that an accepted TOL makes
+pub tolerated : (s : State) (by : Option (List ℕ)) (name other product : List ℕ) (side : Side) (floor : ℕ) (ceiling : Option ℕ) (m p o : ℕ) (settings : List ToleranceRow) → by ≡ Some name → m ≡ member_of s name → p ≡ product_of s product → o ≡ member_of s other →
+    settings ≡ with_setting (record { member = m; product = p; other = o; side = side; floor = floor; ceiling = ceiling }) s.tolerances → record s { tolerances = settings } ≡ state_by s by (Tol other product side floor ceiling)
+tolerated s by name other product side floor ceiling m p o settings greeted place at_place other_place is =
+    ap (λ (rows : List ToleranceRow). record s { tolerances = rows }) is
+    ∙ ap (λ n. with_tolerance s n p o side floor ceiling) place
+    ∙ ap (λ n. with_tolerance s (member_of s name) n o side floor ceiling) at_place
+    ∙ ap (λ n. with_tolerance s (member_of s name) (product_of s product) n side floor ceiling) other_place
+    ∙ ap (λ b. state_by s b (Tol other product side floor ceiling)) (sym greeted)

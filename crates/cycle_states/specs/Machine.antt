@@ -2,8 +2,9 @@
 use Rattle.std.specs.Str.{bytes_eq}
 use Rattle.std.specs.Prelude.{◌≡◌, ℕ, ◌+◌, Bool, true, false, not, ◌||◌, nat_lt, nat_le, is_none, List, [], ◌∷◌, Option, length}
 use Rattle.command_types.specs.declared.ask.What.{What}
-use Rattle.command_types.specs.declared.ask.What.TheVariants.{Hello, Trade, Bye, Unreadable}
+use Rattle.command_types.specs.declared.ask.What.TheVariants.{Hello, Trade, Tol, Bye, Unreadable}
 use Rattle.command_types.specs.declared.figures.State.{State}
+use Rattle.command_types.specs.declared.tolerance.ToleranceRow.{ToleranceRow}
 use Rattle.command_types.specs.declared.trade.TradeRow.{TradeRow}
 use Rattle.command_types.specs.declared.roster.ProductRow.{ProductRow}
 use Rattle.command_types.specs.declared.refusal.Refusal.{Refusal}
@@ -13,14 +14,19 @@ use Rattle.command_types.specs.Roster.{Rows, member_place, product_place}
 use Rattle.command_types.specs.Trades.{gross_of, submitted_count}
 use Rattle.command_types.specs.Machine.{empty_state, maturity_refusal}
 
--- the machine's state, and for how many more trades there is room without memory
+-- the machine's state, and for how many more trades and settings there is room without memory
 pub record MachineView : Type 0 where
   pub state : State
   pub spare : ℕ
+  pub slots : ℕ
 
--- the state with this roster and these trades: nobody has set a tolerance, and no cycle was opened
+-- the state with this roster and these trades, in which no cycle was opened
 abbrev pub state_of : Rows → List TradeRow → State
 state_of roster rows = record (empty_state roster) { trades = rows }
+
+-- and with these settings
+abbrev pub state_with : Rows → List TradeRow → List ToleranceRow → State
+state_with roster rows settings = record (state_of roster rows) { tolerances = settings }
 
 -- a book of the roster's members and products
 pub record IsBookOf (roster : Rows) (members products : ℕ) : Type 0 where
@@ -31,6 +37,11 @@ pub record IsBookOf (roster : Rows) (members products : ℕ) : Type 0 where
 abbrev pub rows_added : What → ℕ
 rows_added (Trade seller buyer product amount day) = 1
 rows_added what = 0
+
+-- how many settings a change may add
+abbrev pub settings_added : What → ℕ
+settings_added (Tol other product side floor ceiling) = 1
+settings_added what = 0
 
 -- all commands but HELLO, BYE and what can't be read want a party of the roster
 abbrev pub wants_party : What → Bool

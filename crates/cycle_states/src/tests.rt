@@ -5,7 +5,8 @@ ghost use Rattle.units_core.specs.Name.{is_name};
 
 use crate::{Machine, PlainDesk};
 use command_types::{
-    Answer, Ask, Desk, MemberRow, OperatorRow, ProductRow, Refusal, Role, Roster, TradeState, What,
+    Answer, Ask, Desk, Level, MemberRow, OperatorRow, ProductRow, Refusal, Role, Roster, Side,
+    TradeState, What,
 };
 use std::alloc::{AllocError, Global};
 use std::process::Abort;
@@ -91,6 +92,26 @@ fn is_same(answer: &Answer, want: &Answer) -> bool {
                 net: want_net,
             },
         ) => out == want_out && into == want_into && net == want_net,
+        (
+            Answer::Market {
+                gross,
+                floor_m,
+                excess,
+                bilateral,
+            },
+            Answer::Market {
+                gross: want_gross,
+                floor_m: want_floor,
+                excess: want_excess,
+                bilateral: want_bilateral,
+            },
+        ) => {
+            gross == want_gross
+                && floor_m == want_floor
+                && excess == want_excess
+                && bilateral == want_bilateral
+        }
+        (Answer::Tolerance, Answer::Tolerance) => true,
         (Answer::Bye, Answer::Bye) => true,
         (Answer::No(refusal), Answer::No(want)) => refusal == want,
         _ => false,
@@ -231,11 +252,72 @@ fn a_greeting_wants_the_key_of_its_name(rt: HostRuntime) -> Result<(), Fail> {
         answers(&rt, desk, None, What::Hello { name, key }, 0, bad_key);
     }
     may_only_leave(&rt, desk, ka);
-    let market = What::Nets {
-        product: named(b"P"),
-    };
-    refuses(&rt, desk, ops, market, 0, Refusal::NotBuilt);
     refuses(&rt, desk, a, What::Statement, 0, Refusal::NotBuilt);
+    Ok(())
+}
+
+#[test]
+fn the_operator_is_told_the_figures_of_the_live_trades(rt: HostRuntime) -> Result<(), Fail> {
+    let (b, c, ops, product) = (named(b"B"), named(b"C"), named(b"OPS"), named(b"P"));
+    let mut desk = empty_desk(&rt, rt.alloc())?;
+    let desk = &mut desk;
+    one_live_trade(&rt, desk);
+    let sale = trade(&rt, b, c, 7, b"2026-03-02");
+    answers(&rt, desk, Some(b), sale, 3, Answer::Traded { trade: 2 });
+    let live = Answer::Affirmed { trade: 2 };
+    answers(&rt, desk, Some(c), What::Affirm { trade: 2 }, 4, live);
+    let market = Answer::Market {
+        gross: 17,
+        floor_m: 10,
+        excess: 7,
+        bilateral: 17,
+    };
+    answers(&rt, desk, Some(ops), What::Nets { product }, 4, market);
+    refuses(
+        &rt,
+        desk,
+        ops,
+        What::Nets { product: ops },
+        4,
+        Refusal::UnknownProduct,
+    );
+    Ok(())
+}
+
+// A TOL towards another member for what the asker owes it in the product P.
+fn tol(rt: &impl Abort, other: Name, floor: u64, ceiling: Option<u64>) -> What {
+    let ceiling = match ceiling {
+        None => None,
+        Some(most) => Some(Level::new(most).expect(rt, "a level")),
+    };
+    What::Tol {
+        other,
+        product: named(b"P"),
+        side: Side::Out,
+        floor: Level::new(floor).expect(rt, "a level"),
+        ceiling,
+    }
+}
+
+#[test]
+fn a_setting_wants_another_member_and_a_floor_below_its_ceiling(
+    rt: HostRuntime,
+) -> Result<(), Fail> {
+    let (a, b, ops) = (named(b"A"), named(b"B"), named(b"OPS"));
+    let mut desk = empty_desk(&rt, rt.alloc())?;
+    let desk = &mut desk;
+    let crossed = tol(&rt, b, 5, Some(4));
+    refuses(&rt, desk, a, crossed, 0, Refusal::FloorOverCeiling);
+    let own = tol(&rt, a, 4, None);
+    refuses(&rt, desk, a, own, 0, Refusal::OwnTrade);
+    let unknown = tol(&rt, ops, 4, None);
+    refuses(&rt, desk, a, unknown, 0, Refusal::UnknownMember);
+    let by_operator = tol(&rt, b, 5, Some(4));
+    refuses(&rt, desk, ops, by_operator, 0, Refusal::NotParty);
+    let floor = tol(&rt, b, 4, None);
+    answers(&rt, desk, Some(a), floor, 1, Answer::Tolerance);
+    let level = tol(&rt, b, 4, Some(4));
+    answers(&rt, desk, Some(a), level, 2, Answer::Tolerance);
     Ok(())
 }
 

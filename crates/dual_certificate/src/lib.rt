@@ -1,6 +1,7 @@
-//! The certificate of a network of least gross: whether potentials certify it, and the dual bound.
+//! The certificate of a network of least gross: whether potentials certify it, and the dual bound; and the text of a
+//! proposal, which has such networks with their potentials.
 //!
-//! Both calls go by the duality of minimum-cost flow (Ahuja, Magnanti and Orlin, *Network Flows*), take
+//! The test and the bound go by the duality of minimum-cost flow (Ahuja, Magnanti and Orlin, *Network Flows*), take
 //! no memory, and walk the rows of limits and network in step: their time is linear in the square of
 //! the number of members.
 #![tactic(auto)]
@@ -10,10 +11,21 @@ mod checker;
 mod cost;
 mod dual;
 mod net_test;
+mod pieces;
 mod price_test;
+mod proposal_draft;
+mod proposal_line;
+mod proposal_part;
+mod proposal_reader;
+mod proposal_writer;
 
 pub use checker::check;
 pub use dual::bound;
+pub use proposal_part::ProposalPart;
+pub use proposal_reader::read_proposal;
+pub use proposal_writer::write_proposal;
 
+#[cfg(test)]
+mod proposal_tests;
 #[cfg(test)]
 mod tests;

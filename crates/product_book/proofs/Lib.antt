@@ -1,2 +1,5 @@
 pub mod PlaceFacts
 pub mod BookFacts
+pub mod PairRows
+pub mod PairSums
+pub mod NetworkFacts

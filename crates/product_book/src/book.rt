@@ -3,10 +3,13 @@
 ghost use Rattle.std.specs.Prelude.{◌≡◌, ◌≢◌, ◌+◌, ◌-◌, ◌≤◌, ◌<◌, ◌^◌, [], ◌∷◌, ◌++◌, length, IsTrue, OnOk, OnErr, IfOk, IfSome, vec_len, vec_capacity, option_copied};
 ghost use Rattle.command_types.specs.Trades.{gross_of, sold_by, bought_by, pair_sum_of, submitted_count, trade_numbered, with_alleged, affirmed, ended_by, held_by, freed_by, row_ended_by};
 ghost use Rattle.product_book.specs.Book.{gross_limit, IsTrade, may_affirm, may_end, may_hold, may_free};
+ghost use Rattle.product_book.specs.Networks.{network_of};
 
+use crate::networks::{self, Which};
 use crate::row::{ended_by, live, put_row, row_at, with_hold};
 use crate::sums;
 use command_types::{Side, TradeRow, TradeState};
+use network_laws::Network;
 use std::alloc::{AllocError, Global};
 use std::marker::Model;
 use units_core::{Amount, Day, MemberNo, ProductNo};
@@ -42,7 +45,7 @@ pub struct Position {
 /// All trades of a market. Trades are numbered from 1 in the order in which they came. The alleged and live amounts
 /// of a product come to at most 10^18.
 ///
-/// Only [`Book::new`] and [`Book::reserve`] take memory.
+/// Only [`Book::new`], [`Book::reserve`] and [`Book::network`] take memory.
 #[derive(Drop)]
 pub struct Book {
     rows: Vec<TradeRow>,
@@ -133,6 +136,15 @@ impl Book {
     {
         let (sold, bought) = sums::position(&self.rows, product, member);
         Position { sold, bought }
+    }
+
+    /// The network of the product's trades of this kind: each pair of members has the sum of its trades. The only
+    /// error is want of memory.
+    pub fn network(&self, product: ProductNo, which: Which) -> Result<Network, AllocError>
+        ensures { IfOk result (λ network. network ≡ network_of which self.now.members product self.now.rows) }
+    {
+        let alloc = *self.rows.allocator();
+        networks::network_of(alloc, &self.rows, self.members, product, which)
     }
 
     /// How many of the trades a party submitted. It takes no memory.

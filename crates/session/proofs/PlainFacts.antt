@@ -94,7 +94,8 @@ plain_by s by (Free trade) =
     plain_or (accepted s by (Free trade)) (first_of (refusals s by (Free trade))) refl (plain_first (refusals s by (Free trade)) (refl, (refl, plain_free s (unwrap_or by []) _)))
 plain_by s by (Nets product) =
     plain_or (accepted s by (Nets product)) (first_of (refusals s by (Nets product))) (plain_nets (is_operator s.roster (unwrap_or by [])) _ _ refl refl) (plain_first (refusals s by (Nets product)) (refl, (refl, (refl, tt))))
-plain_by s by (Tol other product side floor ceiling) = plain_unbuilt _ (accepted s by (Tol other product side floor ceiling))
+plain_by s by (Tol other product side floor ceiling) =
+    plain_or (accepted s by (Tol other product side floor ceiling)) (first_of (refusals s by (Tol other product side floor ceiling))) refl (plain_first (refusals s by (Tol other product side floor ceiling)) (refl, (refl, (refl, (refl, (refl, (refl, (refl, tt))))))))
 plain_by s by Statement = plain_unbuilt _ (accepted s by Statement)
 plain_by s by (Freeze day) = plain_unbuilt _ (accepted s by (Freeze day))
 plain_by s by (Begin cycle mode) = plain_unbuilt _ (accepted s by (Begin cycle mode))

@@ -76,8 +76,8 @@ fn sessions_are_answered_byte_for_byte(rt: HostRuntime) -> Result<(), Fail> {
             "no 0 1 not-greeted\nno 0 2 bad-key\nno 0 3 bad-line 14\nno 0 3 bad-line 8\nno 0 3 bad-line 0\n",
         ),
         (
-            "HELLO A KA\nTRADE A B P 10 2031-06-30\nTRADE A A P 1 2026-03-02\nTRADE B C P 1 2026-03-02\nAFFIRM 1\n",
-            "ok 0 hello A\nno 0 22 matured 2031-06-30\nno 0 6 own-trade\nno 0 7 not-party\nno 0 11 unknown-trade\n",
+            "HELLO A KA\nTRADE A B P 10 2031-06-30\nTRADE A A P 1 2026-03-02\nTRADE B C P 1 2026-03-02\nTOL B P out 5 4\nAFFIRM 1\n",
+            "ok 0 hello A\nno 0 22 matured 2031-06-30\nno 0 6 own-trade\nno 0 7 not-party\nno 0 23 floor-over-ceiling\nno 0 11 unknown-trade\n",
         ),
         (
             "HELLO A KA\nTRADE A B P 1000000000000000 2026-03-02\nTRADE A B P 1000000000000001 2026-03-02\nTRADE A X P 1 2026-03-02\nTRADE A B Q 1 2026-03-02\n",
@@ -94,7 +94,12 @@ fn sessions_are_answered_byte_for_byte(rt: HostRuntime) -> Result<(), Fail> {
         // What is not built yet wants a greeting first.
         (
             "FREEZE 2026-03-31\nPROPOSE 1 hybrid\nHELLO OPS KO\nFREEZE 2026-03-31\nPROPOSE 1 hybrid\nPOST 1 1\nROW P A B 4\nPOT P A -1\nNETS P\nNETS Q\n",
-            "no 0 1 not-greeted\nno 0 1 not-greeted\nok 0 hello OPS\nno 0 30 not-built\nno 0 30 not-built\nno 0 30 not-built\nno 0 30 not-built\nno 0 30 not-built\nno 0 30 not-built\nno 0 30 not-built\n",
+            "no 0 1 not-greeted\nno 0 1 not-greeted\nok 0 hello OPS\nno 0 30 not-built\nno 0 30 not-built\nno 0 30 not-built\nno 0 30 not-built\nno 0 30 not-built\nok 0 market 0 0 0 0\nno 0 5 unknown-product\n",
+        ),
+        // A setting of what a pair may fall to, and the market's figures.
+        (
+            "HELLO A KA\nTOL B P out 4 -\nTRADE A B P 10 2026-03-02\nHELLO B KB\nAFFIRM 1\nTRADE B C P 7 2026-03-02\nHELLO C KC\nAFFIRM 2\nHELLO OPS KO\nNETS P\n",
+            "ok 0 hello A\nok 1 tol\nok 2 trade 1\nok 2 hello B\nok 3 live 1\nok 4 trade 2\nok 4 hello C\nok 5 live 2\nok 5 hello OPS\nok 5 market 17 10 7 17\n",
         ),
         // A BYE ends the session, whoever says it, and what stands behind it is dropped.
         ("HELLO A KA\nBYE\nNETS P\n", "ok 0 hello A\nok 0 bye\n"),

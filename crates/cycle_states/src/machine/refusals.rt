@@ -9,6 +9,7 @@ ghost use Rattle.cycle_states.specs.Machine.{state_of, wants_party};
 use super::nets_refusals::nets_refusal;
 use super::parties::is_party;
 use super::row_refusals::{affirm_refusal, end_refusal, free_refusal, hold_refusal};
+use super::tol_refusals::tol_refusal;
 use super::trade_refusals::{Terms, trade_refusal};
 use command_types::{Ask, Refusal, Roster, What};
 use product_book::Book;
@@ -39,7 +40,14 @@ fn party_refusal(roster: &Roster, book: &Book, by: &Name, what: &What) -> Option
         What::End { trade } => end_refusal(roster, by, book.get(*trade).copied()),
         What::Hold { trade } => hold_refusal(roster, by, book.get(*trade).copied()),
         What::Free { trade } => free_refusal(roster, by, book.get(*trade).copied()),
-        What::Nets { product } => nets_refusal(roster, by, product),
+        What::Tol {
+            other,
+            product,
+            floor,
+            ceiling,
+            ..
+        } => tol_refusal(roster, by, other, product, *floor, *ceiling),
+        What::Nets { product } => nets_refusal(roster, product),
         _ => Some(Refusal::NotBuilt),
     }
 }

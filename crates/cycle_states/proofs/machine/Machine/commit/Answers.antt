@@ -9,6 +9,6 @@ change-requires-clause-accepted c = rw c.into_entry-entry.ensures (not_refused c
 
 pub returns-clause-answer : goal.returns-clause-answer
 returns-clause-answer c =
-    c.accepted-answer.ensures
+    c.change_answer-answer.ensures
     ∙ ap (λ (e : Entry). accepted c.args.self.now.state e.ask.by e.ask.what) c.into_entry-entry.ensures
     ∙ sym (accepted_answer c.args.self.now.state c.args.ready.ask (not_refused c.args.self.now.state c.args.ready.ask c.requires.accepted))

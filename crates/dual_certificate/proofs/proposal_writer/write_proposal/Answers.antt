@@ -1,0 +1,16 @@
+use Rattle.std.proofs.Common.{◌≡◌, ◌∙◌, ◌<◌, ◌+◌, ◌++◌, ℕ, suc, List, length, get_or, Some, sym, ap, arith, add-one}
+use Rattle.std.specs.List.{slice_get}
+use Rattle.std.proofs.lemmas.Option.{slice_get_read}
+use Rattle.network_laws.specs.Networks.{NetworkData}
+use Rattle.network_laws.specs.Solutions.{SolutionData}
+use Rattle.dual_certificate.specs.ProposalText.{part_of, part_text, parts_below}
+use Rattle.dual_certificate.proofs.TextFacts.{parts_more}
+use Rattle.dual_certificate.proofs.proposal_writer.write_proposal.Goals as goal
+
+pub loop-product-preserved : goal.loop-product-preserved
+loop-product-preserved c =
+    let n : ℕ = c.loop-product.product in
+    let first : n < length c.args.old.now = omega (arith, ap length c.products-products.ensures.rows) in
+    let second : n < length c.args.solutions.now = omega (arith, ap length c.products-products.ensures.rows) in
+    c.in_ok-put_part.ensures
+    ∙ parts_more c.args.roster.now c.args.old.now c.args.solutions.now n c.loop-product.out.items c.index-old-product.result c.index-solutions-product.result c.loop-product.invariant first second c.index-old-product.is c.index-solutions-product.is

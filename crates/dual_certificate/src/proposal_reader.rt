@@ -1,0 +1,63 @@
+//! Reading a proposal's text.
+ghost use Rattle.std.specs.Prelude.{◌≡◌, ◌≤◌, ◌⊎◌, length, Ok, Err, IfOk, IfErr};
+ghost use Rattle.command_types.specs.declared.file_fault.FileFault.TheVariants.{Memory};
+ghost use Rattle.dual_certificate.specs.Proposal.{at_end, proposal_of, with_pieces, nothing_read};
+ghost use Rattle.dual_certificate.specs.ProposalLine.{pieces};
+ghost use Rattle.dual_certificate.specs.ProposalDraft.{reading_of};
+
+use crate::pieces::cut;
+use crate::proposal_draft::ProposalDraft;
+use crate::proposal_part::ProposalPart;
+use command_types::{FileFault, Roster};
+use std::alloc::Global;
+
+// The parts, if the last line came and nothing stands behind its line feed; else the line with this number is missing,
+// or one too many.
+fn parts_of(draft: ProposalDraft, row: u64, rest: &[u8]) -> Result<Vec<ProposalPart>, FileFault>
+    ensures parts { IfOk result (λ parts. at_end row (reading_of draft) rest.now ≡ Ok parts.items) }
+    ensures fault { IfErr result (λ fault. (fault ≡ Memory) ⊎ (at_end row (reading_of draft) rest.now ≡ Err fault)) }
+{
+    if rest.is_empty() && draft.has_ended() {
+        return Ok(draft.into_parts());
+    }
+    Err(FileFault::BadLine { row })
+}
+
+// The parts that the lines say.
+fn read_lines(alloc: Global, bytes: &[u8], roster: &Roster) -> Result<Vec<ProposalPart>, FileFault>
+    requires { length bytes.now ≤ 67108864 }
+    ensures parts { IfOk result (λ parts. with_pieces roster.now 1 nothing_read (pieces 10 bytes.now) ≡ Ok parts.items) }
+    ensures fault { IfErr result (λ fault. (fault ≡ Memory) ⊎ (with_pieces roster.now 1 nothing_read (pieces 10 bytes.now) ≡ Err fault)) }
+{
+    let mut draft = ProposalDraft::new(alloc);
+    let mut rest = bytes;
+    let mut row = 1;
+    while let Some((line, more)) = cut(rest, b'\n') {
+        match draft.take_line(roster, row, line) {
+            Ok(()) => {}
+            Err(fault) => return Err(fault),
+        }
+        rest = more;
+        row += 1;
+    }
+    parts_of(draft, row, rest)
+}
+
+/// The parts that a proposal's text says, one for each product of the roster in order, or the number of its first line
+/// that can't stand at its place, counted from 1; a missing line counts as the one behind the last. Of each product the
+/// lines are, in this order, `product NAME GROSS LEAST M BILATERAL`, a `row SELLER BUYER AMOUNT` for each row in
+/// rising order, a `pot MEMBER VALUE` for each member in order, and `bound VALUE`; the last line is `end COUNT`. Each
+/// line has its line feed. Want of memory may come at any place.
+pub fn read_proposal(
+    alloc: Global,
+    bytes: &[u8],
+    roster: &Roster,
+) -> Result<Vec<ProposalPart>, FileFault>
+    ensures parts { IfOk result (λ parts. proposal_of roster.now bytes.now ≡ Ok parts.items) }
+    ensures fault { IfErr result (λ fault. (fault ≡ Memory) ⊎ (proposal_of roster.now bytes.now ≡ Err fault)) }
+{
+    if bytes.len() > 67_108_864 {
+        return Err(FileFault::TooLong);
+    }
+    read_lines(alloc, bytes, roster)
+}

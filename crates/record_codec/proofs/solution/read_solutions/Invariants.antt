@@ -1,0 +1,7 @@
+use Rattle.std.proofs.Common.{◌≡◌, ◌-◌}
+use Rattle.record_codec.specs.Reading.{solutions_at}
+use Rattle.record_codec.proofs.LoopFacts.{with_front}
+use Rattle.record_codec.proofs.solution.read_solutions.Given as goal
+
+abbrev pub invariant-loop : goal.invariant-loop
+invariant-loop l = with_front l.solutions.items (solutions_at (l.count - l.counter) l.unread.rest.now) ≡ solutions_at l.count l.fn.unread.rest.now

@@ -1,0 +1,30 @@
+-- What calls answer of a record, and the law on spellings.
+use Rattle.std.specs.Prelude.{◌≡◌, ℕ, List, Result, Ok, Err}
+use Rattle.command_types.specs.declared.ask.Entry.{Entry}
+use Rattle.command_types.specs.Spelling.{Spells}
+use Rattle.record_codec.specs.declared.fault.ReadFault.{ReadFault}
+use Rattle.record_codec.specs.declared.fault.ReadFault.TheVariants as reads
+use Rattle.record_codec.specs.declared.fault.DecodeFault.{DecodeFault}
+use Rattle.record_codec.specs.declared.fault.DecodeFault.TheVariants.{BadRecord, Memory}
+
+abbrev pub Fails : {B : Type 0} → ReadFault → Result B ℕ → Type 0
+Fails reads.Memory read = Unit {0}
+Fails (reads.Bad left) read = read ≡ Err left
+
+-- What a function returned, seen by a view, is what was read, unless memory ran out.
+abbrev pub Gives : {A B : Type 0} → (A → B) → Result A ReadFault → Result B ℕ → Type 0
+Gives view (Ok value) read = read ≡ Ok (view value)
+Gives view (Err fault) read = Fails fault read
+
+abbrev pub IsFaultOf : DecodeFault → Result Entry ℕ → Type 0
+IsFaultOf Memory read = Unit {0}
+IsFaultOf (BadRecord at) read = read ≡ Err at
+
+-- The answer is what was read, unless memory ran out.
+abbrev pub Decodes : Result Entry DecodeFault → Result Entry ℕ → Type 0
+Decodes (Ok entry) read = read ≡ Ok entry
+Decodes (Err fault) read = IsFaultOf fault read
+
+-- No bytes spell two changes.
+abbrev pub SpellingsAreUnique : Type 0
+SpellingsAreUnique = (bytes : List ℕ) (a b : Entry) → Spells bytes a → Spells bytes b → a ≡ b

@@ -1,0 +1,190 @@
+//! Single fields, each read from the front of the bytes that are left.
+ghost use Rattle.std.specs.Prelude.{◌≡◌, ◌≤◌, length, IfOk};
+ghost use Rattle.record_codec.specs.declared.fault.ReadFault.TheVariants.{Bad};
+ghost use Rattle.record_codec.specs.Laws.{Gives};
+ghost use Rattle.record_codec.specs.Reading.{number_at, seat_at, row_count_at, count_at, name_at, amount_at, level_at, day_at, side_at, mode_at, given_at, ceiling_at};
+
+use crate::fault::ReadFault;
+use command_types::{Level, Mode, Side};
+use units_core::{Amount, Day, Name};
+
+/// The bytes of a record that are still to be read.
+#[derive(Drop)]
+pub(crate) struct Unread<'a> {
+    pub(crate) rest: &'a [u8],
+}
+
+impl<'a> Unread<'a> {
+    // The fault of a field that begins here.
+    pub(crate) fn bad(&self) -> ReadFault
+        ensures { result ≡ Bad (length self.now.rest.now) }
+    {
+        ReadFault::Bad {
+            left: self.rest.len(),
+        }
+    }
+
+    #[tactic(auto, unfolding(crate::specs::Reading::field))]
+    pub(crate) fn number(&mut self) -> Result<u64, ReadFault>
+        ensures { Gives (λ n. (n, self.new.rest.now)) result (number_at self.old.rest.now) }
+    {
+        let Some((text, rest)) = self.rest.split_first_chunk() else {
+            return Err(self.bad());
+        };
+        self.rest = rest;
+        Ok(u64::from_le_bytes(*text))
+    }
+
+    #[tactic(auto, unfolding(crate::specs::Reading::field))]
+    pub(crate) fn seat(&mut self) -> Result<u32, ReadFault>
+        ensures { Gives (λ n. (n, self.new.rest.now)) result (seat_at self.old.rest.now) }
+    {
+        let Some((text, rest)) = self.rest.split_first_chunk() else {
+            return Err(self.bad());
+        };
+        self.rest = rest;
+        Ok(u32::from_le_bytes(*text))
+    }
+
+    #[tactic(auto, unfolding(crate::specs::Reading::field))]
+    pub(crate) fn row_count(&mut self) -> Result<u32, ReadFault>
+        ensures { Gives (λ n. (n, self.new.rest.now)) result (row_count_at self.old.rest.now) }
+    {
+        let Some((text, rest)) = self.rest.split_first_chunk() else {
+            return Err(self.bad());
+        };
+        self.rest = rest;
+        Ok(u32::from_le_bytes(*text))
+    }
+
+    // A number of two bytes, up to `most`.
+    #[tactic(auto, unfolding(crate::specs::Reading::field))]
+    pub(crate) fn count(&mut self, most: u16) -> Result<u16, ReadFault>
+        ensures gives { Gives (λ n. (n, self.new.rest.now)) result (count_at most self.old.rest.now) }
+        ensures within { IfOk result (λ n. n ≤ most) }
+    {
+        let Some((text, rest)) = self.rest.split_first_chunk() else {
+            return Err(self.bad());
+        };
+        let count = u16::from_le_bytes(*text);
+        if count > most {
+            return Err(self.bad());
+        }
+        self.rest = rest;
+        Ok(count)
+    }
+
+    #[tactic(auto, unfolding(crate::specs::Reading::field))]
+    pub(crate) fn name(&mut self) -> Result<Name, ReadFault>
+        ensures { Gives (λ n. (n, self.new.rest.now)) result (name_at self.old.rest.now) }
+    {
+        let [size, rest @ ..] = self.rest else {
+            return Err(self.bad());
+        };
+        let size = usize::from(*size);
+        if rest.len() < size {
+            return Err(self.bad());
+        }
+        let (text, rest) = rest.split_at(size);
+        let Some(name) = Name::read(text) else {
+            return Err(self.bad());
+        };
+        self.rest = rest;
+        Ok(name)
+    }
+
+    #[tactic(auto, unfolding(crate::specs::Reading::field))]
+    pub(crate) fn amount(&mut self) -> Result<Amount, ReadFault>
+        ensures { Gives (λ n. (n, self.new.rest.now)) result (amount_at self.old.rest.now) }
+    {
+        let Some((text, rest)) = self.rest.split_first_chunk() else {
+            return Err(self.bad());
+        };
+        let Some(amount) = Amount::new(u64::from_le_bytes(*text)) else {
+            return Err(self.bad());
+        };
+        self.rest = rest;
+        Ok(amount)
+    }
+
+    #[tactic(auto, unfolding(crate::specs::Reading::field))]
+    pub(crate) fn level(&mut self) -> Result<Level, ReadFault>
+        ensures { Gives (λ n. (n, self.new.rest.now)) result (level_at self.old.rest.now) }
+    {
+        let Some((text, rest)) = self.rest.split_first_chunk() else {
+            return Err(self.bad());
+        };
+        let Some(level) = Level::new(u64::from_le_bytes(*text)) else {
+            return Err(self.bad());
+        };
+        self.rest = rest;
+        Ok(level)
+    }
+
+    #[tactic(auto, unfolding(crate::specs::Reading::field))]
+    pub(crate) fn day(&mut self) -> Result<Day, ReadFault>
+        ensures { Gives (λ d. (d, self.new.rest.now)) result (day_at self.old.rest.now) }
+    {
+        let Some((text, rest)) = self.rest.split_first_chunk::<4>() else {
+            return Err(self.bad());
+        };
+        let year = u16::from_le_bytes([text[0], text[1]]);
+        let Some(day) = Day::new(year, text[2], text[3]) else {
+            return Err(self.bad());
+        };
+        self.rest = rest;
+        Ok(day)
+    }
+
+    #[tactic(auto, unfolding(crate::specs::Reading::field))]
+    pub(crate) fn side(&mut self) -> Result<Side, ReadFault>
+        ensures { Gives (λ s. (s, self.new.rest.now)) result (side_at self.old.rest.now) }
+    {
+        let (side, rest) = match self.rest {
+            [0, rest @ ..] => (Side::Out, rest),
+            [1, rest @ ..] => (Side::In, rest),
+            _ => return Err(self.bad()),
+        };
+        self.rest = rest;
+        Ok(side)
+    }
+
+    #[tactic(auto, unfolding(crate::specs::Reading::field))]
+    pub(crate) fn mode(&mut self) -> Result<Mode, ReadFault>
+        ensures { Gives (λ m. (m, self.new.rest.now)) result (mode_at self.old.rest.now) }
+    {
+        let (mode, rest) = match self.rest {
+            [0, rest @ ..] => (Mode::Conservative, rest),
+            [1, rest @ ..] => (Mode::Hybrid, rest),
+            _ => return Err(self.bad()),
+        };
+        self.rest = rest;
+        Ok(mode)
+    }
+
+    // Whether a ceiling is given.
+    #[tactic(auto, unfolding(crate::specs::Reading::field))]
+    fn given(&mut self) -> Result<bool, ReadFault>
+        ensures { Gives (λ b. (b, self.new.rest.now)) result (given_at self.old.rest.now) }
+    {
+        let (given, rest) = match self.rest {
+            [0, rest @ ..] => (false, rest),
+            [1, rest @ ..] => (true, rest),
+            _ => return Err(self.bad()),
+        };
+        self.rest = rest;
+        Ok(given)
+    }
+
+    #[tactic(auto, unfolding(crate::specs::Reading::ceiling_at))]
+    pub(crate) fn ceiling(&mut self) -> Result<Option<Level>, ReadFault>
+        ensures { Gives (λ c. (c, self.new.rest.now)) result (ceiling_at self.old.rest.now) }
+    {
+        let given = self.given()?;
+        if !given {
+            return Ok(None);
+        }
+        let ceiling = self.level()?;
+        Ok(Some(ceiling))
+    }
+}

@@ -1,0 +1,4 @@
+pub mod Walk
+pub mod PairRows
+pub mod PairLimits
+pub mod SettingOrder

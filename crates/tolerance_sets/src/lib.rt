@@ -1,0 +1,13 @@
+//! What members allow a compression to change: their settings, and the limits of a product that follow from them.
+#![tactic(auto)]
+
+mod laws;
+mod limits;
+mod settings;
+mod tolerances;
+
+pub use laws::{bounds_are_the_pairs, held_is_kept, limits_are_good, network_is_within};
+pub use tolerances::{FloorOverCeiling, Tolerances};
+
+#[cfg(test)]
+mod tests;

@@ -1,0 +1,163 @@
+//! The limits of a product, pair by pair in their order. Cursors walk the rows of both networks beside the pairs; a
+//! member's setting is looked up only for a pair that may have a row.
+
+ghost use Rattle.std.specs.Prelude.{◌≡◌, ◌<◌, ◌≤◌, ◌++◌, length, min, max, slice_get, IfOk, OnOk};
+ghost use Rattle.std.specs.Option.{option_to_list};
+ghost use Rattle.network_laws.specs.Networks.{IsRising};
+ghost use Rattle.command_types.specs.Books.{listed_below, listed_pairs};
+ghost use Rattle.command_types.specs.Tolerances.{smaller_of, pair_floor, pair_ceiling, is_dealer_row, may_grow, pair_upper, pair_lower, limit_row};
+ghost use Rattle.tolerance_sets.specs.Settings.{AreSettings};
+ghost use Rattle.tolerance_sets.specs.Market.{IsMarket, market_limit};
+
+use crate::settings::levels_of;
+use command_types::{Level, MemberRow, Mode, Role, Side, ToleranceRow};
+use network_laws::{LimitRow, Row, amount_at, first_row, next_row};
+use std::alloc::{AllocError, Global};
+use units_core::{MemberNo, ProductNo};
+
+/// What the limits of a product follow from.
+#[derive(Clone, Copy)]
+pub(super) struct Market<'a> {
+    pub mode: Mode,
+    pub members: &'a [MemberRow],
+    pub settings: &'a [ToleranceRow],
+    pub product: ProductNo,
+    /// What members owe one another.
+    pub network: &'a [Row],
+    /// What of it is held.
+    pub held: &'a [Row],
+}
+
+fn is_dealer(members: &[MemberRow], place: u16) -> bool
+    ensures { result ≡ is_dealer_row (slice_get members.now place) }
+{
+    match members.get(place as usize) {
+        None => false,
+        Some(row) => row.role == Role::Dealer,
+    }
+}
+
+// Whether a pair may come to more than its amount.
+fn may_grow(mode: Mode, members: &[MemberRow], seller: u16, buyer: u16) -> bool
+    ensures { result ≡ may_grow mode members.now seller buyer }
+{
+    mode == Mode::Hybrid
+        && seller != buyer
+        && is_dealer(members, seller)
+        && is_dealer(members, buyer)
+}
+
+fn smaller_of(first: Option<Level>, second: Option<Level>) -> Option<Level>
+    ensures { result ≡ smaller_of first second }
+{
+    let Some(a) = first else {
+        return second;
+    };
+    let Some(b) = second else {
+        return first;
+    };
+    if a.get() < b.get() { Some(a) } else { Some(b) }
+}
+
+fn upper_of(grows: bool, amount: u64, ceiling: Option<Level>) -> Option<u64>
+    ensures { result ≡ pair_upper grows amount ceiling }
+{
+    if !grows {
+        return Some(amount);
+    }
+    match ceiling {
+        None => None,
+        Some(most) => Some(amount.max(most.get())),
+    }
+}
+
+// The row of a pair with this amount, so much of it held; none where it may come to nothing but 0.
+fn pair_limit(
+    settings: &[ToleranceRow],
+    product: ProductNo,
+    seller: u16,
+    buyer: u16,
+    amount: u64,
+    held: u64,
+    grows: bool,
+) -> Option<LimitRow>
+    requires { AreSettings settings.now }
+    ensures { option_to_list result ≡ limit_row seller buyer (pair_lower amount (pair_floor settings.now product seller buyer) held) (pair_upper grows amount (pair_ceiling settings.now product seller buyer)) }
+{
+    if amount == 0 && !grows {
+        return None;
+    }
+    let owed = levels_of(
+        settings,
+        MemberNo(seller),
+        product,
+        MemberNo(buyer),
+        Side::Out,
+    );
+    let due = levels_of(
+        settings,
+        MemberNo(buyer),
+        product,
+        MemberNo(seller),
+        Side::In,
+    );
+    let upper = upper_of(grows, amount, smaller_of(owed.ceiling, due.ceiling));
+    if upper == Some(0) {
+        return None;
+    }
+    let floor = owed.floor.max(due.floor);
+    Some(LimitRow {
+        seller,
+        buyer,
+        lower: amount.min(floor.max(held)),
+        upper,
+    })
+}
+
+// Adds the rows of what a seller may sell.
+fn add_seller(
+    rows: &mut Vec<LimitRow>,
+    market: &Market,
+    seller: u16,
+    members: u16,
+) -> Result<(), AllocError>
+    requires market { IsMarket market.now }
+    ensures { OnOk result (rows.new.items ≡ rows.old.items ++ listed_below members (market_limit market.now seller)) }
+{
+    let mut row_at = first_row(market.network, seller, 0);
+    let mut held_at = first_row(market.held, seller, 0);
+    for buyer in 0..members {
+        let amount = amount_at(market.network, row_at, seller, buyer);
+        let held = amount_at(market.held, held_at, seller, buyer);
+        let grows = may_grow(market.mode, market.members, seller, buyer);
+        let limit = pair_limit(
+            market.settings,
+            market.product,
+            seller,
+            buyer,
+            amount,
+            held,
+            grows,
+        );
+        if let Some(limit) = limit {
+            rows.push(limit)?;
+        }
+        row_at = next_row(market.network, row_at, seller, buyer);
+        held_at = next_row(market.held, held_at, seller, buyer);
+    }
+    Ok(())
+}
+
+/// The rows of all pairs, in their order.
+pub(super) fn all_limits(alloc: Global, market: &Market) -> Result<Vec<LimitRow>, AllocError>
+    requires market { IsMarket market.now }
+    requires few { length market.now.members.now ≤ 256 }
+    ensures { IfOk result (λ rows. rows.items ≡ listed_pairs (length market.now.members.now) (market_limit market.now)) }
+{
+    let members = market.members.len() as u16;
+    let mut rows = Vec::new(alloc);
+    for seller in 0..members {
+        add_seller(&mut rows, market, seller, members)?;
+    }
+    Ok(rows)
+}

@@ -1,0 +1,146 @@
+//! The settings of all members.
+
+ghost use Rattle.std.specs.Prelude.{◌≡◌, ◌≢◌, ◌↔◌, ◌+◌, ◌≤◌, [], length, IsTrue, IsErr, IfOk, OnOk, OnErr, vec_len, vec_capacity};
+ghost use Rattle.network_laws.specs.Limits.{IsWithinLimits};
+ghost use Rattle.command_types.specs.Tolerances.{with_setting, limits_of};
+ghost use Rattle.command_types.specs.CycleRefusals.{is_crossed};
+
+use crate::limits::{Market, all_limits};
+use crate::settings::put;
+use command_types::{Level, Mode, Roster, Side, ToleranceRow};
+use network_laws::{Limits, Network};
+use std::alloc::{AllocError, Global};
+use std::marker::Model;
+use thiserror::Error;
+use units_core::{MemberNo, ProductNo};
+
+/// The ceiling is given and is below the floor.
+#[derive(Clone, Copy, Debug, PartialEq, Eq, Error)]
+#[error("the ceiling is below the floor")]
+pub struct FloorOverCeiling;
+
+/// What all members allow a compression to change, setting by setting. A member that set nothing for its side of a
+/// pair has the floor 0 and no ceiling.
+#[derive(Drop)]
+pub struct Tolerances {
+    rows: Vec<ToleranceRow>,
+    alloc: Global,
+}
+
+impl Model for Tolerances {
+    ghost use Rattle.std.specs.Prelude.{◌-◌, vec_len, vec_capacity};
+    ghost use Rattle.tolerance_sets.specs.Settings.{SettingsView, AreSettings};
+
+    ghost Value = { SettingsView };
+
+    ghost view = { λ t. record { settings = t.rows.items; spare = vec_capacity t.rows - vec_len t.rows } };
+
+    ghost invariant = { λ t. AreSettings t.rows.items };
+}
+
+// Makes room for one more row.
+fn make_room(rows: &mut Vec<ToleranceRow>) -> Result<(), AllocError>
+    ensures items { rows.new.items ≡ rows.old.items }
+    ensures len { vec_len rows.new ≡ vec_len rows.old }
+    ensures keeps { vec_capacity rows.old ≤ vec_capacity rows.new }
+    ensures room { OnOk result (vec_len rows.new + 1 ≤ vec_capacity rows.new) }
+    ensures err { OnErr result (vec_capacity rows.new ≡ vec_capacity rows.old) }
+{
+    rows.reserve(1)
+}
+
+fn is_crossed(row: &ToleranceRow) -> bool
+    ensures { result ≡ is_crossed row.now.floor row.now.ceiling }
+{
+    match row.ceiling {
+        None => false,
+        Some(most) => most.get() < row.floor.get(),
+    }
+}
+
+impl Tolerances {
+    /// No settings. It takes no memory.
+    pub fn new(alloc: Global) -> Tolerances
+        ensures { result.settings ≡ [] }
+    {
+        Tolerances {
+            rows: Vec::new(alloc),
+            alloc,
+        }
+    }
+
+    /// Makes room for one more setting. The only error is want of memory, and it changes nothing.
+    pub fn reserve(&mut self) -> Result<(), AllocError>
+        ensures settings { self.new.settings ≡ self.old.settings }
+        ensures keeps { self.old.spare ≤ self.new.spare }
+        ensures room { OnOk result (1 ≤ self.new.spare) }
+        ensures err { OnErr result (self.new ≡ self.old) }
+    {
+        make_room(&mut self.rows)
+    }
+
+    /// What a member allows for what it owes another member in a product (`Out`), or for what it is owed (`In`): an
+    /// earlier setting for it is replaced. A ceiling below the floor is refused, and that changes nothing. It takes
+    /// no memory, by the room of [`Tolerances::reserve`].
+    pub fn set(
+        &mut self,
+        member: MemberNo,
+        product: ProductNo,
+        other: MemberNo,
+        side: Side,
+        floor: Level,
+        ceiling: Option<Level>,
+    ) -> Result<(), FloorOverCeiling>
+        requires room { 1 ≤ self.old.spare }
+        ensures refused { IsErr result ↔ IsTrue (is_crossed floor ceiling) }
+        ensures settings { OnOk result (self.new.settings ≡ with_setting (record { member = member; product = product; other = other; side = side; floor = floor; ceiling = ceiling }) self.old.settings) }
+        ensures spare { OnOk result (self.old.spare ≤ self.new.spare + 1) }
+        ensures err { OnErr result (self.new ≡ self.old) }
+    {
+        let row = ToleranceRow {
+            member,
+            product,
+            other,
+            side,
+            floor,
+            ceiling,
+        };
+        if is_crossed(&row) {
+            return Err(FloorOverCeiling);
+        }
+        put(&mut self.rows, row);
+        Ok(())
+    }
+
+    /// The limits of a product in which members owe one another the amounts of a network, and the held ones among
+    /// them those of another: from no less than the larger floor and what is held, to the amount; between two dealers
+    /// in hybrid mode, to the smaller ceiling, if there is one. They never keep a pair from staying as it is. A pair
+    /// that may come to nothing but 0 has no row. The only error is want of memory.
+    pub fn limits(
+        &self,
+        mode: Mode,
+        roster: &Roster,
+        product: ProductNo,
+        network: &Network,
+        held: &Network,
+    ) -> Result<Limits, AllocError>
+        requires members { network.now.members ≡ length roster.now.members }
+        ensures limits { IfOk result (λ limits. limits ≡ limits_of mode roster.now.members self.now.settings product network.now held.now) }
+        ensures within { IfOk result (λ limits. IsWithinLimits limits network.now) }
+    {
+        let members = roster.members();
+        let market = Market {
+            mode,
+            members,
+            settings: &self.rows,
+            product,
+            network: network.rows(),
+            held: held.rows(),
+        };
+        let rows = all_limits(self.alloc, &market)?;
+        let Ok(limits) = Limits::from_rows(members.len() as u16, rows) else {
+            unreachable!()
+        };
+        Ok(limits)
+    }
+}
