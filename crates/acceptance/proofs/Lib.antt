@@ -1,0 +1,3 @@
+pub mod FlagFacts
+pub mod PartyFacts
+pub mod PlanFacts
