@@ -3,3 +3,4 @@ pub mod Moments
 pub mod Walk
 pub mod Journal
 pub mod Frame
+pub mod Laws

@@ -3,12 +3,14 @@
 
 pub mod frame;
 pub mod journal;
+mod laws;
 mod put;
 pub mod walked;
 mod walking;
 
 pub use frame::Frame;
 pub use journal::Journal;
+pub use laws::files_hold_one_list;
 pub use walked::{RecordAt, WalkFault, Walked};
 pub use walking::walk;
 

@@ -8,8 +8,10 @@ use std::alloc::Global;
 use std::test::Fail;
 
 mod appends;
+mod crashes;
 mod faults;
 mod files;
+mod traced_disk;
 mod walks;
 
 // A file of one record: the header, an open gate, the record's length and its 25 bytes, and a closed gate.
@@ -26,11 +28,13 @@ fn disk_of(alloc: Global, bytes: &[u8]) -> Result<MemoryDisk, Fail>
     Ok(disk.crash())
 }
 
-// How many records a walk over these bytes finds, and their end.
-fn found_in(alloc: Global, bytes: &[u8]) -> Result<(usize, u64), Fail> {
+// What a walk over these bytes answers: how many records there are, and their end.
+fn answer_to(alloc: Global, bytes: &[u8]) -> Result<Result<(usize, u64), WalkFault>, Fail> {
     let mut disk = disk_of(alloc, bytes)?;
-    let walked = walk(alloc, &mut disk)?;
-    Ok((walked.records.len(), walked.end))
+    match walk(alloc, &mut disk) {
+        Ok(walked) => Ok(Ok((walked.records.len(), walked.end))),
+        Err(fault) => Ok(Err(fault)),
+    }
 }
 
 // Opens the journal of a disk, appends a record, and gives the disk back with the answer.

@@ -1,14 +1,14 @@
 -- Each kind of field: numbers, names, amounts, levels, days and ceilings.
-use Rattle.std.proofs.Common.{◌≡◌, ℕ, zero, suc, ◌+◌, ◌^◌, ◌<◌, ◌≤◌, ◌&&◌, Bool, true, false, cond, eqb, leb, List, [], ◌∷◌, ◌++◌, length, get_or, take, drop, Option, Some, None, Result, Ok, Err, refl, sym, ap, subst, ◌∙◌, ◌⊎◌, inl, inr, IsTrue, IfSome, arith, leb-true, le-leb, eqb-true}
+use Rattle.std.proofs.Common.{◌≡◌, ℕ, suc, ◌^◌, ◌<◌, ◌≤◌, ◌&&◌, Bool, true, false, cond, eqb, leb, List, [], ◌∷◌, ◌++◌, length, get_or, take, drop, Option, Some, None, Ok, refl, sym, ap, subst, ◌∙◌, ◌⊎◌, inl, inr, IsTrue, IfSome, arith, leb-true, le-leb, eqb-true}
 use Rattle.std.specs.Int.{w16, w32, w64, to_le_bytes, from_le_bytes}
 use Rattle.std.proofs.lemmas.Bool.{and_parts, and_from, cond-true}
-use Rattle.std.proofs.lemmas.List.{take-append-drop, length-append, length-take, nil_from_length}
+use Rattle.std.proofs.lemmas.List.{take-append-drop, length-take}
 use Rattle.std.proofs.lemmas.Nat.{le_bytes_2, le_bytes_4, le_bytes_8, from_le_bytes-to_le_bytes_2, from_le_bytes-to_le_bytes_4, from_le_bytes-to_le_bytes_8}
 use Rattle.units_core.specs.Name.{is_name}
 use Rattle.units_core.specs.Number.{is_amount}
 use Rattle.units_core.specs.Day.{DayParts, is_civil, day_numbered}
 use Rattle.command_types.specs.Spelling.{number_spelling, name_spelling, day_spelling, ceiling_spelling, IsLevel, IsDay}
-use Rattle.record_codec.specs.Reading.{Read, ◌>>=◌, field, number_in, count_in, name_in, amount_in, level_in, day_in, given_in, seat_at, number_at, count_at, row_count_at, name_at, amount_at, level_at, day_at, given_at, ceiling_if, ceiling_at}
+use Rattle.record_codec.specs.Reading.{field, number_in, count_in, name_in, amount_in, level_in, day_in, seat_at, number_at, count_at, row_count_at, name_at, amount_at, level_at, day_at, given_at, ceiling_if, ceiling_at}
 use Rattle.record_codec.proofs.FieldFacts.{IsBytes, IsBytes-take, IsBytes-drop, IsBytes-rest, Takes, IsFormat, IsField, format_of, field_ok, field_again, ok_is, seq_takes, seq_again}
 
 abbrev some : {A : Type 0} → A → Option A

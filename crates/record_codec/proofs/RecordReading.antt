@@ -1,15 +1,14 @@
 -- Whole records: what is read is spelled so, what is spelled so is read, and no bytes spell two changes.
-use Rattle.std.proofs.Common.{◌≡◌, ℕ, ◌<◌, ◌^◌, ◌-◌, Bool, true, false, cond, eqb, List, [], ◌∷◌, ◌++◌, length, Option, Some, None, unwrap_or, Result, Ok, Err, refl, sym, ap, subst, ◌∙◌, append_assoc, append-nil, IsTrue, arith, eqb-true}
+use Rattle.std.proofs.Common.{◌≡◌, ℕ, Bool, true, false, cond, eqb, List, [], ◌++◌, length, Option, Some, None, Result, Ok, Err, refl, sym, ap, subst, ◌∙◌, append_assoc, append-nil, eqb-true}
 use Rattle.std.specs.Prelude.{IfOk}
 use Rattle.std.specs.Int.{w32, to_le_bytes}
 use Rattle.std.proofs.lemmas.List.{nil_from_length}
 use Rattle.command_types.specs.declared.ask.Entry.{Entry}
 use Rattle.command_types.specs.declared.ask.What.{What}
-use Rattle.command_types.specs.Spelling.{name_spelling, fields_spelling, spelling, IsParty, IsChange, Spells}
+use Rattle.command_types.specs.Spelling.{name_spelling, fields_spelling, spelling, IsChange, Spells}
 use Rattle.record_codec.specs.declared.fault.DecodeFault.{DecodeFault}
-use Rattle.record_codec.specs.declared.fault.DecodeFault.TheVariants.{BadRecord, Memory}
-use Rattle.record_codec.specs.Reading.{Read, ◌>>=◌, seat_at, name_at, change_at, entry_at, entry_of, by_offset, read_record}
-use Rattle.record_codec.specs.Laws.{IsFaultOf, Decodes, SpellingsAreUnique}
+use Rattle.record_codec.specs.Reading.{Read, ◌>>=◌, name_at, change_at, entry_at, entry_of, by_offset, read_record}
+use Rattle.record_codec.specs.Laws.{Decodes, SpellingsAreUnique}
 use Rattle.record_codec.proofs.FieldFacts.{IsBytes, Takes, Takes-then, bind_ok, ok_is, seq_takes, seq_again}
 use Rattle.record_codec.proofs.KindFacts.{seat_format, name_format}
 use Rattle.record_codec.proofs.ChangeReading.{change_format}

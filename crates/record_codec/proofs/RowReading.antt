@@ -1,10 +1,9 @@
 -- Rows in rising order: how they are read, and that they are a network's.
-use Rattle.std.proofs.Common.{◌≡◌, ◌≢◌, ℕ, zero, suc, ◌+◌, ◌-◌, ◌*◌, ◌^◌, ◌<◌, ◌≤◌, ◌&&◌, not, Bool, true, false, cond, eqb, leb, ltb, List, [], ◌∷◌, ◌++◌, length, get_or, take, drop, sum_by, flat_map, All, AllPairs, Option, Some, None, Result, Ok, Err, refl, sym, ap, subst, ◌∙◌, append_assoc, IsTrue, arith, leb-true, le-leb, ltb-true, lt-ltb, eqb-true, ne_eqb}
-use Rattle.std.specs.Int.{w16, w32, w64, to_le_bytes, from_le_bytes}
-use Rattle.std.specs.List.{AllByRecursion}
+use Rattle.std.proofs.Common.{◌≡◌, ◌≢◌, ℕ, zero, suc, ◌+◌, ◌-◌, ◌^◌, ◌<◌, ◌≤◌, ◌&&◌, not, Bool, true, false, eqb, leb, ltb, List, [], ◌∷◌, ◌++◌, length, take, drop, flat_map, All, Some, Ok, refl, sym, ap, subst, ◌∙◌, append_assoc, IsTrue, arith, leb-true, le-leb, ltb-true, lt-ltb, ne_eqb}
+use Rattle.std.specs.Int.{w16, w64, to_le_bytes, from_le_bytes}
 use Rattle.std.proofs.lemmas.Bool.{and_parts, and_from, not_from_false}
-use Rattle.std.proofs.lemmas.List.{take-append-drop, length-append, length-take, length-drop, get_or-take, drop-drop}
-use Rattle.std.proofs.lemmas.List.Elements.{All-from_recursion, All-head, All-tail, All-cons, All-nil}
+use Rattle.std.proofs.lemmas.List.{take-append-drop, length-take, length-drop, get_or-take, drop-drop}
+use Rattle.std.proofs.lemmas.List.Elements.{All-head, All-tail, All-cons, All-nil}
 use Rattle.std.proofs.lemmas.List.Kept.{AllPairs-cons}
 use Rattle.std.proofs.lemmas.List.Sums.{sum_by-cons}
 use Rattle.std.proofs.lemmas.List.Concat.{flat_map-cons}
@@ -12,7 +11,7 @@ use Rattle.std.proofs.lemmas.Nat.{le_bytes_2, le_bytes_8, from_le_bytes-to_le_by
 use Rattle.network_laws.specs.declared.rows.Row.{Row}
 use Rattle.network_laws.specs.Networks.{place, total, IsGoodRow, IsRising, AreRows}
 use Rattle.command_types.specs.Spelling.{row_spelling}
-use Rattle.record_codec.specs.Reading.{Read, ◌>>=◌, field, row_of, is_row, row_if, row_in, row_at, rows_at}
+use Rattle.record_codec.specs.Reading.{Read, ◌>>=◌, row_of, is_row, row_if, row_in, row_at, rows_at}
 use Rattle.record_codec.proofs.FieldFacts.{IsBytes, IsBytes-take, IsBytes-drop, Takes, Takes-then, IsFormat, IsField, format_of, field_ok, bind_ok, ok_is, seq_takes, seq_again}
 
 abbrev most_gross : ℕ

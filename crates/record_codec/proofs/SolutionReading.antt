@@ -1,5 +1,5 @@
 -- Solutions: what is read is spelled so, and what is spelled so is read.
-use Rattle.std.proofs.Common.{◌≡◌, ℕ, zero, suc, ◌+◌, ◌-◌, ◌^◌, ◌<◌, ◌≤◌, ◌&&◌, Bool, true, false, List, [], ◌∷◌, ◌++◌, length, take, flat_map, All, Option, Some, None, Result, Ok, Err, refl, sym, ap, subst, ◌∙◌, append_assoc, IsTrue, arith, ℤ, pos, negsuc, neg_ℤ, ◌≤ℤ◌, int_le, to_z-of_z, SFits}
+use Rattle.std.proofs.Common.{◌≡◌, ℕ, zero, suc, ◌^◌, ◌<◌, Bool, true, false, List, [], ◌∷◌, ◌++◌, length, take, flat_map, Some, Ok, refl, sym, ap, subst, ◌∙◌, append_assoc, arith, ℤ, pos, negsuc, neg_ℤ, int_le, to_z-of_z, SFits}
 use Rattle.std.specs.Int.{w16, w32, to_le_bytes, from_le_bytes, cast_signed, cast_unsigned}
 use Rattle.std.specs.List.{AllByRecursion}
 use Rattle.std.proofs.lemmas.Bool.{and_parts, and_from}
@@ -8,13 +8,12 @@ use Rattle.std.proofs.lemmas.List.Elements.{All-from_recursion, recursion_from_A
 use Rattle.std.proofs.lemmas.List.Concat.{flat_map-cons}
 use Rattle.std.proofs.lemmas.Nat.{le_bytes_4, from_le_bytes-to_le_bytes_4}
 use Rattle.network_laws.specs.declared.rows.Row.{Row}
-use Rattle.network_laws.specs.Networks.{IsNetwork}
 use Rattle.network_laws.specs.Solutions.{SolutionData, IsSolution, IsPotential}
 use Rattle.command_types.specs.Spelling.{row_spelling, potential_spelling, solution_spelling}
-use Rattle.record_codec.specs.Reading.{Read, ◌>>=◌, field, count_at, row_count_at, rows_at, is_potential, potential_if, potential_in, potential_at, potentials_at, solution_at, solutions_at}
+use Rattle.record_codec.specs.Reading.{Read, ◌>>=◌, row_count_at, rows_at, is_potential, potential_if, potential_in, potential_at, potentials_at, solution_at, solutions_at}
 use Rattle.record_codec.proofs.FieldFacts.{IsBytes, Takes, Takes-then, IsFormat, IsField, format_of, field_ok, bind_ok, ok_is, seq_takes, seq_again}
 use Rattle.record_codec.proofs.KindFacts.{count_format, row_count_format}
-use Rattle.record_codec.proofs.RowReading.{RowsFrom, rows_take, rows_again, rows_are, rows_from, rows_few}
+use Rattle.record_codec.proofs.RowReading.{rows_take, rows_again, rows_are, rows_from, rows_few}
 
 -- ---- potentials
 

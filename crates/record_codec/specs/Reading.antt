@@ -1,6 +1,6 @@
 -- Reading a record from left to right, with the first field that breaks the grammar.
-use Rattle.std.specs.Prelude.{◌≡◌, ℕ, ℤ, pos, ◌+◌, ◌-◌, ◌*◌, zero, suc, ◌==◌, nat_lt, nat_le, not, ◌&&◌, Bool, true, false, neg_ℤ, int_le, List, [], ◌∷◌, length, take, drop, slice_index, Option, Some, None, Result, Ok, Err, if◌then◌else◌}
-use Rattle.std.specs.Int.{Width, w16, w32, w64, byte_len, from_le_bytes, cast_signed}
+use Rattle.std.specs.Prelude.{ℕ, ℤ, pos, ◌+◌, ◌-◌, zero, suc, ◌==◌, nat_lt, nat_le, not, ◌&&◌, Bool, true, false, neg_ℤ, int_le, List, [], ◌∷◌, length, take, drop, slice_index, Option, Some, None, Result, Ok, Err, if◌then◌else◌}
+use Rattle.std.specs.Int.{Width, w16, w32, w64, from_le_bytes, cast_signed}
 use Rattle.units_core.specs.Name.{is_name}
 use Rattle.units_core.specs.Number.{is_amount}
 use Rattle.units_core.specs.Day.{DayParts, day_numbered}

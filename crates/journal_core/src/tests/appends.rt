@@ -27,6 +27,27 @@ fn a_record_that_was_appended_is_found_after_a_crash(rt: HostRuntime) -> Result<
 }
 
 #[test]
+fn the_first_append_makes_the_file_of_one_record(rt: HostRuntime) -> Result<(), Fail> {
+    let alloc = rt.alloc();
+    let Ok(journal) = Journal::start(disk_of(alloc, b"")?, 9) else {
+        return Err(Fail::new("the journal does not start"));
+    };
+    let mut disk = journal.end().crash();
+    assert_eq!(rt; disk.length(), Ok(9));
+    let mut into = [0; 9];
+    assert_eq!(rt; disk.read(0, &mut into), Ok(9));
+    assert!(rt; into.as_slice() == b"OTCJRNL1\0".as_slice());
+    let (disk, answer) = append_to(alloc, disk, &ONE[13..38])?;
+    assert_eq!(rt; answer, Ok(()));
+    let mut disk = disk.crash();
+    assert_eq!(rt; disk.length(), Ok(39));
+    let mut into = [0; 39];
+    assert_eq!(rt; disk.read(0, &mut into), Ok(39));
+    assert!(rt; into.as_slice() == ONE.as_slice());
+    Ok(())
+}
+
+#[test]
 fn an_append_goes_on_behind_the_last_record(rt: HostRuntime) -> Result<(), Fail> {
     let alloc = rt.alloc();
     let disk = disk_of(alloc, &ONE)?;
@@ -47,13 +68,13 @@ fn a_crash_before_the_gate_opens_leaves_the_records_from_before(
     rt: HostRuntime,
 ) -> Result<(), Fail> {
     let alloc = rt.alloc();
-    assert_eq!(rt; found_in(alloc, &TWO[..40])?, (1, 39));
-    assert_eq!(rt; found_in(alloc, &TWO[..44])?, (1, 39));
-    assert_eq!(rt; found_in(alloc, &TWO)?, (1, 39));
+    assert_eq!(rt; answer_to(alloc, &TWO[..40])?, Ok((1, 39)));
+    assert_eq!(rt; answer_to(alloc, &TWO[..44])?, Ok((1, 39)));
+    assert_eq!(rt; answer_to(alloc, &TWO)?, Ok((1, 39)));
     let mut torn = TWO;
     torn[39] = 0xff;
     torn[45] = 1;
-    assert_eq!(rt; found_in(alloc, &torn)?, (1, 39));
+    assert_eq!(rt; answer_to(alloc, &torn)?, Ok((1, 39)));
     Ok(())
 }
 
@@ -62,7 +83,7 @@ fn a_crash_behind_the_open_gate_leaves_the_record_too(rt: HostRuntime) -> Result
     let alloc = rt.alloc();
     let mut whole = TWO;
     whole[38] = 1;
-    assert_eq!(rt; found_in(alloc, &whole)?, (2, 46));
+    assert_eq!(rt; answer_to(alloc, &whole)?, Ok((2, 46)));
     Ok(())
 }
 

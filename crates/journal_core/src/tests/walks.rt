@@ -1,12 +1,6 @@
 //! Walks over whole, cut and damaged files.
 use super::*;
 
-// Why a walk over these bytes finds no records.
-fn fault_of(alloc: Global, bytes: &[u8]) -> Result<Option<WalkFault>, Fail> {
-    let mut disk = disk_of(alloc, bytes)?;
-    Ok(walk(alloc, &mut disk).err())
-}
-
 #[test]
 fn a_record_is_found_with_its_gate_and_its_bytes(rt: HostRuntime) -> Result<(), Fail> {
     let alloc = rt.alloc();
@@ -22,58 +16,80 @@ fn a_record_is_found_with_its_gate_and_its_bytes(rt: HostRuntime) -> Result<(), 
     Ok(())
 }
 
+// The answer to the file cut to this size. From 10 bytes on a gate is due at byte 8, and only with 38 there stands a
+// whole record behind it. Then the next gate is due at byte 38.
+fn answer_when_cut(size: usize) -> Result<(usize, u64), WalkFault> {
+    match size {
+        0..=9 => Ok((0, 9)),
+        10..=37 => Err(WalkFault::Damaged { offset: 8 }),
+        38 => Err(WalkFault::Damaged { offset: 38 }),
+        _ => Ok((1, 39)),
+    }
+}
+
 #[test]
-fn cut_files_are_damaged_where_their_last_gate_was_due(rt: HostRuntime) -> Result<(), Fail> {
+fn each_cut_of_the_file_has_its_answer(rt: HostRuntime) -> Result<(), Fail> {
     let alloc = rt.alloc();
-    let damaged = WalkFault::Damaged { offset: 38 };
-    assert_eq!(rt; fault_of(alloc, &ONE[..38])?, Some(damaged));
-    let damaged = WalkFault::Damaged { offset: 8 };
-    assert_eq!(rt; fault_of(alloc, &ONE[..37])?, Some(damaged));
-    assert_eq!(rt; fault_of(alloc, &ONE[..30])?, Some(damaged));
-    assert_eq!(rt; fault_of(alloc, &ONE[..12])?, Some(damaged));
+    for size in 0..=39 {
+        let answer = answer_to(alloc, &ONE[..size])?;
+        assert_eq!(rt; answer, answer_when_cut(size), "cut to {size}");
+    }
     Ok(())
 }
 
 #[test]
-fn short_files_hold_no_records(rt: HostRuntime) -> Result<(), Fail> {
-    let alloc = rt.alloc();
-    assert_eq!(rt; found_in(alloc, b"")?, (0, 9));
-    assert_eq!(rt; found_in(alloc, &ONE[..9])?, (0, 9));
-    assert_eq!(rt; found_in(alloc, b"\x01\x01\x01")?, (0, 9));
-    Ok(())
-}
-
-#[test]
-fn a_gate_that_is_not_open_ends_the_records(rt: HostRuntime) -> Result<(), Fail> {
+fn behind_a_closed_gate_no_cut_matters(rt: HostRuntime) -> Result<(), Fail> {
     let alloc = rt.alloc();
     let mut file = ONE;
     file[8] = 7;
-    assert_eq!(rt; found_in(alloc, &file)?, (0, 9));
-    let mut file = ONE;
-    file[38] = 7;
-    assert_eq!(rt; found_in(alloc, &file)?, (1, 39));
+    for size in 0..=39 {
+        assert_eq!(rt;
+            answer_to(alloc, &file[..size])?,
+            Ok((0, 9)),
+            "cut to {size}"
+        );
+    }
+    Ok(())
+}
+
+// The answer to the file with another byte at this place. A smaller length ends the record before the byte 13 + length,
+// which is then the next gate: where it is 01, no record stands behind it. A length of 26 takes the closed gate too.
+fn answer_with(place: usize, byte: u8) -> Result<(usize, u64), WalkFault> {
+    let length = u64::from(byte);
+    match (place, byte) {
+        (0..=7, _) => Err(WalkFault::Damaged { offset: 0 }),
+        (8, _) => Ok((0, 9)),
+        (9, 4 | 6 | 7 | 9 | 11) => Err(WalkFault::Damaged {
+            offset: 13 + length,
+        }),
+        (9, 0..=24) => Ok((1, 14 + length)),
+        (9, 26) => Err(WalkFault::Damaged { offset: 39 }),
+        (9..=12, _) => Err(WalkFault::Damaged { offset: 8 }),
+        (38, 1) => Err(WalkFault::Damaged { offset: 38 }),
+        _ => Ok((1, 39)),
+    }
+}
+
+#[test]
+fn each_other_byte_at_each_place_has_its_answer(rt: HostRuntime) -> Result<(), Fail> {
+    let alloc = rt.alloc();
+    for place in 0..39 {
+        for byte in 0..=255 {
+            let mut file = ONE;
+            if file[place] != byte {
+                file[place] = byte;
+                let answer = answer_to(alloc, &file)?;
+                assert_eq!(rt; answer, answer_with(place, byte), "byte {byte} at {place}");
+            }
+        }
+    }
     Ok(())
 }
 
 #[test]
-fn another_header_is_damage_at_the_start(rt: HostRuntime) -> Result<(), Fail> {
+fn a_short_file_holds_no_records_whatever_it_has(rt: HostRuntime) -> Result<(), Fail> {
     let alloc = rt.alloc();
-    let mut file = ONE;
-    file[7] = b'2';
-    let damaged = WalkFault::Damaged { offset: 0 };
-    assert_eq!(rt; fault_of(alloc, &file)?, Some(damaged));
-    Ok(())
-}
-
-#[test]
-fn a_length_past_the_file_is_damage_at_its_gate(rt: HostRuntime) -> Result<(), Fail> {
-    let alloc = rt.alloc();
-    let mut file = ONE;
-    file[9] = 0x1b;
-    let damaged = WalkFault::Damaged { offset: 8 };
-    assert_eq!(rt; fault_of(alloc, &file)?, Some(damaged));
-    file[9] = 0x1a;
-    let damaged = WalkFault::Damaged { offset: 39 };
-    assert_eq!(rt; fault_of(alloc, &file)?, Some(damaged));
+    assert_eq!(rt; answer_to(alloc, b"\x01\x01\x01")?, Ok((0, 9)));
+    assert_eq!(rt; answer_to(alloc, b"OTCJRNL1\x01")?, Ok((0, 9)));
     Ok(())
 }
