@@ -1,3 +1,17 @@
 pub mod FlagFacts
 pub mod PartyFacts
 pub mod PlanFacts
+pub mod Pieces
+pub mod RowSteps
+pub mod Falls
+pub mod PlanPieces
+pub mod PairNetworks
+pub mod OwnSteps
+pub mod FreeSteps
+pub mod OnceEach
+pub mod PairAmounts
+pub mod Realised
+pub mod PairTotals
+pub mod Positions
+pub mod NetLaws
+pub mod FrozenRows

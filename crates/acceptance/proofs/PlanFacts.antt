@@ -38,7 +38,7 @@ step_then_rest end cut false true rest h h' = refl
 step_then_rest end cut false false rest h h' = sym (ap (λ xs. cut ∷ xs) (h' refl))
 
 -- trades fall one by one
-falling_more : (fall : ℕ) (row : TradeRow) (rows : List TradeRow) → falling fall (row ∷ rows) ≡ row_fall fall row ++ falling (fall - row.amount) rows
+pub falling_more : (fall : ℕ) (row : TradeRow) (rows : List TradeRow) → falling fall (row ∷ rows) ≡ row_fall fall row ++ falling (fall - row.amount) rows
 falling_more fall row rows =
     step_then_rest (End row.number) (Cut row.number row.amount (row.amount - fall)) (eqb fall 0) (nat_le row.amount fall) (falling (fall - row.amount) rows)
     (λ e. let zero_fall : fall ≡ 0 = eqb-true fall 0 e in spent (fall - row.amount) rows (omega arith))
@@ -89,7 +89,7 @@ filter_next : (p : TradeRow → Bool) (t : Bool) (row : TradeRow) (xs ys : List 
 filter_next p true row xs ys e = ap (λ zs. cond (p row) (row ∷ zs) zs) e
 filter_next p false row xs ys e = e
 
-filter_twice : (p q : TradeRow → Bool) (rows : List TradeRow) → filter p (filter q rows) ≡ filter (λ row. q row && p row) rows
+pub filter_twice : (p q : TradeRow → Bool) (rows : List TradeRow) → filter p (filter q rows) ≡ filter (λ row. q row && p row) rows
 filter_twice p q [] = refl
 filter_twice p q (row ∷ rows) = filter_next p (q row) row (filter q rows) (filter (λ r. q r && p r) rows) (filter_twice p q rows)
 

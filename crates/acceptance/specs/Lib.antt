@@ -1,3 +1,6 @@
 pub mod Votes
 pub mod Parties
 pub mod Planning
+pub mod FreePlans
+pub mod Renewals
+pub mod Laws

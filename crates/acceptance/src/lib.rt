@@ -2,10 +2,15 @@
 #![tactic(auto)]
 
 mod flags;
+mod laws;
 mod parties;
 mod planning;
 mod votes;
 
+pub use laws::{
+    gross_follows, nets_stay, plan_is_executable, plan_is_free, plan_is_of_the_frozen,
+    plan_realises,
+};
 pub use parties::touched;
 pub use planning::plan;
 pub use votes::Votes;

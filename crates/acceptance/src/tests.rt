@@ -1,6 +1,9 @@
 //! Whose votes a plan needs, and how they come in.
 
-use crate::touched;
+use crate::{
+    gross_follows, nets_stay, plan_is_executable, plan_is_free, plan_is_of_the_frozen,
+    plan_realises, touched,
+};
 use command_types::PlanRow;
 use std::alloc::AllocError;
 use std::test::Fail;
@@ -40,5 +43,16 @@ fn an_empty_plan_needs_nobody(rt: HostRuntime) -> Result<(), Fail> {
     let votes = touched(&[], &[]);
     assert_eq!(rt; votes.left(), 0);
     assert!(rt; !votes.needs(FIRST));
+    Ok(())
+}
+
+#[test]
+fn the_laws_are_called(rt: HostRuntime) -> Result<(), Fail> {
+    plan_realises();
+    plan_is_free();
+    plan_is_executable();
+    nets_stay();
+    gross_follows();
+    plan_is_of_the_frozen();
     Ok(())
 }

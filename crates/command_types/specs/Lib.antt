@@ -3,6 +3,7 @@ pub mod Trades
 pub mod Books
 pub mod Tolerances
 pub mod Plans
+pub mod Execution
 pub mod Cycles
 pub mod CycleRefusals
 pub mod CycleSteps
@@ -14,4 +15,5 @@ pub mod Told
 pub mod Lines
 pub mod Grammar
 pub mod Text
+pub mod Details
 pub mod Session

@@ -135,16 +135,14 @@ command_refusals s by (Decline cycle version) = decline_refusals s by cycle vers
 command_refusals s by (Cancel cycle) = cancel_refusals s by cycle
 command_refusals s by what = []
 
--- what the machine does not do yet: the commands of the cycle, and STATEMENT
+-- what the machine does not do yet: solving, and what follows on a posting
 abbrev pub is_built : State → List ℕ → What → Bool
-is_built s by (Trade seller buyer product amount day) = true
-is_built s by (Affirm trade) = true
-is_built s by (End trade) = true
-is_built s by (Hold trade) = true
-is_built s by (Free trade) = true
-is_built s by (Tol other product side floor ceiling) = true
-is_built s by (Nets product) = true
-is_built s by what = false
+is_built s by (Fetch cycle version) = false
+is_built s by (Post cycle version solutions) = false
+is_built s by (Plan cycle) = false
+is_built s by (Accept cycle version) = false
+is_built s by (Decline cycle version) = false
+is_built s by what = true
 
 abbrev pub party_refusals : State → List ℕ → What → List (Bool × Refusal)
 party_refusals s by what = (not (is_built s by what), NotBuilt) ∷ command_refusals s by what

@@ -19,7 +19,7 @@ use Rattle.command_types.specs.Roster.{Rows}
 use Rattle.command_types.specs.History.{History, recorded, entries_of_seat}
 use Rattle.command_types.specs.Told.{IsTold}
 use Rattle.command_types.specs.Grammar.{line_within}
-use Rattle.command_types.specs.Text.{reply_text}
+use Rattle.command_types.specs.Details.{reply_text}
 
 -- a row of a draft: an amount for a product and a pair of members, by their names
 pub record DraftRow : Type 0 where

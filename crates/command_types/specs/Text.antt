@@ -14,7 +14,6 @@ use Rattle.command_types.specs.declared.refusal.BadPost.{BadPost}
 use Rattle.command_types.specs.declared.refusal.BadPost.TheVariants.{Shape, At}
 use Rattle.command_types.specs.declared.refusal.Refusal.{Refusal}
 use Rattle.command_types.specs.declared.refusal.Refusal.TheVariants.{BadLine, NotGreeted, BadKey, NotOperator, UnknownMember, UnknownProduct, OwnTrade, UnknownTrade, NotParty, AmountOver, Matured, FloorOverCeiling, WrongTradeState, TradeFrozen, CycleOpen, WrongCycle, CycleBroken, WrongPhase, WrongVersion, NotTouched, AlreadyAccepted, BadCertificate, GrossOver, TradesFull, DraftFull, JournalFull, Stopped, Memory, DiskFault, NotBuilt}
-use Rattle.command_types.specs.declared.answer.Reply.{Reply}
 use Rattle.command_types.specs.declared.roster.MemberRow.{MemberRow}
 use Rattle.command_types.specs.declared.roster.ProductRow.{ProductRow}
 use Rattle.command_types.specs.Roster.{Rows}
@@ -131,7 +130,3 @@ answer_text rows (No refusal) = []
 abbrev pub head_text : Rows → ℕ → Answer → List ℕ
 head_text rows at (No refusal) = codes "no " ++ decimal at ++ codes " " ++ refusal_text rows refusal ++ codes "\n"
 head_text rows at answer = codes "ok " ++ decimal at ++ answer_text rows answer ++ codes "\n"
-
--- the text of a reply
-abbrev pub reply_text : Rows → Reply → List ℕ
-reply_text rows reply = head_text rows reply.at reply.answer

@@ -90,6 +90,7 @@ impl Roster {
     pub fn members(&self) -> &[MemberRow]
         ensures rows { result.now ≡ self.now.members }
         ensures few { length result.now ≤ 256 }
+        ensures roster { IsRoster self.now }
     {
         &self.members
     }

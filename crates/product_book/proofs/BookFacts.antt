@@ -1,6 +1,8 @@
 -- What a book keeps, where a trade comes or is changed, and what is known of a trade that may be changed.
-use Rattle.std.proofs.Common.{◌≡◌, ℕ, zero, suc, ◌+◌, ◌-◌, ◌≤◌, ◌<◌, ◌==◌, ◌&&◌, ◌||◌, Bool, true, false, List, [], ◌∷◌, ◌++◌, length, get_or, slice_get, slice_set, is_some, option_copied, IfSome, IsTrue, Option, Some, None, if◌then◌else◌, arith, refl, ap, sym, subst, ◌∙◌}
-use Rattle.std.proofs.lemmas.List.Sums.{sum_by_push, sum_by-set, sum_by-le-sum_by, length-filter, count_by-le-length}
+use Rattle.std.proofs.Common.{◌≡◌, ℕ, zero, suc, ◌+◌, ◌-◌, ◌≤◌, ◌<◌, ◌==◌, ◌&&◌, ◌||◌, Bool, true, false, List, [], ◌∷◌, ◌++◌, length, map, take, drop, get_or, slice_get, slice_set, is_some, option_copied, IfSome, IsTrue, Option, Some, None, if◌then◌else◌, arith, refl, ap, sym, subst, ◌∙◌}
+use Rattle.std.specs.Prelude.{sum_by}
+use Rattle.std.proofs.lemmas.List.{length-map}
+use Rattle.std.proofs.lemmas.List.Sums.{sum_by_push, sum_by-cons, sum_by-set, sum_by-le-sum_by, length-filter, count_by-le-length}
 use Rattle.std.proofs.lemmas.Option.{get_or_from_slice_get}
 use Rattle.std.proofs.lemmas.Bool.{false≢true}
 use Rattle.std.proofs.lemmas.Bool.Decides.{Decides-eqb}
@@ -12,10 +14,10 @@ use Rattle.command_types.specs.declared.trade.Side.{Side}
 use Rattle.command_types.specs.declared.trade.Side.TheVariants.{Out, In}
 use Rattle.command_types.specs.Trades.{counts, is_live, is_alleged, gross_of, submitted_count, sold_by, bought_by, pair_sum_of, trade_numbered, with_row, live_row, row_ended_by, row_with_hold}
 use Rattle.product_book.specs.Book.{IsTrade, AreTrades, IsBook, gross_limit, may_affirm}
-use Rattle.product_book.proofs.PlaceFacts.{there_by, within_by, positive}
+use Rattle.product_book.proofs.PlaceFacts.{there_by, within_by, positive, written_back}
 
 -- what a row adds to a product's gross
-abbrev gross_part : ℕ → TradeRow → ℕ
+abbrev pub gross_part : ℕ → TradeRow → ℕ
 gross_part product row = if (row.product == product) && counts row.state then row.amount else 0
 
 abbrev sold_part : ℕ → ℕ → TradeRow → ℕ
@@ -70,20 +72,20 @@ added_at rows row product false is bounded fits =
     let before = bounded product in
     omega (arith, sum_by_push (gross_part product) rows row)
 
-trades_push : (members products n : ℕ) (rows : List TradeRow) (row : TradeRow) → AreTrades members products n rows → IsTrade members products (n + length rows) row → AreTrades members products n (rows ++ row ∷ [])
+pub trades_push : (members products n : ℕ) (rows : List TradeRow) (row : TradeRow) → AreTrades members products n rows → IsTrade members products (n + length rows) row → AreTrades members products n (rows ++ row ∷ [])
 trades_push members products n [] row are is = (subst (λ k. IsTrade members products k row) (let e : n + 0 ≡ n = omega arith in e) is, tt)
 trades_push members products n (first ∷ rows) row (here, later) is =
     let e : n + length (first ∷ rows) ≡ n + 1 + length rows = omega arith in
     (here, trades_push members products (n + 1) rows row later (subst (λ k. IsTrade members products k row) e is))
 
-trades_set : (members products n : ℕ) (rows : List TradeRow) (i : ℕ) (row : TradeRow) → AreTrades members products n rows → IsTrade members products (n + i) row → AreTrades members products n (slice_set rows i row)
+pub trades_set : (members products n : ℕ) (rows : List TradeRow) (i : ℕ) (row : TradeRow) → AreTrades members products n rows → IsTrade members products (n + i) row → AreTrades members products n (slice_set rows i row)
 trades_set members products n [] i row are is = tt
 trades_set members products n (first ∷ rows) zero row (here, later) is = (subst (λ k. IsTrade members products k row) (let e : n + 0 ≡ n = omega arith in e) is, later)
 trades_set members products n (first ∷ rows) (suc i) row (here, later) is =
     let e : n + suc i ≡ n + 1 + i = omega arith in
     (here, trades_set members products (n + 1) rows i row later (subst (λ k. IsTrade members products k row) e is))
 
-trades_at : (members products n : ℕ) (rows : List TradeRow) (i : ℕ) (row : TradeRow) → AreTrades members products n rows → slice_get rows i ≡ Some row → IsTrade members products (n + i) row
+pub trades_at : (members products n : ℕ) (rows : List TradeRow) (i : ℕ) (row : TradeRow) → AreTrades members products n rows → slice_get rows i ≡ Some row → IsTrade members products (n + i) row
 trades_at members products n [] i row are is = cc
 trades_at members products n (first ∷ rows) zero row (here, later) is =
     let e : n ≡ n + 0 = omega arith in
@@ -111,7 +113,14 @@ submitted_push rows row is =
     let after = length-filter (λ row. is_some row.submitter) (rows ++ row ∷ []) in
     omega (arith, sum_by_push submitted_part rows row)
 
-submitted_set : (rows : List TradeRow) (i : ℕ) (old new : TradeRow) → i < length rows → get_or rows i old ≡ old → new.submitter ≡ old.submitter → submitted_count (slice_set rows i new) ≡ submitted_count rows
+pub submitted_by_nobody : (rows : List TradeRow) (row : TradeRow) → row.submitter ≡ None → submitted_count (rows ++ row ∷ []) ≡ submitted_count rows
+submitted_by_nobody rows row nobody =
+    let none : submitted_part row ≡ 0 = ap (λ (o : Option Side). if is_some o then 1 else 0) nobody in
+    let before = length-filter (λ row. is_some row.submitter) rows in
+    let after = length-filter (λ row. is_some row.submitter) (rows ++ row ∷ []) in
+    omega (arith, sum_by_push submitted_part rows row)
+
+pub submitted_set : (rows : List TradeRow) (i : ℕ) (old new : TradeRow) → i < length rows → get_or rows i old ≡ old → new.submitter ≡ old.submitter → submitted_count (slice_set rows i new) ≡ submitted_count rows
 submitted_set rows i old new within is same =
     let there : submitted_part (get_or rows i old) ≡ submitted_part old = ap submitted_part is in
     let kept : submitted_part new ≡ submitted_part old = ap (λ (o : Option Side). if is_some o then 1 else 0) same in
@@ -194,6 +203,50 @@ book_changed members products submitted rows number old new book is keeps =
       bounded = λ product. bounded_kept rows (number - 1) old new product at_place.1 (get_or_from_slice_get rows (number - 1) old old at_place.2) (part_kept old new product keeps) (book.bounded product);
       counted = book.counted ∙ sym (submitted_set rows (number - 1) old new at_place.1 (get_or_from_slice_get rows (number - 1) old old at_place.2) keeps.submitter);
     }
+
+trades_mapped : (f : TradeRow → TradeRow) (members products n : ℕ) (rows : List TradeRow) → ((row : TradeRow) → KeepsTerms row (f row)) → AreTrades members products n rows → AreTrades members products n (map f rows)
+trades_mapped f members products n [] keeps are = tt
+trades_mapped f members products n (row ∷ rows) keeps (here, later) = (trade_kept members products n row (f row) (keeps row) here, trades_mapped f members products (n + 1) rows keeps later)
+
+gross_mapped : (f : TradeRow → TradeRow) (product : ℕ) (rows : List TradeRow) → ((row : TradeRow) → KeepsTerms row (f row)) → gross_of product (map f rows) ≤ gross_of product rows
+gross_mapped f product [] keeps = omega arith
+gross_mapped f product (row ∷ rows) keeps =
+    omega (arith, sum_by-cons (gross_part product) row rows, sum_by-cons (gross_part product) (f row) (map f rows), part_kept row (f row) product (keeps row), gross_mapped f product rows keeps)
+
+submitted_mapped : (f : TradeRow → TradeRow) (rows : List TradeRow) → ((row : TradeRow) → KeepsTerms row (f row)) → submitted_count (map f rows) ≡ submitted_count rows
+submitted_mapped f rows keeps =
+    let before = length-filter (λ (row : TradeRow). is_some row.submitter) rows in
+    let after = length-filter (λ (row : TradeRow). is_some row.submitter) (map f rows) in
+    omega (arith, before, after, same rows)
+  where
+    same : (rows : List TradeRow) → sum_by submitted_part (map f rows) ≡ sum_by submitted_part rows
+    same [] = refl
+    same (row ∷ rows) =
+        let kept : submitted_part (f row) ≡ submitted_part row = ap (λ (o : Option Side). if is_some o then 1 else 0) (keeps row).submitter in
+        omega (arith, kept, sum_by-cons submitted_part row rows, sum_by-cons submitted_part (f row) (map f rows), same rows)
+
+-- a change of every trade that keeps the terms of each
+pub book_mapped : (f : TradeRow → TradeRow) (members products submitted : ℕ) (rows : List TradeRow) → ((row : TradeRow) → KeepsTerms row (f row)) → IsBook members products submitted rows → IsBook members products submitted (map f rows)
+book_mapped f members products submitted rows keeps book = record {
+  few_members = book.few_members;
+  few_products = book.few_products;
+  trades = trades_mapped f members products 1 rows keeps book.trades;
+  bounded = λ product. omega (arith, gross_mapped f product rows keeps, book.bounded product);
+  counted = book.counted ∙ sym (submitted_mapped f rows keeps);
+}
+
+-- what a book's trades are once a slice of all of them was written
+pub rows_written : (f : TradeRow → TradeRow) (n : ℕ) (rows new : List TradeRow) → n ≡ length rows → new ≡ map f rows → take n (new ++ drop (length new) rows) ≡ new
+rows_written f n rows new all e = written_back n rows new (ap length e ∙ length-map rows f ∙ sym all)
+
+pub book_written : (f : TradeRow → TradeRow) (members products submitted n : ℕ) (rows new : List TradeRow) → ((row : TradeRow) → KeepsTerms row (f row)) → n ≡ length rows → new ≡ map f rows → IsBook members products submitted rows →
+    IsBook members products submitted (take n (new ++ drop (length new) rows))
+book_written f members products submitted n rows new keeps all e book =
+    subst (IsBook members products submitted) (sym (rows_written f n rows new all e ∙ e)) (book_mapped f members products submitted rows keeps book)
+
+-- whether a trade is frozen is none of its terms
+pub flag_keeps : (flag : Bool) (row : TradeRow) → KeepsTerms row (record row { frozen = flag })
+flag_keeps flag row = record { number = refl; product = refl; seller = refl; buyer = refl; amount = refl; submitter = refl; state = λ h. h }
 
 alleged_counts : (state : TradeState) → IsTrue (is_alleged state) → IsTrue (counts state)
 alleged_counts Alleged h = refl

@@ -1,5 +1,9 @@
 pub mod PlaceFacts
 pub mod BookFacts
+pub mod FreezeFacts
 pub mod PairRows
 pub mod PairSums
 pub mod NetworkFacts
+pub mod HeldFacts
+pub mod ExecutionFacts
+pub mod FrozenFacts

@@ -11,9 +11,9 @@ use Rattle.command_types.specs.Books.{listed_below, listed_pairs, amount_row, ne
 use Rattle.product_book.specs.declared.networks.Which.{Which}
 use Rattle.product_book.specs.declared.networks.Which.TheVariants as which
 use Rattle.product_book.specs.Book.{AreTrades, gross_limit}
-use Rattle.product_book.specs.Networks.{network_of, sum_of, HasParties, HoldsSums, cell_row}
+use Rattle.product_book.specs.Networks.{network_of, sum_of, AllCount, HasParties, HoldsSums, cell_row}
 use Rattle.product_book.proofs.PairRows.{pairs_before, total_pairs, listed_below-next, listed_below-same}
-use Rattle.product_book.proofs.PairSums.{pairs_le, sum_different, sum_small}
+use Rattle.product_book.proofs.PairSums.{count_among, pairs_le, sum_different, sum_small}
 
 -- the trades of a book have their parties
 pub parties_of : (members products n : ℕ) (rows : List TradeRow) → AreTrades members products n rows → All (HasParties members) rows
@@ -24,9 +24,11 @@ parties_of members products n (row ∷ rows) (here, later) =
 -- the network, by its sums
 pub by_sums : (w : Which) (members product : ℕ) (rows : List TradeRow) → network_of w members product rows ≡ network_by members (sum_of w product rows)
 by_sums which.Live members product rows = refl
+by_sums which.Frozen members product rows = refl
+by_sums which.FrozenHeld members product rows = refl
 
-sums_good : (w : Which) (members product : ℕ) (rows : List TradeRow) → members ≤ 256 → All (HasParties members) rows → gross_of product rows ≤ gross_limit → IsNetwork (network_by members (sum_of w product rows))
-sums_good w members product rows few parties bound =
+sums_good : (w : Which) (members product : ℕ) (rows : List TradeRow) → members ≤ 256 → All (HasParties members) rows → AllCount w rows → gross_of product rows ≤ gross_limit → IsNetwork (network_by members (sum_of w product rows))
+sums_good w members product rows few parties count bound =
     let f = sum_of w product rows in
     let before = pairs_before members f few (λ i j some. sum_different w members product i j rows parties some) in
     record {
@@ -34,14 +36,14 @@ sums_good w members product rows few parties bound =
       rows = record {
         good = before.good;
         rising = before.rising;
-        within = omega (arith, total_pairs members f, pairs_le w product members rows, bound);
+        within = omega (arith, total_pairs members f, pairs_le w product members rows (count_among w rows count), bound);
       };
     }
 
 -- no cell is larger than the gross may be
-pub cell_small : (w : Which) (members product n cell x : ℕ) (rows : List TradeRow) (sums : List ℕ) → gross_of product rows ≤ gross_limit → HoldsSums w members product (take n rows) sums → cell < length sums → x ≡ get_or sums cell x → x ≤ gross_limit
-cell_small w members product n cell x rows sums bound h l e =
-    omega (arith, e, get_or_default sums cell x 0 l, h.cells cell l, sum_small w product (cell / 256) (cell % 256) n rows bound)
+pub cell_small : (w : Which) (members product n cell x : ℕ) (rows : List TradeRow) (sums : List ℕ) → AllCount w rows → gross_of product rows ≤ gross_limit → HoldsSums w members product (take n rows) sums → cell < length sums → x ≡ get_or sums cell x → x ≤ gross_limit
+cell_small w members product n cell x rows sums count bound h l e =
+    omega (arith, e, get_or_default sums cell x 0 l, h.cells cell l, sum_small w product (cell / 256) (cell % 256) n rows (count_among w rows count) bound)
 
 -- the rows that the table gives
 table_rows : (w : Which) (members product : ℕ) (rows : List TradeRow) (sums : List ℕ) → members ≤ 256 → HoldsSums w members product rows sums →
@@ -66,8 +68,8 @@ pub made_network : (w : Which) (members product : ℕ) (rows : List TradeRow) (s
     network_data members made ≡ network_of w members product rows
 made_network w members product rows sums made few h e = ap (network_data members) (e ∙ table_rows w members product rows sums few h) ∙ sym (by_sums w members product rows)
 
-pub network_good : (w : Which) (members product : ℕ) (rows : List TradeRow) → members ≤ 256 → All (HasParties members) rows → gross_of product rows ≤ gross_limit → IsNetwork (network_of w members product rows)
-network_good w members product rows few parties bound = subst IsNetwork (sym (by_sums w members product rows)) (sums_good w members product rows few parties bound)
+pub network_good : (w : Which) (members product : ℕ) (rows : List TradeRow) → members ≤ 256 → All (HasParties members) rows → AllCount w rows → gross_of product rows ≤ gross_limit → IsNetwork (network_of w members product rows)
+network_good w members product rows few parties count bound = subst IsNetwork (sym (by_sums w members product rows)) (sums_good w members product rows few parties count bound)
 
 -- the rows of one more place
 pub one_place_more : (n : ℕ) (f : ℕ → List Row) (start before after : List Row) → before ≡ start ++ listed_below n f → after ≡ before ++ f n → after ≡ start ++ listed_below (n + 1) f

@@ -1,6 +1,7 @@
 -- The trade with a number, and the element at a place of a list.
-use Rattle.std.proofs.Common.{◌≡◌, ℕ, ◌<◌, ◌≤◌, nat_lt, Bool, true, false, List, length, get_or, slice_get, Option, Some, None, is_some, IfSome, IsTrue, option_copied, if◌then◌else◌, arith, refl, sym}
+use Rattle.std.proofs.Common.{◌≡◌, ℕ, ◌<◌, ◌≤◌, nat_lt, Bool, true, false, List, ◌++◌, length, take, drop, get_or, slice_get, Option, Some, None, is_some, IfSome, IsTrue, option_copied, if◌then◌else◌, arith, refl, sym, ◌∙◌}
 use Rattle.std.proofs.lemmas.Bool.Decides.{nat_tests}
+use Rattle.std.proofs.lemmas.List.{take-append-le, take_all}
 use Rattle.std.proofs.lemmas.Option.{slice_get_read, slice_get_past, slice_get_within}
 use Rattle.std.specs.Borrow.{Bor}
 use Rattle.command_types.specs.declared.trade.TradeRow.{TradeRow}
@@ -20,3 +21,7 @@ within_by rows i None is h = cc
 
 pub positive : (n : ℕ) → nat_lt 0 n ≡ true → 0 < n
 positive n h = grind (arith, nat_tests)
+
+-- what a Vec holds once a slice of all of it was written
+pub written_back : (n : ℕ) (old new : List TradeRow) → length new ≡ n → take n (new ++ drop (length new) old) ≡ new
+written_back n old new e = let le : n ≤ length new = omega arith in take-append-le n new (drop (length new) old) le ∙ take_all n new (omega arith)

@@ -1,7 +1,8 @@
 -- What contracts see of a book, what each book keeps, and when a trade may be changed.
-use Rattle.std.specs.Prelude.{◌≡◌, ◌≢◌, ℕ, ◌+◌, ◌≤◌, ◌<◌, Bool, false, not, ◌&&◌, ◌||◌, List, [], ◌∷◌, Option, Some, None}
+use Rattle.std.specs.Prelude.{◌≡◌, ◌≢◌, ℕ, ◌+◌, ◌≤◌, ◌<◌, Bool, false, not, ◌&&◌, ◌||◌, List, [], ◌∷◌, filter, Option, Some, None}
 use Rattle.command_types.specs.declared.trade.TradeRow.{TradeRow}
 use Rattle.command_types.specs.declared.trade.Side.{Side}
+use Rattle.command_types.specs.Books.{is_between}
 use Rattle.command_types.specs.Trades.{is_alleged, is_live, is_ended, is_marked_by, hold_of, gross_of, submitted_count}
 
 -- the trades, for how many more there is room without memory, and how many members and products there are
@@ -55,3 +56,7 @@ may_hold side (Some row) = is_live row.state && not (hold_of side row)
 abbrev pub may_free : Side → Option TradeRow → Bool
 may_free side None = false
 may_free side (Some row) = is_live row.state && hold_of side row
+
+-- the live trades of a pair in a product, in the order of their numbers
+abbrev pub live_between : ℕ → ℕ → ℕ → List TradeRow → List TradeRow
+live_between product seller buyer rows = filter (λ row. is_between product seller buyer row && is_live row.state) rows

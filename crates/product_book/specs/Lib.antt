@@ -1,2 +1,4 @@
 pub mod Book
+pub mod Freezes
 pub mod Networks
+pub mod Execution

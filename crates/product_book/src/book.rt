@@ -1,14 +1,18 @@
 //! The book of trades, in the order of their numbers.
 
 ghost use Rattle.std.specs.Prelude.{◌≡◌, ◌≢◌, ◌+◌, ◌-◌, ◌≤◌, ◌<◌, ◌^◌, [], ◌∷◌, ◌++◌, length, IsTrue, OnOk, OnErr, IfOk, IfSome, vec_len, vec_capacity, option_copied};
+ghost use Rattle.command_types.specs.CycleSteps.{rows_of_member};
+ghost use Rattle.command_types.specs.Plans.{executed, count_of, is_new, thawed};
 ghost use Rattle.command_types.specs.Trades.{gross_of, sold_by, bought_by, pair_sum_of, submitted_count, trade_numbered, with_alleged, affirmed, ended_by, held_by, freed_by, row_ended_by};
-ghost use Rattle.product_book.specs.Book.{gross_limit, IsTrade, may_affirm, may_end, may_hold, may_free};
-ghost use Rattle.product_book.specs.Networks.{network_of};
+ghost use Rattle.product_book.specs.Book.{gross_limit, IsTrade, live_between, may_affirm, may_end, may_hold, may_free};
+ghost use Rattle.command_types.specs.Execution.{IsExecutable};
+ghost use Rattle.product_book.specs.Freezes.{rows_by_choice, frozen_among, FrozenCount};
+ghost use Rattle.product_book.specs.Networks.{network_of, AllCount};
 
 use crate::networks::{self, Which};
-use crate::row::{ended_by, live, put_row, row_at, with_hold};
-use crate::sums;
-use command_types::{Side, TradeRow, TradeState};
+use crate::row::{append, ended_by, live, put_row, row_at, with_hold};
+use crate::{execution, freezes, picks, sums};
+use command_types::{PlanRow, Side, TradeRow, TradeState};
 use network_laws::Network;
 use std::alloc::{AllocError, Global};
 use std::marker::Model;
@@ -25,16 +29,6 @@ fn make_room(rows: &mut Vec<TradeRow>, count: usize) -> Result<(), AllocError>
     rows.reserve(count)
 }
 
-// Puts a row last, in the room that there is.
-fn append(rows: &mut Vec<TradeRow>, row: TradeRow)
-    requires { vec_len rows.old < vec_capacity rows.old }
-    ensures items { rows.new.items ≡ rows.old.items ++ row ∷ [] }
-    ensures len { vec_len rows.new ≡ vec_len rows.old + 1 }
-    ensures capacity { vec_capacity rows.new ≡ vec_capacity rows.old }
-{
-    rows.push_reserved(row);
-}
-
 /// What a member owes in a product and what it is owed, in units of the contract's currency.
 #[derive(Clone, Copy, Debug, PartialEq, Eq)]
 pub struct Position {
@@ -45,7 +39,7 @@ pub struct Position {
 /// All trades of a market. Trades are numbered from 1 in the order in which they came. The alleged and live amounts
 /// of a product come to at most 10^18.
 ///
-/// Only [`Book::new`], [`Book::reserve`] and [`Book::network`] take memory.
+/// Only [`Book::new`], [`Book::reserve`], [`Book::network`], [`Book::rows_of`] and [`Book::pair_rows`] take memory.
 #[derive(Drop)]
 pub struct Book {
     rows: Vec<TradeRow>,
@@ -100,6 +94,13 @@ impl Book {
         self.rows.len() as u64
     }
 
+    /// All trades, in the order of their numbers. It takes no memory.
+    pub fn rows(&self) -> &[TradeRow]
+        ensures { result.now ≡ self.now.rows }
+    {
+        &self.rows
+    }
+
     /// The trade with this number; none exactly where no trade has it. It takes no memory.
     pub fn get(&self, trade: u64) -> Option<&TradeRow>
         ensures found { option_copied result ≡ trade_numbered self.now.rows trade }
@@ -138,9 +139,32 @@ impl Book {
         Position { sold, bought }
     }
 
-    /// The network of the product's trades of this kind: each pair of members has the sum of its trades. The only
-    /// error is want of memory.
+    /// All trades of the member, whatever their state, in the order of their numbers. The only error is want of
+    /// memory.
+    pub fn rows_of(&self, member: MemberNo) -> Result<Vec<TradeRow>, AllocError>
+        ensures { IfOk result (λ rows. rows.items ≡ rows_of_member member self.now.rows) }
+    {
+        picks::of_member(*self.rows.allocator(), &self.rows, member)
+    }
+
+    /// The live trades of the seller and the buyer in the product, in the order of their numbers. The only error is
+    /// want of memory.
+    pub fn pair_rows(
+        &self,
+        product: ProductNo,
+        seller: MemberNo,
+        buyer: MemberNo,
+    ) -> Result<Vec<TradeRow>, AllocError>
+        ensures { IfOk result (λ rows. rows.items ≡ live_between product seller buyer self.now.rows) }
+    {
+        picks::of_pair(*self.rows.allocator(), &self.rows, product, seller, buyer)
+    }
+
+    /// The network of the product's trades of this kind: each pair of members has the sum of its trades. A frozen
+    /// trade that ends stays frozen, and no longer counts for the product's amounts, so the frozen kinds are asked for
+    /// while no frozen trade has ended. The only error is want of memory.
     pub fn network(&self, product: ProductNo, which: Which) -> Result<Network, AllocError>
+        requires { AllCount which self.now.rows }
         ensures { IfOk result (λ network. network ≡ network_of which self.now.members product self.now.rows) }
     {
         let alloc = *self.rows.allocator();
@@ -234,5 +258,35 @@ impl Book {
     {
         let row = row_at(&self.rows, trade);
         put_row(&mut self.rows, trade, with_hold(row, false, side));
+    }
+
+    /// Freezes the live trades of the products that have their flag set, and no others; gives their number. There is
+    /// one flag for each product. It takes no memory.
+    pub fn freeze(&mut self, products: &[bool]) -> u64
+        requires { length products.now ≡ self.old.products }
+        ensures state { self.new ≡ record self.old { rows = rows_by_choice products.now self.old.rows } }
+        ensures number { result ≡ length (frozen_among self.new.rows) }
+        ensures none_ended { FrozenCount self.new.rows }
+    {
+        freezes::freeze(&mut self.rows, products)
+    }
+
+    /// Freezes no trade any more. It takes no memory.
+    pub fn thaw(&mut self)
+        ensures { self.new ≡ record self.old { rows = thawed self.old.rows } }
+    {
+        freezes::thaw(&mut self.rows);
+    }
+
+    /// Executes a plan: it ends trades, cuts them, and puts new live ones last, in the plan's order. Each trade that
+    /// ends or is cut is live and stands in one step, a cut goes from its amount to a smaller one, and no product's
+    /// amounts come to more than 10^18 afterwards. It can't fail and takes no memory, by the room of
+    /// [`Book::reserve`].
+    pub fn execute(&mut self, plan: &[PlanRow])
+        requires room { count_of is_new plan.now ≤ self.old.spare }
+        requires plan { IsExecutable self.old.members self.old.products self.old.rows plan.now }
+        ensures { self.new ≡ record self.old { rows = executed plan.now self.old.rows; spare = self.old.spare - count_of is_new plan.now } }
+    {
+        execution::execute(&mut self.rows, plan);
     }
 }

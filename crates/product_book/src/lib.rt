@@ -2,13 +2,22 @@
 #![tactic(auto)]
 
 mod book;
+mod execution;
+mod freezes;
+mod laws;
 mod networks;
+mod picks;
 mod row;
 mod sums;
 
 pub use book::{Book, Position};
+pub use laws::{freezes_by_maturity, held_is_within_frozen};
 pub use networks::Which;
 
+#[cfg(test)]
+mod execution_tests;
+#[cfg(test)]
+mod freeze_tests;
 #[cfg(test)]
 mod network_tests;
 #[cfg(test)]

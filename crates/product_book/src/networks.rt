@@ -5,7 +5,7 @@ ghost use Rattle.std.specs.Prelude.{◌≡◌, ◌<◌, ◌≤◌, ◌*◌, ◌+
 ghost use Rattle.command_types.specs.Books.{listed_below, listed_pairs};
 ghost use Rattle.command_types.specs.Trades.{gross_of};
 ghost use Rattle.product_book.specs.Book.{gross_limit};
-ghost use Rattle.product_book.specs.Networks.{is_among, network_of, HasParties, HoldsSums, cell_row};
+ghost use Rattle.product_book.specs.Networks.{is_among, network_of, AllCount, HasParties, HoldsSums, cell_row};
 
 use command_types::{TradeRow, TradeState};
 use network_laws::{Network, Row};
@@ -20,6 +20,10 @@ const MOST_MEMBERS: usize = 256;
 pub enum Which {
     /// The live ones.
     Live,
+    /// The frozen ones, which take part in the open cycle.
+    Frozen,
+    /// The frozen ones that a party holds.
+    FrozenHeld,
 }
 
 fn is_among(which: Which, trade: &TradeRow) -> bool
@@ -27,6 +31,8 @@ fn is_among(which: Which, trade: &TradeRow) -> bool
 {
     match which {
         Which::Live => trade.state == TradeState::Live,
+        Which::Frozen => trade.frozen,
+        Which::FrozenHeld => trade.frozen && (trade.hold_out || trade.hold_in),
     }
 }
 
@@ -40,6 +46,7 @@ fn pair_sums(
 ) -> Result<Vec<u64>, AllocError>
     requires few { members ≤ 256 }
     requires parties { All (HasParties members) trades.now }
+    requires count { AllCount which trades.now }
     requires bound { gross_of product trades.now ≤ gross_limit }
     ensures { IfOk result (λ sums. HoldsSums which members product trades.now sums.items) }
 {
@@ -101,6 +108,7 @@ pub(super) fn network_of(
 ) -> Result<Network, AllocError>
     requires few { members ≤ 256 }
     requires parties { All (HasParties members) trades.now }
+    requires count { AllCount which trades.now }
     requires bound { gross_of product trades.now ≤ gross_limit }
     ensures { IfOk result (λ network. network ≡ network_of which members product trades.now) }
 {

@@ -2,3 +2,4 @@ pub mod NameFacts
 pub mod NumberFacts
 pub mod DayFacts
 pub mod DayOrder
+pub mod NameTests

@@ -7,3 +7,6 @@ network_of-requires-clause-parties c =
 
 pub network_of-requires-clause-bound : goal.network_of-requires-clause-bound
 network_of-requires-clause-bound c = rw c.deref.ensures.value (c.self.invariant.bounded c.args.product)
+
+pub network_of-requires-clause-count : goal.network_of-requires-clause-count
+network_of-requires-clause-count c = rw c.deref.ensures.value (rw (← c.self.view_is) at c.requires)

@@ -1,0 +1,18 @@
+-- What the walk over a plan rests on.
+use Rattle.std.specs.Prelude.{ℕ, ◌≤◌, List, is_some, IsTrue, if◌then◌else◌}
+use Rattle.command_types.specs.declared.plan.PlanRow.{PlanRow}
+use Rattle.command_types.specs.declared.plan.PlanRow.TheVariants.{End, Cut, New}
+use Rattle.command_types.specs.declared.trade.TradeRow.{TradeRow}
+use Rattle.command_types.specs.Trades.{trade_numbered}
+use Rattle.command_types.specs.Plans.{is_new}
+use Rattle.product_book.specs.Book.{gross_limit}
+
+-- at a step: the trade is there, and what is left of it is an amount
+abbrev pub CanRun : List TradeRow → PlanRow → Type 0
+CanRun rows (End trade) = IsTrue (is_some (trade_numbered rows trade))
+CanRun rows (Cut trade from to) = IsTrue (is_some (trade_numbered rows trade)) × (1 ≤ to) × (to ≤ gross_limit)
+CanRun rows (New product seller buyer amount day) = Unit {0}
+
+-- how many trades a step adds
+abbrev pub added_by : PlanRow → ℕ
+added_by step = if is_new step then 1 else 0

@@ -1,0 +1,6 @@
+pub mod Moments
+pub mod Executes
+pub mod Search
+pub mod Book
+pub mod Laws
+pub mod Examples
