@@ -1,5 +1,5 @@
 -- One row more of a part.
-use Rattle.std.proofs.Common.{◌≡◌, ◌≢◌, ◌∙◌, sym, ap, subst, refl, ℕ, zero, suc, ◌+◌, ◌-◌, ◌*◌, ◌<◌, ◌≤◌, ◌^◌, List, [], ◌∷◌, ◌++◌, length, get_or, Bool, true, false, not, ◌&&◌, cond, eqb, is_some, nat_le, ℤ, rules, Option, Some, None, arith, ltb, ⊎_elim}
+use Rattle.std.proofs.Common.{◌≡◌, ◌≢◌, ◌∙◌, sym, ap, refl, ℕ, zero, suc, ◌+◌, ◌-◌, ◌<◌, ◌≤◌, ◌^◌, List, [], ◌∷◌, ◌++◌, length, get_or, Bool, true, false, not, ◌&&◌, cond, eqb, is_some, nat_le, ℤ, rules, Some, None, arith, ⊎_elim}
 use Rattle.std.proofs.lemmas.Bool.{cases_eq, ltb-true, leb-true, eqb-false}
 use Rattle.std.proofs.lemmas.Bool.Decides.{nat_tests}
 use Rattle.std.proofs.lemmas.List.Elements.{All-push}
@@ -7,7 +7,6 @@ use Rattle.std.proofs.lemmas.List.Quantifiers.{all_pairs_push}
 use Rattle.std.proofs.lemmas.List.Sums.{sum_by_push}
 use Rattle.std.proofs.lemmas.Option.{slice_get_read}
 use Rattle.std.specs.List.{slice_get}
-use Rattle.std.specs.Option.{is_none}
 use Rattle.std.specs.Str.{bytes_eq}
 use Rattle.network_laws.specs.declared.rows.Row.{Row}
 use Rattle.network_laws.specs.Networks.{place, total as total_of, AreRows, IsGoodRow, IsRising}
@@ -40,10 +39,6 @@ rows_push n rows row h good behind within = record {
   rising = all_pairs_push (λ (a b : Row). place a < place b) rows row h.rising (behind_all rows row h.rising behind);
   within = omega (arith, within, sum_by_push (λ (r : Row). r.amount) rows row);
 }
-
-pub some_of : {A : Type 0} (o : Option A) → is_none o ≡ false → is_some o ≡ true
-some_of None h = absurd cc
-some_of (Some x) h = refl
 
 not_true : (b : Bool) → not b ≡ true → b ≡ false
 not_true true h = absurd cc

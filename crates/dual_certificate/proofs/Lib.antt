@@ -6,3 +6,5 @@ pub mod ReadFacts
 pub mod DraftFacts
 pub mod TextFacts
 pub mod RangeFacts
+pub mod PartFacts
+pub mod FirstFacts

@@ -1,5 +1,5 @@
 -- A signed number that a text writes is in the range of potentials.
-use Rattle.std.proofs.Common.{◌≡◌, ℕ, ◌<◌, ◌≤◌, ℤ, pos, neg_ℤ, ◌≤ℤ◌, Bool, true, false, cond, ◌&&◌, List, length, position, Option, Some, None, Result, Ok, Err, refl, arith, drop, not, ◌==◌, nat_lt, slice_index}
+use Rattle.std.proofs.Common.{◌≡◌, ℕ, ◌≤◌, ℤ, pos, neg_ℤ, Bool, true, false, cond, ◌&&◌, List, length, position, Option, Some, None, Result, Ok, Err, refl, arith, drop, not, ◌==◌, nat_lt, slice_index}
 use Rattle.std.proofs.lemmas.Bool.{ltb-false}
 use Rattle.std.proofs.lemmas.Int.{ints}
 use Rattle.network_laws.specs.Solutions.{IsPotential}

@@ -5,3 +5,5 @@ pub mod Writing
 pub mod ProposalLine
 pub mod Proposal
 pub mod ProposalDraft
+pub mod Parts
+pub mod Firsts

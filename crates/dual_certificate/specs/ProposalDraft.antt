@@ -1,5 +1,5 @@
 -- What the draft of a proposal keeps.
-use Rattle.std.specs.Prelude.{◌≡◌, ◌⊎◌, ℕ, ◌≤◌, List, length, All, Option, Some, None, Result, Ok, Err}
+use Rattle.std.specs.Prelude.{◌≡◌, ◌⊎◌, ℕ, length, All, Option, Some, None, Result, Ok, Err}
 use Rattle.network_laws.specs.Networks.{AreRows, total}
 use Rattle.network_laws.specs.Solutions.{IsPotential}
 use Rattle.command_types.specs.Roster.{Rows}

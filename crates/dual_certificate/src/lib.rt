@@ -10,6 +10,7 @@ mod bounds_test;
 mod checker;
 mod cost;
 mod dual;
+mod member_search;
 mod net_test;
 mod pieces;
 mod price_test;

@@ -6,6 +6,7 @@ ghost use Rattle.command_types.specs.Roster.{Rows, member_place};
 ghost use Rattle.dual_certificate.specs.Proposal.{nothing_read, is_between, is_behind, fits, with_product, with_network_row, with_row, with_pot, with_bound, with_end, with_said, with_line};
 ghost use Rattle.dual_certificate.specs.ProposalDraft.{reading_of, IsDraft, ReadSteps};
 
+use crate::member_search::Members;
 use crate::proposal_line::{Figures, Potential, ProposalLine, read_line};
 use crate::proposal_part::ProposalPart;
 use command_types::{FileFault, Roster};
@@ -49,6 +50,14 @@ fn may_follow(rows: &[Row], total: u64, row: Row) -> bool
     ensures { result ≡ fits rows.now row }
 {
     row.seller != row.buyer && stands_behind(rows.last(), row) && total + row.amount <= MOST_GROSS
+}
+
+// The places of a row's seller and buyer, or 0 where there is no row.
+fn places_of(row: Option<&Row>) -> (u16, u16) {
+    match row {
+        None => (0, 0),
+        Some(row) => (row.seller, row.buyer),
+    }
 }
 
 impl ProposalDraft {
@@ -188,19 +197,20 @@ impl ProposalDraft {
 
     fn add_named_row(
         &mut self,
-        roster: &Roster,
+        members: &Members<'_>,
         row: u64,
         seller: Name,
         buyer: Name,
         amount: Amount,
     ) -> Result<(), FileFault>
-        requires { IsDraft roster.now self.old }
-        ensures { ReadSteps roster.now row (with_row (reading_of self.old) (member_place roster.now seller) (member_place roster.now buyer) amount) self.new result }
+        requires { IsDraft members.now self.old }
+        ensures { ReadSteps members.now row (with_row (reading_of self.old) (member_place members.now seller) (member_place members.now buyer) amount) self.new result }
     {
-        let Some(seller) = roster.member_named(&seller) else {
+        let (last_seller, last_buyer) = places_of(self.rows.last());
+        let Some(seller) = members.member_from(&seller, last_seller) else {
             return Err(FileFault::BadLine { row });
         };
-        let Some(buyer) = roster.member_named(&buyer) else {
+        let Some(buyer) = members.member_from(&buyer, last_buyer) else {
             return Err(FileFault::BadLine { row });
         };
         let added = Row {
@@ -208,40 +218,50 @@ impl ProposalDraft {
             buyer: buyer.0,
             amount: amount.get(),
         };
-        self.add_row(roster, row, added)
+        self.add_row(members.roster(), row, added)
     }
 
     // What a line with this number says.
-    fn take(&mut self, roster: &Roster, row: u64, line: ProposalLine) -> Result<(), FileFault>
-        requires { IsDraft roster.now self.old }
-        ensures { ReadSteps roster.now row (with_said roster.now (reading_of self.old) (Some line)) self.new result }
+    fn take(&mut self, members: &Members<'_>, row: u64, line: ProposalLine) -> Result<(), FileFault>
+        requires { IsDraft members.now self.old }
+        ensures { ReadSteps members.now row (with_said members.now (reading_of self.old) (Some line)) self.new result }
     {
         match line {
-            ProposalLine::Product { name, figures } => self.begin(roster, row, name, figures),
+            ProposalLine::Product { name, figures } => self.begin(
+                members.roster(),
+                row,
+                name,
+                figures,
+            ),
             ProposalLine::Row {
                 seller,
                 buyer,
                 amount,
-            } => self.add_named_row(roster, row, seller, buyer, amount),
-            ProposalLine::Pot { member, value } => self.add_potential(roster, row, member, value),
-            ProposalLine::Bound { value } => self.finish(roster, row, value),
-            ProposalLine::End { count } => self.end(roster, row, count),
+            } => self.add_named_row(members, row, seller, buyer, amount),
+            ProposalLine::Pot { member, value } => self.add_potential(
+                members.roster(),
+                row,
+                member,
+                value,
+            ),
+            ProposalLine::Bound { value } => self.finish(members.roster(), row, value),
+            ProposalLine::End { count } => self.end(members.roster(), row, count),
         }
     }
 
     /// Takes the line with this number, without its line feed.
     pub(crate) fn take_line(
         &mut self,
-        roster: &Roster,
+        members: &Members<'_>,
         row: u64,
         line: &[u8],
     ) -> Result<(), FileFault>
-        requires { IsDraft roster.now self.old }
-        ensures { ReadSteps roster.now row (with_line roster.now (reading_of self.old) line.now) self.new result }
+        requires { IsDraft members.now self.old }
+        ensures { ReadSteps members.now row (with_line members.now (reading_of self.old) line.now) self.new result }
     {
         match read_line(line) {
             None => Err(FileFault::BadLine { row }),
-            Some(line) => self.take(roster, row, line),
+            Some(line) => self.take(members, row, line),
         }
     }
 

@@ -4,7 +4,9 @@ ghost use Rattle.command_types.specs.declared.file_fault.FileFault.TheVariants.{
 ghost use Rattle.dual_certificate.specs.Proposal.{at_end, proposal_of, with_pieces, nothing_read};
 ghost use Rattle.dual_certificate.specs.ProposalLine.{pieces};
 ghost use Rattle.dual_certificate.specs.ProposalDraft.{reading_of};
+ghost use Rattle.dual_certificate.specs.Parts.{AreParts};
 
+use crate::member_search::Members;
 use crate::pieces::cut;
 use crate::proposal_draft::ProposalDraft;
 use crate::proposal_part::ProposalPart;
@@ -24,16 +26,20 @@ fn parts_of(draft: ProposalDraft, row: u64, rest: &[u8]) -> Result<Vec<ProposalP
 }
 
 // The parts that the lines say.
-fn read_lines(alloc: Global, bytes: &[u8], roster: &Roster) -> Result<Vec<ProposalPart>, FileFault>
+fn read_lines(
+    alloc: Global,
+    bytes: &[u8],
+    members: &Members<'_>,
+) -> Result<Vec<ProposalPart>, FileFault>
     requires { length bytes.now ≤ 67108864 }
-    ensures parts { IfOk result (λ parts. with_pieces roster.now 1 nothing_read (pieces 10 bytes.now) ≡ Ok parts.items) }
-    ensures fault { IfErr result (λ fault. (fault ≡ Memory) ⊎ (with_pieces roster.now 1 nothing_read (pieces 10 bytes.now) ≡ Err fault)) }
+    ensures parts { IfOk result (λ parts. with_pieces members.now 1 nothing_read (pieces 10 bytes.now) ≡ Ok parts.items) }
+    ensures fault { IfErr result (λ fault. (fault ≡ Memory) ⊎ (with_pieces members.now 1 nothing_read (pieces 10 bytes.now) ≡ Err fault)) }
 {
     let mut draft = ProposalDraft::new(alloc);
     let mut rest = bytes;
     let mut row = 1;
     while let Some((line, more)) = cut(rest, b'\n') {
-        match draft.take_line(roster, row, line) {
+        match draft.take_line(members, row, line) {
             Ok(()) => {}
             Err(fault) => return Err(fault),
         }
@@ -54,10 +60,14 @@ pub fn read_proposal(
     roster: &Roster,
 ) -> Result<Vec<ProposalPart>, FileFault>
     ensures parts { IfOk result (λ parts. proposal_of roster.now bytes.now ≡ Ok parts.items) }
+    ensures within { IfOk result (λ parts. AreParts roster.now parts.items) }
     ensures fault { IfErr result (λ fault. (fault ≡ Memory) ⊎ (proposal_of roster.now bytes.now ≡ Err fault)) }
 {
     if bytes.len() > 67_108_864 {
         return Err(FileFault::TooLong);
     }
-    read_lines(alloc, bytes, roster)
+    let Ok(members) = Members::of(alloc, roster) else {
+        return Err(FileFault::Memory);
+    };
+    read_lines(alloc, bytes, &members)
 }

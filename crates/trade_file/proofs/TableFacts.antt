@@ -1,5 +1,5 @@
 -- The rows of a table of sums, and the network that they are.
-use Rattle.std.proofs.Common.{◌≡◌, ◌≢◌, ◌∙◌, sym, ap, refl, ℕ, ◌+◌, ◌*◌, ◌/◌, ◌%◌, ◌<◌, ◌≤◌, List, [], ◌∷◌, ◌++◌, length, take, get_or, arith, eqb, sum, ⊎_elim, length-append, true, false, inl, inr}
+use Rattle.std.proofs.Common.{◌≡◌, ◌≢◌, ◌∙◌, sym, ap, refl, ℕ, ◌+◌, ◌*◌, ◌/◌, ◌%◌, ◌<◌, ◌≤◌, List, [], ◌∷◌, ◌++◌, length, take, get_or, arith, eqb, ⊎_elim, length-append, true, false, inl, inr}
 use Rattle.std.proofs.lemmas.Bool.{cases_eq, cases_lt, eq-eqb, ne_eqb, cases_Bool}
 use Rattle.std.proofs.lemmas.List.{get_or_push, get_or_past, get_or_append_left}
 use Rattle.std.proofs.lemmas.List.Elements.{All-push}
@@ -133,9 +133,10 @@ network_good rows trades product sums made few given held h = record {
 
 -- and each pair has its sum
 pub network_amounts : (rows : Rows) (trades : List FileTrade) (product : ℕ) (sums : List ℕ) (made : List Row) → length rows.members ≤ 256
-    → HoldsSums rows trades product sums → AreRowsOf sums made → IsNetworkOf rows trades product (record { members = length rows.members; rows = made })
-network_amounts rows trades product sums made few held h = record {
+    → AreFileTrades rows trades → HoldsSums rows trades product sums → AreRowsOf sums made → IsNetworkOf rows trades product (record { members = length rows.members; rows = made })
+network_amounts rows trades product sums made few given held h = record {
   members = refl;
+  good = network_good rows trades product sums made few given held h;
   amounts = λ i j in_i in_j.
       let at = i * 256 + j in
       let q : at / 256 ≡ i = omega (arith, in_j, few) in

@@ -1,7 +1,7 @@
 -- The networks of trades.
 use Rattle.std.specs.Prelude.{◌≡◌, ℕ, ◌+◌, ◌*◌, ◌/◌, ◌%◌, ◌<◌, ◌≤◌, ◌==◌, ◌&&◌, List, length, sum, sum_by, All, slice_index, slice_index_or, if◌then◌else◌}
 use Rattle.network_laws.specs.declared.rows.Row.{Row}
-use Rattle.network_laws.specs.Networks.{NetworkData, IsRising, at, amount_in, total}
+use Rattle.network_laws.specs.Networks.{NetworkData, IsNetwork, IsRising, at, amount_in, total}
 use Rattle.command_types.specs.Roster.{Rows}
 use Rattle.trade_file.specs.declared.file_trade.FileTrade.{FileTrade}
 use Rattle.trade_file.specs.TradeFile.{product_total}
@@ -15,9 +15,10 @@ trade_part product seller buyer trade =
 abbrev pub pair_total : List FileTrade → ℕ → ℕ → ℕ → ℕ
 pair_total trades product seller buyer = sum_by (trade_part product seller buyer) trades
 
--- the network has for each pair of members the sum of the product's trades
+-- the network has for each pair of members the sum of the product's trades, and no other rows
 pub record IsNetworkOf (rows : Rows) (trades : List FileTrade) (product : ℕ) (network : NetworkData) : Type 0 where
   pub members : network.members ≡ length rows.members
+  pub good : IsNetwork network
   pub amounts : (i j : ℕ) → i < length rows.members → j < length rows.members → at network i j ≡ pair_total trades product i j
 
 -- one network for each product, in order

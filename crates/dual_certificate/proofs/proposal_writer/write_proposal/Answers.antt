@@ -1,9 +1,4 @@
-use Rattle.std.proofs.Common.{◌≡◌, ◌∙◌, ◌<◌, ◌+◌, ◌++◌, ℕ, suc, List, length, get_or, Some, sym, ap, arith, add-one}
-use Rattle.std.specs.List.{slice_get}
-use Rattle.std.proofs.lemmas.Option.{slice_get_read}
-use Rattle.network_laws.specs.Networks.{NetworkData}
-use Rattle.network_laws.specs.Solutions.{SolutionData}
-use Rattle.dual_certificate.specs.ProposalText.{part_of, part_text, parts_below}
+use Rattle.std.proofs.Common.{◌∙◌, ◌<◌, ℕ, length, ap, arith}
 use Rattle.dual_certificate.proofs.TextFacts.{parts_more}
 use Rattle.dual_certificate.proofs.proposal_writer.write_proposal.Goals as goal
 

@@ -1,9 +1,7 @@
-use Rattle.std.proofs.Common.{◌≡◌, ◌∙◌, ◌++◌, [], ◌∷◌, List, length, true, None, refl, sym, ap, arith, rules}
+use Rattle.std.proofs.Common.{◌≡◌, ◌++◌, [], ◌∷◌, length, true, None, refl, ap, arith, rules}
 use Rattle.std.specs.Result.{is_ok}
 use Rattle.std.proofs.lemmas.List.Elements.{All-nil}
-use Rattle.network_laws.specs.Networks.{NetworkData}
-use Rattle.network_laws.specs.Solutions.{IsPotential, SolutionData}
-use Rattle.network_laws.specs.declared.rows.Row.{Row}
+use Rattle.network_laws.specs.Solutions.{IsPotential}
 use Rattle.dual_certificate.specs.declared.proposal_draft.ProposalDraft.{ProposalDraft}
 use Rattle.dual_certificate.specs.Proposal.{finished}
 use Rattle.dual_certificate.specs.ProposalDraft.{reading_of}

@@ -1,4 +1,4 @@
-use Rattle.std.proofs.Common.{◌∙◌, sym, ap, true, false, List, ℕ, ◌++◌, ◌∷◌, [], is_some}
+use Rattle.std.proofs.Common.{◌∙◌, sym, ap, List, ℕ, ◌++◌, ◌∷◌, [], is_some}
 use Rattle.std.specs.Map.{lookup}
 use Rattle.std.specs.Str.{bytes_eq}
 use Rattle.units_core.specs.contracts.name.NamePartialEq.TheImpl.{eq-value}

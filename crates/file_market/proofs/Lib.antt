@@ -1,0 +1,3 @@
+pub mod FailingFacts
+pub mod SolutionFacts
+pub mod PassFacts

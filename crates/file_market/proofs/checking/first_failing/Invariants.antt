@@ -1,0 +1,6 @@
+use Rattle.std.proofs.Common.{◌≡◌, None}
+use Rattle.file_market.specs.Check.{first_failing_below}
+use Rattle.file_market.proofs.checking.first_failing.Given as goal
+
+abbrev pub invariant-loop-product : goal.invariant-loop-product
+invariant-loop-product l = first_failing_below l.fn.roster l.fn.mode l.fn.networks l.fn.parts l.product ≡ None

@@ -1,0 +1,5 @@
+pub mod Market
+pub mod Check
+pub mod Verdict
+pub mod Solve
+pub mod Laws

@@ -1,0 +1,29 @@
+-- The solution of the market of a trade file.
+use Rattle.std.specs.Prelude.{◌≡◌, ℕ, ◌<◌, List, length, slice_index_or}
+use Rattle.network_laws.specs.Networks.{NetworkData}
+use Rattle.network_laws.specs.Solutions.{SolutionData, IsSolution, Solves}
+use Rattle.command_types.specs.declared.cycle.Mode.{Mode}
+use Rattle.command_types.specs.Roster.{Rows}
+use Rattle.trade_file.specs.declared.file_trade.FileTrade.{FileTrade}
+use Rattle.trade_file.specs.Networks.{AreNetworksOf}
+use Rattle.dual_certificate.specs.ProposalText.{proposal_text}
+use Rattle.file_market.specs.Market.{market_limits}
+
+-- the solution is certified within the product's limits, and where its gross is that of the product's network, its
+-- network is that network
+pub record IsSolutionOf (rows : Rows) (mode : Mode) (product : ℕ) (network : NetworkData) (solution : SolutionData) : Type 0 where
+  pub good : IsSolution solution
+  pub solves : Solves (market_limits rows mode product network) network solution
+
+-- one solution for each product's network, in order
+pub record AreSolutions (rows : Rows) (mode : Mode) (networks : List NetworkData) (solutions : List SolutionData) : Type 0 where
+  pub count : length solutions ≡ length networks
+  pub each : (product : ℕ) (d : NetworkData) (e : SolutionData) → product < length networks → IsSolutionOf rows mode product (slice_index_or networks product d) (slice_index_or solutions product e)
+
+-- the text is the proposal of solutions for the market of the trades
+pub record IsSolvedText (rows : Rows) (mode : Mode) (trades : List FileTrade) (text : List ℕ) : Type 0 where
+  pub networks : List NetworkData
+  pub solutions : List SolutionData
+  pub market : AreNetworksOf rows trades networks
+  pub solved : AreSolutions rows mode networks solutions
+  pub written : text ≡ proposal_text rows networks solutions

@@ -1,0 +1,21 @@
+//! The market of a trade file: the network of each product with the limits that it may be compressed within, where no
+//! member set a floor or a ceiling and no trade is held. A proposal is checked against it, or made for it.
+#![tactic(auto)]
+
+mod checking;
+mod failing;
+mod laws;
+mod limits;
+mod solving;
+mod verdict_text;
+
+pub use checking::check;
+pub use failing::{Failing, Failure};
+pub use laws::nothing_fails_where_all_pass;
+pub use solving::solve;
+pub use verdict_text::verdict;
+
+#[cfg(test)]
+mod search_tests;
+#[cfg(test)]
+mod tests;
