@@ -1,3 +1,2 @@
 pub mod ReadOf
 pub mod Reading
-pub mod Writing

@@ -1,7 +1,6 @@
 //! What no clause says: the text of each head line.
 
 ghost use Rattle.std.specs.Prelude.{◌≡◌, IfOk, length};
-ghost use Rattle.command_text.specs.Writing.{CanBeWritten};
 
 use crate::write_head;
 use command_types::{
@@ -52,9 +51,7 @@ fn two_members(alloc: Global, maturity: Day) -> Result<Roster, AllocError>
 }
 
 // The reply has this head line.
-fn tells(rt: &impl Abort, roster: &Roster, at: u64, answer: Answer, want: &str)
-    requires { CanBeWritten roster.now answer }
-{
+fn tells(rt: &impl Abort, roster: &Roster, at: u64, answer: Answer, want: &str) {
     let reply = Reply { at, answer };
     let mut into = [0; 4096];
     let size = write_head(&reply, roster, &mut into);
@@ -236,9 +233,7 @@ fn steps_of_a_cycle_are_told(rt: HostRuntime) -> Result<(), Fail> {
 }
 
 // The refusal has this head line at position 7.
-fn refuses(rt: &impl Abort, roster: &Roster, refusal: Refusal, want: &str)
-    requires { CanBeWritten roster.now (Answer.No refusal) }
-{
+fn refuses(rt: &impl Abort, roster: &Roster, refusal: Refusal, want: &str) {
     tells(rt, roster, 7, Answer::No(refusal), want);
 }
 

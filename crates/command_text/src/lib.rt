@@ -8,7 +8,7 @@ mod fields;
 mod head;
 mod kinds;
 mod line_reader;
-mod put;
+pub mod put;
 mod refusal_text;
 mod words;
 

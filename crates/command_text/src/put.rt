@@ -1,14 +1,15 @@
-//! Bytes, numbers and names put into a buffer, one behind the other.
+//! Bytes, numbers, names and words put into a buffer, one behind the other. Each call writes at a place of the buffer and
+//! says where what it wrote ends; what stands before that place stays.
 
 ghost use Rattle.std.specs.Prelude.{◌≡◌, ◌+◌, ◌<◌, ◌≤◌, ◌++◌, length, take, decimal};
 ghost use Rattle.std.specs.Fmt.{signed_decimal};
-ghost use Rattle.command_types.specs.Text.{member_name, product_name, numbers_text};
+ghost use Rattle.command_types.specs.Text.{member_name, product_name, state_text, pair_text, numbers_text};
 
-use command_types::Roster;
+use command_types::{Roster, TradeState};
 use itoa::Buffer;
 
 /// Writes bytes at a place of the buffer, and says where they end.
-pub(crate) fn put(into: &mut [u8], at: usize, bytes: &[u8]) -> usize
+pub fn put(into: &mut [u8], at: usize, bytes: &[u8]) -> usize
     requires { at + length bytes.now ≤ length into.old }
     ensures end { result ≡ at + length bytes.now }
     ensures text { take result into.new ≡ take at into.old ++ bytes.now }
@@ -20,7 +21,7 @@ pub(crate) fn put(into: &mut [u8], at: usize, bytes: &[u8]) -> usize
 }
 
 /// Writes a number, of at most 20 digits.
-pub(crate) fn put_number(into: &mut [u8], at: usize, number: u64) -> usize
+pub fn put_number(into: &mut [u8], at: usize, number: u64) -> usize
     requires { at + 20 ≤ length into.old }
     ensures end { result ≤ at + 20 }
     ensures text { take result into.new ≡ take at into.old ++ decimal number }
@@ -30,7 +31,7 @@ pub(crate) fn put_number(into: &mut [u8], at: usize, number: u64) -> usize
 }
 
 /// Writes a large number, of at most 39 digits.
-pub(crate) fn put_large(into: &mut [u8], at: usize, number: u128) -> usize
+pub fn put_large(into: &mut [u8], at: usize, number: u128) -> usize
     requires { at + 40 ≤ length into.old }
     ensures end { result ≤ at + 40 }
     ensures text { take result into.new ≡ take at into.old ++ decimal number }
@@ -40,7 +41,7 @@ pub(crate) fn put_large(into: &mut [u8], at: usize, number: u128) -> usize
 }
 
 /// Writes a signed number, of at most 20 bytes.
-pub(crate) fn put_signed(into: &mut [u8], at: usize, number: i64) -> usize
+pub fn put_signed(into: &mut [u8], at: usize, number: i64) -> usize
     requires { at + 20 ≤ length into.old }
     ensures end { result ≤ at + 20 }
     ensures text { take result into.new ≡ take at into.old ++ signed_decimal number }
@@ -50,7 +51,7 @@ pub(crate) fn put_signed(into: &mut [u8], at: usize, number: i64) -> usize
 }
 
 /// Writes two numbers with a space in front of each.
-pub(crate) fn put_numbers(into: &mut [u8], at: usize, first: u64, second: u64) -> usize
+pub fn put_numbers(into: &mut [u8], at: usize, first: u64, second: u64) -> usize
     requires { at + 42 ≤ length into.old }
     ensures end { result ≤ at + 42 }
     ensures text { take result into.new ≡ take at into.old ++ numbers_text first second }
@@ -62,7 +63,7 @@ pub(crate) fn put_numbers(into: &mut [u8], at: usize, first: u64, second: u64) -
 }
 
 /// Writes bytes and a number behind them.
-pub(crate) fn put_told(into: &mut [u8], at: usize, bytes: &[u8], number: u64) -> usize
+pub fn put_told(into: &mut [u8], at: usize, bytes: &[u8], number: u64) -> usize
     requires { at + length bytes.now + 20 ≤ length into.old }
     ensures end { result ≤ at + length bytes.now + 20 }
     ensures text { take result into.new ≡ take at into.old ++ bytes.now ++ decimal number }
@@ -71,26 +72,51 @@ pub(crate) fn put_told(into: &mut [u8], at: usize, bytes: &[u8], number: u64) ->
     put_number(into, end, number)
 }
 
-/// Writes the name of the member at a place of the roster, of at most 16 bytes.
-pub(crate) fn put_member(into: &mut [u8], at: usize, roster: &Roster, member: u16) -> usize
-    requires room { at + 16 ≤ length into.old }
-    requires place { member < length roster.now.members }
+/// Writes the name of the member at a place of the roster, of at most 16 bytes. A place without a member has no name.
+pub fn put_member(into: &mut [u8], at: usize, roster: &Roster, member: u16) -> usize
+    requires { at + 16 ≤ length into.old }
     ensures end { result ≤ at + 16 }
     ensures text { take result into.new ≡ take at into.old ++ member_name roster.now member }
 {
-    let members = roster.members();
-    let name = members[usize::from(member)].name;
-    put(into, at, name.text())
+    match roster.members().get(usize::from(member)) {
+        None => at,
+        Some(row) => put(into, at, row.name.text()),
+    }
 }
 
-/// Writes the name of the product at a place of the roster, of at most 16 bytes.
-pub(crate) fn put_product(into: &mut [u8], at: usize, roster: &Roster, product: u16) -> usize
-    requires room { at + 16 ≤ length into.old }
-    requires place { product < length roster.now.products }
+/// Writes the name of the product at a place of the roster, of at most 16 bytes. A place without a product has no name.
+pub fn put_product(into: &mut [u8], at: usize, roster: &Roster, product: u16) -> usize
+    requires { at + 16 ≤ length into.old }
     ensures end { result ≤ at + 16 }
     ensures text { take result into.new ≡ take at into.old ++ product_name roster.now product }
 {
-    let products = roster.products();
-    let name = products[usize::from(product)].name;
-    put(into, at, name.text())
+    match roster.products().get(usize::from(product)) {
+        None => at,
+        Some(row) => put(into, at, row.name.text()),
+    }
+}
+
+/// Writes the names of two members, with a space in front of each.
+pub fn put_pair(into: &mut [u8], at: usize, roster: &Roster, seller: u16, buyer: u16) -> usize
+    requires { at + 34 ≤ length into.old }
+    ensures end { result ≤ at + 34 }
+    ensures text { take result into.new ≡ take at into.old ++ pair_text roster.now seller buyer }
+{
+    let end = put(into, at, b" ");
+    let end = put_member(into, end, roster, seller);
+    let end = put(into, end, b" ");
+    put_member(into, end, roster, buyer)
+}
+
+/// Writes the word of a trade's state, of at most 7 bytes.
+pub fn put_state(into: &mut [u8], at: usize, state: TradeState) -> usize
+    requires { at + 7 ≤ length into.old }
+    ensures end { result ≤ at + 7 }
+    ensures text { take result into.new ≡ take at into.old ++ state_text state }
+{
+    match state {
+        TradeState::Alleged => put(into, at, b"alleged"),
+        TradeState::Live => put(into, at, b"live"),
+        TradeState::Ended => put(into, at, b"ended"),
+    }
 }

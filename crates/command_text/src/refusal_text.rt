@@ -1,24 +1,10 @@
 //! The texts of refusals: a number, a name and, where there is one, a value.
 
-ghost use Rattle.std.specs.Prelude.{◌≡◌, ◌+◌, ◌<◌, ◌≤◌, ◌++◌, length, take};
-ghost use Rattle.command_types.specs.Text.{state_text, phase_text, pair_text, clash_text, post_text, refusal_text};
-ghost use Rattle.command_text.specs.Writing.{ArePair, HasMembers, HasPlaces, IsNamed};
+ghost use Rattle.std.specs.Prelude.{◌≡◌, ◌+◌, ◌≤◌, ◌++◌, length, take};
+ghost use Rattle.command_types.specs.Text.{phase_text, clash_text, post_text, refusal_text};
 
-use crate::put::{put, put_member, put_product, put_told};
-use command_types::{BadPost, Clash, Phase, Refusal, Roster, TradeState};
-
-// The word of a trade's state.
-fn put_state(into: &mut [u8], at: usize, state: TradeState) -> usize
-    requires { at + 8 ≤ length into.old }
-    ensures end { result ≤ at + 8 }
-    ensures text { take result into.new ≡ take at into.old ++ state_text state }
-{
-    match state {
-        TradeState::Alleged => put(into, at, b"alleged"),
-        TradeState::Live => put(into, at, b"live"),
-        TradeState::Ended => put(into, at, b"ended"),
-    }
-}
+use crate::put::{put, put_member, put_pair, put_product, put_state, put_told};
+use command_types::{BadPost, Clash, Phase, Refusal, Roster};
 
 // The word of a cycle's phase.
 fn put_phase(into: &mut [u8], at: usize, phase: Phase) -> usize
@@ -35,23 +21,9 @@ fn put_phase(into: &mut [u8], at: usize, phase: Phase) -> usize
     }
 }
 
-// The names of two members, with a space in front of each.
-fn put_pair(into: &mut [u8], at: usize, roster: &Roster, seller: u16, buyer: u16) -> usize
-    requires room { at + 34 ≤ length into.old }
-    requires places { ArePair roster.now seller buyer }
-    ensures end { result ≤ at + 34 }
-    ensures text { take result into.new ≡ take at into.old ++ pair_text roster.now seller buyer }
-{
-    let end = put(into, at, b" ");
-    let end = put_member(into, end, roster, seller);
-    let end = put(into, end, b" ");
-    put_member(into, end, roster, buyer)
-}
-
 // What clashes, with the names of the members.
 fn put_clash(into: &mut [u8], at: usize, roster: &Roster, clash: Clash) -> usize
-    requires room { at + 40 ≤ length into.old }
-    requires places { HasMembers roster.now clash }
+    requires { at + 40 ≤ length into.old }
     ensures end { result ≤ at + 40 }
     ensures text { take result into.new ≡ take at into.old ++ clash_text roster.now clash }
 {
@@ -81,8 +53,7 @@ fn put_clash(into: &mut [u8], at: usize, roster: &Roster, clash: Clash) -> usize
 
 // What is wrong with a posted list.
 fn put_post(into: &mut [u8], at: usize, roster: &Roster, post: BadPost) -> usize
-    requires room { at + 60 ≤ length into.old }
-    requires places { HasPlaces roster.now post }
+    requires { at + 60 ≤ length into.old }
     ensures end { result ≤ at + 60 }
     ensures text { take result into.new ≡ take at into.old ++ post_text roster.now post }
 {
@@ -98,8 +69,7 @@ fn put_post(into: &mut [u8], at: usize, roster: &Roster, post: BadPost) -> usize
 
 /// A refusal's number, name and value, of at most 100 bytes.
 pub(crate) fn put_refusal(into: &mut [u8], at: usize, roster: &Roster, refusal: Refusal) -> usize
-    requires room { at + 100 ≤ length into.old }
-    requires places { IsNamed roster.now refusal }
+    requires { at + 100 ≤ length into.old }
     ensures end { result ≤ at + 100 }
     ensures text { take result into.new ≡ take at into.old ++ refusal_text roster.now refusal }
 {

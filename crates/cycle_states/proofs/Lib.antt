@@ -1,2 +1,4 @@
 pub mod MachineFacts
+pub mod LoopFacts
+pub mod CycleFacts
 pub mod DeskFacts

@@ -13,6 +13,7 @@ use Rattle.command_types.specs.declared.answer.Answer.{Answer}
 use Rattle.command_types.specs.declared.refusal.Refusal.{Refusal}
 use Rattle.command_types.specs.declared.refusal.Refusal.TheVariants.{NotGreeted}
 use Rattle.network_laws.specs.Solutions.{SolutionData}
+use Rattle.command_types.specs.declared.figures.Cycle.{Cycle}
 use Rattle.command_types.specs.declared.figures.State.{State}
 use Rattle.command_types.specs.declared.plan.PlanRow.{PlanRow}
 use Rattle.command_types.specs.declared.tolerance.ToleranceRow.{ToleranceRow}
@@ -30,7 +31,7 @@ use Rattle.command_types.specs.Tolerances.{with_setting}
 use Rattle.command_types.specs.CycleSteps.{with_tolerance, market_of, market_in, proposed_or_done, touched_in, after_vote, left_after}
 use Rattle.command_types.specs.History.{is_recorded}
 use Rattle.product_book.specs.Book.{gross_limit}
-use Rattle.cycle_states.specs.Machine.{state_of, state_with}
+use Rattle.cycle_states.specs.Machine.{is_of_trade, state_in, state_with}
 
 roster_posted : (s : State) (solutions : List SolutionData) (plan : List PlanRow) (touched : List ℕ) → (proposed_or_done s solutions plan touched).roster ≡ s.roster
 roster_posted s solutions plan [] = refl
@@ -90,15 +91,15 @@ none_of : (test : Bool) (refusal : Refusal) (rows : List (Bool × Refusal)) → 
 none_of true refusal rows none = cc
 none_of false refusal rows none = (refl, none)
 
-abbrev NoneHolds : List (Bool × Refusal) → Type 0
+abbrev pub NoneHolds : List (Bool × Refusal) → Type 0
 NoneHolds [] = Unit {0}
 NoneHolds (row ∷ rows) = (row.0 ≡ false) × NoneHolds rows
 
-none_holds : (rows : List (Bool × Refusal)) → first_of rows ≡ None → NoneHolds rows
+pub none_holds : (rows : List (Bool × Refusal)) → first_of rows ≡ None → NoneHolds rows
 none_holds [] none = tt
 none_holds (row ∷ rows) none = let parts = none_of row.0 row.1 rows none in (parts.0, none_holds rows parts.1)
 
-not_false : (b : Bool) → not b ≡ false → b ≡ true
+pub not_false : (b : Bool) → not b ≡ false → b ≡ true
 not_false true h = refl
 not_false false h = cc
 
@@ -187,30 +188,103 @@ tol_fits s by name other product side floor ceiling greeted none =
     let P : Option (List ℕ) → Type 0 = λ b. first_of (refusals s b (Tol other product side floor ceiling)) ≡ None in
     (none_holds (refusals s (Some name) (Tol other product side floor ceiling)) (subst P greeted none)).1.1.1.1.1.1.0
 
--- settings are told of by no refusal of today
-pub refusals_stand : (roster : Rows) (rows : List TradeRow) (settings : List ToleranceRow) (by : Option (List ℕ)) (what : What) → refusals (state_of roster rows) by what ≡ refusals (state_with roster rows settings) by what
-refusals_stand roster rows settings by (Hello name key) = refl
-refusals_stand roster rows settings by (Trade seller buyer product amount day) = refl
-refusals_stand roster rows settings by (Affirm trade) = refl
-refusals_stand roster rows settings by (End trade) = refl
-refusals_stand roster rows settings by (Hold trade) = refl
-refusals_stand roster rows settings by (Free trade) = refl
-refusals_stand roster rows settings by (Tol other product side floor ceiling) = refl
-refusals_stand roster rows settings by (Nets product) = refl
-refusals_stand roster rows settings by Statement = refl
-refusals_stand roster rows settings by (Freeze day) = refl
-refusals_stand roster rows settings by (Begin cycle mode) = refl
-refusals_stand roster rows settings by (Limits product) = refl
-refusals_stand roster rows settings by (Row product seller buyer amount size sum) = refl
-refusals_stand roster rows settings by (Pot product member value size) = refl
-refusals_stand roster rows settings by (Post cycle version solutions) = refl
-refusals_stand roster rows settings by (Fetch cycle version) = refl
-refusals_stand roster rows settings by (Plan cycle) = refl
-refusals_stand roster rows settings by (Accept cycle version) = refl
-refusals_stand roster rows settings by (Decline cycle version) = refl
-refusals_stand roster rows settings by (Cancel cycle) = refl
-refusals_stand roster rows settings by Bye = refl
-refusals_stand roster rows settings by (Unreadable at) = refl
+-- settings are told of by no refusal
+pub refusals_stand : (roster : Rows) (rows : List TradeRow) (settings : List ToleranceRow) (cycle : Cycle) (by : Option (List ℕ)) (what : What) → refusals (state_in roster rows cycle) by what ≡ refusals (state_with roster rows settings cycle) by what
+refusals_stand roster rows settings cycle by (Hello name key) = refl
+refusals_stand roster rows settings cycle by (Trade seller buyer product amount day) = refl
+refusals_stand roster rows settings cycle by (Affirm trade) = refl
+refusals_stand roster rows settings cycle by (End trade) = refl
+refusals_stand roster rows settings cycle by (Hold trade) = refl
+refusals_stand roster rows settings cycle by (Free trade) = refl
+refusals_stand roster rows settings cycle by (Tol other product side floor ceiling) = refl
+refusals_stand roster rows settings cycle by (Nets product) = refl
+refusals_stand roster rows settings cycle by Statement = refl
+refusals_stand roster rows settings cycle by (Freeze day) = refl
+refusals_stand roster rows settings cycle by (Begin number mode) = refl
+refusals_stand roster rows settings cycle by (Limits product) = refl
+refusals_stand roster rows settings cycle by (Row product seller buyer amount size sum) = refl
+refusals_stand roster rows settings cycle by (Pot product member value size) = refl
+refusals_stand roster rows settings cycle by (Post number version solutions) = refl
+refusals_stand roster rows settings cycle by (Fetch number version) = refl
+refusals_stand roster rows settings cycle by (Plan number) = refl
+refusals_stand roster rows settings cycle by (Accept number version) = refl
+refusals_stand roster rows settings cycle by (Decline number version) = refl
+refusals_stand roster rows settings cycle by (Cancel number) = refl
+refusals_stand roster rows settings cycle by Bye = refl
+refusals_stand roster rows settings cycle by (Unreadable at) = refl
+
+-- and by no answer
+pub accepted_stands : (roster : Rows) (rows : List TradeRow) (settings : List ToleranceRow) (cycle : Cycle) (by : Option (List ℕ)) (what : What) → accepted (state_in roster rows cycle) by what ≡ accepted (state_with roster rows settings cycle) by what
+accepted_stands roster rows settings cycle by (Hello name key) = refl
+accepted_stands roster rows settings cycle by (Trade seller buyer product amount day) = refl
+accepted_stands roster rows settings cycle by (Affirm trade) = refl
+accepted_stands roster rows settings cycle by (End trade) = refl
+accepted_stands roster rows settings cycle by (Hold trade) = refl
+accepted_stands roster rows settings cycle by (Free trade) = refl
+accepted_stands roster rows settings cycle by (Tol other product side floor ceiling) = refl
+accepted_stands roster rows settings cycle by (Nets product) = refl
+accepted_stands roster rows settings cycle by Statement = refl
+accepted_stands roster rows settings cycle by (Freeze day) = refl
+accepted_stands roster rows settings cycle by (Begin number mode) = refl
+accepted_stands roster rows settings cycle by (Limits product) = refl
+accepted_stands roster rows settings cycle by (Row product seller buyer amount size sum) = refl
+accepted_stands roster rows settings cycle by (Pot product member value size) = refl
+accepted_stands roster rows settings cycle by (Post number version solutions) = refl
+accepted_stands roster rows settings cycle by (Fetch number version) = refl
+accepted_stands roster rows settings cycle by (Plan number) = refl
+accepted_stands roster rows settings cycle by (Accept number version) = refl
+accepted_stands roster rows settings cycle by (Decline number version) = refl
+accepted_stands roster rows settings cycle by (Cancel number) = refl
+accepted_stands roster rows settings cycle by Bye = refl
+accepted_stands roster rows settings cycle by (Unreadable at) = refl
+
+-- a change that the machine accepts is not refused, whatever the settings
+pub not_refused_in : (roster : Rows) (rows : List TradeRow) (settings : List ToleranceRow) (cycle : Cycle) (ask : Ask) → IsTrue (is_recorded ask.what (answer_to (state_with roster rows settings cycle) ask)) →
+    first_of (refusals (state_in roster rows cycle) ask.by ask.what) ≡ None
+not_refused_in roster rows settings cycle ask change = ap first_of (refusals_stand roster rows settings cycle ask.by ask.what) ∙ not_refused (state_with roster rows settings cycle) ask change
+
+both_hold : (a b : Bool) → IsTrue (a && b) → a ≡ true
+both_hold true b h = refl
+both_hold false b h = cc
+
+-- what is recorded is of a kind that changes the machine
+pub recorded_changes : (what : What) (answer : Answer) → IsTrue (is_recorded what answer) → changes what ≡ true
+recorded_changes what answer h = both_hold (changes what) (not (is_refusal answer)) h
+
+-- what none of the five is, is not about a trade
+pub not_of_trade : (what : What) → ((seller buyer product : List ℕ) (amount : ℕ) (day : DayParts) → what ≡ Trade seller buyer product amount day → ⊥) → ((trade : ℕ) → what ≡ Affirm trade → ⊥) → ((trade : ℕ) → what ≡ End trade → ⊥) →
+    ((trade : ℕ) → what ≡ Hold trade → ⊥) → ((trade : ℕ) → what ≡ Free trade → ⊥) → is_of_trade what ≡ false
+not_of_trade (Trade seller buyer product amount day) t a e h f = absurd (t seller buyer product amount day refl)
+not_of_trade (Affirm trade) t a e h f = absurd (a trade refl)
+not_of_trade (End trade) t a e h f = absurd (e trade refl)
+not_of_trade (Hold trade) t a e h f = absurd (h trade refl)
+not_of_trade (Free trade) t a e h f = absurd (f trade refl)
+not_of_trade what t a e h f = refl
+
+-- the trades are told of by no refusal of a command that is not about a trade
+pub rows_apart : (roster : Rows) (rows : List TradeRow) (cycle : Cycle) (by : List ℕ) (what : What) → is_of_trade what ≡ false → first_of (party_refusals (state_in roster [] cycle) by what) ≡ first_of (party_refusals (state_in roster rows cycle) by what)
+rows_apart roster rows cycle by (Hello name key) apart = refl
+rows_apart roster rows cycle by (Trade seller buyer product amount day) apart = cc
+rows_apart roster rows cycle by (Affirm trade) apart = cc
+rows_apart roster rows cycle by (End trade) apart = cc
+rows_apart roster rows cycle by (Hold trade) apart = cc
+rows_apart roster rows cycle by (Free trade) apart = cc
+rows_apart roster rows cycle by (Tol other product side floor ceiling) apart = refl
+rows_apart roster rows cycle by (Nets product) apart = refl
+rows_apart roster rows cycle by Statement apart = refl
+rows_apart roster rows cycle by (Freeze day) apart = refl
+rows_apart roster rows cycle by (Begin number mode) apart = refl
+rows_apart roster rows cycle by (Limits product) apart = refl
+rows_apart roster rows cycle by (Row product seller buyer amount size sum) apart = refl
+rows_apart roster rows cycle by (Pot product member value size) apart = refl
+rows_apart roster rows cycle by (Post number version solutions) apart = refl
+rows_apart roster rows cycle by (Fetch number version) apart = refl
+rows_apart roster rows cycle by (Plan number) apart = refl
+rows_apart roster rows cycle by (Accept number version) apart = refl
+rows_apart roster rows cycle by (Decline number version) apart = refl
+rows_apart roster rows cycle by (Cancel number) apart = refl
+rows_apart roster rows cycle by Bye apart = refl
+rows_apart roster rows cycle by (Unreadable at) apart = refl
 
 -- the setting that an accepted TOL makes
 pub tolerated : (s : State) (by : Option (List ℕ)) (name other product : List ℕ) (side : Side) (floor : ℕ) (ceiling : Option ℕ) (m p o : ℕ) (settings : List ToleranceRow) → by ≡ Some name → m ≡ member_of s name → p ≡ product_of s product → o ≡ member_of s other →

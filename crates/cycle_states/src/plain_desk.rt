@@ -3,6 +3,7 @@
 ghost use Rattle.std.specs.Prelude.{◌≡◌, ◌<◌, [], ◌∷◌, ◌++◌, IsTrue, IfOk, OnOk, OnErr, vec_len, vec_capacity};
 ghost use Rattle.command_types.specs.Machine.{answer_to, state_after, changes, is_refusal};
 ghost use Rattle.command_types.specs.History.{is_recorded};
+ghost use Rattle.cycle_states.specs.Machine.{IsYoung};
 
 use crate::machine::Machine;
 use command_types::{Answer, Ask, Desk, Entry, Refusal, Reply, What};
@@ -67,7 +68,8 @@ fn record(
     entries: &mut Vec<Entry>,
     entry: Entry,
 ) -> Result<Answer, AllocError>
-    requires { IsTrue (is_recorded entry.ask.what (answer_to machine.old.state entry.ask)) }
+    requires accepted { IsTrue (is_recorded entry.ask.what (answer_to machine.old.state entry.ask)) }
+    requires young { IsYoung machine.old.state.cycle }
     ensures answer { IfOk result (λ answer. answer ≡ answer_to machine.old.state entry.ask) }
     ensures state { OnOk result (machine.new.state ≡ state_after machine.old.state entry.ask) }
     ensures entries { OnOk result (entries.new.items ≡ entries.old.items ++ entry ∷ []) }

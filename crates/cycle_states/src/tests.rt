@@ -1,12 +1,16 @@
 //! The desk over three dealers, their operator and one product.
 
-ghost use Rattle.std.specs.Prelude.{◌≡◌, IsTrue};
+mod broken;
+mod cycles;
+mod drafts;
+
+ghost use Rattle.std.specs.Prelude.{◌≡◌, ◌<◌, IsTrue};
 ghost use Rattle.units_core.specs.Name.{is_name};
 
 use crate::{Machine, PlainDesk};
 use command_types::{
-    Answer, Ask, Desk, Level, MemberRow, OperatorRow, ProductRow, Refusal, Role, Roster, Side,
-    TradeState, What,
+    Answer, Ask, Desk, Level, MemberRow, Mode, OperatorRow, ProductRow, Refusal, Role, Roster,
+    Side, TradeState, What,
 };
 use std::alloc::{AllocError, Global};
 use std::process::Abort;
@@ -112,6 +116,22 @@ fn is_same(answer: &Answer, want: &Answer) -> bool {
                 && bilateral == want_bilateral
         }
         (Answer::Tolerance, Answer::Tolerance) => true,
+        (
+            Answer::Frozen { cycle, trades },
+            Answer::Frozen {
+                cycle: want,
+                trades: want_trades,
+            },
+        ) => cycle == want && trades == want_trades,
+        (
+            Answer::Begun { cycle, version },
+            Answer::Begun {
+                cycle: want,
+                version: want_version,
+            },
+        ) => cycle == want && version == want_version,
+        (Answer::Cancelled { cycle }, Answer::Cancelled { cycle: want }) => cycle == want,
+        (Answer::Noted { size }, Answer::Noted { size: want }) => size == want,
         (Answer::Bye, Answer::Bye) => true,
         (Answer::No(refusal), Answer::No(want)) => refusal == want,
         _ => false,
@@ -145,6 +165,63 @@ fn one_live_trade(rt: &impl Abort, desk: &mut PlainDesk) {
     answers(rt, desk, Some(a), sale, 1, Answer::Traded { trade: 1 });
     let live = Answer::Affirmed { trade: 1 };
     answers(rt, desk, Some(b), What::Affirm { trade: 1 }, 2, live);
+}
+
+// A seller alleges a trade with a buyer, who affirms it; the history has this length before.
+fn deal(
+    rt: &impl Abort,
+    desk: &mut PlainDesk,
+    seller: Name,
+    buyer: Name,
+    size: u64,
+    trade_number: u64,
+    at: u64,
+)
+    requires { at < 1000 }
+{
+    let trade = trade_number;
+    let sale = self::trade(rt, seller, buyer, size, b"2026-03-02");
+    answers(
+        rt,
+        desk,
+        Some(seller),
+        sale,
+        at + 1,
+        Answer::Traded { trade },
+    );
+    let live = Answer::Affirmed { trade };
+    answers(rt, desk, Some(buyer), What::Affirm { trade }, at + 2, live);
+}
+
+// Trades of 10 from A to B, from B to C and from C to A: the first six changes.
+fn ring(rt: &impl Abort, desk: &mut PlainDesk) {
+    let (a, b, c) = (named(b"A"), named(b"B"), named(b"C"));
+    deal(rt, desk, a, b, 10, 1, 0);
+    deal(rt, desk, b, c, 10, 2, 2);
+    deal(rt, desk, c, a, 10, 3, 4);
+}
+
+// The operator's command is answered so, at this position.
+fn operator_gets(rt: &impl Abort, desk: &mut PlainDesk, what: What, at: u64, answer: Answer) {
+    answers(rt, desk, Some(named(b"OPS")), what, at, answer);
+}
+
+// The operator's command is refused so, at this position.
+fn operator_refused(rt: &impl Abort, desk: &mut PlainDesk, what: What, at: u64, refusal: Refusal) {
+    refuses(rt, desk, named(b"OPS"), what, at, refusal);
+}
+
+// The operator's FREEZE of 2026-03-31 opens this cycle with so many trades, at this position.
+fn freezes(rt: &impl Abort, desk: &mut PlainDesk, cycle: u64, trades: u64, at: u64) {
+    let day = day(rt, b"2026-03-31");
+    let frozen = Answer::Frozen { cycle, trades };
+    operator_gets(rt, desk, What::Freeze { day }, at, frozen);
+}
+
+// The operator's BEGIN gives this version, at this position.
+fn begins(rt: &impl Abort, desk: &mut PlainDesk, cycle: u64, mode: Mode, version: u64, at: u64) {
+    let begun = Answer::Begun { cycle, version };
+    operator_gets(rt, desk, What::Begin { cycle, mode }, at, begun);
 }
 
 const ALLEGED: Refusal = Refusal::WrongTradeState {
@@ -252,7 +329,8 @@ fn a_greeting_wants_the_key_of_its_name(rt: HostRuntime) -> Result<(), Fail> {
         answers(&rt, desk, None, What::Hello { name, key }, 0, bad_key);
     }
     may_only_leave(&rt, desk, ka);
-    refuses(&rt, desk, a, What::Statement, 0, Refusal::NotBuilt);
+    refuses(&rt, desk, ops, What::Statement, 0, Refusal::NotParty);
+    refuses(&rt, desk, a, What::Plan { cycle: 0 }, 0, Refusal::NotBuilt);
     Ok(())
 }
 

@@ -14,7 +14,7 @@ use Rattle.command_types.specs.History.{History, IsLegal, end_of, longer, record
 use Rattle.command_types.specs.Told.{IsTold}
 use Rattle.command_types.specs.Roster.{Rows}
 use Rattle.command_types.specs.Session.{Speaker, nobody, ask_of, what_or_fault, speaker_after, is_bye, Standing, IsAnswered, IsTalk}
-use Rattle.command_types.specs.Text.{reply_text}
+use Rattle.command_types.specs.Details.{reply_text}
 use Rattle.command_types.specs.Lines.{cut_of, ended_line, last_line, lines_of}
 use Rattle.command_types.specs.Grammar.{line_within}
 use Rattle.command_types.proofs.LineFacts.{cut_byte, cut_line, whole_grows, read_of_front, read_of_ended_front, take_push, none_last, some_last}

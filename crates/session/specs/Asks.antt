@@ -2,17 +2,13 @@
 use Rattle.std.specs.Prelude.{ℕ, List, Result, Ok, Err}
 use Rattle.command_types.specs.declared.line.Line.{Line}
 use Rattle.command_types.specs.Grammar.{line_within}
-use Rattle.command_types.specs.declared.ask.What.{What}
-use Rattle.command_types.specs.declared.ask.What.TheVariants.{Unreadable}
-use Rattle.command_types.specs.Roster.{Rows}
-use Rattle.command_types.specs.Session.{Draft, what_by}
 use Rattle.command_text.specs.declared.bad_line.BadLine.{BadLine}
 use Rattle.command_text.specs.ReadOf.{read_of}
 
 abbrev pub read_within : List ℕ → Result Line BadLine
 read_within line = read_of (line_within line)
 
--- the command of what was read
-abbrev pub what_read : Rows → Draft → Result Line BadLine → What
-what_read rows draft (Ok line) = what_by rows draft line
-what_read rows draft (Err fault) = Unreadable fault.at
+-- what was read, as the grammar says it
+abbrev pub line_read : Result Line BadLine → Result Line ℕ
+line_read (Ok line) = Ok line
+line_read (Err fault) = Err fault.at

@@ -1,7 +1,46 @@
--- What an empty draft posts.
-use Rattle.std.specs.Prelude.{ℕ, [], replicate, pos}
-use Rattle.network_laws.specs.Solutions.{SolutionData}
+-- How a draft is kept: entries by the names of a product and its members.
+use Rattle.std.specs.Prelude.{◌≡◌, ℕ, ◌≤◌, ◌&&◌, ℤ, Bool, List, map, unwrap_or}
+use Rattle.std.specs.Map.{lookup}
+use Rattle.std.specs.Str.{bytes_eq}
+use Rattle.network_laws.specs.Solutions.{IsPotential}
+use Rattle.command_types.specs.Session.{DraftRow, DraftPotential, draft_amount, draft_sum, draft_potential}
+use Rattle.session.specs.declared.draft_rows.PairKey.{PairKey}
+use Rattle.session.specs.declared.draft_potentials.PlaceKey.{PlaceKey}
 
--- a network without rows, and potentials of 0
-abbrev pub zero_solution : ℕ → SolutionData
-zero_solution members = record { network = record { members = members; rows = [] }; potentials = replicate members (pos 0) }
+abbrev pub row_of : PairKey × ℕ → DraftRow
+row_of entry = record { product = entry.0.product; seller = entry.0.seller; buyer = entry.0.buyer; amount = entry.1 }
+
+abbrev pub rows_of : List (PairKey × ℕ) → List DraftRow
+rows_of entries = map row_of entries
+
+abbrev pub is_same_pair : PairKey → PairKey → Bool
+is_same_pair a b = bytes_eq a.product b.product && bytes_eq a.seller b.seller && bytes_eq a.buyer b.buyer
+
+abbrev pub potential_of : PlaceKey × ℤ → DraftPotential
+potential_of entry = record { product = entry.0.product; member = entry.0.member; value = entry.1 }
+
+abbrev pub potentials_of : List (PlaceKey × ℤ) → List DraftPotential
+potentials_of entries = map potential_of entries
+
+abbrev pub is_same_place : PlaceKey → PlaceKey → Bool
+is_same_place a b = bytes_eq a.product b.product && bytes_eq a.member b.member
+
+-- what the draft has for a pair is found by its key
+abbrev pub AreFound : List (PairKey × ℕ) → Type 0
+AreFound entries = (key : PairKey) → draft_amount key.product key.seller key.buyer (rows_of entries) ≡ unwrap_or (lookup (is_same_pair key) entries) 0
+
+-- the sum of a product is found by its name
+abbrev pub AreSums : List (PairKey × ℕ) → List (List ℕ × ℕ) → Type 0
+AreSums entries sums = (product : List ℕ) → draft_sum product (rows_of entries) ≡ unwrap_or (lookup (bytes_eq product) sums) 0
+
+-- no product passes the largest gross
+abbrev pub AreWithin : List (PairKey × ℕ) → Type 0
+AreWithin entries = (product : List ℕ) → draft_sum product (rows_of entries) ≤ 1000000000000000000
+
+-- no member has an amount to itself
+abbrev pub NoneWithItself : List (PairKey × ℕ) → Type 0
+NoneWithItself entries = (product member : List ℕ) → draft_amount product member member (rows_of entries) ≡ 0
+
+-- each potential is one
+abbrev pub AreInRange : List (PlaceKey × ℤ) → Type 0
+AreInRange entries = (product member : List ℕ) → IsPotential (draft_potential product member (potentials_of entries))

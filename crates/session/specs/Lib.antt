@@ -1,5 +1,8 @@
 pub mod Asks
 pub mod Drafts
-pub mod Plain
+pub mod Kept
+pub mod KeptDraft
+pub mod KeptSpeaker
 pub mod Serving
 pub mod Ending
+pub mod Pending

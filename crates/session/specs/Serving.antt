@@ -1,10 +1,10 @@
 -- How far a session has come.
-use Rattle.std.specs.Prelude.{◌≡◌, ℕ, ◌<◌, Bool, true, false, List, [], ◌∷◌, ◌++◌, take, length, Option, Some, if◌then◌else◌}
+use Rattle.std.specs.Prelude.{◌≡◌, ℕ, ◌<◌, Bool, true, false, List, [], ◌∷◌, ◌++◌, take, length, Option, Result, if◌then◌else◌}
 use Rattle.outside.specs.Flow.{Takes}
-use Rattle.command_types.specs.declared.ask.What.{What}
+use Rattle.command_types.specs.declared.ask.Ask.{Ask}
 use Rattle.command_types.specs.declared.ask.Entry.{Entry}
+use Rattle.command_types.specs.declared.line.Line.{Line}
 use Rattle.command_types.specs.declared.answer.Answer.{Answer}
-use Rattle.command_types.specs.declared.answer.Answer.TheVariants.{Hello}
 use Rattle.command_types.specs.declared.answer.Reply.{Reply}
 use Rattle.command_types.specs.declared.figures.Figures.{Figures}
 use Rattle.command_types.specs.Roster.{Rows}
@@ -12,10 +12,10 @@ use Rattle.command_types.specs.History.{History, IsLegal, end_of, longer, record
 use Rattle.command_types.specs.Told.{IsTold}
 use Rattle.command_types.specs.Lines.{cut_of}
 use Rattle.command_types.specs.Grammar.{line_within}
-use Rattle.command_types.specs.Text.{reply_text}
+use Rattle.command_types.specs.Details.{reply_text}
 use Rattle.session.specs.declared.serve.Step.{Step}
 use Rattle.session.specs.declared.serve.Step.TheVariants.{On, Over}
-use Rattle.command_types.specs.Session.{is_bye, Speaker, nobody, empty_draft, ask_of, speaker_after, Standing, IsAnswered, IsTalk}
+use Rattle.command_types.specs.Session.{is_bye, Speaker, nobody, ask_of, what_or_fault, speaker_after, Standing, IsAnswered, IsTalk}
 
 -- what a session sees of a desk
 pub record Sight : Type 0 where
@@ -35,18 +35,16 @@ roster_of desk = desk.history.base.state.roster
 abbrev pub standing : Sight → Speaker → Bool → Standing
 standing desk speaker over = record { position = end_of desk.history; speaker = speaker; stopped = desk.stopped; over = over }
 
--- an accepted greeting sets the party and clears the draft
-abbrev pub speaker_heard : Speaker → Answer → Speaker
-speaker_heard speaker (Hello name) = record { party = Some name; draft = empty_draft }
-speaker_heard speaker answer = speaker
+-- the command of what was read of a line
+abbrev pub ask_read : Rows → Speaker → Result Line ℕ → Ask
+ask_read rows speaker read = record { by = speaker.party; what = what_or_fault rows speaker.draft read }
 
--- A command is asked for the party, and the answer is heard.
-pub record Asked (old new : Sight) (seat : ℕ) (before after : Speaker) (what : What) (reply : Reply) : Type 0 where
-  pub told : IsTold old.figures old.stopped new.stopped new.history seat (record { by = before.party; what = what }) reply
-  pub grown : new.history ≡ longer old.history (recorded seat (record { by = before.party; what = what }) reply.answer)
+-- What was read of a line is replied to at the desk's new end, and the history has grown by its command where that is recorded.
+pub record AnswersRead (old new : Sight) (seat : ℕ) (before after : Speaker) (read : Result Line ℕ) (reply : Reply) : Type 0 where
+  pub told : IsTold old.figures old.stopped new.stopped new.history seat (ask_read (roster_of old) before read) reply
+  pub grown : new.history ≡ longer old.history (recorded seat (ask_read (roster_of old) before read) reply.answer)
   pub place : reply.at ≡ end_of new.history
-  pub speaker : after ≡ speaker_heard before reply.answer
-  pub draft : before.draft ≡ empty_draft
+  pub speaker : after ≡ speaker_after before read reply.answer
   pub figures : new.figures ≡ old.figures
   pub stays : old.stopped ≡ true → new.stopped ≡ true
   pub legal : IsLegal new.history

@@ -1,11 +1,19 @@
 //! The command of a line.
 
-ghost use Rattle.std.specs.Prelude.{◌≡◌, ◌≤◌, take, length};
+ghost use Rattle.std.specs.Prelude.{◌≡◌, ◌≤◌, take, length, IfOk};
 ghost use Rattle.command_types.specs.Lines.{ended_line, without_return};
-ghost use Rattle.session.specs.Asks.{read_within};
+ghost use Rattle.command_types.specs.Session.{what_by, what_or_fault, draft_size, draft_sum, capped, noted_row, noted_potential};
+ghost use Rattle.session.specs.Asks.{read_within, line_read};
+ghost use Rattle.session.specs.KeptDraft.{draft_of};
 
+use crate::draft::Draft;
+use crate::draft_potentials::PlaceKey;
+use crate::draft_rows::PairKey;
+use crate::solutions::draft_solutions;
 use command_text::{BadLine, read_line};
-use command_types::Line;
+use command_types::{Line, Roster, What};
+use std::alloc::{AllocError, Global};
+use units_core::{Amount, Name};
 
 // How long the line is without a carriage return at its end.
 fn size_without_return(line: &[u8]) -> usize
@@ -36,4 +44,124 @@ pub fn read_within(line: &[u8]) -> Result<Line, BadLine>
         return Err(BadLine { at: 4096 });
     }
     read_line(line)
+}
+
+// A ROW, with the draft's size and the product's sum as they would be.
+fn what_of_row(draft: &Draft, product: Name, seller: Name, buyer: Name, amount: Amount) -> What
+    ensures { let after = noted_row (draft_of draft.now) product seller buyer amount in result ≡ What.Row product seller buyer amount (draft_size after) (capped (draft_sum product after.rows)) }
+{
+    let key = PairKey {
+        product,
+        seller,
+        buyer,
+    };
+    What::Row {
+        product,
+        seller,
+        buyer,
+        amount,
+        size: draft.size_with_row(&key),
+        sum: draft.sum_with_row(&key, amount),
+    }
+}
+
+// A POT, with the draft's size as it would be.
+fn what_of_potential(draft: &Draft, product: Name, member: Name, value: i32) -> What
+    ensures { result ≡ What.Pot product member value (draft_size (noted_potential (draft_of draft.now) product member value)) }
+{
+    What::Pot {
+        product,
+        member,
+        value,
+        size: draft.size_with_potential(&PlaceKey { product, member }),
+    }
+}
+
+// The command of a line of the grammar. The only error is want of memory, for the solutions of a POST.
+fn what_of_line(
+    alloc: Global,
+    roster: &Roster,
+    draft: &Draft,
+    line: &Line,
+) -> Result<What, AllocError>
+    ensures { IfOk result (λ what. what ≡ what_by roster.now (draft_of draft.now) line.now) }
+{
+    Ok(match *line {
+        Line::Hello { name, key } => What::Hello { name, key },
+        Line::Trade {
+            seller,
+            buyer,
+            product,
+            amount,
+            day,
+        } => What::Trade {
+            seller,
+            buyer,
+            product,
+            amount,
+            day,
+        },
+        Line::Affirm { trade } => What::Affirm { trade },
+        Line::End { trade } => What::End { trade },
+        Line::Hold { trade } => What::Hold { trade },
+        Line::Free { trade } => What::Free { trade },
+        Line::Tol {
+            other,
+            product,
+            side,
+            floor,
+            ceiling,
+        } => What::Tol {
+            other,
+            product,
+            side,
+            floor,
+            ceiling,
+        },
+        Line::Nets { product } => What::Nets { product },
+        Line::Statement => What::Statement,
+        Line::Freeze { day } => What::Freeze { day },
+        Line::Begin { cycle, mode } => What::Begin { cycle, mode },
+        Line::Limits { product } => What::Limits { product },
+        Line::Row {
+            product,
+            seller,
+            buyer,
+            amount,
+        } => what_of_row(draft, product, seller, buyer, amount),
+        Line::Pot {
+            product,
+            member,
+            value,
+        } => what_of_potential(draft, product, member, value),
+        Line::Post { cycle, version } => {
+            let solutions = draft_solutions(alloc, roster, draft)?;
+            What::Post {
+                cycle,
+                version,
+                solutions,
+            }
+        }
+        Line::Propose { cycle, .. } => What::Fetch { cycle, version: 0 },
+        Line::Plan { cycle } => What::Plan { cycle },
+        Line::Accept { cycle, version } => What::Accept { cycle, version },
+        Line::Decline { cycle, version } => What::Decline { cycle, version },
+        Line::Cancel { cycle } => What::Cancel { cycle },
+        Line::Bye => What::Bye,
+    })
+}
+
+/// The command of what was read of a line, with what the draft has for it. The only error is want of memory.
+pub fn what_of_read(
+    alloc: Global,
+    roster: &Roster,
+    draft: &Draft,
+    read: &Result<Line, BadLine>,
+) -> Result<What, AllocError>
+    ensures { IfOk result (λ what. what ≡ what_or_fault roster.now (draft_of draft.now) (line_read read.now)) }
+{
+    match read {
+        Ok(line) => what_of_line(alloc, roster, draft, line),
+        Err(fault) => Ok(What::Unreadable { at: fault.at }),
+    }
 }

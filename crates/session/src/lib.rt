@@ -2,10 +2,14 @@
 #![tactic(auto)]
 
 mod asks;
-mod drafts;
+mod draft;
+mod draft_potentials;
+mod draft_rows;
 mod line_buffer;
 mod replies;
+mod reply_text;
 mod serve;
+mod solutions;
 mod speaker;
 
 pub use serve::{SessionEnd, serve_desk};

@@ -1,18 +1,18 @@
-//! The session loop: every whole line that was read is answered, in one write, before more is read.
+//! The session loop: every whole line that was read is answered before more is read.
 
 ghost use Rattle.std.specs.Prelude.{◌≡◌, ℕ, ◌≤◌, ◌<◌, ◌≢◌, List, [], ◌∷◌, ◌++◌, length, Option, IfOk, OnOk, OnErr, Ok};
 ghost use Rattle.outside.specs.Faults.{Rose};
 ghost use Rattle.command_types.specs.Lines.{cut_of, lines_of};
 ghost use Rattle.session.specs.Serving.{Sight, sight, roster_of, step_of, RepliesWhole, RepliesInPart, Served, Written, Left, CutOff};
 ghost use Rattle.session.specs.Ending.{Ends};
+ghost use Rattle.session.specs.KeptSpeaker.{speaker_of};
 
 use crate::asks::ended;
 use crate::line_buffer::LineBuffer;
 use crate::replies::reply_to;
+use crate::reply_text::write_reply;
 use crate::speaker::Speaker;
-use command_text::write_head;
 use command_types::{Answer, Desk, Roster};
-use outside::sink::write_all;
 use outside::{Failed, Sink, Source};
 use std::alloc::Global;
 
@@ -51,7 +51,7 @@ fn step_after(answer: &Answer) -> Step
     Step::On
 }
 
-// Replies to a line, in one write.
+// Replies to a line.
 fn answer_line<T: Desk, K: Sink>(
     alloc: Global,
     desk: &mut T,
@@ -63,14 +63,13 @@ fn answer_line<T: Desk, K: Sink>(
     line: &[u8],
 ) -> Result<Step, Failed>
     requires { roster.now ≡ roster_of (sight T.figures T.history T.stopped desk.old) }
-    ensures whole { IfOk result (RepliesWhole (sight T.figures T.history T.stopped desk.old) (sight T.figures T.history T.stopped desk.new) seat speaker.old speaker.new line.now (K.taken sink.old) (K.taken sink.new)) }
-    ensures in_part { OnErr result (RepliesInPart (sight T.figures T.history T.stopped desk.old) (sight T.figures T.history T.stopped desk.new) seat speaker.old speaker.new line.now (K.taken sink.old) (K.taken sink.new)) }
+    ensures whole { IfOk result (RepliesWhole (sight T.figures T.history T.stopped desk.old) (sight T.figures T.history T.stopped desk.new) seat (speaker_of speaker.old) (speaker_of speaker.new) line.now (K.taken sink.old) (K.taken sink.new)) }
+    ensures in_part { OnErr result (RepliesInPart (sight T.figures T.history T.stopped desk.old) (sight T.figures T.history T.stopped desk.new) seat (speaker_of speaker.old) (speaker_of speaker.new) line.now (K.taken sink.old) (K.taken sink.new)) }
     ensures never_falls { K.faults sink.old ≤ K.faults sink.new }
     ensures failed { OnErr result (Rose (K.faults sink.old) (K.faults sink.new)) }
 {
     let reply = reply_to(alloc, desk, seat, roster, speaker, line);
-    let end = write_head(&reply, roster, text);
-    match write_all(sink, &text[..end]) {
+    match write_reply(text, roster, &reply, sink) {
         Ok(()) => Ok(step_after(&reply.answer)),
         Err(fault) => Err(fault),
     }
@@ -90,13 +89,13 @@ fn take_byte<T: Desk, K: Sink>(
 ) -> Result<Step, Failed>
     requires { roster.now ≡ roster_of (sight T.figures T.history T.stopped desk.old) }
     ensures on { result ≡ Ok Step.On → (start : Sight) (begun : Option (List ℕ)) (bytes : List ℕ) →
-        Served seat start begun (K.taken sink.old) (sight T.figures T.history T.stopped desk.old) speaker.old line.old bytes →
-        Served seat start begun (K.taken sink.new) (sight T.figures T.history T.stopped desk.new) speaker.new line.new (bytes ++ byte ∷ []) }
+        Served seat start begun (K.taken sink.old) (sight T.figures T.history T.stopped desk.old) (speaker_of speaker.old) line.old bytes →
+        Served seat start begun (K.taken sink.new) (sight T.figures T.history T.stopped desk.new) (speaker_of speaker.new) line.new (bytes ++ byte ∷ []) }
     ensures over { result ≡ Ok Step.Over → (start : Sight) (begun : Option (List ℕ)) (bytes : List ℕ) →
-        Served seat start begun (K.taken sink.old) (sight T.figures T.history T.stopped desk.old) speaker.old line.old bytes →
+        Served seat start begun (K.taken sink.old) (sight T.figures T.history T.stopped desk.old) (speaker_of speaker.old) line.old bytes →
         Left seat start begun (K.taken sink.new) (sight T.figures T.history T.stopped desk.new) (cut_of (bytes ++ byte ∷ [])).whole }
     ensures cut_off { OnErr result ((start : Sight) (begun : Option (List ℕ)) (bytes : List ℕ) →
-        Served seat start begun (K.taken sink.old) (sight T.figures T.history T.stopped desk.old) speaker.old line.old bytes →
+        Served seat start begun (K.taken sink.old) (sight T.figures T.history T.stopped desk.old) (speaker_of speaker.old) line.old bytes →
         CutOff seat start begun (K.taken sink.new) (sight T.figures T.history T.stopped desk.new) (cut_of (bytes ++ byte ∷ [])).whole) }
     ensures roster { roster.now ≡ roster_of (sight T.figures T.history T.stopped desk.new) }
     ensures never_falls { K.faults sink.old ≤ K.faults sink.new }
@@ -134,13 +133,13 @@ fn take_piece<T: Desk, K: Sink>(
 ) -> Result<Step, Failed>
     requires { roster.now ≡ roster_of (sight T.figures T.history T.stopped desk.old) }
     ensures on { result ≡ Ok Step.On → (start : Sight) (begun : Option (List ℕ)) (bytes : List ℕ) →
-        Served seat start begun (K.taken sink.old) (sight T.figures T.history T.stopped desk.old) speaker.old line.old bytes →
-        Served seat start begun (K.taken sink.new) (sight T.figures T.history T.stopped desk.new) speaker.new line.new (bytes ++ piece.now) }
+        Served seat start begun (K.taken sink.old) (sight T.figures T.history T.stopped desk.old) (speaker_of speaker.old) line.old bytes →
+        Served seat start begun (K.taken sink.new) (sight T.figures T.history T.stopped desk.new) (speaker_of speaker.new) line.new (bytes ++ piece.now) }
     ensures over { result ≡ Ok Step.Over → (start : Sight) (begun : Option (List ℕ)) (bytes : List ℕ) →
-        Served seat start begun (K.taken sink.old) (sight T.figures T.history T.stopped desk.old) speaker.old line.old bytes →
+        Served seat start begun (K.taken sink.old) (sight T.figures T.history T.stopped desk.old) (speaker_of speaker.old) line.old bytes →
         Left seat start begun (K.taken sink.new) (sight T.figures T.history T.stopped desk.new) (cut_of (bytes ++ piece.now)).whole }
     ensures cut_off { OnErr result ((start : Sight) (begun : Option (List ℕ)) (bytes : List ℕ) →
-        Served seat start begun (K.taken sink.old) (sight T.figures T.history T.stopped desk.old) speaker.old line.old bytes →
+        Served seat start begun (K.taken sink.old) (sight T.figures T.history T.stopped desk.old) (speaker_of speaker.old) line.old bytes →
         CutOff seat start begun (K.taken sink.new) (sight T.figures T.history T.stopped desk.new) (cut_of (bytes ++ piece.now)).whole) }
     ensures roster { roster.now ≡ roster_of (sight T.figures T.history T.stopped desk.new) }
     ensures never_falls { K.faults sink.old ≤ K.faults sink.new }
@@ -169,10 +168,10 @@ fn take_end<T: Desk, K: Sink>(
 ) -> Result<(), Failed>
     requires { roster.now ≡ roster_of (sight T.figures T.history T.stopped desk.old) }
     ensures written { OnOk result ((start : Sight) (begun : Option (List ℕ)) (bytes : List ℕ) →
-        Served seat start begun (K.taken sink.old) (sight T.figures T.history T.stopped desk.old) speaker.old line.now bytes →
+        Served seat start begun (K.taken sink.old) (sight T.figures T.history T.stopped desk.old) (speaker_of speaker.old) line.now bytes →
         Written seat start begun (K.taken sink.new) (sight T.figures T.history T.stopped desk.new) (lines_of bytes)) }
     ensures cut_off { OnErr result ((start : Sight) (begun : Option (List ℕ)) (bytes : List ℕ) →
-        Served seat start begun (K.taken sink.old) (sight T.figures T.history T.stopped desk.old) speaker.old line.now bytes →
+        Served seat start begun (K.taken sink.old) (sight T.figures T.history T.stopped desk.old) (speaker_of speaker.old) line.now bytes →
         CutOff seat start begun (K.taken sink.new) (sight T.figures T.history T.stopped desk.new) (lines_of bytes)) }
     ensures never_falls { K.faults sink.old ≤ K.faults sink.new }
     ensures failed { OnErr result (Rose (K.faults sink.old) (K.faults sink.new)) }
@@ -206,7 +205,7 @@ fn serve_over<T: Desk, S: Source, K: Sink>(
     ensures source_fault { result ≡ SessionEnd.SourceFault → Rose (S.faults source.old) (S.faults source.new) }
     ensures sink_fault { result ≡ SessionEnd.SinkFault → Rose (K.faults sink.old) (K.faults sink.new) }
 {
-    let mut speaker = Speaker::nobody();
+    let mut speaker = Speaker::nobody(alloc);
     let mut taken = 0usize;
     while taken < LIMIT {
         let room = piece.len().min(LIMIT - taken);
@@ -215,10 +214,10 @@ fn serve_over<T: Desk, S: Source, K: Sink>(
             Err(Failed) => return SessionEnd::SourceFault,
         };
         if n == 0 {
-            return match take_end(alloc, desk, seat, roster, &mut speaker, line, text, sink) {
-                Ok(()) => SessionEnd::Ended,
-                Err(Failed) => SessionEnd::SinkFault,
-            };
+            match take_end(alloc, desk, seat, roster, &mut speaker, line, text, sink) {
+                Ok(()) => return SessionEnd::Ended,
+                Err(Failed) => return SessionEnd::SinkFault,
+            }
         }
         match take_piece(
             alloc,

@@ -4,20 +4,69 @@
 ghost use Rattle.std.specs.Prelude.{◌≡◌, ◌∷◌, [], not, None, unwrap_or, IsTrue, false, true};
 ghost use Rattle.command_types.specs.Roster.{is_party};
 ghost use Rattle.command_types.specs.Machine.{empty_state, first_of, refusals, party_refusals};
-ghost use Rattle.cycle_states.specs.Machine.{state_of, wants_party};
+ghost use Rattle.cycle_states.specs.Machine.{state_in, is_of_trade, wants_party};
 
+use super::cycle::Cycle;
+use super::cycle_refusals::{begin_refusal, cancel_refusal, freeze_refusal, limits_refusal};
+use super::draft_refusals::{pot_refusal, row_refusal};
 use super::nets_refusals::nets_refusal;
 use super::parties::is_party;
 use super::row_refusals::{affirm_refusal, end_refusal, free_refusal, hold_refusal};
+use super::statement::statement_refusal;
 use super::tol_refusals::tol_refusal;
 use super::trade_refusals::{Terms, trade_refusal};
 use command_types::{Ask, Refusal, Roster, What};
 use product_book::Book;
 use units_core::Name;
 
+// The first refusal of a party's command that is not about a trade. The roster and the cycle tell, whatever the trades
+// are.
+fn other_refusal(roster: &Roster, cycle: &Cycle, by: &Name, what: &What) -> Option<Refusal>
+    requires { is_of_trade what.now ≡ false }
+    ensures { result ≡ first_of (party_refusals (state_in roster.now [] cycle.now) by.now what.now) }
+{
+    match what {
+        What::Tol {
+            other,
+            product,
+            floor,
+            ceiling,
+            ..
+        } => tol_refusal(roster, by, other, product, *floor, *ceiling),
+        What::Nets { product } => nets_refusal(roster, product),
+        What::Statement => statement_refusal(roster, by),
+        What::Freeze { .. } => freeze_refusal(roster, cycle, by),
+        What::Begin { cycle: number, .. } => begin_refusal(roster, cycle, by, *number),
+        What::Limits { product } => limits_refusal(roster, cycle, by, product),
+        What::Row {
+            product,
+            seller,
+            buyer,
+            size,
+            sum,
+            ..
+        } => row_refusal(roster, by, product, seller, buyer, *size, *sum),
+        What::Pot {
+            product,
+            member,
+            size,
+            ..
+        } => pot_refusal(roster, by, product, member, *size),
+        What::Cancel { cycle: number } => cancel_refusal(roster, cycle, by, *number),
+        What::Hello { .. } | What::Unreadable { .. } | What::Bye => None,
+        _ => Some(Refusal::NotBuilt),
+    }
+}
+
 // The first refusal of a command by a party of the roster.
-fn party_refusal(roster: &Roster, book: &Book, by: &Name, what: &What) -> Option<Refusal>
-    ensures { result ≡ first_of (party_refusals (state_of roster.now book.now.rows) by.now what.now) }
+fn party_refusal(
+    roster: &Roster,
+    book: &Book,
+    cycle: &Cycle,
+    by: &Name,
+    what: &What,
+) -> Option<Refusal>
+    ensures { result ≡ first_of (party_refusals (state_in roster.now book.now.rows cycle.now) by.now what.now) }
 {
     match what {
         What::Trade {
@@ -38,23 +87,21 @@ fn party_refusal(roster: &Roster, book: &Book, by: &Name, what: &What) -> Option
         }
         What::Affirm { trade } => affirm_refusal(roster, by, book.get(*trade).copied()),
         What::End { trade } => end_refusal(roster, by, book.get(*trade).copied()),
-        What::Hold { trade } => hold_refusal(roster, by, book.get(*trade).copied()),
-        What::Free { trade } => free_refusal(roster, by, book.get(*trade).copied()),
-        What::Tol {
-            other,
-            product,
-            floor,
-            ceiling,
-            ..
-        } => tol_refusal(roster, by, other, product, *floor, *ceiling),
-        What::Nets { product } => nets_refusal(roster, product),
-        _ => Some(Refusal::NotBuilt),
+        What::Hold { trade } => hold_refusal(roster, cycle, by, book.get(*trade).copied()),
+        What::Free { trade } => free_refusal(roster, cycle, by, book.get(*trade).copied()),
+        _ => other_refusal(roster, cycle, by, what),
     }
 }
 
 // The first refusal of a command that wants a party of the roster.
-fn greeted_refusal(roster: &Roster, book: &Book, by: &Option<Name>, what: &What) -> Option<Refusal>
-    ensures { result ≡ first_of ((not (is_party roster.now by.now), Refusal.NotGreeted) ∷ party_refusals (state_of roster.now book.now.rows) (unwrap_or by.now []) what.now) }
+fn greeted_refusal(
+    roster: &Roster,
+    book: &Book,
+    cycle: &Cycle,
+    by: &Option<Name>,
+    what: &What,
+) -> Option<Refusal>
+    ensures { result ≡ first_of ((not (is_party roster.now by.now), Refusal.NotGreeted) ∷ party_refusals (state_in roster.now book.now.rows cycle.now) (unwrap_or by.now []) what.now) }
 {
     match by {
         None => Some(Refusal::NotGreeted),
@@ -62,7 +109,7 @@ fn greeted_refusal(roster: &Roster, book: &Book, by: &Option<Name>, what: &What)
             if !is_party(roster, name) {
                 return Some(Refusal::NotGreeted);
             }
-            party_refusal(roster, book, name, what)
+            party_refusal(roster, book, cycle, name, what)
         }
     }
 }
@@ -94,11 +141,11 @@ fn wants_party(what: &What) -> bool
 }
 
 /// The first refusal of a command whose condition holds.
-pub(super) fn refusal(roster: &Roster, book: &Book, ask: &Ask) -> Option<Refusal>
-    ensures { result ≡ first_of (refusals (state_of roster.now book.now.rows) ask.now.by ask.now.what) }
+pub(super) fn refusal(roster: &Roster, book: &Book, cycle: &Cycle, ask: &Ask) -> Option<Refusal>
+    ensures { result ≡ first_of (refusals (state_in roster.now book.now.rows cycle.now) ask.now.by ask.now.what) }
 {
     if wants_party(&ask.what) {
-        greeted_refusal(roster, book, &ask.by, &ask.what)
+        greeted_refusal(roster, book, cycle, &ask.by, &ask.what)
     } else {
         open_refusal(roster, &ask.what)
     }

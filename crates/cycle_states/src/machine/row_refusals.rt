@@ -1,10 +1,13 @@
-//! Why a party's AFFIRM, END, HOLD or FREE is refused. The roster and the trade itself tell, whatever the other
-//! trades are.
+//! Why a party's AFFIRM, END, HOLD or FREE is refused. The roster and the trade itself tell, and for HOLD and FREE the
+//! cycle, whatever the other trades are.
 
-ghost use Rattle.std.specs.Prelude.{◌≡◌, ◌||◌, not};
+ghost use Rattle.std.specs.Prelude.{◌≡◌, ◌&&◌, [], ◌∷◌};
+ghost use Rattle.command_types.specs.Cycles.{is_open};
 ghost use Rattle.command_types.specs.Trades.{is_alleged, is_live, is_ended, is_marked_by, hold_of};
 ghost use Rattle.command_types.specs.Machine.{empty_state, first_of, affirm_refusals, end_refusals, hold_refusals, free_refusals};
+ghost use Rattle.cycle_states.specs.Machine.{state_in};
 
+use super::cycle::{Cycle, is_open};
 use super::sides::{is_party_of, is_submitter, side_in};
 use command_types::{Refusal, Roster, Side, TradeRow, TradeState};
 use units_core::Name;
@@ -48,6 +51,18 @@ fn is_held_by(row: &TradeRow, side: Side) -> bool
     }
 }
 
+// The refusal of a change of a trade that takes part in an open cycle.
+fn frozen_refusal(cycle: &Cycle, row: &TradeRow) -> Option<Refusal>
+    ensures { result ≡ first_of ((is_open cycle.now.phase && row.now.frozen, Refusal.TradeFrozen cycle.now.number) ∷ []) }
+{
+    if is_open(cycle.phase()) && row.frozen {
+        return Some(Refusal::TradeFrozen {
+            cycle: cycle.number(),
+        });
+    }
+    None
+}
+
 /// The first refusal of the party's AFFIRM of this trade, if there is one.
 pub(super) fn affirm_refusal(roster: &Roster, by: &Name, trade: Option<TradeRow>) -> Option<Refusal>
     ensures { result ≡ first_of (affirm_refusals (empty_state roster.now) by.now trade) }
@@ -81,8 +96,13 @@ pub(super) fn end_refusal(roster: &Roster, by: &Name, trade: Option<TradeRow>) -
 }
 
 /// The first refusal of the party's HOLD of this trade, if there is one.
-pub(super) fn hold_refusal(roster: &Roster, by: &Name, trade: Option<TradeRow>) -> Option<Refusal>
-    ensures { result ≡ first_of (hold_refusals (empty_state roster.now) by.now trade) }
+pub(super) fn hold_refusal(
+    roster: &Roster,
+    cycle: &Cycle,
+    by: &Name,
+    trade: Option<TradeRow>,
+) -> Option<Refusal>
+    ensures { result ≡ first_of (hold_refusals (state_in roster.now [] cycle.now) by.now trade) }
 {
     let Some(row) = trade else {
         return Some(Refusal::UnknownTrade);
@@ -93,12 +113,17 @@ pub(super) fn hold_refusal(roster: &Roster, by: &Name, trade: Option<TradeRow>) 
     if !is_live(&row) || is_held_by(&row, side_in(roster, by, &row)) {
         return Some(Refusal::WrongTradeState { state: row.state });
     }
-    None
+    frozen_refusal(cycle, &row)
 }
 
 /// The first refusal of the party's FREE of this trade, if there is one.
-pub(super) fn free_refusal(roster: &Roster, by: &Name, trade: Option<TradeRow>) -> Option<Refusal>
-    ensures { result ≡ first_of (free_refusals (empty_state roster.now) by.now trade) }
+pub(super) fn free_refusal(
+    roster: &Roster,
+    cycle: &Cycle,
+    by: &Name,
+    trade: Option<TradeRow>,
+) -> Option<Refusal>
+    ensures { result ≡ first_of (free_refusals (state_in roster.now [] cycle.now) by.now trade) }
 {
     let Some(row) = trade else {
         return Some(Refusal::UnknownTrade);
@@ -109,5 +134,5 @@ pub(super) fn free_refusal(roster: &Roster, by: &Name, trade: Option<TradeRow>) 
     if !is_live(&row) || !is_held_by(&row, side_in(roster, by, &row)) {
         return Some(Refusal::WrongTradeState { state: row.state });
     }
-    None
+    frozen_refusal(cycle, &row)
 }

@@ -1,10 +1,17 @@
-use Rattle.std.proofs.Common.{◌∙◌, ◌+◌, false, arith, ap, sym, not, IsTrue}
+use Rattle.std.proofs.Common.{◌∙◌, ◌+◌, false, arith, rules, ap, sym, not, IsTrue}
 use Rattle.command_types.specs.Machine.{answer_to}
 use Rattle.command_types.specs.History.{is_recorded, longer, recorded}
 use Rattle.cycle_states.specs.PlainDesk.{plain_figures, history_of}
 use Rattle.command_types.proofs.HistoryFacts.{told_memory}
+use Rattle.cycle_states.proofs.CycleFacts.{young_of}
 use Rattle.cycle_states.proofs.DeskFacts.{replayed_more, figures_stay, grown, told_recorded, told_not_recorded}
 use Rattle.cycle_states.proofs.plain_desk.PlainDeskDesk.ask.Goals as goal
+
+pub answer-requires : goal.answer-requires
+answer-requires c = young_of c.self.inside.machine.state c.self.inside.entries.items c.self.invariant (search rules)
+
+pub record-requires-clause-young : goal.record-requires-clause-young
+record-requires-clause-young c = young_of c.self.inside.machine.state c.self.inside.entries.items c.self.invariant (search rules)
 
 pub returns-in-Err-clause-told : goal.returns-in-Err-clause-told
 returns-in-Err-clause-told c =

@@ -1,0 +1,94 @@
+//! What a version begins with: for each product the network of its frozen trades, and the limits that the tolerances
+//! now give.
+
+ghost use Rattle.std.specs.Prelude.{◌≡◌, None, length, IfOk};
+ghost use Rattle.network_laws.specs.Limits.{IsWithinLimits};
+ghost use Rattle.command_types.specs.Books.{held_network};
+ghost use Rattle.command_types.specs.Tolerances.{limits_of};
+ghost use Rattle.command_types.specs.Cycles.{problem_of, problems_of};
+ghost use Rattle.command_types.specs.Machine.{first_of, refusals};
+ghost use Rattle.cycle_states.specs.Machine.{problems_begun, state_in, state_with, FrozenAreLive, IsBookOf, IsMachine};
+
+use super::cycle::Cycle;
+use command_types::{Ask, Mode, Roster, What};
+use network_laws::{Limits, Network, Problem};
+use product_book::{Book, Which};
+use std::alloc::{AllocError, Global};
+use tolerance_sets::Tolerances;
+use units_core::ProductNo;
+
+// The limits of a product whose frozen trades make this network.
+fn limits_now(
+    roster: &Roster,
+    book: &Book,
+    tolerances: &Tolerances,
+    mode: Mode,
+    product: ProductNo,
+    network: &Network,
+) -> Result<Limits, AllocError>
+    requires book { IsBookOf roster.now book.now.members book.now.products }
+    requires live { FrozenAreLive book.now.rows }
+    requires members { network.now.members ≡ length roster.now.members }
+    ensures limits { IfOk result (λ limits. limits ≡ limits_of mode roster.now.members tolerances.now.settings product network.now (held_network (length roster.now.members) product book.now.rows)) }
+    ensures within { IfOk result (λ limits. IsWithinLimits limits network.now) }
+{
+    let held = book.network(product, Which::FrozenHeld)?;
+    tolerances.limits(mode, roster, product, network, &held)
+}
+
+// The problem of a product.
+fn problem_now(
+    roster: &Roster,
+    book: &Book,
+    tolerances: &Tolerances,
+    mode: Mode,
+    product: ProductNo,
+) -> Result<Problem, AllocError>
+    requires book { IsBookOf roster.now book.now.members book.now.products }
+    requires live { FrozenAreLive book.now.rows }
+    ensures { IfOk result (λ problem. problem ≡ problem_of roster.now book.now.rows tolerances.now.settings mode product) }
+{
+    let network = book.network(product, Which::Frozen)?;
+    let limits = limits_now(roster, book, tolerances, mode, product, &network)?;
+    Ok(Problem::new(limits, network))
+}
+
+/// The problems of all products, in their order. The only error is want of memory.
+pub(super) fn problems_now(
+    alloc: Global,
+    roster: &Roster,
+    book: &Book,
+    tolerances: &Tolerances,
+    mode: Mode,
+) -> Result<Vec<Problem>, AllocError>
+    requires book { IsBookOf roster.now book.now.members book.now.products }
+    requires live { FrozenAreLive book.now.rows }
+    ensures { IfOk result (λ problems. problems.items ≡ problems_of roster.now book.now.rows tolerances.now.settings mode) }
+{
+    let products = roster.products().len() as u16;
+    let mut problems = Vec::new(alloc);
+    for product in 0..products {
+        let problem = problem_now(roster, book, tolerances, mode, ProductNo(product))?;
+        problems.push(problem)?;
+    }
+    Ok(problems)
+}
+
+/// The problems that a change begins with, if it is a BEGIN. The only error is want of memory.
+pub(super) fn problems_begun(
+    roster: &Roster,
+    book: &Book,
+    tolerances: &Tolerances,
+    cycle: &Cycle,
+    ask: &Ask,
+) -> Result<Vec<Problem>, AllocError>
+    requires kept { IsMachine roster.now book.now.members book.now.products book.now.rows cycle.now.phase }
+    requires accepted { first_of (refusals (state_in roster.now book.now.rows cycle.now) ask.now.by ask.now.what) ≡ None }
+    ensures { IfOk result (λ problems. problems.items ≡ problems_begun (state_with roster.now book.now.rows tolerances.now.settings cycle.now) ask.now.what) }
+{
+    let alloc = cycle.allocator();
+    match &ask.what {
+        What::Begin { mode, .. } => problems_now(alloc, roster, book, tolerances, *mode),
+        _ => Ok(Vec::new(alloc)),
+    }
+}

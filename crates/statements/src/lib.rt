@@ -1,0 +1,13 @@
+//! Detail lines of replies: the rows that follow a head line.
+#![tactic(auto)]
+
+mod details;
+mod plan_text;
+mod row_text;
+mod trade_text;
+
+pub use details::{DetailRow, detail_count, detail_row};
+pub use row_text::{put_row, write_row};
+
+#[cfg(test)]
+mod tests;
