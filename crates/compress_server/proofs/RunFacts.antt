@@ -1,5 +1,5 @@
 -- What the program's one session says of its input and its output.
-use Rattle.std.proofs.Common.{◌≡◌, ◌⊎◌, ℕ, ◌-◌, ◌==◌, ◌<◌, Bool, true, false, List, [], ◌∷◌, ◌++◌, take, length, drop, filter, Option, None, Result, Ok, Err, refl, sym, subst, ap, inl, inr, ◌∙◌}
+use Rattle.std.proofs.Common.{◌≡◌, ◌⊎◌, ℕ, ◌-◌, ◌==◌, false, List, [], ◌∷◌, ◌++◌, drop, filter, Option, sym, subst, ap, inl, inr, ◌∙◌}
 use Rattle.outside.specs.Flow.{Flow, IsAtEnd}
 use Rattle.command_types.specs.declared.ask.Entry.{Entry}
 use Rattle.command_types.specs.Roster.{Rows}
@@ -12,12 +12,7 @@ use Rattle.session.specs.declared.serve.SessionEnd.{SessionEnd}
 use Rattle.session.specs.declared.serve.SessionEnd.TheVariants.{Ended, SourceFault, SinkFault, Limit, Memory}
 use Rattle.session.specs.Serving.{Sight, Written, Left, CutOff}
 use Rattle.session.specs.Ending.{Ends}
-use Rattle.outside.specs.Files.{Folder}
-use Rattle.command_types.specs.declared.file_fault.FileFault.{FileFault}
-use Rattle.compress_server.specs.declared.load.LoadFault.{LoadFault}
-use Rattle.compress_server.specs.declared.load.LoadFault.TheVariants.{Roster as RosterFault}
-use Rattle.compress_server.specs.Load.{Loads}
-use Rattle.compress_server.specs.Run.{HasFault, program_figures, at_first, IsOwnHistory, IsReplied, IsLeft, IsCutOff, IsOpen}
+use Rattle.compress_server.specs.Run.{program_figures, at_first, IsOwnHistory, IsReplied, IsLeft, IsCutOff, IsOpen}
 use Rattle.compress_server.specs.Script.{ScriptEnds}
 
 -- a desk of these rows before the first line
@@ -112,10 +107,3 @@ pub script_ends : (rows : Rows) (start : Sight) (opened flow : Option Flow) (beg
 script_ends rows start opened flow begun taken now end e ends =
     let P : Sight → Type 0 = λ s. Ends 0 s opened flow begun taken now end in
     ends_first rows opened flow begun taken now end (subst P e ends)
-
--- the fault that was loaded is the file's
-pub has_fault : (folder : Option Folder) (name other : List ℕ) (e : LoadFault) (fault : FileFault) → name ≡ other → e ≡ RosterFault fault → Loads folder name (Err e) → HasFault folder other fault
-has_fault folder name other e fault same is loads =
-    let P : LoadFault → Type 0 = λ v. Loads folder name (Err v) in
-    let Q : List ℕ → Type 0 = λ n. HasFault folder n fault in
-    subst Q same (subst P is loads)

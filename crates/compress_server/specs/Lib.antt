@@ -1,5 +1,8 @@
 pub mod Words
+pub mod Files
 pub mod Faults
 pub mod Run
-pub mod Load
 pub mod Script
+pub mod Check
+pub mod Solve
+pub mod Ending

@@ -1,9 +1,7 @@
--- What the program does with its files, its input, its output and its errors.
-use Rattle.std.specs.Prelude.{◌≡◌, ◌⊎◌, ℕ, ◌==◌, Bool, true, false, List, [], ◌∷◌, ◌++◌, ◌<◌, ◌≤◌, take, length, Option, Some, None, Ok, Err, codes, if◌then◌else◌}
+-- What the program does with its input, its output and its errors.
+use Rattle.std.specs.Prelude.{◌≡◌, ◌⊎◌, ℕ, ◌==◌, true, false, List, [], ◌∷◌, ◌++◌, ◌<◌, ◌≤◌, take, length, Option, None, codes, if◌then◌else◌}
 use Rattle.outside.specs.Faults.{Rose}
-use Rattle.outside.specs.Files.{Folder, IsFront}
 use Rattle.outside.specs.Flow.{Flow, Gives, IsAtEnd, Takes, TakesFront}
-use Rattle.command_types.specs.declared.file_fault.FileFault.{FileFault}
 use Rattle.command_types.specs.declared.ask.Entry.{Entry}
 use Rattle.command_types.specs.declared.figures.Figures.{Figures}
 use Rattle.command_types.specs.Roster.{Rows}
@@ -11,21 +9,7 @@ use Rattle.command_types.specs.Machine.{empty_state}
 use Rattle.command_types.specs.History.{History, IsLegal, entries_of_seat}
 use Rattle.command_types.specs.Lines.{cut_of, lines_of}
 use Rattle.command_types.specs.Session.{Standing, IsSession, IsTalk, IsAnswered, nobody}
-use Rattle.trade_file.specs.RosterFile.{roster_file}
 use Rattle.session.specs.Ending.{session_limit}
-use Rattle.compress_server.specs.Faults.{fault_line}
-
--- as many bytes of a file as are read: one more than a file may have
-abbrev pub file_front : ℕ
-file_front = 67108865
-
--- the file under this name says these rows
-abbrev pub SaysRoster : Option Folder → List ℕ → Rows → Type 0
-SaysRoster folder name rows = (bytes : List ℕ) × IsFront folder name file_front bytes × (roster_file bytes ≡ Ok rows)
-
--- the file under this name has this as its first fault
-abbrev pub HasFault : Option Folder → List ℕ → FileFault → Type 0
-HasFault folder name fault = (bytes : List ℕ) × IsFront folder name file_front bytes × (roster_file bytes ≡ Err fault)
 
 -- the program's desk has no journal, and its history begins with the roster's empty state at position 0
 abbrev pub program_figures : Rows → Figures
@@ -104,7 +88,7 @@ IsUnwritten rows opened flow begun taken =
     (bytes : List ℕ) × Gives opened flow bytes
     × (IsCutOff rows begun taken (cut_of bytes).whole ⊎ (IsAtEnd flow × IsCutOff rows begun taken (lines_of bytes)))
 
--- the line that tells a status on the errors; status 0 has none, and status 3 the fault's
+-- the line that tells a status on the errors; statuses 0 and 1 have none, and status 3 the fault's
 abbrev pub status_line : ℕ → List ℕ
 status_line status =
     if status == 2 then codes "bad words\n"

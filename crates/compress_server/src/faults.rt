@@ -1,18 +1,29 @@
-//! The line that tells a roster's fault on the errors.
+//! The line that tells a file's fault on the errors.
 
 ghost use Rattle.std.specs.Prelude.{◌≡◌, ◌++◌, IfOk, codes};
-ghost use Rattle.compress_server.specs.Faults.{row_line, fault_line};
+ghost use Rattle.compress_server.specs.Faults.{role_name, row_line, fault_line};
 
+use crate::load::FileRole;
 use command_types::FileFault;
 use std::alloc::{AllocError, Global};
 use units_core::print_u128;
 
-// The line of a fault at a row.
-fn row_line(alloc: Global, row: u64, fault: &[u8]) -> Result<Vec<u8>, AllocError>
-    ensures { IfOk result (λ line. line.items ≡ row_line row fault.now) }
+fn role_name(role: FileRole) -> &'static [u8]
+    ensures { result.now ≡ role_name role }
 {
-    let mut line = Vec::new(alloc);
-    line.extend_from_slice(b"roster row ")?;
+    match role {
+        FileRole::Roster => b"roster",
+        FileRole::Trades => b"trades",
+        FileRole::Proposal => b"proposal",
+    }
+}
+
+// The line of a fault at a row.
+fn row_line(alloc: Global, role: FileRole, row: u64, fault: &[u8]) -> Result<Vec<u8>, AllocError>
+    ensures { IfOk result (λ line. line.items ≡ row_line role row fault.now) }
+{
+    let mut line = role_name(role).to_vec(alloc)?;
+    line.extend_from_slice(b" row ")?;
     print_u128(u128::from(row), &mut line)?;
     end_line(line, fault)
 }
@@ -27,23 +38,32 @@ fn end_line(mut line: Vec<u8>, fault: &[u8]) -> Result<Vec<u8>, AllocError>
     Ok(line)
 }
 
-/// The line of a fault. The only error is want of memory.
-pub fn fault_line(alloc: Global, fault: FileFault) -> Result<Vec<u8>, AllocError>
-    ensures { IfOk result (λ line. line.items ≡ fault_line fault) }
+/// The line of a fault of the file in this role. The only error is want of memory.
+pub fn fault_line(alloc: Global, role: FileRole, fault: FileFault) -> Result<Vec<u8>, AllocError>
+    ensures { IfOk result (λ line. line.items ≡ fault_line role fault) }
 {
     match fault {
-        FileFault::TooLong => b"roster: too-long\n".to_vec(alloc),
-        FileFault::Columns { row } => row_line(alloc, row, b"columns"),
-        FileFault::BadName { row } => row_line(alloc, row, b"bad-name"),
-        FileFault::BadRole { row } => row_line(alloc, row, b"bad-role"),
-        FileFault::BadAmount { row } => row_line(alloc, row, b"bad-amount"),
-        FileFault::BadDay { row } => row_line(alloc, row, b"bad-day"),
-        FileFault::Twice { row } => row_line(alloc, row, b"twice"),
-        FileFault::UnknownName { row } => row_line(alloc, row, b"unknown-name"),
-        FileFault::SameParty { row } => row_line(alloc, row, b"same-party"),
-        FileFault::GrossLimit { row } => row_line(alloc, row, b"gross-limit"),
-        FileFault::RowLimit { row } => row_line(alloc, row, b"row-limit"),
-        FileFault::BadLine { row } => row_line(alloc, row, b"bad-line"),
+        FileFault::TooLong => too_long_line(alloc, role),
+        FileFault::Columns { row } => row_line(alloc, role, row, b"columns"),
+        FileFault::BadName { row } => row_line(alloc, role, row, b"bad-name"),
+        FileFault::BadRole { row } => row_line(alloc, role, row, b"bad-role"),
+        FileFault::BadAmount { row } => row_line(alloc, role, row, b"bad-amount"),
+        FileFault::BadDay { row } => row_line(alloc, role, row, b"bad-day"),
+        FileFault::Twice { row } => row_line(alloc, role, row, b"twice"),
+        FileFault::UnknownName { row } => row_line(alloc, role, row, b"unknown-name"),
+        FileFault::SameParty { row } => row_line(alloc, role, row, b"same-party"),
+        FileFault::GrossLimit { row } => row_line(alloc, role, row, b"gross-limit"),
+        FileFault::RowLimit { row } => row_line(alloc, role, row, b"row-limit"),
+        FileFault::BadLine { row } => row_line(alloc, role, row, b"bad-line"),
         FileFault::Memory => b"memory\n".to_vec(alloc),
     }
+}
+
+// The line of a file that is too long.
+fn too_long_line(alloc: Global, role: FileRole) -> Result<Vec<u8>, AllocError>
+    ensures { IfOk result (λ line. line.items ≡ role_name role ++ codes ": too-long\n") }
+{
+    let mut line = role_name(role).to_vec(alloc)?;
+    line.extend_from_slice(b": too-long\n")?;
+    Ok(line)
 }

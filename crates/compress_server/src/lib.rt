@@ -1,9 +1,12 @@
 //! The program: its words, its files and its streams.
 #![tactic(auto)]
 
+mod check;
+mod ending;
 mod faults;
 mod load;
 mod script;
+mod solve;
 mod top;
 mod words;
 

@@ -1,41 +1,112 @@
-//! The roster of a script, from its file.
+//! The files of a form: each is read by its name, up to one byte more than a file may have.
 
-ghost use Rattle.std.specs.Prelude.{◌≡◌, Err};
+ghost use Rattle.std.specs.Prelude.{◌≡◌, ◌≤◌, ◌⊎◌, Ok, Err, IfOk, IfErr};
 ghost use Rattle.outside.specs.Faults.{Rose};
-ghost use Rattle.compress_server.specs.Load.{Loads};
+ghost use Rattle.outside.specs.Files.{IsFront};
+ghost use Rattle.trade_file.specs.RosterFile.{roster_file};
+ghost use Rattle.trade_file.specs.TradeFile.{trade_file, AreFileTrades};
+ghost use Rattle.dual_certificate.specs.Proposal.{proposal_of};
+ghost use Rattle.dual_certificate.specs.Parts.{AreParts};
+ghost use Rattle.compress_server.specs.Files.{file_front, Reads, SaysRoster, SaysProposal, IsLoadFault};
 
 use command_types::{FileFault, Roster};
+use dual_certificate::{ProposalPart, read_proposal};
 use outside::{Files, Trouble};
 use std::alloc::Global;
-use trade_file::read_roster;
+use trade_file::{FileTrade, read_roster, read_trades};
 
 // As many bytes of a file as are read: one more than a file may have.
 const FILE_FRONT: u64 = 67_108_865;
 
-/// Why a roster could not be had.
+/// What a file is to a form.
+#[derive(Clone, Copy, Debug, PartialEq, Eq)]
+pub enum FileRole {
+    Roster,
+    Trades,
+    Proposal,
+}
+
+/// Why a file could not be had.
 #[derive(Clone, Copy, Debug, PartialEq, Eq)]
 pub enum LoadFault {
     /// The files failed.
     Files,
-    /// The roster's first fault.
-    Roster(FileFault),
+    /// The file's first fault.
+    Faulty(FileRole, FileFault),
     Memory,
+}
+
+// The front of the file with this name.
+fn read_front<F: Files>(alloc: Global, files: &mut F, name: &str) -> Result<Vec<u8>, LoadFault>
+    ensures front { IfOk result (λ bytes. IsFront (F.folder files.old) name.now file_front bytes.items) }
+    ensures other { IfErr result (λ fault. (fault ≡ LoadFault.Files) ⊎ (fault ≡ LoadFault.Memory)) }
+    ensures stays { F.folder files.new ≡ F.folder files.old }
+    ensures never_falls { F.faults files.old ≤ F.faults files.new }
+    ensures failed { result ≡ Err LoadFault.Files → Rose (F.faults files.old) (F.faults files.new) }
+{
+    match files.read_front(alloc, name, FILE_FRONT) {
+        Ok(bytes) => Ok(bytes),
+        Err(Trouble::Failed) => Err(LoadFault::Files),
+        Err(Trouble::Memory) => Err(LoadFault::Memory),
+    }
 }
 
 /// The roster of the file with this name. No file changes.
 pub fn load_roster<F: Files>(alloc: Global, files: &mut F, name: &str) -> Result<Roster, LoadFault>
-    ensures loads { Loads (F.folder files.old) name.now result }
+    ensures says { IfOk result (λ roster. SaysRoster (F.folder files.old) name.now roster) }
+    ensures fault { IfErr result (IsLoadFault (F.folder files.old) name.now FileRole.Roster roster_file) }
     ensures stays { F.folder files.new ≡ F.folder files.old }
+    ensures never_falls { F.faults files.old ≤ F.faults files.new }
     ensures failed { result ≡ Err LoadFault.Files → Rose (F.faults files.old) (F.faults files.new) }
 {
-    let bytes = match files.read_front(alloc, name, FILE_FRONT) {
-        Ok(bytes) => bytes,
-        Err(Trouble::Failed) => return Err(LoadFault::Files),
-        Err(Trouble::Memory) => return Err(LoadFault::Memory),
-    };
+    let bytes = read_front(alloc, files, name)?;
     match read_roster(alloc, &bytes) {
         Ok(roster) => Ok(roster),
         Err(FileFault::Memory) => Err(LoadFault::Memory),
-        Err(fault) => Err(LoadFault::Roster(fault)),
+        Err(fault) => Err(LoadFault::Faulty(FileRole::Roster, fault)),
+    }
+}
+
+/// The trades of the file with this name, over the roster. No file changes.
+pub fn load_trades<F: Files>(
+    alloc: Global,
+    files: &mut F,
+    name: &str,
+    roster: &Roster,
+) -> Result<Vec<FileTrade>, LoadFault>
+    ensures says { IfOk result (λ trades. Reads (F.folder files.old) name.now (trade_file roster.now) (Ok trades.items)) }
+    ensures within { IfOk result (λ trades. AreFileTrades roster.now trades.items) }
+    ensures fault { IfErr result (IsLoadFault (F.folder files.old) name.now FileRole.Trades (trade_file roster.now)) }
+    ensures stays { F.folder files.new ≡ F.folder files.old }
+    ensures never_falls { F.faults files.old ≤ F.faults files.new }
+    ensures failed { result ≡ Err LoadFault.Files → Rose (F.faults files.old) (F.faults files.new) }
+{
+    let bytes = read_front(alloc, files, name)?;
+    match read_trades(alloc, &bytes, roster) {
+        Ok(trades) => Ok(trades),
+        Err(FileFault::Memory) => Err(LoadFault::Memory),
+        Err(fault) => Err(LoadFault::Faulty(FileRole::Trades, fault)),
+    }
+}
+
+/// The parts of the proposal in the file with this name, over the roster. No file changes.
+pub fn load_proposal<F: Files>(
+    alloc: Global,
+    files: &mut F,
+    name: &str,
+    roster: &Roster,
+) -> Result<Vec<ProposalPart>, LoadFault>
+    ensures says { IfOk result (λ parts. SaysProposal (F.folder files.old) name.now roster.now parts.items) }
+    ensures within { IfOk result (λ parts. AreParts roster.now parts.items) }
+    ensures fault { IfErr result (IsLoadFault (F.folder files.old) name.now FileRole.Proposal (proposal_of roster.now)) }
+    ensures stays { F.folder files.new ≡ F.folder files.old }
+    ensures never_falls { F.faults files.old ≤ F.faults files.new }
+    ensures failed { result ≡ Err LoadFault.Files → Rose (F.faults files.old) (F.faults files.new) }
+{
+    let bytes = read_front(alloc, files, name)?;
+    match read_proposal(alloc, &bytes, roster) {
+        Ok(parts) => Ok(parts),
+        Err(FileFault::Memory) => Err(LoadFault::Memory),
+        Err(fault) => Err(LoadFault::Faulty(FileRole::Proposal, fault)),
     }
 }

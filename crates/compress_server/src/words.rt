@@ -1,7 +1,38 @@
-//! The words that the program is called with.
+//! The words that the program is called with: `script ROSTER JOURNAL`, `solve ROSTER TRADES MODE` or
+//! `check ROSTER TRADES MODE PROPOSAL`. No name of a file begins with a dash.
 
-ghost use Rattle.std.specs.Prelude.{◌≡◌, map, string_bytes};
-ghost use Rattle.compress_server.specs.Words.{is_in_form, begins_with_dash, roster_name};
+ghost use Rattle.std.specs.Prelude.{◌≡◌, map, string_bytes, option_map};
+ghost use Rattle.command_types.specs.Grammar.{mode_word};
+ghost use Rattle.compress_server.specs.Words.{begins_with_dash, market_of, form_of, read_market, read_form};
+
+use command_types::Mode;
+
+/// The names of a market's two files, and the mode in which it is compressed.
+#[derive(Clone, Copy, Debug, PartialEq, Eq)]
+pub struct MarketFiles<'a> {
+    pub roster: &'a str,
+    pub trades: &'a str,
+    pub mode: Mode,
+}
+
+/// What the program is to do, with the names of its files.
+#[derive(Clone, Copy, Debug, PartialEq, Eq)]
+pub enum Form<'a> {
+    /// One session over a roster. The journal is not touched yet.
+    Script {
+        roster: &'a str,
+        journal: &'a str,
+    },
+    /// Whether a proposal is right for a market.
+    Check {
+        market: MarketFiles<'a>,
+        proposal: &'a str,
+    },
+    /// A proposal for a market.
+    Solve {
+        market: MarketFiles<'a>,
+    },
+}
 
 fn is_dashed(word: &[u8]) -> bool
     ensures { result ≡ begins_with_dash word.now }
@@ -12,26 +43,64 @@ fn is_dashed(word: &[u8]) -> bool
     }
 }
 
-/// Whether the words are those of a script: `script ROSTER JOURNAL`, where neither name begins with a dash.
-pub fn are_in_form(words: &[String]) -> bool
-    ensures { result ≡ is_in_form (map string_bytes words.now) }
+fn mode_of(word: &str) -> Option<Mode>
+    ensures { result ≡ mode_word word.now }
 {
-    match words {
-        [form, roster, journal] => {
-            form.as_str() == "script"
-                && !is_dashed(roster.as_bytes())
-                && !is_dashed(journal.as_bytes())
-        }
-        _ => false,
+    if word == "conservative" {
+        Some(Mode::Conservative)
+    } else if word == "hybrid" {
+        Some(Mode::Hybrid)
+    } else {
+        None
     }
 }
 
-/// The name of the roster's file, in the words of a script.
-pub fn roster_name(words: &[String]) -> &str
-    ensures { result.now ≡ roster_name (map string_bytes words.now) }
+// The market of these words; none where a name begins with a dash, or the mode is none.
+fn read_market<'a>(roster: &'a str, trades: &'a str, mode: &str) -> Option<MarketFiles<'a>>
+    ensures { option_map read_market result ≡ market_of roster.now trades.now mode.now }
+{
+    if is_dashed(roster.as_bytes()) || is_dashed(trades.as_bytes()) {
+        return None;
+    }
+    let mode = mode_of(mode)?;
+    Some(MarketFiles {
+        roster,
+        trades,
+        mode,
+    })
+}
+
+/// What the words ask for; none exactly where they are out of form.
+pub fn read_words(words: &[String]) -> Option<Form<'_>>
+    ensures { option_map read_form result ≡ form_of (map string_bytes words.now) }
 {
     match words {
-        [_, roster, _] => roster.as_str(),
-        _ => "",
+        [verb, roster, journal] => {
+            let roster = roster.as_str();
+            let journal = journal.as_str();
+            if verb.as_str() != "script"
+                || is_dashed(roster.as_bytes())
+                || is_dashed(journal.as_bytes())
+            {
+                return None;
+            }
+            Some(Form::Script { roster, journal })
+        }
+        [verb, roster, trades, mode] => {
+            if verb.as_str() != "solve" {
+                return None;
+            }
+            let market = read_market(roster.as_str(), trades.as_str(), mode.as_str())?;
+            Some(Form::Solve { market })
+        }
+        [verb, roster, trades, mode, proposal] => {
+            let proposal = proposal.as_str();
+            if verb.as_str() != "check" || is_dashed(proposal.as_bytes()) {
+                return None;
+            }
+            let market = read_market(roster.as_str(), trades.as_str(), mode.as_str())?;
+            Some(Form::Check { market, proposal })
+        }
+        _ => None,
     }
 }

@@ -1,5 +1,6 @@
 //! Whole sessions through `run`, byte for byte: what was read, what was written, and the status.
 
+mod markets;
 mod sources;
 
 use super::run;
@@ -22,11 +23,11 @@ struct Ran {
     errors: MemorySink,
 }
 
-// Runs these words over this source, with one file: the roster under the name T.
-fn ran_with<S: Source>(
+// Runs these words over this source and these files, each by its name.
+fn ran_over<S: Source>(
     rt: &HostRuntime,
     of: &[&str],
-    roster: &str,
+    contents: &[(&str, &[u8])],
     source: &mut S,
     mut output: MemorySink,
 ) -> Result<Ran, AllocError> {
@@ -35,7 +36,9 @@ fn ran_with<S: Source>(
         words.push(String::from_str(rt.alloc(), word)?)?;
     }
     let mut files = MemoryFiles::new(rt.alloc())?;
-    files.put("T", roster.as_bytes())?;
+    for (name, bytes) in contents {
+        files.put(name, bytes)?;
+    }
     let mut errors = MemorySink::new(rt.alloc(), 256)?;
     let status = run(
         rt,
@@ -51,6 +54,17 @@ fn ran_with<S: Source>(
         output,
         errors,
     })
+}
+
+// Runs these words over this source, with one file: the roster under the name T.
+fn ran_with<S: Source>(
+    rt: &HostRuntime,
+    of: &[&str],
+    roster: &str,
+    source: &mut S,
+    output: MemorySink,
+) -> Result<Ran, AllocError> {
+    ran_over(rt, of, &[("T", roster.as_bytes())], source, output)
 }
 
 fn script<S: Source>(
@@ -151,6 +165,21 @@ fn other_words_are_out_of_form(rt: HostRuntime) -> Result<(), Fail> {
         &["script", "-T", "j"],
         &["Script", "T", "j"],
         &["script", "T", "j", "k"],
+        &["check", "T", "t", "hybrid"],
+        &["check", "T", "t", "hybrid", "p", "q"],
+        &["check", "T", "t", "free", "p"],
+        &["check", "T", "t", "-hybrid", "p"],
+        &["check", "-T", "t", "hybrid", "p"],
+        &["check", "T", "-t", "hybrid", "p"],
+        &["check", "T", "t", "hybrid", "-p"],
+        &["check", "T", "t", "p", "hybrid"],
+        &["Check", "T", "t", "hybrid", "p"],
+        &["solve", "T", "t"],
+        &["solve", "T", "t", "Hybrid"],
+        &["solve", "-", "t", "hybrid"],
+        &["solve", "T", "-t", "hybrid"],
+        &["solve", "T", "t", "hybrid", "p"],
+        &["", "T", "j"],
         &[],
     ] {
         let mut source = MemorySource::new(rt.alloc(), SESSION.as_bytes())?;

@@ -1,4 +1,4 @@
-use Rattle.std.proofs.Common.{◌≡◌, ◌∙◌, ap}
+use Rattle.std.proofs.Common.{◌∙◌, ap}
 use Rattle.command_types.specs.Machine.{empty_state}
 use Rattle.command_types.specs.declared.figures.State.{State}
 use Rattle.command_types.specs.History.{new_history}

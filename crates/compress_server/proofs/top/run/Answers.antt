@@ -1,24 +1,18 @@
-use Rattle.std.proofs.Common.{◌≡◌, refl}
-use Rattle.compress_server.proofs.RunFacts.{has_fault}
+use Rattle.std.proofs.Common.{map, refl}
+use Rattle.std.specs.Prelude.{string_bytes}
+use Rattle.compress_server.specs.Words.{form_of}
+use Rattle.compress_server.proofs.EndFacts.{first_fault}
 use Rattle.compress_server.proofs.top.run.Goals as goal
 
-pub returns-in-Err-Roster-clause-faulty : goal.returns-in-Err-Roster-clause-faulty
-returns-in-Err-Roster-clause-faulty g c = λ status.
-    let fault = has_fault _ _ _ _ c.in-Err-Roster.fault c.roster_name-name.ensures c.in-Err-Roster.field-0-is c.in-Err-Roster.ensures.loads in
-    let told = rw (c.deref.ensures.value, c.in-Ok-fault_line.ensures) at c.report-in-Err-Roster.ensures in
-    (c.in-Err-Roster.fault, fault, told)
-
-pub returns-in-Ended-clause-whole : goal.returns-in-Ended-clause-whole
-returns-in-Ended-clause-whole g c = λ status. (c.in-Ok.roster, rw c.roster_name-name.ensures at c.in-Ok.ensures.loads, c.in-Ended.ensures.ends)
-
-pub returns-in-SourceFault-clause-stopped : goal.returns-in-SourceFault-clause-stopped
-returns-in-SourceFault-clause-stopped g c = λ status. (c.in-Ok.roster, rw c.roster_name-name.ensures at c.in-Ok.ensures.loads, c.in-SourceFault.ensures.ends)
+pub returns-in-Unloaded-Faulty-clause-faulty : goal.returns-in-Unloaded-Faulty-clause-faulty
+returns-in-Unloaded-Faulty-clause-faulty g c = λ status.
+    let first = first_fault
+    (g.F.Files.folder c.args.files.now) (form_of (map string_bytes c.args.words.now))
+    (g.S.Source.flow c.args.input.now) (g.S.Source.flow c.run_form.new.input)
+    (g.K.Sink.taken c.args.output.now) (g.K.Sink.taken c.run_form.new.output)
+    _ c.in-Unloaded-Faulty.role c.in-Unloaded-Faulty.fault
+    c.in-Unloaded-Faulty.field-0-is c.in-Unloaded-Faulty.ensures.runs in
+    (c.in-Unloaded-Faulty.role, c.in-Unloaded-Faulty.fault, first, c.report_fault.ensures.fault status)
 
 pub returns-in-SinkFault-clause-output_fault : goal.returns-in-SinkFault-clause-output_fault
 returns-in-SinkFault-clause-output_fault g c = λ status. c.in-SinkFault.ensures.sink_fault refl
-
-pub returns-in-SinkFault-clause-unwritten : goal.returns-in-SinkFault-clause-unwritten
-returns-in-SinkFault-clause-unwritten g c = λ status. (c.in-Ok.roster, rw c.roster_name-name.ensures at c.in-Ok.ensures.loads, c.in-SinkFault.ensures.ends)
-
-pub returns-in-Limit-clause-limit : goal.returns-in-Limit-clause-limit
-returns-in-Limit-clause-limit g c = λ status. (c.in-Ok.roster, rw c.roster_name-name.ensures at c.in-Ok.ensures.loads, c.in-Limit.ensures.ends)

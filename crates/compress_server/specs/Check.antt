@@ -1,0 +1,37 @@
+-- What a check of a proposal tells.
+use Rattle.std.specs.Prelude.{◌≡◌, ℕ, List, Option, Some, None}
+use Rattle.outside.specs.Files.{Folder}
+use Rattle.outside.specs.Flow.{Takes, TakesFront}
+use Rattle.command_types.specs.Roster.{Rows}
+use Rattle.trade_file.specs.declared.file_trade.FileTrade.{FileTrade}
+use Rattle.dual_certificate.specs.declared.proposal_part.ProposalPart.{ProposalPart}
+use Rattle.file_market.specs.declared.failing.Failing.{Failing}
+use Rattle.file_market.specs.Check.{IsChecked}
+use Rattle.file_market.specs.Verdict.{verdict_text}
+use Rattle.compress_server.specs.Words.{Market}
+use Rattle.compress_server.specs.Files.{SaysMarket, SaysProposal}
+
+-- a check of what the three files say finds this, and the text tells it
+pub record IsVerdict (folder : Option Folder) (market : Market) (proposal : List ℕ) (found : Option Failing) (text : List ℕ) : Type 0 where
+  pub rows : Rows
+  pub trades : List FileTrade
+  pub parts : List ProposalPart
+  pub says_market : SaysMarket folder market rows trades
+  pub says_proposal : SaysProposal folder proposal rows parts
+  pub checked : IsChecked rows market.mode trades parts found
+  pub told : text ≡ verdict_text rows found
+
+-- every product passes, and the line that says so was written
+abbrev pub SaysYes : Option Folder → Option (List ℕ) → Option (List ℕ) → Market → List ℕ → Type 0
+SaysYes folder begun taken market proposal =
+    (text : List ℕ) × IsVerdict folder market proposal None text × Takes begun taken text
+
+-- a product fails, and the line that tells the first one and why was written
+abbrev pub SaysNo : Option Folder → Option (List ℕ) → Option (List ℕ) → Market → List ℕ → Type 0
+SaysNo folder begun taken market proposal =
+    (failing : Failing) × (text : List ℕ) × IsVerdict folder market proposal (Some failing) text × Takes begun taken text
+
+-- a front of the line that tells the verdict was written
+abbrev pub SaysFront : Option Folder → Option (List ℕ) → Option (List ℕ) → Market → List ℕ → Type 0
+SaysFront folder begun taken market proposal =
+    (found : Option Failing) × (text : List ℕ) × IsVerdict folder market proposal found text × TakesFront begun taken text

@@ -1,0 +1,85 @@
+-- What was read and what was written, by the end of a form.
+use Rattle.std.specs.Prelude.{◌≡◌, ℕ, List, Option, Some, None}
+use Rattle.outside.specs.Files.{Folder}
+use Rattle.outside.specs.Flow.{Flow, Takes, TakesFront}
+use Rattle.command_types.specs.declared.cycle.Mode.{Mode}
+use Rattle.command_types.specs.declared.file_fault.FileFault.{FileFault}
+use Rattle.command_types.specs.Roster.{Rows}
+use Rattle.trade_file.specs.declared.file_trade.FileTrade.{FileTrade}
+use Rattle.dual_certificate.specs.declared.proposal_part.ProposalPart.{ProposalPart}
+use Rattle.file_market.specs.declared.failing.Failing.{Failing}
+use Rattle.file_market.specs.Check.{IsChecked}
+use Rattle.file_market.specs.Verdict.{verdict_text}
+use Rattle.compress_server.specs.declared.load.FileRole.{FileRole}
+use Rattle.compress_server.specs.declared.load.LoadFault.{LoadFault}
+use Rattle.compress_server.specs.declared.load.LoadFault.TheVariants.{Files, Faulty, Memory as NoMemory}
+use Rattle.compress_server.specs.declared.ending.End.{End}
+use Rattle.compress_server.specs.declared.ending.End.TheVariants.{Done, No, BadWords, Unloaded, SourceFault, SinkFault, Limit, Memory}
+use Rattle.compress_server.specs.Words.{Market, Form}
+use Rattle.compress_server.specs.Files.{SaysRoster, IsRosterFault, IsMarketFault, IsCheckFault}
+use Rattle.compress_server.specs.Run.{IsWhole, IsStopped, IsAtLimit, IsUnwritten}
+use Rattle.compress_server.specs.Check.{SaysYes, SaysNo, SaysFront}
+use Rattle.compress_server.specs.Solve.{Proposes, ProposesFront}
+
+-- a fault among the files is the first one
+abbrev pub IsFault : (FileRole → FileFault → Type 0) → LoadFault → Type 0
+IsFault P (Faulty role fault) = P role fault
+IsFault P Files = Unit {0}
+IsFault P NoMemory = Unit {0}
+
+-- the roster's file says rows, of which this holds
+abbrev pub OverRoster : Option Folder → List ℕ → (Rows → Type 0) → Type 0
+OverRoster folder name P = (rows : Rows) × SaysRoster folder name rows × P rows
+
+-- by the end of a script over the roster's file
+abbrev pub ScriptRuns : Option Folder → List ℕ → Option Flow → Option Flow → Option (List ℕ) → Option (List ℕ) → End → Type 0
+ScriptRuns folder roster opened flow begun taken Done = OverRoster folder roster (λ rows. IsWhole rows opened flow begun taken)
+ScriptRuns folder roster opened flow begun taken No = ⊥
+ScriptRuns folder roster opened flow begun taken BadWords = ⊥
+ScriptRuns folder roster opened flow begun taken (Unloaded fault) = (flow ≡ opened) × (taken ≡ begun) × IsFault (IsRosterFault folder roster) fault
+ScriptRuns folder roster opened flow begun taken SourceFault = OverRoster folder roster (λ rows. IsStopped rows opened flow begun taken)
+ScriptRuns folder roster opened flow begun taken SinkFault = OverRoster folder roster (λ rows. IsUnwritten rows opened flow begun taken)
+ScriptRuns folder roster opened flow begun taken Limit = OverRoster folder roster (λ rows. IsAtLimit rows opened flow begun taken)
+ScriptRuns folder roster opened flow begun taken Memory = (flow ≡ opened) × (taken ≡ begun)
+
+-- by the end of a check of parts that were read: the line that was written
+abbrev pub IsTold : Rows → Mode → List FileTrade → List ProposalPart → Option (List ℕ) → Option (List ℕ) → End → Type 0
+IsTold rows mode trades parts begun taken Done = IsChecked rows mode trades parts None × Takes begun taken (verdict_text rows None)
+IsTold rows mode trades parts begun taken No =
+    (failing : Failing) × IsChecked rows mode trades parts (Some failing) × Takes begun taken (verdict_text rows (Some failing))
+IsTold rows mode trades parts begun taken SinkFault =
+    (found : Option Failing) × IsChecked rows mode trades parts found × TakesFront begun taken (verdict_text rows found)
+IsTold rows mode trades parts begun taken Memory = taken ≡ begun
+IsTold rows mode trades parts begun taken BadWords = ⊥
+IsTold rows mode trades parts begun taken (Unloaded fault) = ⊥
+IsTold rows mode trades parts begun taken SourceFault = ⊥
+IsTold rows mode trades parts begun taken Limit = ⊥
+
+-- by the end of a check
+abbrev pub CheckRuns : Option Folder → Market → List ℕ → Option (List ℕ) → Option (List ℕ) → End → Type 0
+CheckRuns folder market proposal begun taken Done = SaysYes folder begun taken market proposal
+CheckRuns folder market proposal begun taken No = SaysNo folder begun taken market proposal
+CheckRuns folder market proposal begun taken BadWords = ⊥
+CheckRuns folder market proposal begun taken (Unloaded fault) = (taken ≡ begun) × IsFault (IsCheckFault folder market proposal) fault
+CheckRuns folder market proposal begun taken SourceFault = ⊥
+CheckRuns folder market proposal begun taken SinkFault = SaysFront folder begun taken market proposal
+CheckRuns folder market proposal begun taken Limit = ⊥
+CheckRuns folder market proposal begun taken Memory = taken ≡ begun
+
+-- by the end of a solve
+abbrev pub SolveRuns : Option Folder → Market → Option (List ℕ) → Option (List ℕ) → End → Type 0
+SolveRuns folder market begun taken Done = Proposes folder begun taken market
+SolveRuns folder market begun taken No = ⊥
+SolveRuns folder market begun taken BadWords = ⊥
+SolveRuns folder market begun taken (Unloaded fault) = (taken ≡ begun) × IsFault (IsMarketFault folder market) fault
+SolveRuns folder market begun taken SourceFault = ⊥
+SolveRuns folder market begun taken SinkFault = ProposesFront folder begun taken market
+SolveRuns folder market begun taken Limit = ⊥
+SolveRuns folder market begun taken Memory = taken ≡ begun
+
+-- by the end of the program
+abbrev pub Runs : Option Folder → Option Form → Option Flow → Option Flow → Option (List ℕ) → Option (List ℕ) → End → Type 0
+Runs folder None opened flow begun taken end = (end ≡ BadWords) × (flow ≡ opened) × (taken ≡ begun)
+Runs folder (Some (Form.Script roster journal)) opened flow begun taken end = ScriptRuns folder roster opened flow begun taken end
+Runs folder (Some (Form.Check market proposal)) opened flow begun taken end = (flow ≡ opened) × CheckRuns folder market proposal begun taken end
+Runs folder (Some (Form.Solve market)) opened flow begun taken end = (flow ≡ opened) × SolveRuns folder market begun taken end

@@ -1,0 +1,24 @@
+-- What is written of a market that is solved.
+use Rattle.std.specs.Prelude.{ℕ, List, Option}
+use Rattle.outside.specs.Files.{Folder}
+use Rattle.outside.specs.Flow.{Takes, TakesFront}
+use Rattle.command_types.specs.Roster.{Rows}
+use Rattle.trade_file.specs.declared.file_trade.FileTrade.{FileTrade}
+use Rattle.file_market.specs.Solve.{IsSolvedText}
+use Rattle.compress_server.specs.Words.{Market}
+use Rattle.compress_server.specs.Files.{SaysMarket}
+
+-- the text is a proposal of certified solutions for what the two files say
+pub record IsProposal (folder : Option Folder) (market : Market) (text : List ℕ) : Type 0 where
+  pub rows : Rows
+  pub trades : List FileTrade
+  pub says_market : SaysMarket folder market rows trades
+  pub solved : IsSolvedText rows market.mode trades text
+
+-- the whole proposal was written
+abbrev pub Proposes : Option Folder → Option (List ℕ) → Option (List ℕ) → Market → Type 0
+Proposes folder begun taken market = (text : List ℕ) × IsProposal folder market text × Takes begun taken text
+
+-- a front of a proposal was written
+abbrev pub ProposesFront : Option Folder → Option (List ℕ) → Option (List ℕ) → Market → Type 0
+ProposesFront folder begun taken market = (text : List ℕ) × IsProposal folder market text × TakesFront begun taken text

@@ -1,0 +1,42 @@
+//! The form `solve`: a proposal for a market.
+
+ghost use Rattle.std.specs.Prelude.{◌≡◌, Err};
+ghost use Rattle.outside.specs.Faults.{Rose};
+ghost use Rattle.compress_server.specs.Words.{read_market};
+ghost use Rattle.compress_server.specs.Ending.{SolveRuns};
+
+use crate::ending::End;
+use crate::load::{LoadFault, load_roster, load_trades};
+use crate::words::MarketFiles;
+use file_market::solve;
+use outside::{Files, Sink, write_all};
+use std::alloc::Global;
+
+/// Reads the market's files, solves the market, and writes the proposal. No file changes.
+pub fn run_solve<F: Files, K: Sink>(
+    alloc: Global,
+    files: &mut F,
+    market: &MarketFiles<'_>,
+    output: &mut K,
+) -> End
+    ensures runs { SolveRuns (F.folder files.old) (read_market market.now) (K.taken output.old) (K.taken output.new) result }
+    ensures stays { F.folder files.new ≡ F.folder files.old }
+    ensures sink_fault { result ≡ End.SinkFault → Rose (K.faults output.old) (K.faults output.new) }
+    ensures file_fault { result ≡ End.Unloaded LoadFault.Files → Rose (F.faults files.old) (F.faults files.new) }
+{
+    let roster = match load_roster(alloc, files, market.roster) {
+        Ok(roster) => roster,
+        Err(fault) => return End::Unloaded(fault),
+    };
+    let trades = match load_trades(alloc, files, market.trades, &roster) {
+        Ok(trades) => trades,
+        Err(fault) => return End::Unloaded(fault),
+    };
+    let Ok(text) = solve(alloc, &roster, market.mode, &trades) else {
+        return End::Memory;
+    };
+    if write_all(output, &text).is_err() {
+        return End::SinkFault;
+    }
+    End::Done
+}
