@@ -24,7 +24,7 @@ pair_sum product seller buyer rows = total_where (is_between product seller buye
 abbrev pub stands : TradeRow → Bool
 stands row = not row.frozen || is_held row
 
--- a trade that a plan makes: live at once, submitted, marked and held by nobody, not frozen, of this day, between two members in range
+-- a trade that a plan makes: live at once, not frozen, of this day, between two members in range; nobody submitted, marked or holds it
 pub record IsMade (members products : ℕ) (day : DayParts) (row : TradeRow) : Type 0 where
   pub product : row.product < products
   pub seller : row.seller < members

@@ -42,8 +42,8 @@ fn add_row<K: Sink>(
     }
 }
 
-/// Writes the text of a reply, its head line and its detail lines. A text of less than 3,973 bytes is one write of the
-/// sink, and of a longer one each write but the last has more than that.
+/// Writes the text of a reply, its head line and its detail lines. It goes to the sink where the buffer has no room for
+/// one more row, and at the end.
 pub fn write_reply<K: Sink>(
     text: &mut [u8; 4096],
     roster: &Roster,

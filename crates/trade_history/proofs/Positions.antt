@@ -1,5 +1,5 @@
 -- The positions of a history, and the changes at them.
-use Rattle.std.proofs.Common.{◌≡◌, ◌↔◌, ℕ, zero, suc, ◌+◌, ◌-◌, List, [], ◌∷◌, ◌++◌, length, take, sym, ap, ◌∙◌, subst, subst₂, arith}
+use Rattle.std.proofs.Common.{◌≡◌, ℕ, zero, suc, ◌+◌, ◌-◌, List, [], ◌∷◌, ◌++◌, length, take, sym, ◌∙◌, subst₂, arith}
 use Rattle.std.proofs.Math.Seq.{take-append_seam, take-append-add}
 use Rattle.command_types.specs.declared.ask.Entry.{Entry}
 use Rattle.command_types.specs.declared.figures.State.{State}
@@ -8,7 +8,7 @@ use Rattle.command_types.specs.Machine.{state_after}
 use Rattle.command_types.specs.History.{History, IsLegalFrom, cut_after}
 use Rattle.trade_history.specs.Executes.{Executes}
 use Rattle.trade_history.specs.Book.{book_from}
-use Rattle.trade_history.specs.Laws.{TradesFollowAtEachPosition, ExecutesAfter, PositionsAreChanges}
+use Rattle.trade_history.specs.Laws.{TradesFollowAtEachPosition, PositionsAreChanges}
 use Rattle.trade_history.proofs.Replay.{trades_are_the_historys}
 
 legal-take : (n : ℕ) (s : State) (entries : List Entry) → IsLegalFrom s entries → IsLegalFrom s (take n entries)

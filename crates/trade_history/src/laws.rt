@@ -12,7 +12,7 @@ pub fn trades_are_the_historys()
     ensures { TradesAreTheHistorys }
 {}
 
-/// They are so at each position of it.
+/// So they are after each position: those of the machine there are those of the history up to there.
 pub fn trades_follow_at_each_position()
     ensures { TradesFollowAtEachPosition }
 {}
@@ -54,7 +54,7 @@ pub fn executions_are_listed()
     ensures { ExecutionsAreListed }
 {}
 
-/// They have no row for the other changes.
+/// The executions of a history have no row for a change at which no plan executes.
 pub fn others_are_not_listed()
     ensures { OthersAreNotListed }
 {}
