@@ -12,7 +12,7 @@ pub use laws::{
     plan_realises,
 };
 pub use parties::touched;
-pub use planning::plan;
+pub use planning::{add_change, plan};
 pub use votes::Votes;
 
 #[cfg(test)]

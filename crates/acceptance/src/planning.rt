@@ -186,8 +186,9 @@ fn add_product(
     Ok(())
 }
 
-// Adds the steps of a product.
-fn add_change(
+/// Adds to a plan what a product's new network changes in its frozen trades, as [`plan`] does for each product. The
+/// only error is want of memory.
+pub fn add_change(
     alloc: Global,
     plan: &mut Vec<PlanRow>,
     trades: &[TradeRow],

@@ -1,10 +1,10 @@
 //! The book of trades, in the order of their numbers.
 
-ghost use Rattle.std.specs.Prelude.{◌≡◌, ◌≢◌, ◌+◌, ◌-◌, ◌≤◌, ◌<◌, ◌^◌, [], ◌∷◌, ◌++◌, length, IsTrue, OnOk, OnErr, IfOk, IfSome, vec_len, vec_capacity, option_copied};
+ghost use Rattle.std.specs.Prelude.{ℕ, ◌≡◌, ◌≢◌, ◌+◌, ◌-◌, ◌≤◌, ◌<◌, ◌^◌, [], ◌∷◌, ◌++◌, length, IsTrue, OnOk, OnErr, IfOk, IfSome, vec_len, vec_capacity, option_copied};
 ghost use Rattle.command_types.specs.CycleSteps.{rows_of_member};
 ghost use Rattle.command_types.specs.Plans.{executed, count_of, is_new, thawed};
 ghost use Rattle.command_types.specs.Trades.{gross_of, sold_by, bought_by, pair_sum_of, submitted_count, trade_numbered, with_alleged, affirmed, ended_by, held_by, freed_by, row_ended_by};
-ghost use Rattle.product_book.specs.Book.{gross_limit, IsTrade, live_between, may_affirm, may_end, may_hold, may_free};
+ghost use Rattle.product_book.specs.Book.{gross_limit, AreTrades, IsTrade, live_between, may_affirm, may_end, may_hold, may_free};
 ghost use Rattle.command_types.specs.Execution.{IsExecutable};
 ghost use Rattle.product_book.specs.Freezes.{rows_by_choice, frozen_among, FrozenCount};
 ghost use Rattle.product_book.specs.Networks.{network_of, AllCount};
@@ -94,9 +94,12 @@ impl Book {
         self.rows.len() as u64
     }
 
-    /// All trades, in the order of their numbers. It takes no memory.
+    /// All trades, in the order of their numbers: their parties and products are places in range, and no product's
+    /// amounts are over the limit. It takes no memory.
     pub fn rows(&self) -> &[TradeRow]
-        ensures { result.now ≡ self.now.rows }
+        ensures rows { result.now ≡ self.now.rows }
+        ensures trades { AreTrades self.now.members self.now.products 1 self.now.rows }
+        ensures bounded { (product : ℕ) → gross_of product self.now.rows ≤ gross_limit }
     {
         &self.rows
     }

@@ -1,0 +1,39 @@
+//! The plan of posted solutions.
+
+ghost use Rattle.std.specs.Prelude.{◌≡◌, ◌≤◌, length, IfOk};
+ghost use Rattle.command_types.specs.Cycles.{old_networks, new_networks};
+ghost use Rattle.command_types.specs.Plans.{plan_of};
+
+use acceptance::add_change;
+use command_types::{PlanRow, TradeRow};
+use network_laws::{Problem, Solution};
+use std::alloc::{AllocError, Global};
+use units_core::{Day, ProductNo};
+
+/// What the solutions of these problems change in the frozen trades, where new trades are of this day. The only error
+/// is want of memory.
+pub fn posted_plan(
+    alloc: Global,
+    trades: &[TradeRow],
+    problems: &[Problem],
+    solutions: &[Solution],
+    day: Day,
+) -> Result<Vec<PlanRow>, AllocError>
+    requires few { length problems.now ≤ 64 }
+    requires one_each { length solutions.now ≡ length problems.now }
+    ensures { IfOk result (λ plan. plan.items ≡ plan_of trades.now (old_networks problems.now) (new_networks solutions.now) day) }
+{
+    let mut plan = Vec::new(alloc);
+    for place in 0..problems.len() {
+        add_change(
+            alloc,
+            &mut plan,
+            trades,
+            ProductNo(place as u16),
+            problems[place].network(),
+            solutions[place].network(),
+            day,
+        )?;
+    }
+    Ok(plan)
+}
