@@ -135,13 +135,9 @@ command_refusals s by (Decline cycle version) = decline_refusals s by cycle vers
 command_refusals s by (Cancel cycle) = cancel_refusals s by cycle
 command_refusals s by what = []
 
--- what the machine does not do yet: solving, and what follows on a posting
+-- what the machine does not do yet: a session's own solving
 abbrev pub is_built : State → List ℕ → What → Bool
 is_built s by (Fetch cycle version) = false
-is_built s by (Post cycle version solutions) = false
-is_built s by (Plan cycle) = false
-is_built s by (Accept cycle version) = false
-is_built s by (Decline cycle version) = false
 is_built s by what = true
 
 abbrev pub party_refusals : State → List ℕ → What → List (Bool × Refusal)

@@ -1,5 +1,5 @@
 -- What every change of the machine keeps: no frozen trade ends in a cycle that may break, and its numbers rise by at most one.
-use Rattle.std.proofs.Common.{◌≡◌, ℕ, ◌+◌, ◌-◌, ◌≤◌, ◌<◌, ◌^◌, ◌&&◌, nat_lt, Bool, true, false, List, [], ◌∷◌, length, get_or, Option, Some, None, is_some, slice_get, IsTrue, unwrap_or, if◌then◌else◌, arith, refl, ap, sym, subst, ◌∙◌}
+use Rattle.std.proofs.Common.{◌≡◌, ℕ, ◌+◌, ◌-◌, ◌≤◌, ◌<◌, ◌^◌, ◌&&◌, not, nat_lt, Bool, true, false, List, [], ◌∷◌, length, get_or, Option, Some, None, is_some, slice_get, IsTrue, unwrap_or, if◌then◌else◌, arith, refl, ap, sym, subst, ◌∙◌}
 use Rattle.std.proofs.lemmas.Bool.{false≢true}
 use Rattle.std.proofs.lemmas.List.Elements.{All-nil, All-cons, All-append, All-map, All-set}
 use Rattle.std.proofs.lemmas.Option.{slice_get_within, get_or_from_slice_get}
@@ -14,6 +14,7 @@ use Rattle.command_types.specs.declared.cycle.Phase.TheVariants as phase
 use Rattle.command_types.specs.declared.figures.Cycle.{Cycle}
 use Rattle.command_types.specs.declared.figures.State.{State}
 use Rattle.command_types.specs.declared.plan.PlanRow.{PlanRow}
+use Rattle.command_types.specs.declared.refusal.Refusal.TheVariants.{NotGreeted, NotBuilt}
 use Rattle.command_types.specs.declared.roster.ProductRow.{ProductRow}
 use Rattle.command_types.specs.declared.trade.Side.{Side}
 use Rattle.command_types.specs.declared.trade.Side.TheVariants.{Out, In}
@@ -21,22 +22,25 @@ use Rattle.command_types.specs.declared.trade.TradeRow.{TradeRow}
 use Rattle.command_types.specs.declared.trade.TradeState.{TradeState}
 use Rattle.command_types.specs.declared.trade.TradeState.TheVariants.{Alleged, Live, Ended}
 use Rattle.command_types.specs.Trades.{is_live, trade_numbered, with_row, with_changed, changed_row, live_row, row_ended_by, row_with_hold, ended_by, alleged_row}
-use Rattle.command_types.specs.Cycles.{may_begin, may_break, product_matures_after, row_at_freeze, posted_plan, broken_at}
+use Rattle.command_types.specs.CycleRefusals.{fetch_refusals, post_refusals, decline_refusals}
+use Rattle.command_types.specs.Roster.{is_party}
+use Rattle.command_types.specs.Cycles.{is_solving, is_proposed, has_limits, may_begin, may_break, product_matures_after, row_at_freeze, posted_plan, broken_at}
 use Rattle.command_types.specs.CycleSteps.{is_frozen_and_marked, proposed_or_done, touched_in, after_vote, left_after}
 use Rattle.command_types.specs.History.{replayed_from}
 use Rattle.command_types.specs.Machine.{empty_state, first_of, refusals, member_of, product_of, side_at, side_of, state_by, state_after}
 use Rattle.cycle_states.specs.Machine.{FrozenAreLive, IsUnbroken, IsYoung}
 use Rattle.cycle_states.specs.PlainDesk.{IsReplayed}
-use Rattle.cycle_states.proofs.MachineFacts.{none_holds, not_false, built}
+use Rattle.cycle_states.proofs.MachineFacts.{none_holds, not_false}
 
 -- a frozen trade is live
-abbrev IsSound : TradeRow → Type 0
+abbrev pub IsSound : TradeRow → Type 0
 IsSound row = IsTrue row.frozen → IsTrue (is_live row.state)
 
 unfrozen : (row : TradeRow) → row.frozen ≡ false → IsSound row
 unfrozen row off on = absurd (false≢true (sym off ∙ on))
 
-found : (rows : List TradeRow) (number : ℕ) (t : Bool) (row : TradeRow) → (if t then slice_get rows (number - 1) else None) ≡ Some row → FrozenAreLive rows → IsSound row
+-- so is one that was looked up
+pub found : (rows : List TradeRow) (number : ℕ) (t : Bool) (row : TradeRow) → (if t then slice_get rows (number - 1) else None) ≡ Some row → FrozenAreLive rows → IsSound row
 found rows number true row is all =
     subst IsSound (get_or_from_slice_get rows (number - 1) row row is) (all (number - 1) row (slice_get_within rows (number - 1) row is))
 found rows number false row is all = cc
@@ -66,7 +70,7 @@ ends_sound side row Ended mark true off sound = absurd (false≢true (sound refl
 ends_sound side row Ended None false off sound = λ on. absurd (false≢true on)
 ends_sound side row Ended (Some m) false off sound = λ on. absurd (false≢true on)
 
-second_fails : (a b : Bool) → (a && b) ≡ false → IsTrue a → b ≡ false
+pub second_fails : (a b : Bool) → (a && b) ≡ false → IsTrue a → b ≡ false
 second_fails true b h is = h
 second_fails false b h is = absurd (false≢true is)
 
@@ -85,12 +89,57 @@ end_unbroken false cycle rows trade side is before = λ may.
 freeze_sound : (products : List ProductRow) (day : DayParts) (row : TradeRow) → IsSound (row_at_freeze products day row)
 freeze_sound products day row = first_of_both (is_live row.state) (product_matures_after (slice_get products row.product) day)
 
-begin_breaks : (p : Phase) → may_begin p ≡ true → IsTrue (may_break p)
+-- where a version may begin, the cycle may break
+pub begin_breaks : (p : Phase) → may_begin p ≡ true → IsTrue (may_break p)
 begin_breaks phase.None h = absurd (false≢true h)
 begin_breaks phase.Frozen h = refl
 begin_breaks phase.Solving h = refl
 begin_breaks phase.Proposed h = refl
 begin_breaks phase.Broken h = absurd (false≢true h)
+
+-- limits stand in a cycle that may break
+pub limits_break : (p : Phase) → IsTrue (has_limits p) → IsTrue (may_break p)
+limits_break phase.None h = absurd (false≢true h)
+limits_break phase.Frozen h = refl
+limits_break phase.Solving h = refl
+limits_break phase.Proposed h = refl
+limits_break phase.Broken h = absurd (false≢true h)
+
+pub proposed_limits : (p : Phase) → IsTrue (is_proposed p) → IsTrue (has_limits p)
+proposed_limits phase.None h = absurd (false≢true h)
+proposed_limits phase.Frozen h = absurd (false≢true h)
+proposed_limits phase.Solving h = absurd (false≢true h)
+proposed_limits phase.Proposed h = refl
+proposed_limits phase.Broken h = absurd (false≢true h)
+
+pub solving_limits : (p : Phase) → IsTrue (is_solving p) → IsTrue (has_limits p)
+solving_limits phase.None h = absurd (false≢true h)
+solving_limits phase.Frozen h = absurd (false≢true h)
+solving_limits phase.Solving h = refl
+solving_limits phase.Proposed h = refl
+solving_limits phase.Broken h = absurd (false≢true h)
+
+-- what may be done with a begun version comes in phase solving
+pub fetch_solves : (s : State) (by : List ℕ) (cycle version : ℕ) → first_of (fetch_refusals s by cycle version) ≡ None → IsTrue (is_solving s.cycle.phase)
+fetch_solves s by cycle version none = not_false (is_solving s.cycle.phase) (none_holds (fetch_refusals s by cycle version) none).1.1.1.0
+
+post_breaks : (s : State) (by : Option (List ℕ)) (cycle version : ℕ) (solutions : List SolutionData) → first_of (refusals s by (Post cycle version solutions)) ≡ None → IsTrue (may_break s.cycle.phase)
+post_breaks s by cycle version solutions none =
+    limits_break s.cycle.phase (solving_limits s.cycle.phase
+    (not_false (is_solving s.cycle.phase) (none_holds ((not (is_party s.roster by), NotGreeted) ∷ (false, NotBuilt) ∷ post_refusals s (unwrap_or by []) cycle version solutions) none).1.1.1.1.1.0))
+
+-- an accepted DECLINE comes in phase proposed
+pub decline_proposed : (s : State) (by : Option (List ℕ)) (cycle version : ℕ) → first_of (refusals s by (Decline cycle version)) ≡ None → is_proposed s.cycle.phase ≡ true
+decline_proposed s by cycle version none =
+    not_false (is_proposed s.cycle.phase) (none_holds ((not (is_party s.roster by), NotGreeted) ∷ (false, NotBuilt) ∷ decline_refusals s (unwrap_or by []) cycle version) none).1.1.1.1.0
+
+posted_unbroken : (s : State) (solutions : List SolutionData) (plan : List PlanRow) (touched : List ℕ) → IsTrue (may_break s.cycle.phase) → IsUnbroken s.cycle.phase s.trades → IsUnbroken (proposed_or_done s solutions plan touched).cycle.phase (proposed_or_done s solutions plan touched).trades
+posted_unbroken s solutions plan [] breaks before = λ may. absurd (false≢true may)
+posted_unbroken s solutions plan (member ∷ members) breaks before = λ may. before breaks
+
+voted_unbroken : (s : State) (member : ℕ) (left : List ℕ) → IsUnbroken s.cycle.phase s.trades → IsUnbroken (after_vote s member left).cycle.phase (after_vote s member left).trades
+voted_unbroken s member [] before = λ may. absurd (false≢true may)
+voted_unbroken s member (voter ∷ voters) before = before
 
 unbroken_by : (s : State) (by : Option (List ℕ)) (what : What) → first_of (refusals s by what) ≡ None → IsUnbroken s.cycle.phase s.trades → IsUnbroken (state_by s by what).cycle.phase (state_by s by what).trades
 unbroken_by s by (Hello name key) none before = before
@@ -118,11 +167,12 @@ unbroken_by s by (Begin cycle mode) none before = λ may.
 unbroken_by s by (Limits product) none before = before
 unbroken_by s by (Row product seller buyer amount size sum) none before = before
 unbroken_by s by (Pot product member value size) none before = before
-unbroken_by s by (Post cycle version solutions) none before = absurd (false≢true (built s by (Post cycle version solutions) none))
+unbroken_by s by (Post cycle version solutions) none before =
+    posted_unbroken s solutions (posted_plan s.cycle s.trades solutions) (touched_in s (posted_plan s.cycle s.trades solutions)) (post_breaks s by cycle version solutions none) before
 unbroken_by s by (Fetch cycle version) none before = before
 unbroken_by s by (Plan cycle) none before = before
-unbroken_by s by (Accept cycle version) none before = absurd (false≢true (built s by (Accept cycle version) none))
-unbroken_by s by (Decline cycle version) none before = absurd (false≢true (built s by (Decline cycle version) none))
+unbroken_by s by (Accept cycle version) none before = voted_unbroken s (member_of s (unwrap_or by [])) (left_after s (member_of s (unwrap_or by []))) before
+unbroken_by s by (Decline cycle version) none before = λ may. before (limits_break s.cycle.phase (proposed_limits s.cycle.phase (decline_proposed s by cycle version none)))
 unbroken_by s by (Cancel cycle) none before = λ may. absurd (false≢true may)
 unbroken_by s by Bye none before = before
 unbroken_by s by (Unreadable at) none before = before

@@ -1,5 +1,5 @@
 -- The walks over trades, products and pairs.
-use Rattle.std.proofs.Common.{◌≡◌, ◌≢◌, ℕ, suc, ◌+◌, ◌≤◌, ◌<◌, Bool, true, false, cond, List, [], ◌∷◌, ◌++◌, length, get_or, set, drop, Option, Some, None, if◌then◌else◌, arith, ap, sym, ◌∙◌, append_assoc, get_or-set_other, get_or-set_same, below_more}
+use Rattle.std.proofs.Common.{◌≡◌, ◌≢◌, ℕ, zero, suc, ◌+◌, ◌≤◌, ◌<◌, Bool, true, false, cond, List, [], ◌∷◌, ◌++◌, length, get_or, set, take, drop, Option, Some, None, if◌then◌else◌, arith, refl, ap, sym, ◌∙◌, append_assoc, get_or-set_other, get_or-set_same, below_more}
 use Rattle.std.specs.Prelude.{filter}
 use Rattle.std.specs.Option.{option_to_list}
 use Rattle.std.proofs.lemmas.List.{append-nil, drop_all, get_or-map}
@@ -13,6 +13,13 @@ use Rattle.command_types.specs.declared.tolerance.ToleranceRow.{ToleranceRow}
 use Rattle.command_types.specs.declared.trade.TradeRow.{TradeRow}
 use Rattle.command_types.specs.Roster.{Rows}
 use Rattle.command_types.specs.Cycles.{is_taken, frozen_rows, problem_of, problems_from}
+
+-- a front that is as long as the list is the list
+pub whole_front : {T : Type 0} (xs : List T) (n : ℕ) → length xs ≤ n → take n xs ≡ xs
+whole_front [] zero l = refl
+whole_front [] (suc n) l = refl
+whole_front (x ∷ xs) zero l = absurd (omega arith)
+whole_front (x ∷ xs) (suc n) l = ap (λ ys. x ∷ ys) (whole_front xs n (omega arith))
 
 -- how many of the trades a freeze of the day takes
 abbrev pub taken : List ProductRow → DayParts → List TradeRow → ℕ

@@ -11,7 +11,7 @@ use Rattle.command_types.specs.declared.ask.What.{What}
 use Rattle.command_types.specs.declared.ask.What.TheVariants.{Hello, Trade, Affirm, End, Hold, Free, Tol, Nets, Statement, Freeze, Begin, Limits, Row, Pot, Post, Fetch, Plan, Accept, Decline, Cancel, Bye, Unreadable}
 use Rattle.command_types.specs.declared.answer.Answer.{Answer}
 use Rattle.command_types.specs.declared.refusal.Refusal.{Refusal}
-use Rattle.command_types.specs.declared.refusal.Refusal.TheVariants.{NotGreeted}
+use Rattle.command_types.specs.declared.refusal.Refusal.TheVariants.{NotGreeted, AlreadyAccepted}
 use Rattle.network_laws.specs.Solutions.{SolutionData}
 use Rattle.command_types.specs.declared.figures.Cycle.{Cycle}
 use Rattle.command_types.specs.declared.figures.State.{State}
@@ -21,17 +21,17 @@ use Rattle.command_types.specs.declared.trade.Side.{Side}
 use Rattle.command_types.specs.declared.trade.TradeRow.{TradeRow}
 use Rattle.command_types.specs.declared.roster.Role.TheVariants.{Dealer}
 use Rattle.command_types.specs.declared.roster.MemberRow.{MemberRow}
-use Rattle.command_types.specs.Roster.{Rows, member_place, is_party, is_operator}
+use Rattle.command_types.specs.Roster.{Rows, member_place, is_operator}
 use Rattle.command_types.specs.Trades.{gross_of}
-use Rattle.command_types.specs.Machine.{first_of, refusals, party_refusals, is_built, trade_refusals, product_of, member_of, position_of, changes, is_refusal, refused_or, accepted, answer_to, state_by, state_after}
+use Rattle.command_types.specs.Machine.{first_of, refusals, party_refusals, trade_refusals, product_of, member_of, position_of, changes, is_refusal, refused_or, accepted, answer_to, state_by, state_after}
 use Rattle.command_types.specs.Cycles.{posted_plan}
 use Rattle.command_types.specs.Books.{live_network}
-use Rattle.command_types.specs.CycleRefusals.{is_crossed}
+use Rattle.command_types.specs.CycleRefusals.{is_crossed, has_voted_at, if_voted}
 use Rattle.command_types.specs.Tolerances.{with_setting}
 use Rattle.command_types.specs.CycleSteps.{with_tolerance, market_of, market_in, proposed_or_done, touched_in, after_vote, left_after}
 use Rattle.command_types.specs.History.{is_recorded}
 use Rattle.product_book.specs.Book.{gross_limit}
-use Rattle.cycle_states.specs.Machine.{is_of_trade, state_in, state_with}
+use Rattle.cycle_states.specs.Machine.{looks_at_trades, state_in, state_with}
 
 roster_posted : (s : State) (solutions : List SolutionData) (plan : List PlanRow) (touched : List ℕ) → (proposed_or_done s solutions plan touched).roster ≡ s.roster
 roster_posted s solutions plan [] = refl
@@ -159,12 +159,6 @@ not_refused s ask change = change_by (changes ask.what) (accepted s ask.by ask.w
 pub accepted_answer : (s : State) (ask : Ask) → first_of (refusals s ask.by ask.what) ≡ None → answer_to s ask ≡ accepted s ask.by ask.what
 accepted_answer s ask none = ap (λ r. refused_or (accepted s ask.by ask.what) r) none
 
--- a party's command that is not refused is one that the machine does
-pub built : (s : State) (by : Option (List ℕ)) (what : What) → first_of ((not (is_party s.roster by), NotGreeted) ∷ party_refusals s (unwrap_or by []) what) ≡ None → is_built s (unwrap_or by []) what ≡ true
-built s by what none =
-    let tests = none_holds ((not (is_party s.roster by), NotGreeted) ∷ party_refusals s (unwrap_or by []) what) none in
-    not_false (is_built s (unwrap_or by []) what) tests.1.0
-
 -- a NETS shows a member its own position
 pub own_answer : (s : State) (by : Option (List ℕ)) (name product : List ℕ) (p m : ℕ) → by ≡ Some name → p ≡ product_of s product → m ≡ member_of s name → is_operator s.roster name ≡ false →
     position_of p m s.trades ≡ accepted s by (Nets product)
@@ -251,18 +245,20 @@ both_hold false b h = cc
 pub recorded_changes : (what : What) (answer : Answer) → IsTrue (is_recorded what answer) → changes what ≡ true
 recorded_changes what answer h = both_hold (changes what) (not (is_refusal answer)) h
 
--- what none of the five is, is not about a trade
-pub not_of_trade : (what : What) → ((seller buyer product : List ℕ) (amount : ℕ) (day : DayParts) → what ≡ Trade seller buyer product amount day → ⊥) → ((trade : ℕ) → what ≡ Affirm trade → ⊥) → ((trade : ℕ) → what ≡ End trade → ⊥) →
-    ((trade : ℕ) → what ≡ Hold trade → ⊥) → ((trade : ℕ) → what ≡ Free trade → ⊥) → is_of_trade what ≡ false
-not_of_trade (Trade seller buyer product amount day) t a e h f = absurd (t seller buyer product amount day refl)
-not_of_trade (Affirm trade) t a e h f = absurd (a trade refl)
-not_of_trade (End trade) t a e h f = absurd (e trade refl)
-not_of_trade (Hold trade) t a e h f = absurd (h trade refl)
-not_of_trade (Free trade) t a e h f = absurd (f trade refl)
-not_of_trade what t a e h f = refl
+-- what none of the seven is, looks at no trades
+pub not_looking : (what : What) → ((seller buyer product : List ℕ) (amount : ℕ) (day : DayParts) → what ≡ Trade seller buyer product amount day → ⊥) → ((trade : ℕ) → what ≡ Affirm trade → ⊥) → ((trade : ℕ) → what ≡ End trade → ⊥) →
+    ((trade : ℕ) → what ≡ Hold trade → ⊥) → ((trade : ℕ) → what ≡ Free trade → ⊥) → ((cycle version : ℕ) → what ≡ Accept cycle version → ⊥) → ((cycle version : ℕ) → what ≡ Decline cycle version → ⊥) → looks_at_trades what ≡ false
+not_looking (Trade seller buyer product amount day) t a e h f c d = absurd (t seller buyer product amount day refl)
+not_looking (Affirm trade) t a e h f c d = absurd (a trade refl)
+not_looking (End trade) t a e h f c d = absurd (e trade refl)
+not_looking (Hold trade) t a e h f c d = absurd (h trade refl)
+not_looking (Free trade) t a e h f c d = absurd (f trade refl)
+not_looking (Accept cycle version) t a e h f c d = absurd (c cycle version refl)
+not_looking (Decline cycle version) t a e h f c d = absurd (d cycle version refl)
+not_looking what t a e h f c d = refl
 
--- the trades are told of by no refusal of a command that is not about a trade
-pub rows_apart : (roster : Rows) (rows : List TradeRow) (cycle : Cycle) (by : List ℕ) (what : What) → is_of_trade what ≡ false → first_of (party_refusals (state_in roster [] cycle) by what) ≡ first_of (party_refusals (state_in roster rows cycle) by what)
+-- the trades are told of by no refusal of a command that looks at none
+pub rows_apart : (roster : Rows) (rows : List TradeRow) (cycle : Cycle) (by : List ℕ) (what : What) → looks_at_trades what ≡ false → first_of (party_refusals (state_in roster [] cycle) by what) ≡ first_of (party_refusals (state_in roster rows cycle) by what)
 rows_apart roster rows cycle by (Hello name key) apart = refl
 rows_apart roster rows cycle by (Trade seller buyer product amount day) apart = cc
 rows_apart roster rows cycle by (Affirm trade) apart = cc
@@ -280,11 +276,19 @@ rows_apart roster rows cycle by (Pot product member value size) apart = refl
 rows_apart roster rows cycle by (Post number version solutions) apart = refl
 rows_apart roster rows cycle by (Fetch number version) apart = refl
 rows_apart roster rows cycle by (Plan number) apart = refl
-rows_apart roster rows cycle by (Accept number version) apart = refl
-rows_apart roster rows cycle by (Decline number version) apart = refl
+rows_apart roster rows cycle by (Accept number version) apart = cc
+rows_apart roster rows cycle by (Decline number version) apart = cc
 rows_apart roster rows cycle by (Cancel number) apart = refl
 rows_apart roster rows cycle by Bye apart = refl
 rows_apart roster rows cycle by (Unreadable at) apart = refl
+
+voted_at : (roster : Rows) (rows : List TradeRow) (cycle : Cycle) (member : Option ℕ) → has_voted_at (state_in roster [] cycle) member ≡ has_voted_at (state_in roster rows cycle) member
+voted_at roster rows cycle None = refl
+voted_at roster rows cycle (Some member) = refl
+
+-- nor by the refusal of a second vote
+pub voted_apart : (roster : Rows) (rows : List TradeRow) (cycle : Cycle) (by : List ℕ) → first_of (if_voted (state_in roster [] cycle) by ∷ []) ≡ first_of (if_voted (state_in roster rows cycle) by ∷ [])
+voted_apart roster rows cycle by = ap (λ (t : Bool). first_of ((t, AlreadyAccepted) ∷ [])) (voted_at roster rows cycle (member_place roster by))
 
 -- the setting that an accepted TOL makes
 pub tolerated : (s : State) (by : Option (List ℕ)) (name other product : List ℕ) (side : Side) (floor : ℕ) (ceiling : Option ℕ) (m p o : ℕ) (settings : List ToleranceRow) → by ≡ Some name → m ≡ member_of s name → p ≡ product_of s product → o ≡ member_of s other →

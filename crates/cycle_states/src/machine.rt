@@ -7,29 +7,35 @@ mod cycle_refusals;
 mod draft_refusals;
 mod freezing;
 mod limit_lines;
+mod making;
 mod nets_refusals;
 mod parties;
 mod positions;
 mod problems;
+mod proposal;
+mod proposal_answers;
+mod proposal_changes;
 mod ready;
 mod refusals;
 mod room;
 mod row_refusals;
 mod sides;
+mod solutions;
 mod statement;
 mod tol_refusals;
 mod trade_refusals;
+mod vote_refusals;
 
 ghost use Rattle.std.specs.Prelude.{◌≡◌, ◌≤◌, IsTrue, IfOk, OnOk};
 ghost use Rattle.command_types.specs.Machine.{answer_to, state_after};
 ghost use Rattle.command_types.specs.History.{is_recorded};
-ghost use Rattle.cycle_states.specs.Machine.{problems_begun, rows_added, settings_added, IsYoung};
+ghost use Rattle.cycle_states.specs.Machine.{rows_added, settings_added, IsReady, IsYoung};
 
 use answers::{accepted, change_answer};
 use changes::change;
 use command_types::{Answer, Ask, Entry, Roster};
 use cycle::Cycle;
-use problems::problems_begun;
+use making::made_for;
 use product_book::Book;
 pub use ready::Ready;
 use refusals::refusal;
@@ -54,7 +60,7 @@ impl Model for Machine {
 
     ghost view = { λ m. record { state = state_with m.roster m.book.rows m.tolerances.settings m.cycle; spare = m.book.spare; slots = m.tolerances.spare } };
 
-    ghost invariant = { λ m. IsMachine m.roster m.book.members m.book.products m.book.rows m.cycle.phase };
+    ghost invariant = { λ m. IsMachine m.roster m.book.members m.book.products m.book.rows m.cycle };
 }
 
 impl Machine {
@@ -93,7 +99,7 @@ impl Machine {
         }
     }
 
-    /// Makes the room and the problems that an accepted change needs. The state stays, whatever the result; the only
+    /// Makes the room that an accepted change needs, and all that it is made with. The state stays, whatever the result; the only
     /// error is want of memory.
     pub fn prepare(&mut self, entry: Entry) -> Result<Ready, AllocError>
         requires accepted { IsTrue (is_recorded entry.ask.what (answer_to self.old.state entry.ask)) }
@@ -102,41 +108,53 @@ impl Machine {
         ensures keeps { self.old.spare ≤ self.new.spare }
         ensures keeps_slots { self.old.slots ≤ self.new.slots }
         ensures entry { IfOk result (λ ready. ready.entry ≡ entry) }
-        ensures problems { IfOk result (λ ready. ready.problems ≡ problems_begun self.old.state entry.ask.what) }
-        ensures room { OnOk result (rows_added entry.ask.what ≤ self.new.spare) }
+        ensures ready { IfOk result (λ ready. IsReady self.old.state ready) }
+        ensures room { OnOk result (rows_added self.old.state entry.ask.what ≤ self.new.spare) }
         ensures slot { OnOk result (settings_added entry.ask.what ≤ self.new.slots) }
     {
-        make_room(&mut self.book, &mut self.tolerances, &entry.ask.what)?;
-        let problems = problems_begun(
+        let made = made_for(
             &self.roster,
             &self.book,
             &self.tolerances,
             &self.cycle,
             &entry.ask,
         )?;
-        Ok(Ready::new(entry, problems))
+        make_room(
+            &mut self.book,
+            &mut self.tolerances,
+            &entry.ask.what,
+            &made.plan,
+            self.cycle.plan(),
+        )?;
+        Ok(Ready::new(entry, made))
     }
 
     /// Makes the change that was prepared in this state, and answers it. It takes no memory and can't fail.
     pub fn commit(&mut self, ready: Ready) -> (Entry, Answer)
         requires accepted { IsTrue (is_recorded ready.entry.ask.what (answer_to self.old.state ready.entry.ask)) }
         requires young { IsYoung self.old.state.cycle }
-        requires problems { ready.problems ≡ problems_begun self.old.state ready.entry.ask.what }
-        requires room { rows_added ready.entry.ask.what ≤ self.old.spare }
+        requires ready { IsReady self.old.state ready }
+        requires room { rows_added self.old.state ready.entry.ask.what ≤ self.old.spare }
         requires slot { settings_added ready.entry.ask.what ≤ self.old.slots }
         ensures state { self.new.state ≡ state_after self.old.state ready.entry.ask }
         ensures entry { result.0 ≡ ready.entry }
         ensures answer { result.1 ≡ answer_to self.old.state ready.entry.ask }
     {
-        let (entry, problems) = ready.into_parts();
-        let answer = change_answer(&self.roster, &self.book, &self.cycle, &entry.ask);
+        let (entry, made) = ready.into_parts();
+        let answer = change_answer(
+            &self.roster,
+            &self.book,
+            &self.cycle,
+            &entry.ask,
+            &made.plan,
+        );
         change(
             &self.roster,
             &mut self.book,
             &mut self.tolerances,
             &mut self.cycle,
             &entry.ask,
-            problems,
+            made,
         );
         (entry, answer)
     }

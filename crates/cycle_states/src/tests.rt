@@ -3,6 +3,8 @@
 mod broken;
 mod cycles;
 mod drafts;
+mod postings;
+mod votes;
 
 ghost use Rattle.std.specs.Prelude.{◌≡◌, ◌<◌, IsTrue};
 ghost use Rattle.units_core.specs.Name.{is_name};
@@ -126,6 +128,70 @@ fn is_same(answer: &Answer, want: &Answer) -> bool {
         (
             Answer::Begun { cycle, version },
             Answer::Begun {
+                cycle: want,
+                version: want_version,
+            },
+        ) => cycle == want && version == want_version,
+        (
+            Answer::Proposed {
+                cycle,
+                version,
+                before,
+                after,
+            },
+            Answer::Proposed {
+                cycle: want,
+                version: want_version,
+                before: want_before,
+                after: want_after,
+            },
+        ) => {
+            cycle == want && version == want_version && before == want_before && after == want_after
+        }
+        (
+            Answer::Nothing { cycle, version },
+            Answer::Nothing {
+                cycle: want,
+                version: want_version,
+            },
+        ) => cycle == want && version == want_version,
+        (
+            Answer::Accepted {
+                cycle,
+                version,
+                left,
+            },
+            Answer::Accepted {
+                cycle: want,
+                version: want_version,
+                left: want_left,
+            },
+        ) => cycle == want && version == want_version && left == want_left,
+        (
+            Answer::Executed {
+                cycle,
+                version,
+                ended,
+                cut,
+                made,
+            },
+            Answer::Executed {
+                cycle: want,
+                version: want_version,
+                ended: want_ended,
+                cut: want_cut,
+                made: want_made,
+            },
+        ) => {
+            cycle == want
+                && version == want_version
+                && ended == want_ended
+                && cut == want_cut
+                && made == want_made
+        }
+        (
+            Answer::Declined { cycle, version },
+            Answer::Declined {
                 cycle: want,
                 version: want_version,
             },
@@ -330,7 +396,9 @@ fn a_greeting_wants_the_key_of_its_name(rt: HostRuntime) -> Result<(), Fail> {
     }
     may_only_leave(&rt, desk, ka);
     refuses(&rt, desk, ops, What::Statement, 0, Refusal::NotParty);
-    refuses(&rt, desk, a, What::Plan { cycle: 0 }, 0, Refusal::NotBuilt);
+    let (cycle, version) = (0, 0);
+    let fetch = What::Fetch { cycle, version };
+    refuses(&rt, desk, a, fetch, 0, Refusal::NotBuilt);
     Ok(())
 }
 

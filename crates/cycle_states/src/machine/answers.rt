@@ -1,15 +1,17 @@
 //! What the commands that are not refused are answered.
 
-ghost use Rattle.std.specs.Prelude.{◌≡◌, [], true, None, IfOk};
+ghost use Rattle.std.specs.Prelude.{◌≡◌, [], true, None, is_some, IfOk, IsTrue};
 ghost use Rattle.command_types.specs.CycleSteps.{freeze_answer};
 ghost use Rattle.command_types.specs.Machine.{accepted, changes, end_answer, first_of, refusals};
-ghost use Rattle.cycle_states.specs.Machine.{state_in, state_of, IsBookOf, IsYoung};
+ghost use Rattle.cycle_states.specs.Machine.{is_accept, plan_made, state_in, state_of, IsBookOf, IsMachine, IsYoung};
 
 use super::cycle::Cycle;
 use super::freezing::taken_count;
 use super::parties::{place_of_member, place_of_product};
 use super::positions::{market_of, position_of};
-use command_types::{Answer, Ask, Listed, Refusal, Roster, TradeRow, TradeState, What};
+use super::proposal::plan_made;
+use super::proposal_answers::{post_answer, shown_plan, vote_answer};
+use command_types::{Answer, Ask, Listed, PlanRow, Refusal, Roster, TradeRow, TradeState, What};
 use product_book::Book;
 use std::alloc::AllocError;
 use units_core::{Day, Name};
@@ -96,11 +98,57 @@ fn freezing(roster: &Roster, book: &Book, cycle: &Cycle, day: Day) -> Answer
     }
 }
 
-/// What a change is answered that is not refused. It takes no memory.
-pub(super) fn change_answer(roster: &Roster, book: &Book, cycle: &Cycle, ask: &Ask) -> Answer
+// What a PLAN is answered that is not refused.
+fn plan_rows(
+    roster: &Roster,
+    book: &Book,
+    cycle: &Cycle,
+    by: &Option<Name>,
+    number: u64,
+) -> Result<Answer, AllocError>
+    requires { first_of (refusals (state_in roster.now book.now.rows cycle.now) by.now (What.Plan number)) ≡ None }
+    ensures { IfOk result (λ answer. answer ≡ accepted (state_in roster.now book.now.rows cycle.now) by.now (What.Plan number)) }
+{
+    match by {
+        None => unreachable!(),
+        Some(name) => {
+            let rows = shown_plan(roster, book, cycle, name)?;
+            Ok(Answer::PlanRows {
+                cycle: cycle.number(),
+                version: cycle.version(),
+                rows: Listed::new(rows),
+            })
+        }
+    }
+}
+
+// What an ACCEPT is answered that is not refused.
+fn accept_answer(roster: &Roster, book: &Book, cycle: &Cycle, ask: &Ask) -> Answer
+    requires kept { IsMachine roster.now book.now.members book.now.products book.now.rows cycle.now }
+    requires accept { is_accept ask.now.what ≡ true }
+    requires greeted { IsTrue (is_some ask.now.by) }
+    requires accepted { first_of (refusals (state_in roster.now book.now.rows cycle.now) ask.now.by ask.now.what) ≡ None }
+    ensures { result ≡ accepted (state_in roster.now book.now.rows cycle.now) ask.now.by ask.now.what }
+{
+    match &ask.by {
+        None => unreachable!(),
+        Some(name) => vote_answer(roster, book, cycle, place_of_member(roster, name)),
+    }
+}
+
+/// What a change is answered that is not refused, where this is the plan that it makes. It takes no memory.
+pub(super) fn change_answer(
+    roster: &Roster,
+    book: &Book,
+    cycle: &Cycle,
+    ask: &Ask,
+    plan: &[PlanRow],
+) -> Answer
+    requires kept { IsMachine roster.now book.now.members book.now.products book.now.rows cycle.now }
     requires young { IsYoung cycle.now }
     requires change { changes ask.now.what ≡ true }
     requires accepted { first_of (refusals (state_in roster.now book.now.rows cycle.now) ask.now.by ask.now.what) ≡ None }
+    requires planned { plan.now ≡ plan_made (state_in roster.now book.now.rows cycle.now) ask.now.what }
     ensures { result ≡ accepted (state_in roster.now book.now.rows cycle.now) ask.now.by ask.now.what }
 {
     match &ask.what {
@@ -117,6 +165,15 @@ pub(super) fn change_answer(roster: &Roster, book: &Book, cycle: &Cycle, ask: &A
             cycle: *number,
             version: 1 + cycle.version(),
         },
+        What::Post { solutions, .. } => post_answer(roster, book, cycle, solutions.rows(), plan),
+        What::Accept { .. } => accept_answer(roster, book, cycle, ask),
+        What::Decline {
+            cycle: number,
+            version,
+        } => Answer::Declined {
+            cycle: *number,
+            version: *version,
+        },
         What::Cancel { cycle: number } => Answer::Cancelled { cycle: *number },
         _ => unreachable!(),
     }
@@ -129,7 +186,7 @@ pub(super) fn accepted(
     cycle: &Cycle,
     ask: &Ask,
 ) -> Result<Answer, AllocError>
-    requires book { IsBookOf roster.now book.now.members book.now.products }
+    requires kept { IsMachine roster.now book.now.members book.now.products book.now.rows cycle.now }
     requires young { IsYoung cycle.now }
     requires accepted { first_of (refusals (state_in roster.now book.now.rows cycle.now) ask.now.by ask.now.what) ≡ None }
     ensures { IfOk result (λ answer. answer ≡ accepted (state_in roster.now book.now.rows cycle.now) ask.now.by ask.now.what) }
@@ -141,8 +198,12 @@ pub(super) fn accepted(
         What::Limits { product } => limits(roster, cycle, &ask.by, product),
         What::Row { size, .. } => Ok(Answer::Noted { size: *size }),
         What::Pot { size, .. } => Ok(Answer::Noted { size: *size }),
+        What::Plan { cycle: number } => plan_rows(roster, book, cycle, &ask.by, *number),
         What::Bye => Ok(Answer::Bye),
         What::Unreadable { at } => Ok(Answer::No(Refusal::BadLine { at: *at })),
-        _ => Ok(change_answer(roster, book, cycle, ask)),
+        _ => {
+            let plan = plan_made(roster, book, cycle, ask)?;
+            Ok(change_answer(roster, book, cycle, ask, &plan))
+        }
     }
 }

@@ -1,20 +1,22 @@
 //! The changes that the accepted commands make. None takes memory.
 
-ghost use Rattle.std.specs.Prelude.{◌≡◌, ◌≤◌, [], true, IsTrue, is_some, unwrap_or, None};
+ghost use Rattle.std.specs.Prelude.{◌≡◌, ◌≤◌, [], true, All, IsTrue, is_some, unwrap_or, None};
+ghost use Rattle.network_laws.specs.Solutions.{IsSolution};
 ghost use Rattle.command_types.specs.Trades.{trade_numbered};
 ghost use Rattle.command_types.specs.Machine.{changes, empty_state, first_of, refusals, side_at, state_after, state_by};
-ghost use Rattle.cycle_states.specs.Machine.{is_of_trade, problems_begun, rows_added, settings_added, state_in, state_of, state_with, IsBookOf, IsYoung};
+ghost use Rattle.cycle_states.specs.Machine.{is_accept, is_of_trade, plan_made, problems_begun, rows_added, settings_added, solutions_posted, state_in, state_of, state_with, votes_counted, IsBookOf, IsMachine, IsYoung};
 
 use super::cycle::Cycle;
 use super::freezing::freeze;
 use super::parties::{place_of_member, place_of_product};
+use super::proposal_changes::{accept, post};
+use super::ready::Made;
 use super::sides::{side_at, side_of};
 use super::trade_refusals::Terms;
 use command_types::{Ask, Level, Roster, Side, What};
-use network_laws::Problem;
 use product_book::Book;
 use tolerance_sets::Tolerances;
-use units_core::Name;
+use units_core::{MemberNo, Name};
 
 // Puts the trade of an accepted TRADE last.
 fn allege(roster: &Roster, book: &mut Book, by: &Option<Name>, terms: &Terms)
@@ -53,7 +55,7 @@ fn change_trade(roster: &Roster, book: &mut Book, cycle: &mut Cycle, ask: &Ask)
     requires book { IsBookOf roster.now book.old.members book.old.products }
     requires of_trade { is_of_trade ask.now.what ≡ true }
     requires accepted { first_of (refusals (state_in roster.now book.old.rows cycle.old) ask.now.by ask.now.what) ≡ None }
-    requires room { rows_added ask.now.what ≤ book.old.spare }
+    requires room { rows_added (state_in roster.now book.old.rows cycle.old) ask.now.what ≤ book.old.spare }
     ensures state { state_in roster.now book.new.rows cycle.new ≡ state_after (state_in roster.now book.old.rows cycle.old) ask.now }
     ensures members { book.new.members ≡ book.old.members }
     ensures products { book.new.products ≡ book.old.products }
@@ -124,26 +126,54 @@ fn tolerate(roster: &Roster, tolerances: &mut Tolerances, by: &Option<Name>, set
     }
 }
 
-/// Makes a change that is not refused; a BEGIN begins with these problems.
+// Counts the vote of an accepted ACCEPT.
+fn vote(roster: &Roster, book: &mut Book, cycle: &mut Cycle, ask: &Ask, votes: Vec<MemberNo>)
+    requires kept { IsMachine roster.now book.old.members book.old.products book.old.rows cycle.old }
+    requires accept { is_accept ask.now.what ≡ true }
+    requires greeted { IsTrue (is_some ask.now.by) }
+    requires accepted { first_of (refusals (state_in roster.now book.old.rows cycle.old) ask.now.by ask.now.what) ≡ None }
+    requires counted { votes.items ≡ votes_counted (state_in roster.now book.old.rows cycle.old) ask.now.by ask.now.what }
+    requires room { rows_added (state_in roster.now book.old.rows cycle.old) ask.now.what ≤ book.old.spare }
+    ensures state { state_in roster.now book.new.rows cycle.new ≡ state_after (state_in roster.now book.old.rows cycle.old) ask.now }
+    ensures members { book.new.members ≡ book.old.members }
+    ensures products { book.new.products ≡ book.old.products }
+{
+    match &ask.by {
+        None => unreachable!(),
+        Some(name) => accept(roster, book, cycle, place_of_member(roster, name), votes),
+    }
+}
+
+/// Makes a change that is not refused, with what was made for it.
 pub(super) fn change(
     roster: &Roster,
     book: &mut Book,
     tolerances: &mut Tolerances,
     cycle: &mut Cycle,
     ask: &Ask,
-    problems: Vec<Problem>,
+    made: Made,
 )
-    requires book { IsBookOf roster.now book.old.members book.old.products }
+    requires kept { IsMachine roster.now book.old.members book.old.products book.old.rows cycle.old }
     requires young { IsYoung cycle.old }
     requires change { changes ask.now.what ≡ true }
     requires accepted { first_of (refusals (state_with roster.now book.old.rows tolerances.old.settings cycle.old) ask.now.by ask.now.what) ≡ None }
-    requires made { problems.items ≡ problems_begun (state_with roster.now book.old.rows tolerances.old.settings cycle.old) ask.now.what }
-    requires room { rows_added ask.now.what ≤ book.old.spare }
+    requires problems { made.problems.items ≡ problems_begun (state_with roster.now book.old.rows tolerances.old.settings cycle.old) ask.now.what }
+    requires solutions { made.solutions.items ≡ solutions_posted ask.now.what }
+    requires planned { made.plan.items ≡ plan_made (state_in roster.now book.old.rows cycle.old) ask.now.what }
+    requires counted { made.votes.items ≡ votes_counted (state_in roster.now book.old.rows cycle.old) ask.now.by ask.now.what }
+    requires room { rows_added (state_in roster.now book.old.rows cycle.old) ask.now.what ≤ book.old.spare }
     requires slot { settings_added ask.now.what ≤ tolerances.old.spare }
     ensures state { state_with roster.now book.new.rows tolerances.new.settings cycle.new ≡ state_after (state_with roster.now book.old.rows tolerances.old.settings cycle.old) ask.now }
+    ensures solutions { All IsSolution (solutions_posted ask.now.what) }
     ensures members { book.new.members ≡ book.old.members }
     ensures products { book.new.products ≡ book.old.products }
 {
+    let Made {
+        problems,
+        solutions,
+        plan,
+        votes,
+    } = made;
     match &ask.what {
         What::Tol {
             other,
@@ -166,6 +196,9 @@ pub(super) fn change(
             cycle.open(*day);
         }
         What::Begin { .. } => cycle.begin(problems),
+        What::Post { .. } => post(roster, book, cycle, solutions, plan),
+        What::Accept { .. } => vote(roster, book, cycle, ask, votes),
+        What::Decline { .. } => cycle.decline(),
         What::Cancel { .. } => {
             book.thaw();
             cycle.close();

@@ -1,15 +1,15 @@
-//! The compression cycle: how far it has come, and what its version began with.
+//! The compression cycle: how far it has come, what its version began with, and what is proposed.
 
-ghost use Rattle.std.specs.Prelude.{◌≡◌, ◌<◌, ◌^◌, IfOk, slice_get};
-ghost use Rattle.command_types.specs.Cycles.{closed, opened, begun_with, is_open, is_broken, may_begin, may_break, has_limits, lines_of_problem};
+ghost use Rattle.std.specs.Prelude.{◌≡◌, ◌<◌, ◌^◌, [], ◌∷◌, ◌++◌, IfOk, slice_get};
+ghost use Rattle.command_types.specs.Cycles.{closed, opened, begun_with, proposed_with, declined, is_open, is_broken, is_solving, is_proposed, may_begin, may_break, has_limits, lines_of_problem};
 ghost use Rattle.command_types.specs.CycleSteps.{is_frozen_and_marked, cycle_after_end};
 
 use super::limit_lines::limit_lines;
-use command_types::{LimitLine, Phase, TradeRow};
-use network_laws::Problem;
+use command_types::{LimitLine, Phase, PlanRow, TradeRow};
+use network_laws::{Problem, Solution};
 use std::alloc::{AllocError, Global};
 use std::marker::Model;
-use units_core::{Day, ProductNo};
+use units_core::{Day, MemberNo, ProductNo};
 
 /// Whether a cycle is open in this phase.
 pub(super) fn is_open(phase: Phase) -> bool
@@ -23,6 +23,20 @@ pub(super) fn is_broken(phase: Phase) -> bool
     ensures { result ≡ is_broken phase }
 {
     phase == Phase::Broken
+}
+
+/// Whether solutions may be posted in this phase.
+pub(super) fn is_solving(phase: Phase) -> bool
+    ensures { result ≡ is_solving phase }
+{
+    phase == Phase::Solving
+}
+
+/// Whether a plan is proposed in this phase.
+pub(super) fn is_proposed(phase: Phase) -> bool
+    ensures { result ≡ is_proposed phase }
+{
+    phase == Phase::Proposed
 }
 
 /// Whether a version may begin in this phase.
@@ -56,7 +70,7 @@ fn is_frozen_and_marked(row: Option<TradeRow>) -> bool
     }
 }
 
-/// The last cycle that was opened. Contracts see it as the machine's cycle, without a proposal.
+/// The last cycle that was opened. Contracts see it as the machine's cycle.
 #[derive(Drop)]
 pub(super) struct Cycle {
     number: u64,
@@ -64,16 +78,18 @@ pub(super) struct Cycle {
     phase: Phase,
     day: Option<Day>,
     begun: Vec<Problem>,
+    solutions: Vec<Solution>,
+    plan: Vec<PlanRow>,
+    votes: Vec<MemberNo>,
     broken_by: Option<u64>,
 }
 
 impl Model for Cycle {
-    ghost use Rattle.std.specs.Prelude.{[]};
     ghost use Rattle.command_types.specs.declared.figures.Cycle.{Cycle as CycleFigures};
 
     ghost Value = { CycleFigures };
 
-    ghost view = { λ c. record { number = c.number; version = c.version; phase = c.phase; day = c.day; begun = c.begun.items; solutions = []; plan = []; votes = []; broken_by = c.broken_by } };
+    ghost view = { λ c. record { number = c.number; version = c.version; phase = c.phase; day = c.day; begun = c.begun.items; solutions = c.solutions.items; plan = c.plan.items; votes = c.votes.items; broken_by = c.broken_by } };
 }
 
 impl Cycle {
@@ -87,6 +103,9 @@ impl Cycle {
             phase: Phase::None,
             day: None,
             begun: Vec::new(alloc),
+            solutions: Vec::new(alloc),
+            plan: Vec::new(alloc),
+            votes: Vec::new(alloc),
             broken_by: None,
         }
     }
@@ -111,11 +130,55 @@ impl Cycle {
         self.phase
     }
 
+    /// The freeze's day.
+    pub(super) fn day(&self) -> Option<Day>
+        ensures { result ≡ self.now.day }
+    {
+        self.day
+    }
+
+    /// What the version began with: one problem for each product.
+    pub(super) fn begun(&self) -> &[Problem]
+        ensures { result.now ≡ self.now.begun }
+    {
+        &self.begun
+    }
+
+    /// What the proposal changes in the trades.
+    pub(super) fn plan(&self) -> &[PlanRow]
+        ensures { result.now ≡ self.now.plan }
+    {
+        &self.plan
+    }
+
+    /// The members that have accepted the proposal.
+    pub(super) fn votes(&self) -> &[MemberNo]
+        ensures { result.now ≡ self.now.votes }
+    {
+        &self.votes
+    }
+
     /// The frozen trade whose end broke it.
     pub(super) fn broken_by(&self) -> Option<u64>
         ensures { result ≡ self.now.broken_by }
     {
         self.broken_by
+    }
+
+    /// The plan again, in memory of its own. The only error is want of memory.
+    pub(super) fn plan_copy(&self) -> Result<Vec<PlanRow>, AllocError>
+        ensures { IfOk result (λ plan. plan.items ≡ self.now.plan) }
+    {
+        self.plan.clone()
+    }
+
+    /// The votes with this member's behind them. The only error is want of memory.
+    pub(super) fn votes_with(&self, member: MemberNo) -> Result<Vec<MemberNo>, AllocError>
+        ensures { IfOk result (λ votes. votes.items ≡ self.now.votes ++ member ∷ []) }
+    {
+        let mut votes = self.votes.clone()?;
+        votes.push(member)?;
+        Ok(votes)
     }
 
     /// Where its memory comes from.
@@ -130,6 +193,15 @@ impl Cycle {
         limit_lines(*self.begun.allocator(), self.begun.get(product.index()))
     }
 
+    // Drops the solutions, their plan and the votes.
+    fn drop_proposal(&mut self)
+        ensures { self.new ≡ record self.old { solutions = []; plan = []; votes = [] } }
+    {
+        self.solutions.clear();
+        self.plan.clear();
+        self.votes.clear();
+    }
+
     /// Opens the next cycle, with a freeze of this day. It takes no memory.
     pub(super) fn open(&mut self, day: Day)
         requires { self.old.number < 2 ^ 63 }
@@ -141,6 +213,7 @@ impl Cycle {
         self.day = Some(day);
         self.begun.clear();
         self.broken_by = None;
+        self.drop_proposal();
     }
 
     /// Begins the next version, with these problems. It takes no memory.
@@ -152,6 +225,34 @@ impl Cycle {
         self.phase = Phase::Solving;
         self.begun = problems;
         self.broken_by = None;
+        self.drop_proposal();
+    }
+
+    /// Proposes what these solutions change in the trades. It takes no memory.
+    pub(super) fn propose(&mut self, solutions: Vec<Solution>, plan: Vec<PlanRow>)
+        ensures { self.new ≡ proposed_with self.old solutions.items plan.items }
+    {
+        self.drop_proposal();
+        self.phase = Phase::Proposed;
+        self.solutions = solutions;
+        self.plan = plan;
+    }
+
+    /// Puts these votes in place of those that it has. It takes no memory.
+    pub(super) fn set_votes(&mut self, votes: Vec<MemberNo>)
+        ensures { self.new ≡ record self.old { votes = votes.items } }
+    {
+        self.votes = votes;
+    }
+
+    /// Drops the proposal and the problems; the freeze stands. It takes no memory.
+    pub(super) fn decline(&mut self)
+        ensures { self.new ≡ declined self.old }
+    {
+        self.phase = Phase::Frozen;
+        self.begun.clear();
+        self.broken_by = None;
+        self.drop_proposal();
     }
 
     /// Ends the cycle: only its two numbers stay. It takes no memory.
@@ -162,6 +263,7 @@ impl Cycle {
         self.day = None;
         self.begun.clear();
         self.broken_by = None;
+        self.drop_proposal();
     }
 
     /// Breaks the cycle where a party's END of this trade, as it is now, ends a frozen one. It takes no memory.

@@ -1,10 +1,18 @@
 //! Parties and products of the roster, as the machine looks them up.
 
-ghost use Rattle.std.specs.Prelude.{◌≡◌, Some, unwrap_or};
+ghost use Rattle.std.specs.Prelude.{◌≡◌, ◌≤◌, Some, length, unwrap_or};
 ghost use Rattle.command_types.specs.Roster.{is_party, is_member_at, is_member_row, member_place, product_place};
 
 use command_types::{MemberRow, Roster};
 use units_core::{MemberNo, Name, ProductNo};
+
+/// How many members there are.
+pub(super) fn member_count(roster: &Roster) -> u16
+    ensures count { result ≡ length roster.now.members }
+    ensures few { result ≤ 256 }
+{
+    roster.members().len() as u16
+}
 
 /// Whether the name is a member's or the operator's.
 pub(super) fn is_party(roster: &Roster, name: &Name) -> bool

@@ -82,7 +82,7 @@ pub(super) fn problems_begun(
     cycle: &Cycle,
     ask: &Ask,
 ) -> Result<Vec<Problem>, AllocError>
-    requires kept { IsMachine roster.now book.now.members book.now.products book.now.rows cycle.now.phase }
+    requires kept { IsMachine roster.now book.now.members book.now.products book.now.rows cycle.now }
     requires accepted { first_of (refusals (state_in roster.now book.now.rows cycle.now) ask.now.by ask.now.what) ≡ None }
     ensures { IfOk result (λ problems. problems.items ≡ problems_begun (state_with roster.now book.now.rows tolerances.now.settings cycle.now) ask.now.what) }
 {

@@ -2,15 +2,26 @@
 
 ghost use Rattle.std.specs.Prelude.{◌≡◌};
 
-use command_types::Entry;
-use network_laws::Problem;
+use command_types::{Entry, PlanRow};
+use network_laws::{Problem, Solution};
 use std::marker::Model;
+use units_core::MemberNo;
 
-/// An accepted change for which the machine has room, and the problems that it begins with, if it is a BEGIN.
+/// What a change is made with, so that it takes no memory: the problems of a BEGIN; a POST's solutions, and what they
+/// change in the trades; and the votes with that of an ACCEPT. Of any other change all four are empty.
+#[derive(Drop)]
+pub(super) struct Made {
+    pub(super) problems: Vec<Problem>,
+    pub(super) solutions: Vec<Solution>,
+    pub(super) plan: Vec<PlanRow>,
+    pub(super) votes: Vec<MemberNo>,
+}
+
+/// An accepted change for which the machine has room, and what it is made with.
 #[derive(Drop)]
 pub struct Ready {
     entry: Entry,
-    problems: Vec<Problem>,
+    made: Made,
 }
 
 impl Model for Ready {
@@ -18,15 +29,15 @@ impl Model for Ready {
 
     ghost Value = { ReadyView };
 
-    ghost view = { λ ready. record { entry = ready.entry; problems = ready.problems.items } };
+    ghost view = { λ ready. record { entry = ready.entry; problems = ready.made.problems.items; solutions = ready.made.solutions.items; plan = ready.made.plan.items; votes = ready.made.votes.items } };
 }
 
 impl Ready {
-    /// Of this change and these problems. The machine has made the room.
-    pub(super) fn new(entry: Entry, problems: Vec<Problem>) -> Ready
-        ensures { result ≡ record { entry = entry; problems = problems.items } }
+    /// Of this change, and of what it is made with. The machine has made the room.
+    pub(super) fn new(entry: Entry, made: Made) -> Ready
+        ensures { result ≡ record { entry = entry; problems = made.problems.items; solutions = made.solutions.items; plan = made.plan.items; votes = made.votes.items } }
     {
-        Ready { entry, problems }
+        Ready { entry, made }
     }
 
     /// The change. It takes no memory.
@@ -36,11 +47,14 @@ impl Ready {
         &self.entry
     }
 
-    /// The change and the problems, given back.
-    pub(super) fn into_parts(self) -> (Entry, Vec<Problem>)
+    /// The change, and what it is made with, given back.
+    pub(super) fn into_parts(self) -> (Entry, Made)
         ensures entry { result.0 ≡ self.entry }
-        ensures problems { result.1.items ≡ self.problems }
+        ensures problems { result.1.problems.items ≡ self.problems }
+        ensures solutions { result.1.solutions.items ≡ self.solutions }
+        ensures plan { result.1.plan.items ≡ self.plan }
+        ensures votes { result.1.votes.items ≡ self.votes }
     {
-        (self.entry, self.problems)
+        (self.entry, self.made)
     }
 }

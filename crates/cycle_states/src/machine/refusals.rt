@@ -4,10 +4,12 @@
 ghost use Rattle.std.specs.Prelude.{◌≡◌, ◌∷◌, [], not, None, unwrap_or, IsTrue, false, true};
 ghost use Rattle.command_types.specs.Roster.{is_party};
 ghost use Rattle.command_types.specs.Machine.{empty_state, first_of, refusals, party_refusals};
-ghost use Rattle.cycle_states.specs.Machine.{state_in, is_of_trade, wants_party};
+ghost use Rattle.cycle_states.specs.Machine.{state_in, looks_at_trades, wants_party, HasProblems};
 
 use super::cycle::Cycle;
-use super::cycle_refusals::{begin_refusal, cancel_refusal, freeze_refusal, limits_refusal};
+use super::cycle_refusals::{
+    begin_refusal, cancel_refusal, freeze_refusal, limits_refusal, plan_refusal, post_refusal,
+};
 use super::draft_refusals::{pot_refusal, row_refusal};
 use super::nets_refusals::nets_refusal;
 use super::parties::is_party;
@@ -15,14 +17,16 @@ use super::row_refusals::{affirm_refusal, end_refusal, free_refusal, hold_refusa
 use super::statement::statement_refusal;
 use super::tol_refusals::tol_refusal;
 use super::trade_refusals::{Terms, trade_refusal};
+use super::vote_refusals::{accept_refusal, decline_refusal};
 use command_types::{Ask, Refusal, Roster, What};
 use product_book::Book;
 use units_core::Name;
 
-// The first refusal of a party's command that is not about a trade. The roster and the cycle tell, whatever the trades
-// are.
+// The first refusal of a party's command that is neither about a trade nor a vote. The roster and the cycle tell,
+// whatever the trades are.
 fn other_refusal(roster: &Roster, cycle: &Cycle, by: &Name, what: &What) -> Option<Refusal>
-    requires { is_of_trade what.now ≡ false }
+    requires problems { HasProblems roster.now cycle.now }
+    requires other { looks_at_trades what.now ≡ false }
     ensures { result ≡ first_of (party_refusals (state_in roster.now [] cycle.now) by.now what.now) }
 {
     match what {
@@ -52,6 +56,12 @@ fn other_refusal(roster: &Roster, cycle: &Cycle, by: &Name, what: &What) -> Opti
             size,
             ..
         } => pot_refusal(roster, by, product, member, *size),
+        What::Post {
+            cycle: number,
+            version,
+            solutions,
+        } => post_refusal(roster, cycle, by, *number, *version, solutions.rows()),
+        What::Plan { cycle: number } => plan_refusal(roster, cycle, *number),
         What::Cancel { cycle: number } => cancel_refusal(roster, cycle, by, *number),
         What::Hello { .. } | What::Unreadable { .. } | What::Bye => None,
         _ => Some(Refusal::NotBuilt),
@@ -66,8 +76,10 @@ fn party_refusal(
     by: &Name,
     what: &What,
 ) -> Option<Refusal>
+    requires { HasProblems roster.now cycle.now }
     ensures { result ≡ first_of (party_refusals (state_in roster.now book.now.rows cycle.now) by.now what.now) }
 {
+    let trades = book.rows();
     match what {
         What::Trade {
             seller,
@@ -89,6 +101,14 @@ fn party_refusal(
         What::End { trade } => end_refusal(roster, by, book.get(*trade).copied()),
         What::Hold { trade } => hold_refusal(roster, cycle, by, book.get(*trade).copied()),
         What::Free { trade } => free_refusal(roster, cycle, by, book.get(*trade).copied()),
+        What::Accept {
+            cycle: number,
+            version,
+        } => accept_refusal(roster, trades, cycle, by, *number, *version),
+        What::Decline {
+            cycle: number,
+            version,
+        } => decline_refusal(roster, trades, cycle, by, *number, *version),
         _ => other_refusal(roster, cycle, by, what),
     }
 }
@@ -101,6 +121,7 @@ fn greeted_refusal(
     by: &Option<Name>,
     what: &What,
 ) -> Option<Refusal>
+    requires { HasProblems roster.now cycle.now }
     ensures { result ≡ first_of ((not (is_party roster.now by.now), Refusal.NotGreeted) ∷ party_refusals (state_in roster.now book.now.rows cycle.now) (unwrap_or by.now []) what.now) }
 {
     match by {
@@ -142,6 +163,7 @@ fn wants_party(what: &What) -> bool
 
 /// The first refusal of a command whose condition holds.
 pub(super) fn refusal(roster: &Roster, book: &Book, cycle: &Cycle, ask: &Ask) -> Option<Refusal>
+    requires { HasProblems roster.now cycle.now }
     ensures { result ≡ first_of (refusals (state_in roster.now book.now.rows cycle.now) ask.now.by ask.now.what) }
 {
     if wants_party(&ask.what) {

@@ -18,7 +18,13 @@ fn both_end(rt: &impl Abort, desk: &mut PlainDesk, at: u64)
 }
 
 // The numbers of the trades that the member is told, in their order, are these.
-fn has_trades(rt: &impl Abort, desk: &mut PlainDesk, by: Name, numbers: &[u64], at: u64) {
+pub(super) fn has_trades(
+    rt: &impl Abort,
+    desk: &mut PlainDesk,
+    by: Name,
+    numbers: &[u64],
+    at: u64,
+) {
     let by = Some(by);
     let reply = desk.ask(
         7,

@@ -3,7 +3,13 @@ use Rattle.command_types.specs.declared.answer.Answer.{Answer}
 use Rattle.command_types.specs.Machine.{first_of, refusals, refused_or, accepted, answer_to}
 use Rattle.cycle_states.specs.Machine.{state_with}
 use Rattle.cycle_states.proofs.MachineFacts.{refusals_stand, accepted_stands, accepted_answer}
+use Rattle.cycle_states.proofs.SettledFacts.{has_problems}
 use Rattle.cycle_states.proofs.machine.Machine.answer.Goals as goal
+
+pub refusal-requires : goal.refusal-requires
+refusal-requires c =
+    let m = c.self.inside in
+    has_problems m.roster m.book.members m.book.products m.book.rows m.cycle c.self.invariant
 
 pub returns-in-Some : goal.returns-in-Some
 returns-in-Some c =

@@ -1,0 +1,174 @@
+-- A posting that the machine accepts, and a proposal that it keeps, can be executed.
+use Rattle.std.proofs.Common.{◌≡◌, ℕ, ◌+◌, ◌≤◌, List, [], ◌∷◌, ◌++◌, length, Option, Some, None, is_some, IsTrue, All, refl, ap, sym, subst, ◌∙◌, arith}
+use Rattle.std.specs.Prelude.{filter, not}
+use Rattle.std.proofs.lemmas.Bool.{false≢true}
+use Rattle.std.proofs.lemmas.List.Elements.{All-weaker}
+use Rattle.network_laws.specs.Solutions.{SolutionData, IsSolution}
+use Rattle.units_core.specs.Day.{DayParts}
+use Rattle.command_types.specs.declared.answer.Answer.TheVariants.{Proposed, Nothing, Accepted}
+use Rattle.command_types.specs.declared.figures.Cycle.{Cycle}
+use Rattle.command_types.specs.declared.figures.State.{State}
+use Rattle.command_types.specs.declared.plan.PlanRow.{PlanRow}
+use Rattle.command_types.specs.declared.plan.PlanRow.TheVariants.{End, Cut, New}
+use Rattle.command_types.specs.declared.tolerance.ToleranceRow.{ToleranceRow}
+use Rattle.command_types.specs.declared.trade.TradeRow.{TradeRow}
+use Rattle.command_types.specs.Roster.{Rows}
+use Rattle.command_types.specs.Trades.{gross_of, trade_numbered}
+use Rattle.command_types.specs.Cycles.{is_solving, is_proposed, may_break, has_limits, bad_post, plan_on, posted_plan, old_networks, new_networks, gross_of_all, proposed_with}
+use Rattle.command_types.specs.CycleRefusals.{has_voted}
+use Rattle.command_types.specs.CycleSteps.{proposed_or_done, proposed_answer, touched_in, after_post, after_vote, after_accept, left_after, vote_answer, executed_answer, after_execution}
+use Rattle.command_types.specs.Plans.{plan_of, count_of, is_new, touched_by}
+use Rattle.command_types.specs.Execution.{IsExecutable}
+use Rattle.acceptance.specs.Parties.{HasPartiesBelow, IsStepBelow, IsPlanBelow}
+use Rattle.product_book.specs.Book.{gross_limit, AreTrades}
+use Rattle.posting.specs.Laws.{IsFrozenMarket, IsSettled}
+use Rattle.posting.specs.Posted.{AreOfMembers}
+use Rattle.posting.proofs.CertifiedFacts.{shaped, shape_size}
+use Rattle.posting.proofs.Settled.{begun_size, begun_of_members, begun_is_settled}
+use Rattle.cycle_states.specs.Machine.{state_in, state_with, IsMachine, HasProblems}
+use Rattle.cycle_states.proofs.PlanSizes.{few_made}
+use Rattle.cycle_states.proofs.CycleFacts.{limits_break, proposed_limits, solving_limits}
+
+module _ (roster : Rows) (members products : ℕ) (rows : List TradeRow) (cycle : Cycle) (kept : IsMachine roster members products rows cycle) where
+  -- while the limits stand there are few problems, each of the roster's members
+  pub few_problems : IsTrue (has_limits cycle.phase) → length cycle.begun ≤ 64
+  few_problems stands = omega (arith, begun_size roster rows cycle.begun (kept.cycle_kept.begun stands), kept.few_products)
+
+  of_members : IsTrue (has_limits cycle.phase) → AreOfMembers (length roster.members) cycle.begun
+  of_members stands = begun_of_members roster rows cycle.begun (kept.cycle_kept.begun stands)
+
+  pub has_problems : HasProblems roster cycle
+  has_problems = record { few = λ on. few_problems (solving_limits cycle.phase on); members = λ on. of_members (solving_limits cycle.phase on) }
+
+  -- its day is there
+  pub has_day : IsTrue (is_solving cycle.phase) → IsTrue (is_some cycle.day)
+  has_day on = kept.cycle_kept.day (limits_break cycle.phase (solving_limits cycle.phase on))
+
+  market : IsTrue (may_break cycle.phase) → AreTrades members products 1 rows → ((product : ℕ) → gross_of product rows ≤ gross_limit) → IsFrozenMarket roster rows
+  market may trades bounded = record {
+    few_members = kept.few_members;
+    few_products = kept.few_products;
+    trades = subst (λ n. AreTrades n (length roster.products) 1 rows) kept.book.members_all (subst (λ n. AreTrades members n 1 rows) kept.book.products_all trades);
+    bounded = bounded;
+    live = kept.unbroken may;
+  }
+
+  by_day : (day : Option DayParts) (solutions : List SolutionData) → IsTrue (is_some day) → ((d : DayParts) → IsSettled (length roster.members) (length roster.products) rows (plan_of rows (old_networks cycle.begun) (new_networks solutions) d)) →
+      IsSettled (length roster.members) (length roster.products) rows (plan_on day rows (old_networks cycle.begun) (new_networks solutions))
+  by_day None solutions there all = absurd (false≢true there)
+  by_day (Some d) solutions there all = all d
+
+  -- what certified solutions change can be executed
+  pub settled : (solutions : List SolutionData) → IsTrue (has_limits cycle.phase) → bad_post (length roster.members) cycle.begun solutions ≡ None → All IsSolution solutions → AreTrades members products 1 rows → ((product : ℕ) → gross_of product rows ≤ gross_limit) →
+      IsSettled (length roster.members) (length roster.products) rows (posted_plan cycle rows solutions)
+  settled solutions stands certified sound trades bounded =
+      let may : IsTrue (may_break cycle.phase) = limits_break cycle.phase stands in
+      by_day cycle.day solutions (kept.cycle_kept.day may) (λ d. begun_is_settled roster rows cycle.begun (kept.cycle_kept.begun stands) solutions d (market may trades bounded) sound certified)
+
+  pub posting_settled : (solutions : List SolutionData) (plan : List PlanRow) → IsTrue (is_solving cycle.phase) → bad_post (length roster.members) cycle.begun solutions ≡ None → All IsSolution solutions → plan ≡ posted_plan cycle rows solutions →
+      AreTrades members products 1 rows → ((product : ℕ) → gross_of product rows ≤ gross_limit) → IsSettled (length roster.members) (length roster.products) rows plan
+  posting_settled solutions plan on certified sound planned trades bounded =
+      subst (λ p. IsSettled (length roster.members) (length roster.products) rows p) (sym planned) (settled solutions (solving_limits cycle.phase on) certified sound trades bounded)
+
+  -- so can the proposal
+  pub proposal_settled : IsTrue (is_proposed cycle.phase) → AreTrades members products 1 rows → ((product : ℕ) → gross_of product rows ≤ gross_limit) → IsSettled (length roster.members) (length roster.products) rows cycle.plan
+  proposal_settled on trades bounded =
+      let q = kept.cycle_kept.proposed on in
+      subst (λ plan. IsSettled (length roster.members) (length roster.products) rows plan) (sym q.planned) (settled cycle.solutions (proposed_limits cycle.phase on) q.certified q.solutions trades bounded)
+
+  -- by a book of the roster's members and products
+  pub executable : (plan : List PlanRow) → IsSettled (length roster.members) (length roster.products) rows plan → IsExecutable members products rows plan
+  executable plan is = subst (λ n. IsExecutable n products rows plan) (sym kept.book.members_all) (subst (λ n. IsExecutable (length roster.members) n rows plan) (sym kept.book.products_all) is.executable)
+
+  -- they make few new trades
+  pub posting_few : (solutions : List SolutionData) → IsTrue (has_limits cycle.phase) → count_of is_new (posted_plan cycle rows solutions) ≤ 4194304
+  posting_few solutions stands = few_made cycle.day rows (length roster.members) cycle.begun solutions kept.few_members (of_members stands) (few_problems stands)
+
+  pub proposal_few : IsTrue (is_proposed cycle.phase) → count_of is_new cycle.plan ≤ 4194304
+  proposal_few on = subst (λ plan. count_of is_new plan ≤ 4194304) (sym (kept.cycle_kept.proposed on).planned) (posting_few cycle.solutions (proposed_limits cycle.phase on))
+
+  -- certified solutions are as many as the problems
+  pub as_many : (solutions : List SolutionData) → bad_post (length roster.members) cycle.begun solutions ≡ None → length solutions ≡ length cycle.begun
+  as_many solutions certified = shape_size (length roster.members) cycle.begun solutions (shaped (length roster.members) cycle.begun solutions certified)
+
+parties_below : (n most : ℕ) (row : Option TradeRow) → n ≤ most → HasPartiesBelow n row → HasPartiesBelow most row
+parties_below n most None few below = below
+parties_below n most (Some row) few below = (omega (arith, few, below.0), omega (arith, few, below.1))
+
+step_below : (rows : List TradeRow) (n most : ℕ) → n ≤ most → (step : PlanRow) → IsStepBelow rows n step → IsStepBelow rows most step
+step_below rows n most few (End trade) below = parties_below n most (trade_numbered rows trade) few below
+step_below rows n most few (Cut trade from to) below = parties_below n most (trade_numbered rows trade) few below
+step_below rows n most few (New product seller buyer amount day) below = (omega (arith, few, below.0), omega (arith, few, below.1))
+
+-- members below a number are below a larger one
+pub plan_below : (rows : List TradeRow) (n most : ℕ) (plan : List PlanRow) → n ≤ most → IsPlanBelow rows n plan → IsPlanBelow rows most plan
+plan_below rows n most plan few below = All-weaker (IsStepBelow rows n) (IsStepBelow rows most) (step_below rows n most few) plan below
+
+-- a posting that touches nobody is answered so, and any other as a proposal
+pub nothing_told : (s : State) (solutions : List SolutionData) (touched : List ℕ) → touched ≡ [] → Nothing s.cycle.number s.cycle.version ≡ proposed_answer s solutions touched
+nothing_told s solutions [] is = refl
+nothing_told s solutions (member ∷ members) is = cc
+
+pub proposed_told : (s : State) (solutions : List SolutionData) (touched : List ℕ) → (touched ≡ [] → ⊥) → Proposed s.cycle.number s.cycle.version (gross_of_all (old_networks s.cycle.begun)) (gross_of_all (new_networks solutions)) ≡ proposed_answer s solutions touched
+proposed_told s solutions [] is = absurd (is refl)
+proposed_told s solutions (member ∷ members) is = refl
+
+-- the first is executed at once, and the other is proposed
+pub done_after : (s : State) (solutions : List SolutionData) (plan : List PlanRow) (touched : List ℕ) → touched ≡ [] → after_execution s plan ≡ proposed_or_done s solutions plan touched
+done_after s solutions plan [] is = refl
+done_after s solutions plan (member ∷ members) is = cc
+
+pub proposed_after : (s : State) (solutions : List SolutionData) (plan : List PlanRow) (touched : List ℕ) → (touched ≡ [] → ⊥) → record s { cycle = proposed_with s.cycle solutions plan } ≡ proposed_or_done s solutions plan touched
+proposed_after s solutions plan [] is = absurd (is refl)
+proposed_after s solutions plan (member ∷ members) is = refl
+
+-- the last vote is answered by what was executed, and any other by how many are left
+pub last_told : (cycle : Cycle) (left : List ℕ) (n : ℕ) → n ≡ length left → n ≡ 0 → executed_answer cycle ≡ vote_answer cycle left
+last_told cycle [] n is none = refl
+last_told cycle (voter ∷ voters) n is none = absurd (omega (arith, is, none))
+
+pub vote_told : (cycle : Cycle) (left : List ℕ) (n : ℕ) → n ≡ length left → (n ≡ 0 → ⊥) → Accepted cycle.number cycle.version n ≡ vote_answer cycle left
+vote_told cycle [] n is some = absurd (some is)
+vote_told cycle (voter ∷ voters) n is some = let e : n ≡ 1 + length voters = omega (arith, is) in ap (λ m. Accepted cycle.number cycle.version m) e
+
+-- the last vote executes the plan, and any other is counted
+pub last_after : (s : State) (member : ℕ) (left : List ℕ) (n : ℕ) → n ≡ length left → n ≡ 0 → after_execution s s.cycle.plan ≡ after_vote s member left
+last_after s member [] n is none = refl
+last_after s member (voter ∷ voters) n is none = absurd (omega (arith, is, none))
+
+pub counted_after : (s : State) (member : ℕ) (left : List ℕ) (n : ℕ) (votes : List ℕ) → n ≡ length left → (n ≡ 0 → ⊥) → votes ≡ s.cycle.votes ++ member ∷ [] → record s { cycle = record s.cycle { votes = votes } } ≡ after_vote s member left
+counted_after s member [] n votes is some same = absurd (some is)
+counted_after s member (voter ∷ voters) n votes is some same = ap (λ vs. record s { cycle = record s.cycle { votes = vs } }) same
+
+done_with : (roster : Rows) (rows : List TradeRow) (settings : List ToleranceRow) (cycle : Cycle) (solutions : List SolutionData) (plan : List PlanRow) (touched : List ℕ) →
+    record (proposed_or_done (state_in roster rows cycle) solutions plan touched) { tolerances = settings } ≡ proposed_or_done (state_with roster rows settings cycle) solutions plan touched
+done_with roster rows settings cycle solutions plan [] = refl
+done_with roster rows settings cycle solutions plan (member ∷ members) = refl
+
+-- a POST leaves the settings
+pub post_with : (roster : Rows) (rows after : List TradeRow) (settings : List ToleranceRow) (cycle next : Cycle) (solutions : List SolutionData) → state_in roster after next ≡ after_post (state_in roster rows cycle) solutions →
+    state_with roster after settings next ≡ after_post (state_with roster rows settings cycle) solutions
+post_with roster rows after settings cycle next solutions is =
+    ap (λ (s : State). record s { tolerances = settings }) is
+    ∙ done_with roster rows settings cycle solutions (posted_plan cycle rows solutions) (touched_in (state_in roster rows cycle) (posted_plan cycle rows solutions))
+
+vote_with : (roster : Rows) (rows : List TradeRow) (settings : List ToleranceRow) (cycle : Cycle) (member : ℕ) (left : List ℕ) →
+    record (after_vote (state_in roster rows cycle) member left) { tolerances = settings } ≡ after_vote (state_with roster rows settings cycle) member left
+vote_with roster rows settings cycle member [] = refl
+vote_with roster rows settings cycle member (voter ∷ voters) = refl
+
+-- so does an ACCEPT
+pub accept_with : (roster : Rows) (rows after : List TradeRow) (settings : List ToleranceRow) (cycle next : Cycle) (member : ℕ) → state_in roster after next ≡ after_accept (state_in roster rows cycle) member →
+    state_with roster after settings next ≡ after_accept (state_with roster rows settings cycle) member
+accept_with roster rows after settings cycle next member is =
+    ap (λ (s : State). record s { tolerances = settings }) is
+    ∙ vote_with roster rows settings cycle member (left_after (state_in roster rows cycle) member)
+
+-- whose votes are left, whatever names the members, the trades, the plan and the votes have
+pub left_is : (roster : Rows) (rows : List TradeRow) (cycle : Cycle) (member n : ℕ) (trades : List TradeRow) (plan : List PlanRow) (votes : List ℕ) → n ≡ length roster.members → trades ≡ rows → plan ≡ cycle.plan → votes ≡ cycle.votes →
+    length (filter (λ voter. not (has_voted (member ∷ votes) voter)) (touched_by n trades plan)) ≡ length (left_after (state_in roster rows cycle) member)
+left_is roster rows cycle member n trades plan votes all same planned counted =
+    ap (λ k. length (filter (λ voter. not (has_voted (member ∷ votes) voter)) (touched_by k trades plan))) all
+    ∙ ap (λ ts. length (filter (λ voter. not (has_voted (member ∷ votes) voter)) (touched_by (length roster.members) ts plan))) same
+    ∙ ap (λ p. length (filter (λ voter. not (has_voted (member ∷ votes) voter)) (touched_by (length roster.members) rows p))) planned
+    ∙ ap (λ vs. length (filter (λ voter. not (has_voted (member ∷ vs) voter)) (touched_by (length roster.members) rows cycle.plan))) counted
