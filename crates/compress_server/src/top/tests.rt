@@ -1,6 +1,10 @@
 //! Whole sessions through `run`, byte for byte: what was read, what was written, and the status.
 
+mod cycles;
+mod executions;
 mod markets;
+mod phases;
+mod sessions;
 mod sources;
 
 use super::run;
@@ -90,8 +94,8 @@ fn sessions_are_answered_byte_for_byte(rt: HostRuntime) -> Result<(), Fail> {
             "no 0 1 not-greeted\nno 0 2 bad-key\nno 0 3 bad-line 14\nno 0 3 bad-line 8\nno 0 3 bad-line 0\n",
         ),
         (
-            "HELLO A KA\nTRADE A B P 10 2031-06-30\nTRADE A A P 1 2026-03-02\nTRADE B C P 1 2026-03-02\nTOL B P out 5 4\nAFFIRM 1\n",
-            "ok 0 hello A\nno 0 22 matured 2031-06-30\nno 0 6 own-trade\nno 0 7 not-party\nno 0 23 floor-over-ceiling\nno 0 11 unknown-trade\n",
+            "HELLO A KA\nTRADE A B P 10 2031-06-30\nTRADE A A P 1 2026-03-02\nTRADE B C P 1 2026-03-02\nTOL B P out 5 4\nAFFIRM 1\nFREEZE 2026-03-31\n",
+            "ok 0 hello A\nno 0 22 matured 2031-06-30\nno 0 6 own-trade\nno 0 7 not-party\nno 0 23 floor-over-ceiling\nno 0 11 unknown-trade\nno 0 14 not-operator\n",
         ),
         (
             "HELLO A KA\nTRADE A B P 1000000000000000 2026-03-02\nTRADE A B P 1000000000000001 2026-03-02\nTRADE A X P 1 2026-03-02\nTRADE A B Q 1 2026-03-02\n",
@@ -110,10 +114,10 @@ fn sessions_are_answered_byte_for_byte(rt: HostRuntime) -> Result<(), Fail> {
             "HELLO A KA\nTRADE A B P 10 2026-03-02\nTRADE C A P 10 2026-03-02\nHELLO B KB\nAFFIRM 1\nTRADE B C P 10 2026-03-02\nHELLO C KC\nAFFIRM 2\nAFFIRM 3\nHELLO A KA\nTOL B P out 4 -\nSTATEMENT\nHELLO OPS KO\nFREEZE 2026-03-31\nBEGIN 1 conservative\nLIMITS P\nROW P A B 4\nPOT P B 1\nCANCEL 1\nBYE\n",
             "ok 0 hello A\nok 1 trade 1\nok 2 trade 2\nok 2 hello B\nok 3 live 1\nok 4 trade 3\nok 4 hello C\nok 5 live 2\nok 6 live 3\nok 6 hello A\nok 7 tol\nok 7 statement 2\ntrade 1 A B P 10 2026-03-02 live -\ntrade 2 C A P 10 2026-03-02 live -\nok 7 hello OPS\nok 8 frozen 1 3\nok 9 begun 1 1\nok 9 limits 3\nlimit A B 4 10 10\nlimit B C 0 10 10\nlimit C A 0 10 10\nok 9 noted 1\nok 9 noted 2\nok 10 cancelled 1\nok 10 bye\n",
         ),
-        // A cycle wants a greeting first; a posting and the session's own solving are not built yet.
+        // Solving is not built yet, and wants a greeting first, as all of a cycle does.
         (
             "FREEZE 2026-03-31\nPROPOSE 1 hybrid\nHELLO OPS KO\nFREEZE 2026-03-31\nPROPOSE 1 hybrid\nPOST 1 1\nROW P A B 4\nPOT P A -1\nNETS P\nNETS Q\n",
-            "no 0 1 not-greeted\nno 0 1 not-greeted\nok 0 hello OPS\nok 1 frozen 1 0\nno 1 30 not-built\nno 1 30 not-built\nok 1 noted 1\nok 1 noted 2\nok 1 market 0 0 0 0\nno 1 5 unknown-product\n",
+            "no 0 1 not-greeted\nno 0 1 not-greeted\nok 0 hello OPS\nok 1 frozen 1 0\nno 1 30 not-built\nno 1 17 wrong-phase frozen\nok 1 noted 1\nok 1 noted 2\nok 1 market 0 0 0 0\nno 1 5 unknown-product\n",
         ),
         // A setting of what a pair may fall to, and the market's figures.
         (
