@@ -61,7 +61,7 @@ closed_kept roster rows number version = record {
 }
 
 -- what an accepted AFFIRM, HOLD or FREE found
-affirm_stands : (s : State) (by : Option (List ℕ)) (trade : ℕ) (row : TradeRow) → first_of (refusals s by (Affirm trade)) ≡ None → trade_numbered s.trades trade ≡ Some row → is_alleged row.state ≡ true
+pub affirm_stands : (s : State) (by : Option (List ℕ)) (trade : ℕ) (row : TradeRow) → first_of (refusals s by (Affirm trade)) ≡ None → trade_numbered s.trades trade ≡ Some row → is_alleged row.state ≡ true
 affirm_stands s by trade row none is =
     let P : Option TradeRow → Type 0 = λ o. first_of ((not (is_party s.roster by), NotGreeted) ∷ (false, NotBuilt) ∷ affirm_refusals s (unwrap_or by []) o) ≡ None in
     not_false (is_alleged row.state)

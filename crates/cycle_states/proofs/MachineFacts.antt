@@ -107,7 +107,7 @@ within : (n m : ℕ) → nat_lt n m ≡ false → m ≤ n
 within n m h = grind (arith, nat_tests)
 
 -- the terms of an accepted TRADE are not refused
-terms_stand : (s : State) (by : Option (List ℕ)) (name seller buyer product : List ℕ) (amount : ℕ) (day : DayParts) → by ≡ Some name → first_of (refusals s by (Trade seller buyer product amount day)) ≡ None →
+pub terms_stand : (s : State) (by : Option (List ℕ)) (name seller buyer product : List ℕ) (amount : ℕ) (day : DayParts) → by ≡ Some name → first_of (refusals s by (Trade seller buyer product amount day)) ≡ None →
     NoneHolds (trade_refusals s name seller buyer product amount day)
 terms_stand s by name seller buyer product amount day greeted none =
     let P : Option (List ℕ) → Type 0 = λ b. first_of (refusals s b (Trade seller buyer product amount day)) ≡ None in
@@ -119,14 +119,14 @@ pub trade_fits : (s : State) (by : Option (List ℕ)) (name seller buyer product
 trade_fits s by name seller buyer product amount day greeted none =
     within gross_limit (gross_of (product_of s product) s.trades + amount) (terms_stand s by name seller buyer product amount day greeted none).1.1.1.1.1.1.0
 
-some_member : MemberRow
+pub some_member : MemberRow
 some_member = record { name = []; role = Dealer; key = [] }
 
-found_by : {X : Type 0} (p : X → Bool) (xs : List X) (d : X) (o : Option ℕ) → position p xs ≡ o → is_none o ≡ false → (unwrap_or o 0 < length xs) × (p (get_or xs (unwrap_or o 0) d) ≡ true)
+pub found_by : {X : Type 0} (p : X → Bool) (xs : List X) (d : X) (o : Option ℕ) → position p xs ≡ o → is_none o ≡ false → (unwrap_or o 0 < length xs) × (p (get_or xs (unwrap_or o 0) d) ≡ true)
 found_by p xs d None is there = absurd (false≢true (sym there))
 found_by p xs d (Some i) is there = let at_place = position-Some p xs i d is in (at_place.0, at_place.1)
 
-neither : (a b : Bool) → (a || b) ≡ false → (a ≡ false) × (b ≡ false)
+pub neither : (a b : Bool) → (a || b) ≡ false → (a ≡ false) × (b ≡ false)
 neither true b h = cc
 neither false b h = (refl, h)
 

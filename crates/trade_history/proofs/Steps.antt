@@ -52,7 +52,7 @@ end_told : (ends : Bool) (trade : ℕ) → is_execution (cond ends (Ended trade)
 end_told true trade = refl
 end_told false trade = refl
 
-end-told : (trade : ℕ) (o : Option TradeRow) → is_execution (end_answer trade o) ≡ false
+pub end-told : (trade : ℕ) (o : Option TradeRow) → is_execution (end_answer trade o) ≡ false
 end-told trade None = refl
 end-told trade (Some row) = end_told (is_alleged row.state || is_some row.mark) trade
 

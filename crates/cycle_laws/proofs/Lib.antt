@@ -1,0 +1,8 @@
+pub mod Thawing
+pub mod BookSteps
+pub mod Market
+pub mod Prefixes
+pub mod Traces
+pub mod Executed
+pub mod Certified
+pub mod Changes
