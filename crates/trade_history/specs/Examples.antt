@@ -93,12 +93,12 @@ ring_declined =
 abbrev chain : List Entry
 chain = deal 1 name_a name_b 10 ++ deal 2 name_b name_c 7
 
--- nothing can fall, so the posting touches nobody
+-- nothing can fall, so the posting touches nobody; the machine would refuse it with these potentials
 abbrev pub chain_unchanged : History
 chain_unchanged =
     history_of (chain ++ freeze ++ proposal 1 (record { seller = 0; buyer = 1; amount = 10 } ∷ record { seller = 1; buyer = 2; amount = 7 } ∷ []))
 
--- B is passed by: A comes to owe C 7
+-- B is passed by: A comes to owe C 7, which the machine would refuse in this mode
 abbrev pub chain_compressed : History
 chain_compressed =
     history_of (chain ++ freeze ++ proposal 1 (record { seller = 0; buyer = 1; amount = 3 } ∷ record { seller = 0; buyer = 2; amount = 7 } ∷ [])
