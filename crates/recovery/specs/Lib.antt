@@ -1,0 +1,4 @@
+pub mod StandsFor
+pub mod Faults
+pub mod Reading
+pub mod Laws

@@ -1,0 +1,15 @@
+//! The history that a journal's file stands for: the entries that its records spell, in their order.
+#![tactic(auto)]
+
+pub mod entries;
+pub mod fault;
+mod laws;
+mod reading;
+
+pub use entries::{Entries, EntryAt};
+pub use fault::RecoverFault;
+pub use laws::files_stand_for_one_list;
+pub use reading::read_entries;
+
+#[cfg(test)]
+mod tests;
