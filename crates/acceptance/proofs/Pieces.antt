@@ -1,11 +1,9 @@
 -- Lists that are made piece by piece, and those of their elements that one piece alone has.
 use Rattle.std.proofs.Common.{◌≡◌, ◌≢◌, ℕ, zero, suc, ◌<◌, ◌≤◌, ◌++◌, Bool, List, [], refl, sym, ap, ◌∙◌, subst, arith, ⊎_elim}
-use Rattle.std.specs.Prelude.{filter, sum_by, All}
+use Rattle.std.specs.Prelude.{filter, All}
 use Rattle.std.proofs.lemmas.Bool.{cases_eq, cases_lt}
 use Rattle.std.proofs.lemmas.List.{append-nil}
 use Rattle.std.proofs.lemmas.List.Elements.{filter-append, All-nil, All-append}
-use Rattle.std.proofs.lemmas.List.Sums.{sum_by-append}
-use Rattle.network_laws.specs.Networks.{sum_below}
 use Rattle.command_types.specs.Books.{listed_below, listed_pairs}
 
 pub filter_listed : {T : Type 0} (q : T → Bool) (n : ℕ) (f : ℕ → List T) → filter q (listed_below n f) ≡ listed_below n (λ k. filter q (f k))
@@ -59,7 +57,3 @@ All-listed P (suc n) f each = All-append P (listed_below n f) (f n) (All-listed 
 
 pub All-pairs : {T : Type 0} (P : T → Type 0) (n : ℕ) (f : ℕ → ℕ → List T) → ((i j : ℕ) → i < n → j < n → All P (f i j)) → All P (listed_pairs n f)
 All-pairs P n f each = All-listed P n (λ i. listed_below n (f i)) (λ i in_i. All-listed P n (f i) (λ j in_j. each i j in_i in_j))
-
-pub sum_listed : {T : Type 0} (g : T → ℕ) (n : ℕ) (f : ℕ → List T) → sum_by g (listed_below n f) ≡ sum_below n (λ k. sum_by g (f k))
-sum_listed g zero f = refl
-sum_listed g (suc n) f = omega (arith, sum_by-append g (listed_below n f) (f n), sum_listed g n f)

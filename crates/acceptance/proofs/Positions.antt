@@ -11,11 +11,12 @@ use Rattle.command_types.specs.declared.trade.TradeState.{TradeState}
 use Rattle.command_types.specs.declared.trade.TradeState.TheVariants.{Alleged, Live, Ended}
 use Rattle.command_types.specs.Trades.{is_live, total_where}
 use Rattle.command_types.specs.Books.{is_between, frozen_network}
+use Rattle.pair_table.proofs.PairNetworks.{at-network_by_within}
 use Rattle.acceptance.specs.Laws.{frozen_sum, pair_sum, IsMade}
 use Rattle.acceptance.specs.Renewals.{IsRenewal, frozen_networks, renewal_plan, renewed}
 use Rattle.acceptance.proofs.RowSteps.{row_after, made_by, after_same}
 use Rattle.acceptance.proofs.Falls.{sum_same}
-use Rattle.acceptance.proofs.PairNetworks.{frozen_is, at_network_by}
+use Rattle.acceptance.proofs.PairNetworks.{frozen_is}
 use Rattle.acceptance.proofs.OwnSteps.{is_free_between, between_parts, free_parts, after_none}
 use Rattle.acceptance.proofs.PairAmounts.{frozen_part, new_part, sum_add, frozen_total}
 use Rattle.acceptance.proofs.Realised.{sum_map, made_sum, plan_made, renewed_is, pair_realised}
@@ -147,5 +148,5 @@ module _ (members products : ℕ) (rows : List TradeRow) (new : List NetworkData
           passing_add test members frozen_next made_next,
           passing_same test members (λ i j. frozen_next i j + made_next i j) (at network) (λ i j in_i in_j. pair_realised members products rows new day is product network found i j in_i in_j),
           passing_same test members (at (frozen_network members product rows)) (λ i j. frozen_sum product i j rows) (λ i j in_i in_j.
-              at_network_by members (λ a b. total_where (λ row. is_between product a b row && row.frozen) rows) i j in_i in_j ∙ frozen_total rows is.live product i j),
+              at-network_by_within members i j (λ a b. total_where (λ row. is_between product a b row && row.frozen) rows) in_i in_j ∙ frozen_total rows is.live product i j),
         )

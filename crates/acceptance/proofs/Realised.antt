@@ -13,12 +13,13 @@ use Rattle.command_types.specs.declared.trade.TradeRow.{TradeRow}
 use Rattle.command_types.specs.Trades.{total_where}
 use Rattle.command_types.specs.Books.{is_between, is_held, frozen_network, held_network}
 use Rattle.command_types.specs.Plans.{falling, free_rows, pair_plan, plan_from, executed, is_new, count_of, made_row}
+use Rattle.pair_table.proofs.PairNetworks.{at-network_by_within}
 use Rattle.acceptance.specs.FreePlans.{IsFreeStep}
 use Rattle.acceptance.specs.Laws.{frozen_sum, pair_sum, IsMade, PlanRealises}
 use Rattle.acceptance.specs.Renewals.{AreNumbered, IsRenewal, frozen_networks, renewal_plan, renewed}
 use Rattle.acceptance.proofs.RowSteps.{row_after, made_by, executed_behind, numbered_map, after_same}
 use Rattle.acceptance.proofs.PlanPieces.{from_all}
-use Rattle.acceptance.proofs.PairNetworks.{get_front, at_network_by, frozen_at}
+use Rattle.acceptance.proofs.PairNetworks.{get_front, frozen_at}
 use Rattle.acceptance.proofs.OwnSteps.{is_free_between, after_none}
 use Rattle.acceptance.proofs.FreeSteps.{falling_all, steps_free, steps_placed}
 use Rattle.acceptance.proofs.PairAmounts.{frozen_part, new_part, frozen_after, made_after, frozen_total, held_and_free, realised_by}
@@ -117,9 +118,9 @@ module _ (members products : ℕ) (rows : List TradeRow) (new : List NetworkData
       let is_old = frozen_at members products product rows within in
       let now = at old seller buyer in
       let next = at network seller buyer in
-      let known : now ≡ total_where (λ row. is_between product seller buyer row && row.frozen) rows = at_network_by members (λ i j. total_where (λ row. is_between product i j row && row.frozen) rows) seller buyer in_seller in_buyer in
+      let known : now ≡ total_where (λ row. is_between product seller buyer row && row.frozen) rows = at-network_by_within members seller buyer (λ i j. total_where (λ row. is_between product i j row && row.frozen) rows) in_seller in_buyer in
       let held : at (held_network members product rows) seller buyer ≡ total_where (λ row. is_between product seller buyer row && (row.frozen && is_held row)) rows =
-      at_network_by members (λ i j. total_where (λ row. is_between product i j row && (row.frozen && is_held row)) rows) seller buyer in_seller in_buyer in
+      at-network_by_within members seller buyer (λ i j. total_where (λ row. is_between product i j row && (row.frozen && is_held row)) rows) in_seller in_buyer in
       let fits : now ≤ next + total_where (is_free_between product seller buyer) rows = omega (arith, known, held, held_and_free rows is.live product seller buyer, (is.each product network found).held seller buyer in_seller in_buyer) in
       let pair = realised_by rows is.live product seller buyer day is.numbered now next (known ∙ frozen_total rows is.live product seller buyer) fits (nat_lt next now) (nat_lt now next) refl refl in
       let frozen = frozen_after rows day is.numbered olds new old network product seller buyer is_old found in_seller in_buyer in

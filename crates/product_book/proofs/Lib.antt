@@ -1,8 +1,6 @@
 pub mod PlaceFacts
 pub mod BookFacts
 pub mod FreezeFacts
-pub mod PairRows
-pub mod PairSums
 pub mod NetworkFacts
 pub mod HeldFacts
 pub mod ExecutionFacts

@@ -1,10 +1,9 @@
--- The network of a product's trades, and the table in which its amounts are added up.
-use Rattle.std.specs.Prelude.{◌≡◌, ◌≢◌, ℕ, ◌+◌, ◌*◌, ◌/◌, ◌%◌, ◌<◌, ◌≤◌, ◌&&◌, Bool, List, length, sum_by, slice_index, if◌then◌else◌}
-use Rattle.network_laws.specs.declared.rows.Row.{Row}
+-- The network of a product's trades.
+use Rattle.std.specs.Prelude.{◌≡◌, ◌≢◌, ℕ, ◌<◌, ◌≤◌, ◌&&◌, Bool, List}
 use Rattle.network_laws.specs.Networks.{NetworkData, at}
 use Rattle.command_types.specs.declared.trade.TradeRow.{TradeRow}
 use Rattle.command_types.specs.Trades.{is_live}
-use Rattle.command_types.specs.Books.{is_between, is_held, amount_row, live_network, frozen_network, held_network}
+use Rattle.command_types.specs.Books.{is_held, live_network, frozen_network, held_network}
 use Rattle.product_book.specs.declared.networks.Which.{Which}
 use Rattle.product_book.specs.declared.networks.Which.TheVariants.{Live, Frozen, FrozenHeld}
 use Rattle.product_book.specs.Freezes.{FrozenCount}
@@ -38,20 +37,3 @@ pub record HasParties (members : ℕ) (row : TradeRow) : Type 0 where
   pub seller : row.seller < members
   pub buyer : row.buyer < members
   pub different : row.seller ≢ row.buyer
-
--- what one trade has for a product, a seller and a buyer
-abbrev pub part_of : Which → ℕ → ℕ → ℕ → TradeRow → ℕ
-part_of which product seller buyer row = if is_between product seller buyer row && is_among which row then row.amount else 0
-
--- the sum of a product's trades from a seller to a buyer
-abbrev pub sum_of : Which → ℕ → List TradeRow → ℕ → ℕ → ℕ
-sum_of which product rows seller buyer = sum_by (part_of which product seller buyer) rows
-
--- the table has a line of 256 cells for each seller, with the sum of each buyer
-pub record HoldsSums (which : Which) (members product : ℕ) (rows : List TradeRow) (sums : List ℕ) : Type 0 where
-  pub size : length sums ≡ members * 256
-  pub cells : (cell : ℕ) → cell < length sums → slice_index sums cell ≡ sum_of which product rows (cell / 256) (cell % 256)
-
--- the row that the cell of a pair gives; 0 gives none
-abbrev pub cell_row : List ℕ → ℕ → ℕ → List Row
-cell_row sums i j = amount_row i j (slice_index sums (i * 256 + j))

@@ -1,18 +1,15 @@
-use Rattle.std.proofs.Common.{◌∙◌, sym, subst}
-use Rattle.std.proofs.lemmas.Bool.{false≢true}
-use Rattle.network_laws.specs.Networks.{IsNetwork}
-use Rattle.product_book.specs.Networks.{HoldsSums}
-use Rattle.product_book.proofs.NetworkFacts.{network_good, made_network}
+use Rattle.std.proofs.Common.{◌≡◌, ◌∙◌, take, arith}
+use Rattle.std.proofs.lemmas.List.{take_all}
+use Rattle.std.proofs.lemmas.Result.{IfOk-weaker}
+use Rattle.network_laws.specs.Networks.{NetworkData}
+use Rattle.command_types.specs.Books.{network_by}
+use Rattle.pair_table.specs.PairSums.{sum_in}
+use Rattle.product_book.specs.Networks.{network_of}
+use Rattle.product_book.proofs.NetworkFacts.{network_by-table}
 use Rattle.product_book.proofs.networks.network_of.Goals as goal
-
-pub unreachable-requires : goal.unreachable-requires
-unreachable-requires c =
-    let held : HoldsSums c.args.which c.args.members c.args.product c.args.trades.now c.deref.result.now = rw c.deref.ensures.value c.in_ok-sums.ensures in
-    let made = made_network c.args.which c.args.members c.args.product c.args.trades.now c.deref.result.now c.in_ok-rows.rows.items c.requires.few held c.in_ok-rows.ensures in
-    let good = network_good c.args.which c.args.members c.args.product c.args.trades.now c.requires.few c.requires.parties c.requires.count c.requires.bound in
-    false≢true (c.in-Err.ensures.good.1 (subst IsNetwork (sym made) good))
 
 pub returns : goal.returns
 returns c =
-    let held : HoldsSums c.args.which c.args.members c.args.product c.args.trades.now c.deref.result.now = rw c.deref.ensures.value c.in_ok-sums.ensures in
-    c.in-Ok.ensures.value ∙ made_network c.args.which c.args.members c.args.product c.args.trades.now c.deref.result.now c.in_ok-rows.rows.items c.requires.few held c.in_ok-rows.ensures
+    let all : take c.loop-trade.trade-index c.args.trades.now ≡ c.args.trades.now = take_all c.loop-trade.trade-index c.args.trades.now (omega arith) in
+    let same = network_by-table c.args.which c.args.members c.args.product c.args.trades.now c.loop-trade.table (rw all at c.loop-trade.invariant) in
+    IfOk-weaker c.network.result (λ (network : NetworkData). network ≡ network_by c.loop-trade.table.members (sum_in c.loop-trade.table)) (λ network. network ≡ network_of c.args.which c.args.members c.args.product c.args.trades.now) (λ network e. (rw c.loop-trade.invariant.members at e) ∙ same) c.network.ensures.value

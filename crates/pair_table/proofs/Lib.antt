@@ -1,0 +1,3 @@
+pub mod PairNetworks
+pub mod PairRows
+pub mod TableFacts

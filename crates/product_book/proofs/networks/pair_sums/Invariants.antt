@@ -1,6 +1,0 @@
-use Rattle.std.proofs.Common.{take}
-use Rattle.product_book.specs.Networks.{HoldsSums}
-use Rattle.product_book.proofs.networks.pair_sums.Given as goal
-
-abbrev pub invariant-loop-trade : goal.invariant-loop-trade
-invariant-loop-trade l = HoldsSums l.which l.members l.product (take l.trade-index l.trades) l.sums.items
