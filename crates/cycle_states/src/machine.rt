@@ -26,10 +26,11 @@ mod tol_refusals;
 mod trade_refusals;
 mod vote_refusals;
 
-ghost use Rattle.std.specs.Prelude.{◌≡◌, ◌≤◌, IsTrue, IfOk, OnOk};
+ghost use Rattle.std.specs.Prelude.{◌≡◌, ◌≤◌, All, IsTrue, IfOk, OnOk};
+ghost use Rattle.network_laws.specs.Solutions.{IsSolution};
 ghost use Rattle.command_types.specs.Machine.{answer_to, state_after};
 ghost use Rattle.command_types.specs.History.{is_recorded};
-ghost use Rattle.cycle_states.specs.Machine.{rows_added, settings_added, IsReady, IsYoung};
+ghost use Rattle.cycle_states.specs.Machine.{rows_added, settings_added, solutions_posted, IsReady, IsYoung};
 
 use answers::{accepted, change_answer};
 use changes::change;
@@ -129,7 +130,8 @@ impl Machine {
         Ok(Ready::new(entry, made))
     }
 
-    /// Makes the change that was prepared in this state, and answers it. It takes no memory and can't fail.
+    /// Makes the change that was prepared in this state, and answers it. It takes no memory and can't fail. The solutions
+    /// of a POST are well-formed, as their type keeps them.
     pub fn commit(&mut self, ready: Ready) -> (Entry, Answer)
         requires accepted { IsTrue (is_recorded ready.entry.ask.what (answer_to self.old.state ready.entry.ask)) }
         requires young { IsYoung self.old.state.cycle }
@@ -139,6 +141,7 @@ impl Machine {
         ensures state { self.new.state ≡ state_after self.old.state ready.entry.ask }
         ensures entry { result.0 ≡ ready.entry }
         ensures answer { result.1 ≡ answer_to self.old.state ready.entry.ask }
+        ensures solutions { All IsSolution (solutions_posted ready.entry.ask.what) }
     {
         let (entry, made) = ready.into_parts();
         let answer = change_answer(

@@ -1,7 +1,8 @@
-use Rattle.std.proofs.Common.{◌≡◌, ◌∙◌, ◌≤◌, None, ap, sym, subst}
+use Rattle.std.proofs.Common.{◌≡◌, ◌∙◌, ◌≤◌, None, All, ap, sym, subst}
+use Rattle.network_laws.specs.Solutions.{IsSolution}
 use Rattle.command_types.specs.declared.ask.Entry.{Entry}
 use Rattle.command_types.specs.Machine.{accepted, answer_to, first_of, refusals}
-use Rattle.cycle_states.specs.Machine.{plan_made, problems_begun, rows_added, votes_counted, state_in, state_with, MachineView}
+use Rattle.cycle_states.specs.Machine.{plan_made, problems_begun, rows_added, solutions_posted, votes_counted, state_in, state_with, MachineView}
 use Rattle.cycle_states.proofs.MachineFacts.{recorded_changes, not_refused, not_refused_in, accepted_answer, accepted_stands}
 use Rattle.cycle_states.proofs.CycleFacts.{stays_unbroken}
 use Rattle.cycle_states.proofs.KeptFacts.{stays_kept}
@@ -93,3 +94,7 @@ returns-clause-answer c =
     ∙ accepted_stands m.roster m.book.rows m.tolerances.settings m.cycle ask.by ask.what
     ∙ sym (accepted_answer s ask (not_refused s ask (rw (← c.self.view_is) at c.requires.accepted)))
     ∙ ap (λ v. answer_to v.state ask) c.self.view_is
+
+pub returns-clause-solutions : goal.returns-clause-solutions
+returns-clause-solutions c =
+    subst (λ (e : Entry). All IsSolution (solutions_posted e.ask.what)) c.into_parts-entry.ensures.entry c.change.ensures.solutions
