@@ -1,6 +1,5 @@
 pub mod CsvFacts
 pub mod FieldFacts
-pub mod NameFacts
 pub mod DraftFacts
 pub mod RosterFacts
 pub mod TradeFieldFacts

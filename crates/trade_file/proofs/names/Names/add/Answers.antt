@@ -2,7 +2,7 @@ use Rattle.std.proofs.Common.{◌≡◌, ◌∙◌, ap, false, List, ℕ, ◌++�
 use Rattle.std.specs.List.{list_any}
 use Rattle.std.specs.Str.{bytes_eq}
 use Rattle.units_core.specs.contracts.name.NamePartialEq.TheImpl.{eq-value}
-use Rattle.trade_file.proofs.NameFacts.{same_test}
+use Rattle.units_core.proofs.NameTests.{same_test}
 use Rattle.trade_file.proofs.names.Names.add.Goals as goal
 
 pub returns : goal.returns

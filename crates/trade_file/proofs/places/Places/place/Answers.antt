@@ -1,7 +1,7 @@
 use Rattle.std.proofs.Common.{◌∙◌, ap}
 use Rattle.std.specs.Map.{lookup}
 use Rattle.std.specs.Str.{bytes_eq}
-use Rattle.trade_file.proofs.NameFacts.{same_test}
+use Rattle.units_core.proofs.NameTests.{same_test}
 use Rattle.trade_file.proofs.places.Places.place.Goals as goal
 
 pub returns : goal.returns

@@ -3,7 +3,7 @@ use Rattle.std.specs.Map.{lookup}
 use Rattle.std.specs.Str.{bytes_eq}
 use Rattle.units_core.specs.contracts.name.NamePartialEq.TheImpl.{eq-value}
 use Rattle.indexmap.proofs.CallerLemmas.{insert_entry-new}
-use Rattle.trade_file.proofs.NameFacts.{same_test}
+use Rattle.units_core.proofs.NameTests.{same_test}
 use Rattle.trade_file.proofs.PlaceFacts.{placed_new, placed_old, none_from}
 use Rattle.trade_file.proofs.places.Places.put.Goals as goal
 
