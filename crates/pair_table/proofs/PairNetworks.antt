@@ -7,7 +7,7 @@ use Rattle.network_laws.specs.declared.rows.Row.{Row}
 use Rattle.network_laws.specs.Networks.{pair_part, at, sum_below}
 use Rattle.network_laws.proofs.Figures.{sum_below-same, sum_below-add, sum_below-none, sum_below-only}
 use Rattle.network_laws.proofs.RowSums.{pair_part-seller, pair_part-buyer, pair_part-is}
-use Rattle.command_types.specs.Books.{listed_below, listed_pairs, amount_row, network_by}
+use Rattle.command_types.specs.Books.{listed_below, amount_row, network_by}
 
 listed_below-same : {T : Type 0} (n : ℕ) (f g : ℕ → List T) → ((k : ℕ) → k < n → f k ≡ g k) → listed_below n f ≡ listed_below n g
 listed_below-same zero f g each = refl

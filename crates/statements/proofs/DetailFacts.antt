@@ -1,9 +1,9 @@
 -- The detail lines of an answer are the lines of its rows.
-use Rattle.std.proofs.Common.{◌≡◌, ℕ, List, [], ◌∷◌, ◌++◌, map, refl, ap}
+use Rattle.std.proofs.Common.{◌≡◌, List, [], ◌∷◌, ◌++◌, map, refl, ap}
 use Rattle.command_types.specs.declared.answer.Answer.{Answer}
 use Rattle.command_types.specs.declared.answer.Answer.TheVariants.{Statement, LimitRows, PlanRows}
 use Rattle.command_types.specs.Roster.{Rows}
-use Rattle.command_types.specs.Details.{lines_text, details_text, trade_line, limit_text, plan_text}
+use Rattle.command_types.specs.Details.{lines_text, details_text}
 use Rattle.statements.specs.declared.details.DetailRow.{DetailRow}
 use Rattle.statements.specs.declared.details.DetailRow.TheVariants.{Trade, Limit, Plan}
 use Rattle.statements.specs.Details.{row_text, details_of}

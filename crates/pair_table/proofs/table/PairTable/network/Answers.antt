@@ -1,7 +1,7 @@
 use Rattle.std.proofs.Common.{rules, ◌≡◌, ◌∙◌, ap}
 use Rattle.std.proofs.lemmas.Bool.{false≢true}
 use Rattle.command_types.specs.Books.{network_by}
-use Rattle.network_laws.specs.Networks.{NetworkData, IsNetwork, at}
+use Rattle.network_laws.specs.Networks.{NetworkData, at}
 use Rattle.pair_table.specs.PairSums.{PairSums, sum_in}
 use Rattle.pair_table.proofs.PairNetworks.{at-network_by_within}
 use Rattle.pair_table.proofs.PairRows.{IsNetwork-network_by}
