@@ -13,6 +13,3 @@ mod solver;
 mod trace;
 
 pub use solver::CycleCancel;
-
-#[cfg(test)]
-mod tests;

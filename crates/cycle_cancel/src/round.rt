@@ -10,7 +10,7 @@ use residual_graph::Residual;
 use std::alloc::{AllocError, Global};
 
 /// A label, and the arc that lowered it in this round.
-#[derive(Clone, Copy, Debug, PartialEq, Eq)]
+#[derive(Clone, Copy)]
 pub struct Step {
     pub label: i32,
     pub arc: Option<u32>,

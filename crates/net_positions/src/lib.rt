@@ -10,6 +10,3 @@ mod positions;
 pub use bilateral::bilateral_gross;
 pub use figures::{excess, floor_m, gross, net};
 pub use positions::{Positions, positions_of};
-
-#[cfg(test)]
-mod tests;

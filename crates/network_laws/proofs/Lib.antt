@@ -12,3 +12,4 @@ pub mod Clashes
 pub mod Results
 pub mod FaultsDiffer
 pub mod LimitFaultsDiffer
+pub mod SolvedFacts

@@ -5,3 +5,4 @@ pub mod Faults
 pub mod LimitFaults
 pub mod Clash
 pub mod Solutions
+pub mod Solved

@@ -1,7 +1,7 @@
 //! Where a network with potentials is not certified.
 
 /// What the test of a certificate finds first. Members are their places in the network.
-#[derive(Clone, Copy, Debug, PartialEq, Eq)]
+#[derive(Clone, Copy, PartialEq, Eq)]
 pub enum Clash {
     /// The pair's amount is below its lower bound.
     Below { seller: u16, buyer: u16 },

@@ -28,6 +28,3 @@ pub use rows::{LimitRow, Row};
 pub use solution::{MOST_POTENTIAL, Solution};
 pub use solver::Solver;
 pub use walk::{amount_at, bounds_at, first_limit, first_row, next_limit, next_row};
-
-#[cfg(test)]
-mod tests;

@@ -34,7 +34,7 @@ pub enum LimitFault {
 
 /// The least and the most that a seller may sell to a buyer, in the contract's currency unit. Where
 /// `upper` is `None` there is no upper bound.
-#[derive(Clone, Copy, Debug, PartialEq, Eq)]
+#[derive(Clone, Copy, PartialEq, Eq)]
 pub struct Bounds {
     pub lower: u64,
     pub upper: Option<u64>,

@@ -1,7 +1,7 @@
 //! What networks and limits are made of.
 
 /// What a seller sold to a buyer: an amount in the contract's currency unit.
-#[derive(Clone, Copy, Debug, PartialEq, Eq)]
+#[derive(Clone, Copy, PartialEq, Eq)]
 pub struct Row {
     pub seller: u16,
     pub buyer: u16,
@@ -10,7 +10,7 @@ pub struct Row {
 
 /// The least and the most that a seller may sell to a buyer, in the contract's currency unit. Where
 /// `upper` is `None` there is no upper bound.
-#[derive(Clone, Copy, Debug, PartialEq, Eq)]
+#[derive(Clone, Copy, PartialEq, Eq)]
 pub struct LimitRow {
     pub seller: u16,
     pub buyer: u16,

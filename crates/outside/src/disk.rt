@@ -9,7 +9,7 @@ use crate::Failed;
 ///
 /// Until a sync succeeds, a crash may leave any bytes in the range of a write and past the old end, and a cut may have
 /// happened or not. After it, a crash leaves what a read gives. A call that failed may have done any part of its work.
-pub trait Disk: Send + Drop {
+pub trait Disk: Drop {
     // What it holds, and what a crash may leave at each moment, where it tells them.
     ghost history: { Self → Option History };
 

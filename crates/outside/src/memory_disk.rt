@@ -9,7 +9,7 @@ use std::alloc::{AllocError, Global};
 use std::marker::Model;
 
 // A write, a cut or a sync that succeeded.
-#[derive(Clone, Copy, Debug, PartialEq, Eq)]
+#[derive(Clone, Copy)]
 pub(crate) enum Step {
     Write(u64, u64),
     Cut(u64),
@@ -310,50 +310,6 @@ impl Disk for MemoryDisk {
         self.begin_step(0)?;
         refill(&mut self.synced, &self.content);
         self.steps.push_reserved(Step::Sync);
-        Ok(())
-    }
-}
-
-#[cfg(test)]
-mod tests {
-    use super::*;
-    use std::test::Fail;
-
-    #[test]
-    fn a_crash_leaves_what_the_last_sync_left(rt: HostRuntime) -> Result<(), Fail> {
-        let mut disk = MemoryDisk::new(rt.alloc(), 16, 8)?;
-        assert_eq!(rt; disk.write_at(0, b"ABCDE"), Ok(()));
-        assert_eq!(rt; disk.sync(), Ok(()));
-        assert_eq!(rt; disk.write_at(0, b"XY"), Ok(()));
-        assert_eq!(rt; disk.cut(4), Ok(()));
-        let mut into = [0; 6];
-        assert_eq!(rt; disk.read(1, &mut into), Ok(3));
-        assert!(rt; into.as_slice() == b"YCD\0\0\0".as_slice());
-        let mut disk = disk.crash();
-        assert_eq!(rt; disk.length(), Ok(5));
-        assert_eq!(rt; disk.read(0, &mut into), Ok(5));
-        assert!(rt; into.as_slice() == b"ABCDE\0".as_slice());
-        Ok(())
-    }
-
-    #[test]
-    fn calls_fail_where_they_are_told_and_where_there_is_no_room(
-        rt: HostRuntime,
-    ) -> Result<(), Fail> {
-        let mut disk = MemoryDisk::new(rt.alloc(), 4, 3)?;
-        disk.fail_at(1)?;
-        disk.fail_at(4)?;
-        assert_eq!(rt; disk.attach("journal"), Err(Failed));
-        assert_eq!(rt; disk.write_at(0, b"ABCDE"), Err(Failed));
-        assert_eq!(rt; disk.write_at(0, b"ABC"), Ok(()));
-        assert_eq!(rt; disk.length(), Err(Failed));
-        assert_eq!(rt; disk.length(), Ok(3));
-        assert_eq!(rt; disk.write_at(0, b"DE"), Err(Failed));
-        assert_eq!(rt; disk.cut(1), Ok(()));
-        assert_eq!(rt; disk.sync(), Ok(()));
-        assert_eq!(rt; disk.sync(), Err(Failed));
-        assert_eq!(rt; disk.length(), Ok(1));
-        assert_eq!(rt; disk.faults(), 5);
         Ok(())
     }
 }

@@ -170,37 +170,3 @@ impl Files for MemoryFiles {
         }
     }
 }
-
-#[cfg(test)]
-mod tests {
-    use super::*;
-    use std::test::Fail;
-
-    #[test]
-    fn files_in_memory_give_their_fronts_and_fail_where_they_are_told_and_where_there_is_none(
-        rt: HostRuntime,
-    ) -> Result<(), Fail> {
-        let alloc = rt.alloc();
-        let mut files = MemoryFiles::new(alloc)?;
-        files.put("A", b"ABCDE")?;
-        files.put("EMPTY", b"")?;
-        files.fail_at(3)?;
-        let front = files.read_front(alloc, "A", 3)?;
-        assert!(rt; front.as_slice() == b"ABC".as_slice());
-        let whole = files.read_front(alloc, "A", 9)?;
-        assert!(rt; whole.as_slice() == b"ABCDE".as_slice());
-        assert_eq!(rt;
-            files.read_front(alloc, "A", 9).err(),
-            Some(Trouble::Failed)
-        );
-        assert_eq!(rt;
-            files.read_front(alloc, "B", 9).err(),
-            Some(Trouble::Failed)
-        );
-        assert!(rt; files.read_front(alloc, "EMPTY", 9)?.is_empty());
-        files.put("A", b"F")?;
-        let again = files.read_front(alloc, "A", 9)?;
-        assert!(rt; again.as_slice() == b"F".as_slice());
-        Ok(())
-    }
-}

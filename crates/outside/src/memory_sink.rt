@@ -106,24 +106,3 @@ impl Sink for MemorySink {
         Ok(n)
     }
 }
-
-#[cfg(test)]
-mod tests {
-    use super::*;
-    use std::test::Fail;
-
-    #[test]
-    fn takes_what_fits_and_fails_where_it_is_told_and_when_full(
-        rt: HostRuntime,
-    ) -> Result<(), Fail> {
-        let mut sink = MemorySink::new(rt.alloc(), 4)?;
-        sink.fail_at(2)?;
-        assert_eq!(rt; sink.write(b"AB"), Ok(2));
-        assert_eq!(rt; sink.write(b"CDE"), Err(Failed));
-        assert_eq!(rt; sink.write(b"CDE"), Ok(2));
-        assert_eq!(rt; sink.write(b"E"), Err(Failed));
-        assert_eq!(rt; sink.write(b""), Ok(0));
-        assert!(rt; sink.bytes() == b"ABCD".as_slice());
-        Ok(())
-    }
-}

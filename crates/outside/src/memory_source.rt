@@ -101,26 +101,3 @@ impl Source for MemorySource {
         Ok(n)
     }
 }
-
-#[cfg(test)]
-mod tests {
-    use super::*;
-    use std::test::Fail;
-
-    #[test]
-    fn gives_its_bytes_and_goes_on_after_a_read_that_fails(rt: HostRuntime) -> Result<(), Fail> {
-        let mut source = MemorySource::new(rt.alloc(), b"ABCDE")?;
-        source.fail_at(2)?;
-        source.fail_at(5)?;
-        let mut into = [0; 3];
-        assert_eq!(rt; source.read(&mut into), Ok(3));
-        assert!(rt; into.as_slice() == b"ABC".as_slice());
-        assert_eq!(rt; source.read(&mut into), Err(Failed));
-        assert_eq!(rt; source.read(&mut into), Ok(2));
-        assert!(rt; into.as_slice() == b"DEC".as_slice());
-        assert_eq!(rt; source.read(&mut into), Ok(0));
-        assert_eq!(rt; source.read(&mut into), Err(Failed));
-        assert_eq!(rt; source.read(&mut into), Ok(0));
-        Ok(())
-    }
-}

@@ -37,25 +37,3 @@ pub fn write_all<K: Sink>(sink: &mut K, bytes: &[u8]) -> Result<(), Failed>
     }
     Ok(())
 }
-
-#[cfg(test)]
-mod tests {
-    use super::*;
-    use crate::MemorySink;
-    use std::test::Fail;
-
-    #[test]
-    fn a_whole_text_goes_out_or_a_front_of_it_and_the_fault_is_told(
-        rt: HostRuntime,
-    ) -> Result<(), Fail> {
-        let mut sink = MemorySink::new(rt.alloc(), 8)?;
-        sink.fail_at(2)?;
-        assert_eq!(rt; write_all(&mut sink, b"OK 1\n"), Ok(()));
-        assert_eq!(rt; write_all(&mut sink, b"OK 2\n"), Err(Failed));
-        assert!(rt; sink.bytes() == b"OK 1\n".as_slice());
-        assert_eq!(rt; write_all(&mut sink, b"OK 3\n"), Err(Failed));
-        assert!(rt; sink.bytes() == b"OK 1\nOK ".as_slice());
-        assert_eq!(rt; write_all(&mut sink, b""), Ok(()));
-        Ok(())
-    }
-}

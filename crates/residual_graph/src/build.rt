@@ -1,31 +1,57 @@
 //! From limit rows to pairs, and from pairs to the rows of a network.
 
-ghost use Rattle.std.specs.Prelude.{◌≡◌, ◌≤◌, map, filter, All, IfOk};
-ghost use Rattle.network_laws.specs.Networks.{at};
+ghost use Rattle.std.specs.Prelude.{◌≡◌, ℕ, ◌<◌, ◌≤◌, length, slice_index_or, map, filter, All, IfOk};
+ghost use Rattle.network_laws.specs.declared.rows.Row.{Row};
+ghost use Rattle.network_laws.specs.Networks.{IsRising, IsCursor, place};
+ghost use Rattle.network_laws.specs.Limits.{IsRisingLimits, limit_place};
 ghost use Rattle.residual_graph.specs.Residual.{capped, flow_with, flow_of, flow_rows, has_amount, IsFlow};
 ghost use Rattle.residual_graph.specs.Built.{IsBetween, IsSmall};
 
 use crate::flow::Flow;
-use network_laws::{LimitRow, Network, Row};
+use network_laws::{LimitRow, Network, Row, amount_at};
 use std::alloc::{AllocError, Global};
 
-/// A pair for each limit row, with the network's amount.
+/// A pair for each limit row, with the network's amount. The network's rows are walked in step.
 pub fn flows_of(
     alloc: Global,
     rows: &[LimitRow],
     network: &Network,
     cap: u64,
 ) -> Result<Vec<Flow>, AllocError>
+    requires rising { IsRisingLimits rows.now }
     requires within { All (IsBetween cap network.now) rows.now }
     ensures value { IfOk result (λ flows. flows.items ≡ map (flow_of cap network.now) rows.now) }
     ensures small { IfOk result (λ flows. All IsSmall flows.items) }
 {
+    let sales = network.rows();
     let mut flows = Vec::new(alloc);
+    let mut at = 0;
     for row in rows {
-        let amount = network.amount(row.seller, row.buyer);
+        at = cursor_from(sales, at, *row);
+        let amount = amount_at(sales, at, row.seller, row.buyer);
         flows.push(flow_of(*row, amount, cap))?;
     }
     Ok(flows)
+}
+
+/// The cursor of a limit row's pair, from that of an earlier pair on.
+fn cursor_from(sales: &[Row], from: usize, limit: LimitRow) -> usize
+    requires rising { IsRising sales.now }
+    requires from { from ≤ length sales.now }
+    requires before { (k : ℕ) (d : Row) → k < from → place (slice_index_or sales.now k d) < limit_place limit }
+    ensures end { result ≤ length sales.now }
+    ensures cursor { IsCursor sales.now result (limit_place limit) }
+{
+    let wanted = limit.seller as u32 * 65536 + limit.buyer as u32;
+    let mut at = from;
+    while at < sales.len() {
+        let row = sales[at];
+        if row.seller as u32 * 65536 + row.buyer as u32 >= wanted {
+            break;
+        }
+        at += 1;
+    }
+    at
 }
 
 /// The pair of a limit row with an amount.

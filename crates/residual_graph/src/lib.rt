@@ -10,6 +10,3 @@ mod residual;
 
 pub use flow::Flow;
 pub use residual::Residual;
-
-#[cfg(test)]
-mod tests;

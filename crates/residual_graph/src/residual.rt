@@ -62,6 +62,14 @@ impl Residual {
         self.members
     }
 
+    /// The pairs, in rising order of seller and buyer.
+    pub fn flows(&self) -> &[Flow]
+        ensures value { result.now ≡ self.now.flows }
+        ensures residual { IsResidual self.now }
+    {
+        &self.flows
+    }
+
     /// The number of arcs, which are numbered from 0.
     pub fn arcs(&self) -> u32
         ensures value { result ≡ arc_count self.now.flows }

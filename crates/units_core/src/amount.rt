@@ -6,7 +6,7 @@ use crate::number::{NumberFault, read_number};
 use std::marker::Model;
 
 /// A whole number from 1 to 10^18. Contracts see it as that number.
-#[derive(Clone, Copy, Debug, PartialEq, Eq, PartialOrd, Ord)]
+#[derive(Clone, Copy, PartialEq, Eq)]
 pub struct Amount {
     value: u64,
 }
@@ -60,49 +60,5 @@ impl Amount {
         ensures most { result ≤ 1000000000000000000 }
     {
         self.value
-    }
-}
-
-#[cfg(test)]
-mod tests {
-    use super::*;
-    use std::test::Fail;
-
-    #[test]
-    fn reads_amounts_and_tells_the_first_fault(rt: HostRuntime) -> Result<(), Fail> {
-        let rows: [(&str, Result<u64, NumberFault>); 7] = [
-            ("", Err(NumberFault::Empty)),
-            ("0", Err(NumberFault::Zero)),
-            ("00", Err(NumberFault::LeadingZero)),
-            ("1", Ok(1)),
-            ("1000000000000000000", Ok(1_000_000_000_000_000_000)),
-            ("1000000000000000001", Err(NumberFault::TooLarge)),
-            ("-1", Err(NumberFault::NotDigit { at: 0 })),
-        ];
-        for (text, want) in rows {
-            assert_eq!(rt;
-                Amount::read(text.as_bytes()).map(|amount| amount.get()),
-                want,
-                "{text}"
-            );
-        }
-        Ok(())
-    }
-
-    #[test]
-    fn makes_amounts_in_their_range(rt: HostRuntime) -> Result<(), Fail> {
-        for (n, want) in [
-            (0, false),
-            (1, true),
-            (1_000_000_000_000_000_000, true),
-            (1_000_000_000_000_000_001, false),
-        ] {
-            assert_eq!(rt;
-                Amount::new(n).map(|amount| amount.get()),
-                want.then_some(n),
-                "{n}"
-            );
-        }
-        Ok(())
     }
 }

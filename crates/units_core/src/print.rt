@@ -23,25 +23,3 @@ pub fn print_i128(n: i128, out: &mut Vec<u8>) -> Result<(), AllocError>
     let mut digits = Buffer::new();
     out.extend_from_slice(digits.format(n).as_bytes())
 }
-
-#[cfg(test)]
-mod tests {
-    use super::*;
-    use std::test::Fail;
-
-    #[test]
-    fn prints_the_largest_the_smallest_and_zero(rt: HostRuntime) -> Result<(), Fail> {
-        let mut out = Vec::new(rt.alloc());
-        print_u128(u128::MAX, &mut out)?;
-        out.push(b' ')?;
-        print_i128(i128::MIN, &mut out)?;
-        out.push(b' ')?;
-        print_u128(0, &mut out)?;
-        out.push(b' ')?;
-        print_i128(-7, &mut out)?;
-        let want =
-            b"340282366920938463463374607431768211455 -170141183460469231731687303715884105728 0 -7";
-        assert!(rt; out.as_slice() == want.as_slice());
-        Ok(())
-    }
-}

@@ -40,32 +40,3 @@ pub fn read_signed(text: &[u8]) -> Result<i32, NumberFault>
     }
     read_plus(text)
 }
-
-#[cfg(test)]
-mod tests {
-    use super::*;
-    use std::test::Fail;
-
-    #[test]
-    fn reads_signed_numbers_and_tells_the_first_fault(rt: HostRuntime) -> Result<(), Fail> {
-        let rows: [(&str, Result<i32, NumberFault>); 13] = [
-            ("", Err(NumberFault::Empty)),
-            ("-", Err(NumberFault::Empty)),
-            ("0", Ok(0)),
-            ("-0", Err(NumberFault::Zero)),
-            ("-00", Err(NumberFault::LeadingZero)),
-            ("7", Ok(7)),
-            ("-7", Ok(-7)),
-            ("1000000", Ok(1_000_000)),
-            ("-1000000", Ok(-1_000_000)),
-            ("1000001", Err(NumberFault::TooLarge)),
-            ("-1000001", Err(NumberFault::TooLarge)),
-            ("--1", Err(NumberFault::NotDigit { at: 1 })),
-            ("-12x", Err(NumberFault::NotDigit { at: 3 })),
-        ];
-        for (text, want) in rows {
-            assert_eq!(rt; read_signed(text.as_bytes()), want, "{text}");
-        }
-        Ok(())
-    }
-}

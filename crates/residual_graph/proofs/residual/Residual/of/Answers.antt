@@ -1,5 +1,6 @@
 use Rattle.std.proofs.Common.{◌≡◌, List, map, All, sym, ap, ◌∙◌, subst}
 use Rattle.network_laws.specs.declared.rows.LimitRow.{LimitRow}
+use Rattle.network_laws.specs.Limits.{IsRisingLimits}
 use Rattle.residual_graph.specs.declared.flow.Flow.{Flow}
 use Rattle.residual_graph.specs.Residual.{flow_of, IsResidual}
 use Rattle.residual_graph.specs.Built.{IsBetween, IsSmall}
@@ -8,6 +9,7 @@ use Rattle.residual_graph.proofs.residual.Residual.of.Goals as goal
 
 pub flows_of-requires : goal.flows_of-requires
 flows_of-requires c = record {
+  rising = subst (λ (rows : List LimitRow). IsRisingLimits rows) (sym c.rows.ensures.value) c.rows.ensures.limits.rows.rising;
   within = subst (λ (rows : List LimitRow). All (IsBetween c.args.cap c.args.network.now) rows) (sym c.rows.ensures.value) (rows_between c.args.cap c.args.limits.now c.args.network.now c.rows.ensures.limits c.requires.same_members c.requires.within c.requires.capped);
 }
 

@@ -1,0 +1,12 @@
+pub mod Same
+pub mod Walks
+pub mod Descents
+pub mod SentAlong
+pub mod Cuts
+pub mod Pigeons
+pub mod OneMoreExit
+pub mod Searches
+pub mod Layered
+pub mod TakenBack
+pub mod Phased
+pub mod Certifying

@@ -1,0 +1,190 @@
+-- What each phase keeps, and what is left in the end.
+use Rattle.std.proofs.Common.{◌≡◌, ◌≢◌, ℕ, zero, suc, ◌+◌, ◌*◌, ◌<◌, ◌≤◌, ◌%◌, Bool, true, false, List, length, get_or, replicate, All, refl, sym, ap, ◌∙◌, subst, arith, inl, inr, ◌⊎◌, ⊎_elim}
+use Rattle.std.proofs.lemmas.Bool.{cases_eq, cases_lt, eq-eqb, ne_eqb}
+use Rattle.std.proofs.lemmas.Int.{ints}
+use Rattle.std.proofs.lemmas.List.{get_or_past, get_or_default}
+use Rattle.residual_graph.specs.declared.flow.Flow.{Flow}
+use Rattle.residual_graph.specs.Residual.{ResidualData, IsResidual, flow_place}
+use Rattle.residual_graph.specs.Arcs.{pair, is_forward, no_flow, flow_at, room, room_in, head, head_in, tail, tail_in}
+use Rattle.path_solver.specs.Prices.{IsTight, ArePrices}
+use Rattle.path_solver.specs.Rests.{IsSamePair, AreSamePairs, IsFeasible, AreApart, IsSentAlong, owed}
+use Rattle.path_solver.specs.Levels.{IsReached, AreCut}
+use Rattle.path_solver.specs.Phases.{IsPhase, IsSettled, raised_price}
+use Rattle.path_solver.proofs.Same.{same_refl, same_sym, same_trans}
+use Rattle.path_solver.proofs.Cuts.{no_lack}
+use Rattle.path_solver.proofs.Pigeons.{few_phases}
+use Rattle.path_solver.proofs.TakenBack.{back_of}
+
+place_same : (f g : Flow) → IsSamePair f g → flow_place g ≡ flow_place f
+place_same f g h = omega (arith, h.seller, h.buyer)
+
+-- the same pairs are those of a residual graph
+pub residual_kept : (a b : ResidualData) → b.members ≡ a.members → AreSamePairs a.flows b.flows → IsResidual a → IsResidual b
+residual_kept a b members same h = record {
+  few = omega (arith, h.few, members);
+  good = λ k d l.
+      let in_a : k < length a.flows = omega (arith, same.same_length) in
+      let good = h.good k no_flow in_a in
+      let s = same.each k in_a in
+      let is = get_or_default b.flows k d no_flow l in
+      let e_s = ap (λ (f : Flow). f.seller) is ∙ s.seller in
+      let e_b = ap (λ (f : Flow). f.buyer) is ∙ s.buyer in
+      record {
+        seller = omega (arith, e_s, good.seller, members);
+        buyer = omega (arith, e_b, good.buyer, members);
+        different = λ e. good.different (sym e_s ∙ e ∙ e_b);
+        small = omega (arith, good.small, s.lower, s.most, ap (λ (f : Flow). f.lower) is, ap (λ (f : Flow). f.back) is, ap (λ (f : Flow). f.room) is);
+      };
+  rising = λ i j d lt l.
+      let in_j : j < length a.flows = omega (arith, same.same_length) in
+      let in_i : i < length b.flows = omega arith in
+      omega (
+        arith,
+        ap flow_place (get_or_default b.flows i d no_flow in_i),
+        ap flow_place (get_or_default b.flows j d no_flow l),
+        place_same (flow_at a.flows i) (flow_at b.flows i) (same.each i (omega arith)),
+        place_same (flow_at a.flows j) (flow_at b.flows j) (same.each j in_j),
+        h.rising i j no_flow lt in_j,
+      );
+}
+
+pub feasible_kept : (old new : List Flow) (s l s' l' : List ℕ) → AreSamePairs old new → ((i : ℕ) → owed new s' l' i ≡ owed old s l i) → IsFeasible old s l → IsFeasible new s' l'
+feasible_kept old new s l s' l' same e f = (f.0, same_trans new old f.0 (same_sym old new same) f.1, λ i. f.2 i ∙ sym (e i))
+
+zeros : (n v : ℕ) → let none : ℕ = 0 in get_or (replicate n none) v none ≡ none
+zeros zero v = refl
+zeros (suc n) zero = refl
+zeros (suc n) (suc v) = zeros n v
+
+pub first_phase : (r : ResidualData) (surplus lack p : List ℕ) → p ≡ replicate r.members 0 → All (λ (f : Flow). f.back ≡ 0) r.flows → AreApart surplus lack → IsPhase r r surplus lack surplus lack p 0
+first_phase r surplus lack p is lowest apart =
+    let zero_at = λ (v : ℕ). ap (λ xs. get_or xs v 0) is ∙ zeros r.members v in
+    record {
+      members = refl;
+      pairs = same_refl r.flows;
+      owed = λ i. refl;
+      priced = λ k l. record { growing = λ _. omega (arith, zero_at (flow_at r.flows k).seller); falling = λ b. absurd (omega (arith, b, lowest k no_flow l)) };
+      rated = record { senders = λ v _. zero_at v; receivers = λ v _. zero_at v; most = λ v. omega (arith, zero_at v) };
+      apart = apart;
+      few = omega arith;
+    }
+
+pub phase_sent : (old a b : ResidualData) (s0 l0 s l s' l' p : List ℕ) (top : ℕ) → IsPhase old a s0 l0 s l p top → IsSentAlong p a b s l s' l' → IsPhase old b s0 l0 s' l' p top
+phase_sent old a b s0 l0 s l s' l' p top h x = record {
+  members = x.members ∙ h.members;
+  pairs = same_trans old.flows a.flows b.flows h.pairs x.pairs;
+  owed = λ i. x.owed i ∙ h.owed i;
+  priced = x.priced h.priced;
+  rated = record { senders = λ v some. h.rated.senders v (x.senders v some); receivers = λ v some. h.rated.receivers v (x.receivers v some); most = h.rated.most };
+  apart = λ v some.
+      let none = h.apart v (x.receivers v some) in
+      ⊎_elim (λ (e : get_or s' v 0 ≡ 0). e) (λ (ne : get_or s' v 0 ≢ 0). absurd (omega (arith, none, x.senders v (omega arith)))) (cases_eq (get_or s' v 0) 0);
+  few = h.few;
+}
+
+forward_of : (k : ℕ) → (pair (2 * k) ≡ k) × (is_forward (2 * k) ≡ true)
+forward_of k = (omega arith, eq-eqb (2 * k % 2) 0 (omega arith))
+
+-- what the arcs of pair k are
+arc_is : (flows : List Flow) (a k : ℕ) (b : Bool) → pair a ≡ k → is_forward a ≡ b → (room flows a ≡ room_in (flow_at flows k) b) × (head flows a ≡ head_in (flow_at flows k) b) × (tail flows a ≡ tail_in (flow_at flows k) b)
+arc_is flows a k b e q = (
+  ap (λ j. room_in (flow_at flows j) (is_forward a)) e ∙ ap (room_in (flow_at flows k)) q,
+  ap (λ j. head_in (flow_at flows j) (is_forward a)) e ∙ ap (head_in (flow_at flows k)) q,
+  ap (λ j. tail_in (flow_at flows j) (is_forward a)) e ∙ ap (tail_in (flow_at flows k)) q,
+)
+
+-- a price rises by 1 where the member is not reached
+raised_cases : (levels p : List ℕ) (v : ℕ) → ((get_or levels v 0 ≡ 65535) × (raised_price levels p v ≡ get_or p v 0 + 1)) ⊎ (IsReached levels v × (raised_price levels p v ≡ get_or p v 0))
+raised_cases levels p v =
+    ⊎_elim (λ (e : get_or levels v 0 ≡ 65535). inl (e, rw (eq-eqb (get_or levels v 0) 65535 e) refl))
+    (λ (ne : get_or levels v 0 ≢ 65535). inr (ne, rw (ne_eqb (get_or levels v 0) 65535 ne) refl))
+    (cases_eq (get_or levels v 0) 65535)
+
+pub raised_phase : (old r : ResidualData) (s0 l0 s l p p' levels : List ℕ) (top v0 : ℕ) → IsResidual old → IsFeasible old.flows s0 l0 → length p ≡ old.members → length p' ≡ length p → length levels ≡ old.members → length s ≡ old.members → 0 < get_or s v0 0 → IsPhase old r s0 l0 s l p top → AreCut r.flows p s l levels → ((v : ℕ) → v < length p → get_or p' v 0 ≡ raised_price levels p v) → (top < old.members) × IsPhase old r s0 l0 s l p' (top + 1)
+raised_phase old r s0 l0 s l p p' levels top v0 residual feasible len_p len_p' len_levels len_s some h cut raised = (
+  low,
+  record {
+    members = h.members;
+    pairs = h.pairs;
+    owed = h.owed;
+    priced = priced;
+    rated = record {
+      senders = λ v sends. let in_v : v < old.members = below v sends in
+          ⊎_elim (λ (x : (get_or levels v 0 ≡ 65535) × (raised_price levels p v ≡ get_or p v 0 + 1)). omega (arith, raised v (omega (arith, len_p, in_v)), x.1, h.rated.senders v sends))
+          (λ (x : IsReached levels v × (raised_price levels p v ≡ get_or p v 0)). absurd (x.0 (cut.senders v (omega (arith, len_levels, in_v)) sends)))
+          (raised_cases levels p v);
+      receivers = λ v receives.
+          ⊎_elim (λ (in_v : v < length p). ⊎_elim (λ (x : (get_or levels v 0 ≡ 65535) × (raised_price levels p v ≡ get_or p v 0 + 1)). absurd (cut.receivers v receives x.0))
+          (λ (x : IsReached levels v × (raised_price levels p v ≡ get_or p v 0)). raised v in_v ∙ x.1 ∙ h.rated.receivers v receives)
+          (raised_cases levels p v))
+          (λ (out : length p ≤ v). get_or_past p' v 0 (omega (arith, len_p')))
+          (cases_lt v (length p));
+      most = λ v.
+          ⊎_elim (λ (in_v : v < length p). ⊎_elim (λ (x : (get_or levels v 0 ≡ 65535) × (raised_price levels p v ≡ get_or p v 0 + 1)). omega (arith, raised v in_v, x.1, h.rated.most v))
+          (λ (x : IsReached levels v × (raised_price levels p v ≡ get_or p v 0)). omega (arith, raised v in_v, x.1, h.rated.most v))
+          (raised_cases levels p v))
+          (λ (out : length p ≤ v). omega (arith, get_or_past p' v 0 (omega (arith, len_p'))))
+          (cases_lt v (length p));
+    };
+    apart = h.apart;
+    few = omega (arith, low);
+  },
+)
+  where
+    below : (v : ℕ) → 0 < get_or s v 0 → v < old.members
+    below v sends =
+        ⊎_elim (λ (lt : v < old.members). lt) (λ (ge : old.members ≤ v). absurd (omega (arith, sends, get_or_past s v 0 (omega (arith, len_s))))) (cases_lt v old.members)
+
+    low : top < old.members
+    low = omega (arith, h.members, few_phases r p s l top v0 (residual_kept old r h.members h.pairs residual) (feasible_kept old.flows r.flows s0 l0 s l h.pairs h.owed feasible) h.priced h.rated (len_p ∙ sym h.members) (omega (arith, below v0 some, h.members)) some)
+
+    priced : ArePrices r.flows p'
+    priced k lk =
+        let f = flow_at r.flows k in
+        let good = (residual_kept old r h.members h.pairs residual).good k no_flow lk in
+        let in_s : f.seller < length p = omega (arith, good.seller, len_p, h.members) in
+        let in_b : f.buyer < length p = omega (arith, good.buyer, len_p, h.members) in
+        let at_s = raised f.seller in_s in
+        let at_b = raised f.buyer in_b in
+        let was = h.priced k lk in
+        let there = forward_of k in
+        let back = back_of k in
+        let arc = arc_is r.flows (2 * k) k true there.0 there.1 in
+        let twin = arc_is r.flows (2 * k + 1) k false back.0 back.1 in
+        ⊎_elim (λ (x : (get_or levels f.seller 0 ≡ 65535) × (raised_price levels p f.seller ≡ get_or p f.seller 0 + 1)).
+        ⊎_elim (λ (y : (get_or levels f.buyer 0 ≡ 65535) × (raised_price levels p f.buyer ≡ get_or p f.buyer 0 + 1)).
+        record { growing = λ room_k. omega (arith, was.growing room_k, at_s, at_b, x.1, y.1); falling = λ back_k. omega (arith, was.falling back_k, at_s, at_b, x.1, y.1) })
+        (λ (y : IsReached levels f.buyer × (raised_price levels p f.buyer ≡ get_or p f.buyer 0)).
+        record {
+          growing = λ room_k.
+              let not_tight : get_or p f.seller 0 ≢ get_or p f.buyer 0 + 1 = λ t. cut.closed (2 * k) (omega (arith, lk)) (omega (arith, arc.0, room_k), subst (λ j. IsTight p (flow_at r.flows j)) (sym there.0) t) (λ e. y.0 (ap (λ v. get_or levels v 0) (sym arc.1) ∙ e)) (ap (λ v. get_or levels v 0) arc.2 ∙ x.0) in
+              omega (arith, was.growing room_k, not_tight, at_s, at_b, x.1, y.1);
+          falling = λ back_k. omega (arith, was.falling back_k, at_s, at_b, x.1, y.1);
+        })
+        (raised_cases levels p f.buyer))
+        (λ (x : IsReached levels f.seller × (raised_price levels p f.seller ≡ get_or p f.seller 0)).
+        ⊎_elim (λ (y : (get_or levels f.buyer 0 ≡ 65535) × (raised_price levels p f.buyer ≡ get_or p f.buyer 0 + 1)).
+        record {
+          growing = λ room_k. omega (arith, was.growing room_k, at_s, at_b, x.1, y.1);
+          falling = λ back_k.
+              let not_tight : get_or p f.seller 0 ≢ get_or p f.buyer 0 + 1 = λ t. cut.closed (2 * k + 1) (omega (arith, lk)) (omega (arith, twin.0, back_k), subst (λ j. IsTight p (flow_at r.flows j)) (sym back.0) t) (λ e. x.0 (ap (λ v. get_or levels v 0) (sym twin.1) ∙ e)) (ap (λ v. get_or levels v 0) twin.2 ∙ y.0) in
+              omega (arith, was.falling back_k, not_tight, at_s, at_b, x.1, y.1);
+        })
+        (λ (y : IsReached levels f.buyer × (raised_price levels p f.buyer ≡ get_or p f.buyer 0)).
+        record { growing = λ room_k. omega (arith, was.growing room_k, at_s, at_b, x.1, y.1); falling = λ back_k. omega (arith, was.falling back_k, at_s, at_b, x.1, y.1) })
+        (raised_cases levels p f.buyer))
+        (raised_cases levels p f.seller)
+
+-- where nothing is left to send
+pub settled : (old r : ResidualData) (s0 l0 s l p : List ℕ) (top : ℕ) → IsResidual old → IsFeasible old.flows s0 l0 → length p ≡ old.members → ((v : ℕ) → get_or s v 0 ≡ 0) → IsPhase old r s0 l0 s l p top → IsSettled old r s0 l0 p
+settled old r s0 l0 s l p top residual feasible len_p none h =
+    let now = residual_kept old r h.members h.pairs residual in
+    let still = feasible_kept old.flows r.flows s0 l0 s l h.pairs h.owed feasible in
+    record {
+      members = h.members;
+      pairs = h.pairs;
+      nets = λ i in_i. omega (arith, ints, h.owed i, none i, no_lack r s l now still none i (omega (arith, h.members)));
+      priced = h.priced;
+      one_each = len_p;
+      most = λ v. omega (arith, h.rated.most v, h.few);
+    }

@@ -1,0 +1,71 @@
+-- What sending along a path keeps.
+use Rattle.std.proofs.Common.{◌≡◌, ◌≢◌, ℕ, ◌+◌, ◌-◌, ◌<◌, ◌≤◌, List, length, get_or, set, sum, refl, sym, ap, ◌∙◌, subst, arith, ⊎_elim, get_or-set_same, get_or-set_other}
+use Rattle.std.specs.Prelude.{All, AllPairs}
+use Rattle.std.proofs.lemmas.Bool.{cases_eq, eq-eqb, ne_eqb}
+use Rattle.std.proofs.lemmas.Int.{ints}
+use Rattle.std.proofs.lemmas.List.Sums.{sum_by-set}
+use Rattle.residual_graph.specs.declared.flow.Flow.{Flow}
+use Rattle.residual_graph.specs.Residual.{ResidualData}
+use Rattle.residual_graph.specs.Arcs.{room, tail}
+use Rattle.residual_graph.proofs.PushSteps.{share}
+use Rattle.path_solver.specs.Prices.{ArePrices}
+use Rattle.path_solver.specs.Rests.{AreSamePairs, IsSentAlong, net_of}
+use Rattle.path_solver.specs.Paths.{IsPathDown, pushed_all}
+use Rattle.path_solver.proofs.Same.{same_refl, same_trans}
+use Rattle.path_solver.proofs.Walks.{can_push, all_same, nets_walk, prices_walk}
+
+pub sent_none : (p : List ℕ) (r : ResidualData) (surplus lack : List ℕ) → IsSentAlong p r r surplus lack surplus lack
+sent_none p r surplus lack = record {
+  members = refl;
+  pairs = same_refl r.flows;
+  owed = λ i. refl;
+  priced = λ h. h;
+  senders = λ v h. h;
+  receivers = λ v h. h;
+  less = omega arith;
+}
+
+pub sent_more : (p : List ℕ) (a b c : ResidualData) (s l s' l' s'' l'' : List ℕ) → IsSentAlong p a b s l s' l' → IsSentAlong p b c s' l' s'' l'' → IsSentAlong p a c s l s'' l''
+sent_more p a b c s l s' l' s'' l'' x y = record {
+  members = y.members ∙ x.members;
+  pairs = same_trans a.flows b.flows c.flows x.pairs y.pairs;
+  owed = λ i. y.owed i ∙ x.owed i;
+  priced = λ h. y.priced (x.priced h);
+  senders = λ v h. x.senders v (y.senders v h);
+  receivers = λ v h. x.receivers v (y.receivers v h);
+  less = omega (arith, x.less, y.less);
+}
+
+-- an amount that falls by x
+pub amount_less : (xs : List ℕ) (k x i : ℕ) → k < length xs → x ≤ get_or xs k 0 → get_or (set xs k (get_or xs k 0 - x)) i 0 + share x i k ≡ get_or xs i 0
+amount_less xs k x i l h =
+    ⊎_elim (λ (e : i ≡ k). rw e (rw (eq-eqb k k refl) (omega (arith, get_or-set_same xs k (get_or xs k 0 - x) 0 l))))
+    (λ (ne : i ≢ k). let other : share x i k ≡ 0 = rw (ne_eqb k i (λ q. ne (sym q))) refl in omega (arith, other, get_or-set_other xs k i (get_or xs k 0 - x) 0 ne))
+    (cases_eq i k)
+
+sum_less : (xs : List ℕ) (k x : ℕ) → k < length xs → x ≤ get_or xs k 0 → sum (set xs k (get_or xs k 0 - x)) + x ≡ sum xs
+sum_less xs k x l h = omega (arith, sum_by-set (λ y. y) xs k (get_or xs k 0 - x) 0 l)
+
+different : (f : ℕ → ℕ) (xs : List ℕ) → AllPairs (λ a b. f a < f b) xs → AllPairs (λ a b. a ≢ b) xs
+different f xs h i j d lt l e = omega (arith, h i j d lt l, ap f e)
+
+pub path_different : (flows : List Flow) (p levels lack : List ℕ) (from end : ℕ) (path : List ℕ) → IsPathDown flows p levels lack from end path → AllPairs (λ a b. a ≢ b) path
+path_different flows p levels lack from end path h = different (λ a. get_or levels (tail flows a) 0) path h.rising
+
+pub sent : (p levels : List ℕ) (old new : ResidualData) (surplus lack : List ℕ) (from end x : ℕ) (path : List ℕ) → IsPathDown old.flows p levels lack from end path → All (λ a. x ≤ room old.flows a) path → from < length surplus → end < length lack → x ≤ get_or surplus from 0 → x ≤ get_or lack end 0 → new.members ≡ old.members → new.flows ≡ pushed_all x old.flows path → IsSentAlong p old new surplus lack (set surplus from (get_or surplus from 0 - x)) (set lack end (get_or lack end 0 - x))
+sent p levels old new surplus lack from end x path h roomy in_s in_l le_s le_l members flows =
+    let can = can_push x old.flows path (λ k d l. (h.arcs k d l, roomy k d l)) (path_different old.flows p levels lack from end path h) in
+    record {
+      members = members;
+      pairs = subst (λ (fs : List Flow). AreSamePairs old.flows fs) (sym flows) (all_same x old.flows path can);
+      owed = λ i.
+          let nets = ap (λ fs. net_of fs i) flows in
+          omega (arith, ints, nets, nets_walk x i old.flows end path from h.walk can, amount_less surplus from x i in_s le_s, amount_less lack end x i in_l le_l);
+      priced = λ priced. subst (λ (fs : List Flow). ArePrices fs p) (sym flows) (prices_walk x p old.flows path can (λ k d l. (h.arcs k d l, (h.open_arcs k d l).1)) priced);
+      senders = λ v pos_v. omega (arith, pos_v, amount_less surplus from x v in_s le_s);
+      receivers = λ v pos_v. omega (arith, pos_v, amount_less lack end x v in_l le_l);
+      less = omega (arith, sum_less surplus from x in_s le_s);
+    }
+
+pub sent_less : (surplus : List ℕ) (from x : ℕ) → from < length surplus → 0 < x → x ≤ get_or surplus from 0 → sum (set surplus from (get_or surplus from 0 - x)) < sum surplus
+sent_less surplus from x l some le = omega (arith, sum_less surplus from x l le)

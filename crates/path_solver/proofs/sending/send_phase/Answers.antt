@@ -1,0 +1,34 @@
+use Rattle.std.proofs.Common.{◌≡◌, ℕ, List, sum, sym, ap, subst, arith}
+use Rattle.residual_graph.specs.Residual.{ResidualData}
+use Rattle.path_solver.specs.Rests.{IsSentAlong}
+use Rattle.path_solver.proofs.Same.{exits_kept}
+use Rattle.path_solver.proofs.SentAlong.{sent_more}
+use Rattle.path_solver.proofs.sending.send_phase.Goals as goal
+use Rattle.path_solver.proofs.sending.send_phase.Goals.{then-levels-member+in_ok-send_all, else-levels-member}
+
+-- the same at values that are equal
+same_along : (p : List ℕ) (a b c : ResidualData) (s l s' s'' l' l'' : List ℕ) → c ≡ b → s'' ≡ s' → l'' ≡ l' → IsSentAlong p a b s l s' l' → IsSentAlong p a c s l s'' l''
+same_along p a b c s l s' s'' l' l'' e f g h =
+    subst (λ (x : ResidualData). IsSentAlong p a x s l s'' l'') (sym e)
+    (subst (λ (xs : List ℕ). IsSentAlong p a b s l xs l'') (sym f)
+    (subst (λ (xs : List ℕ). IsSentAlong p a b s l s' xs) (sym g) h))
+
+pub send_all-requires-clause-exits : goal.send_all-requires-clause-exits
+send_all-requires-clause-exits c =
+    exits_kept c.args.residual.now c.loop-member.residual c.args.exits.now c.loop-member.invariant.along.members c.loop-member.invariant.along.pairs c.requires.exits
+
+pub loop-member-preserved : goal.loop-member-preserved
+loop-member-preserved c =
+    elim c.if-levels-member.branch [
+      | then-levels-member+in_ok-send_all w ↦
+          let more = w.in_ok-send_all.ensures.along in
+          let all = sent_more c.args.prices.now c.args.residual.now c.loop-member.residual w.send_all.new.residual c.args.surplus.now c.args.lack.now c.loop-member.surplus c.loop-member.lack w.send_all.new.surplus w.send_all.new.lack c.loop-member.invariant.along more in
+          record {
+            along = same_along c.args.prices.now c.args.residual.now w.send_all.new.residual c.if-levels-member.residual c.args.surplus.now c.args.lack.now w.send_all.new.surplus c.if-levels-member.surplus w.send_all.new.lack c.if-levels-member.lack w.residual-is w.surplus-is w.lack-is all;
+            sent = omega (arith, ap sum w.surplus-is, more.less, c.loop-member.invariant.sent);
+          }
+      | else-levels-member w ↦ record {
+        along = same_along c.args.prices.now c.args.residual.now c.loop-member.residual c.if-levels-member.residual c.args.surplus.now c.args.lack.now c.loop-member.surplus c.if-levels-member.surplus c.loop-member.lack c.if-levels-member.lack w.residual-is w.surplus-is w.lack-is c.loop-member.invariant.along;
+        sent = omega (arith, ap sum w.surplus-is, c.loop-member.invariant.sent);
+      }
+    ]

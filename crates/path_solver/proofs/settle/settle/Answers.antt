@@ -1,0 +1,61 @@
+use Rattle.std.proofs.Common.{◌≡◌, ℕ, ◌+◌, ◌<◌, List, length, get_or, sym, ap, ◌∙◌, subst, arith}
+use Rattle.std.proofs.lemmas.List.{with_items_is}
+use Rattle.path_solver.specs.Levels.{AreCut}
+use Rattle.path_solver.specs.Rests.{IsSentAlong}
+use Rattle.path_solver.specs.Phases.{IsPhase, raised_price}
+use Rattle.path_solver.proofs.Same.{exits_kept}
+use Rattle.path_solver.proofs.Phased.{settled, raised_phase, phase_sent}
+use Rattle.path_solver.proofs.settle.settle.Goals as goal
+
+pub layer-requires-clause-exits : goal.layer-requires-clause-exits
+layer-requires-clause-exits c =
+    exits_kept c.args.residual.now c.phases.residual c.in_ok-exits.exits c.phases.invariant.phase.members c.phases.invariant.phase.pairs c.in_ok-exits.ensures.exits
+
+pub send_phase-requires-clause-exits : goal.send_phase-requires-clause-exits
+send_phase-requires-clause-exits c =
+    exits_kept c.args.residual.now c.phases.residual c.in_ok-exits.exits c.phases.invariant.phase.members c.phases.invariant.phase.pairs c.in_ok-exits.ensures.exits
+
+pub phases-preserved-in-None : goal.phases-preserved-in-None
+phases-preserved-in-None c =
+    let old = c.args.residual.now in
+    let r = c.phases.residual in
+    let inv = c.phases.invariant in
+    let p = c.phases.prices.items in
+    let p' = c.raise.new.prices in
+    let found = c.layer.new.levels in
+    let at_p : c.deref.result.now ≡ c.phases.prices.items = c.deref.ensures.value in
+    let len_found : length c.layer.new.levels ≡ c.args.residual.now.members = c.layer.auto.levels ∙ ap length c.deref_mut.ensures.value ∙ inv.levels in
+    let len_new : length c.raise.new.prices ≡ length c.phases.prices.items = c.raise.auto.prices ∙ ap length c.deref_mut-in-None.ensures.value in
+    let levels = with_items_is c.phases.levels c.layer.new.levels (c.layer.auto.levels ∙ c.deref_mut.ensures.len) in
+    let prices = with_items_is c.phases.prices c.raise.new.prices (c.raise.auto.prices ∙ c.deref_mut-in-None.ensures.len) in
+    let at_levels : c.deref-in-None.result.now ≡ c.layer.new.levels = c.deref-in-None.ensures.value ∙ levels in
+    let cut : AreCut c.phases.residual.flows c.phases.prices.items c.phases.surplus c.phases.lack c.layer.new.levels =
+    subst (λ (xs : List ℕ). AreCut c.phases.residual.flows xs c.phases.surplus c.phases.lack c.layer.new.levels) at_p (rw c.in-None.is at c.in_ok-layer.ensures) in
+    let raised : (v : ℕ) → v < length c.phases.prices.items → get_or c.raise.new.prices v 0 ≡ raised_price c.layer.new.levels c.phases.prices.items v =
+    λ v l. c.raise.ensures v (omega (arith, l, ap length c.deref_mut-in-None.ensures.value)) ∙ ap (λ ls. raised_price ls c.deref_mut-in-None.result.now v) at_levels ∙ ap (λ ps. raised_price c.layer.new.levels ps v) c.deref_mut-in-None.ensures.value in
+    let source = c.is_left.ensures.some c.phases-test.true in
+    let all = raised_phase old r c.args.surplus.now c.args.lack.now c.phases.surplus c.phases.lack p p' found c.phases.top source.0 c.members-members.ensures.residual c.requires.feasible inv.prices len_new len_found (c.phases.auto.surplus ∙ sym c.requires.surplus) source.1 inv.phase cut raised in
+    record {
+      phase = subst (λ (xs : List ℕ). IsPhase c.args.residual.now c.phases.residual c.args.surplus.now c.args.lack.now c.phases.surplus c.phases.lack xs (c.phases.top + 1)) (sym prices) all.1;
+      prices = ap length prices ∙ len_new ∙ inv.prices;
+      levels = ap length levels ∙ len_found;
+      current = inv.current;
+    }
+
+pub phases-preserved : goal.phases-preserved
+phases-preserved c =
+    let inv = c.phases.invariant in
+    let levels = with_items_is c.phases.levels c.layer.new.levels (c.layer.auto.levels ∙ c.deref_mut.ensures.len) in
+    let current = with_items_is c.phases.current c.send_phase.new.current (c.send_phase.auto.current ∙ c.deref_mut-in-Some.ensures.len) in
+    let sent : IsSentAlong c.phases.prices.items c.phases.residual c.send_phase.new.residual c.phases.surplus c.phases.lack c.send_phase.new.surplus c.send_phase.new.lack =
+    subst (λ (xs : List ℕ). IsSentAlong xs c.phases.residual c.send_phase.new.residual c.phases.surplus c.phases.lack c.send_phase.new.surplus c.send_phase.new.lack) c.deref-in-Some.ensures.value c.in_ok-send_phase-in-Some.ensures.along in
+    record {
+      phase = phase_sent c.args.residual.now c.phases.residual c.send_phase.new.residual c.args.surplus.now c.args.lack.now c.phases.surplus c.phases.lack c.send_phase.new.surplus c.send_phase.new.lack c.phases.prices.items c.phases.top inv.phase sent;
+      prices = inv.prices;
+      levels = ap length levels ∙ c.layer.auto.levels ∙ ap length c.deref_mut.ensures.value ∙ inv.levels;
+      current = ap length current ∙ c.send_phase.auto.current ∙ ap length c.deref_mut-in-Some.ensures.value ∙ inv.current;
+    }
+
+pub returns : goal.returns
+returns c =
+    settled c.args.residual.now c.phases.residual c.args.surplus.now c.args.lack.now c.phases.surplus c.phases.lack c.phases.prices.items c.phases.top c.members-members.ensures.residual c.requires.feasible c.phases.invariant.prices (c.is_left.ensures.none c.phases-test.false) c.phases.invariant.phase

@@ -1,0 +1,63 @@
+-- Levels: how many open arcs a search went back from a member that has to receive.
+use Rattle.std.specs.Prelude.{◌≡◌, ◌≢◌, ◌==◌, ℕ, Bool, ◌+◌, ◌<◌, ◌≤◌, List, length, slice_index, count_by, Option, Some, None}
+use Rattle.residual_graph.specs.declared.flow.Flow.{Flow}
+use Rattle.residual_graph.specs.Residual.{ResidualData}
+use Rattle.residual_graph.specs.Arcs.{arc_count, pair, flow_at, tail, head, room}
+use Rattle.path_solver.specs.Prices.{IsTight, IsOpen}
+
+-- a member has a level; the level of others is 65535
+abbrev pub IsReached : List ℕ → ℕ → Type 0
+IsReached levels v = slice_index levels v ≢ 65535
+
+-- an open arc from this member to one a level below
+pub record LeadsDown (flows : List Flow) (p levels : List ℕ) (v a : ℕ) : Type 0 where
+  pub arc : a < arc_count flows
+  pub tail : tail flows a ≡ v
+  pub room : 0 < room flows a
+  pub tight : IsTight p (flow_at flows (pair a))
+  pub down : slice_index levels (head flows a) + 1 ≡ slice_index levels v
+
+-- from each reached member open arcs lead down to one that has to receive
+pub record AreLevels (flows : List Flow) (p lack levels : List ℕ) : Type 0 where
+  pub lowest : (v : ℕ) → v < length levels → slice_index levels v ≡ 0 → 0 < slice_index lack v
+  pub down : (v : ℕ) → v < length levels → IsReached levels v → 0 < slice_index levels v → (a : ℕ) × LeadsDown flows p levels v a
+
+-- no open arc leads to a reached member from another
+abbrev pub IsClosed : List Flow → List ℕ → List ℕ → Type 0
+IsClosed flows p levels =
+    (a : ℕ) → a < arc_count flows → IsOpen flows p a → IsReached levels (head flows a) → IsReached levels (tail flows a)
+
+-- no member that has to send is reached, and those that have to receive are
+pub record AreCut (flows : List Flow) (p surplus lack levels : List ℕ) : Type 0 where
+  pub closed : IsClosed flows p levels
+  pub senders : (v : ℕ) → v < length levels → 0 < slice_index surplus v → slice_index levels v ≡ 65535
+  pub receivers : (v : ℕ) → 0 < slice_index lack v → IsReached levels v
+
+-- this member has to send, and is reached
+pub record IsSource (surplus levels : List ℕ) (s : ℕ) : Type 0 where
+  pub member : s < length levels
+  pub sends : 0 < slice_index surplus s
+  pub reached : IsReached levels s
+
+-- what the levels tell
+abbrev pub IsLayered : List Flow → List ℕ → List ℕ → List ℕ → List ℕ → Option ℕ → Type 0
+IsLayered flows p surplus lack levels None = AreCut flows p surplus lack levels
+IsLayered flows p surplus lack levels (Some s) = IsSource surplus levels s × AreLevels flows p lack levels
+
+-- levels are at most `most`
+abbrev pub AreUpTo : ℕ → List ℕ → Type 0
+AreUpTo most levels = (v : ℕ) → v < length levels → IsReached levels v → slice_index levels v ≤ most
+
+-- whether a level is none
+abbrev pub is_unreached : ℕ → Bool
+is_unreached level = level == 65535
+
+-- the members that are reached, each once in the queue
+pub record IsSearch (r : ResidualData) (p lack levels queue : List ℕ) : Type 0 where
+  pub one_each : length levels ≡ r.members
+  pub queued : (x : ℕ) → x < length queue → (slice_index queue x < r.members) × IsReached levels (slice_index queue x)
+  pub reached : (v : ℕ) → v < r.members → IsReached levels v → (x : ℕ) × (x < length queue) × (slice_index queue x ≡ v)
+  pub count : length queue + count_by is_unreached levels ≡ r.members
+  pub lowest : (v : ℕ) → v < r.members → slice_index levels v ≡ 0 → 0 < slice_index lack v
+  pub receivers : (v : ℕ) → v < r.members → 0 < slice_index lack v → IsReached levels v
+  pub down : (v : ℕ) → v < r.members → IsReached levels v → 0 < slice_index levels v → (a : ℕ) × LeadsDown r.flows p levels v a

@@ -1,0 +1,21 @@
+//! A solver by successive shortest paths (Ahuja, Magnanti and Orlin, *Network Flows*). It starts with every
+//! pair at its lower bound and all prices 0. Members whose net position is then too small have to send, and
+//! those whose net position is too large have to receive. An arc is tight where its cost is the price that
+//! it bridges. While tight arcs with room lead from members that have to send to such that have to receive,
+//! amounts go along those paths that have the fewest arcs. Where none leads there, the prices rise by 1 of
+//! the members from which no tight arcs lead to one that has to receive. So no arc with room ever costs
+//! less than the price that it bridges, and in the end the prices are the potentials of a certificate.
+#![tactic(auto)]
+
+mod exit_lists;
+mod exits;
+mod layers;
+mod lowest;
+mod paths;
+mod prices;
+mod sending;
+mod settle;
+mod solver;
+mod walk;
+
+pub use solver::PathSolver;

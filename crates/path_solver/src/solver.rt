@@ -1,0 +1,78 @@
+//! The solver.
+
+ghost use Rattle.std.specs.Prelude.{◌≡◌, ◌≤◌, ◌^◌, IfOk};
+ghost use Rattle.network_laws.specs.Networks.{total};
+ghost use Rattle.network_laws.specs.Limits.{IsWithinLimits};
+ghost use Rattle.network_laws.specs.Solutions.{Solves};
+ghost use Rattle.residual_graph.specs.Residual.{flow_rows};
+ghost use Rattle.path_solver.specs.Prices.{potentials};
+ghost use Rattle.path_solver.specs.Phases.{IsPricedAnew};
+
+use crate::lowest::lower_all;
+use crate::settle::{all_of, settle};
+use net_positions::gross;
+use network_laws::{Limits, Network, Solution, Solver};
+use residual_graph::Residual;
+use std::alloc::{AllocError, Global};
+
+/// Finds a certified network by successive shortest paths, from the lower bounds on.
+#[derive(Clone, Copy)]
+pub struct PathSolver {
+    alloc: Global,
+}
+
+impl PathSolver {
+    /// A solver that takes its memory from here.
+    pub fn new(alloc: Global) -> PathSolver {
+        PathSolver { alloc }
+    }
+}
+
+impl Solver for PathSolver {
+    fn solve(&self, limits: &Limits, network: &Network) -> Result<Solution, AllocError> {
+        solution_of(self.alloc, limits, network)
+    }
+}
+
+/// A certified network and its potentials, and the old network itself where its gross is least.
+fn solution_of(alloc: Global, limits: &Limits, network: &Network) -> Result<Solution, AllocError>
+    requires same_members { limits.now.members ≡ network.now.members }
+    requires within { IsWithinLimits limits.now network.now }
+    ensures { IfOk result (Solves limits.now network.now) }
+{
+    let _members = network.members();
+    let before = gross(network);
+    let mut residual = Residual::of(alloc, limits, network, before + 1)?;
+    let prices = find_prices(alloc, &mut residual)?;
+    let found = residual.network()?;
+    let potentials = potentials_of(alloc, &prices)?;
+    if gross(&found) < before {
+        Ok(Solution::new(found, potentials))
+    } else {
+        Ok(Solution::new(network.copy()?, potentials))
+    }
+}
+
+/// Moves amounts until prices fit them, from the lower bounds on, and answers the prices.
+fn find_prices(alloc: Global, residual: &mut Residual) -> Result<Vec<u16>, AllocError>
+    requires { total (flow_rows residual.old.flows) ≤ 10 ^ 18 }
+    ensures { IfOk result (λ prices. IsPricedAnew residual.old residual.new prices.items) }
+{
+    let members = residual.members();
+    let mut surplus = all_of(alloc, members, 0u64)?;
+    let mut lack = all_of(alloc, members, 0u64)?;
+    lower_all(residual, &mut surplus, &mut lack);
+    let prices = settle(alloc, residual, &mut surplus, &mut lack)?;
+    Ok(prices)
+}
+
+/// The prices as potentials.
+fn potentials_of(alloc: Global, prices: &[u16]) -> Result<Vec<i32>, AllocError>
+    ensures { IfOk result (λ found. found.items ≡ potentials prices.now) }
+{
+    let mut potentials = Vec::new(alloc);
+    for price in prices {
+        potentials.push(*price as i32)?;
+    }
+    Ok(potentials)
+}
