@@ -15,8 +15,3 @@ mod words;
 pub use bad_line::BadLine;
 pub use head::write_head;
 pub use line_reader::read_line;
-
-#[cfg(test)]
-mod head_tests;
-#[cfg(test)]
-mod line_tests;

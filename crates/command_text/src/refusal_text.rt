@@ -115,6 +115,5 @@ pub(crate) fn put_refusal(into: &mut [u8], at: usize, roster: &Roster, refusal: 
         Refusal::Stopped { at: position } => put_told(into, at, b"26 stopped ", position),
         Refusal::Memory => put(into, at, b"28 memory"),
         Refusal::DiskFault => put(into, at, b"27 disk-fault"),
-        Refusal::NotBuilt => put(into, at, b"30 not-built"),
     }
 }

@@ -11,8 +11,8 @@ use Rattle.command_types.specs.declared.refusal.Refusal.TheVariants.{Memory}
 use Rattle.command_types.specs.declared.answer.Reply.{Reply}
 use Rattle.command_types.specs.declared.figures.Figures.{Figures}
 use Rattle.command_types.specs.declared.figures.State.{State}
-use Rattle.command_types.specs.Machine.{answer_to, state_after}
-use Rattle.command_types.specs.History.{History, IsLegalFrom, end_of, longer, replayed_from, recorded, is_recorded}
+use Rattle.command_types.specs.Machine.{state_after}
+use Rattle.command_types.specs.History.{History, IsAcceptedIn, IsLegalFrom, end_of, longer, replayed_from, recorded, is_recorded}
 use Rattle.command_types.specs.Told.{IsTold, IsNotRecorded}
 
 -- the state after one more change
@@ -20,7 +20,7 @@ pub replayed_on : (s : State) (es : List Entry) (entry : Entry) → replayed_fro
 replayed_on s es entry = fold-append (λ state e. state_after state e.ask) s es (entry ∷ [])
 
 -- a legal history goes on by a change that the machine accepts
-pub legal_on : (s : State) (es : List Entry) (entry : Entry) → IsLegalFrom s es → IsTrue (is_recorded entry.ask.what (answer_to (replayed_from s es) entry.ask)) → IsLegalFrom s (es ++ entry ∷ [])
+pub legal_on : (s : State) (es : List Entry) (entry : Entry) → IsLegalFrom s es → IsAcceptedIn (replayed_from s es) entry → IsLegalFrom s (es ++ entry ∷ [])
 legal_on s [] entry legal here = (here, tt)
 legal_on s (e ∷ es) entry (now, later) here = (now, legal_on (state_after s e.ask) es entry later here)
 

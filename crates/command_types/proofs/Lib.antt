@@ -1,3 +1,4 @@
 pub mod HistoryFacts
 pub mod LineFacts
 pub mod TalkFacts
+pub mod StopFacts

@@ -1,7 +1,9 @@
 -- The history of accepted changes.
-use Rattle.std.specs.Prelude.{ℕ, ◌+◌, ◌-◌, ◌==◌, Bool, not, ◌&&◌, List, [], ◌∷◌, ◌++◌, length, take, drop, fold, filter, IsTrue, if◌then◌else◌}
+use Rattle.std.specs.Prelude.{ℕ, ◌+◌, ◌-◌, ◌==◌, Bool, not, ◌&&◌, List, [], ◌∷◌, ◌++◌, length, take, drop, fold, filter, IsTrue, All, if◌then◌else◌}
+use Rattle.network_laws.specs.Solutions.{SolutionData, IsSolution}
 use Rattle.command_types.specs.declared.ask.Ask.{Ask}
 use Rattle.command_types.specs.declared.ask.What.{What}
+use Rattle.command_types.specs.declared.ask.What.TheVariants.{Post}
 use Rattle.command_types.specs.declared.ask.Entry.{Entry}
 use Rattle.command_types.specs.declared.answer.Answer.{Answer}
 use Rattle.command_types.specs.declared.figures.Base.{Base}
@@ -45,10 +47,18 @@ is_recorded what answer = changes what && not (is_refusal answer)
 abbrev pub recorded : ℕ → Ask → Answer → List Entry
 recorded seat ask answer = if is_recorded ask.what answer then record { seat = seat; ask = ask } ∷ [] else []
 
+-- the solutions that a change posts, if it is a POST
+abbrev pub solutions_posted : What → List SolutionData
+solutions_posted (Post cycle version solutions) = solutions
+solutions_posted what = []
+
+-- The machine accepts the change in this state, and each solution that it posts is well-formed: plain data can hold what no `Solution` of the code has, as rows out of order.
+abbrev pub IsAcceptedIn : State → Entry → Type 0
+IsAcceptedIn s entry = IsTrue (is_recorded entry.ask.what (answer_to s entry.ask)) × All IsSolution (solutions_posted entry.ask.what)
+
 abbrev pub IsLegalFrom : State → List Entry → Type 0
 IsLegalFrom s [] = Unit {0}
-IsLegalFrom s (entry ∷ entries) =
-    IsTrue (is_recorded entry.ask.what (answer_to s entry.ask)) × IsLegalFrom (state_after s entry.ask) entries
+IsLegalFrom s (entry ∷ entries) = IsAcceptedIn s entry × IsLegalFrom (state_after s entry.ask) entries
 
 -- each entry is a change that the machine accepts at its place
 abbrev pub IsLegal : History → Type 0

@@ -1,4 +1,5 @@
 pub mod Roster
+pub mod Names
 pub mod Trades
 pub mod Books
 pub mod Tolerances

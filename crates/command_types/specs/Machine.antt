@@ -7,7 +7,7 @@ use Rattle.command_types.specs.declared.ask.Ask.{Ask}
 use Rattle.command_types.specs.declared.answer.Answer.{Answer}
 use Rattle.command_types.specs.declared.answer.Answer.TheVariants.{Hello as Greeted, Traded, Affirmed, Marked, Ended, Held, Freed, Tolerance, Own, Statement as Statements, Begun, Noted, Declined, Cancelled, Bye as Left, Problems, No}
 use Rattle.command_types.specs.declared.refusal.Refusal.{Refusal}
-use Rattle.command_types.specs.declared.refusal.Refusal.TheVariants.{BadLine, NotGreeted, BadKey, UnknownMember, UnknownProduct, OwnTrade, UnknownTrade, NotParty, AmountOver, Matured, WrongTradeState, TradeFrozen, GrossOver, TradesFull, NotBuilt}
+use Rattle.command_types.specs.declared.refusal.Refusal.TheVariants.{BadLine, NotGreeted, BadKey, UnknownMember, UnknownProduct, OwnTrade, UnknownTrade, NotParty, AmountOver, Matured, WrongTradeState, TradeFrozen, GrossOver, TradesFull}
 use Rattle.command_types.specs.declared.figures.State.{State}
 use Rattle.command_types.specs.declared.roster.ProductRow.{ProductRow}
 use Rattle.command_types.specs.declared.trade.Side.{Side}
@@ -135,20 +135,12 @@ command_refusals s by (Decline cycle version) = decline_refusals s by cycle vers
 command_refusals s by (Cancel cycle) = cancel_refusals s by cycle
 command_refusals s by what = []
 
--- what the machine does not do yet: a session's own solving
-abbrev pub is_built : State → List ℕ → What → Bool
-is_built s by (Fetch cycle version) = false
-is_built s by what = true
-
-abbrev pub party_refusals : State → List ℕ → What → List (Bool × Refusal)
-party_refusals s by what = (not (is_built s by what), NotBuilt) ∷ command_refusals s by what
-
 -- the refusals of a command, each with its condition, in their order: all but HELLO, BYE and what can't be read want a party of the roster
 abbrev pub refusals : State → Option (List ℕ) → What → List (Bool × Refusal)
 refusals s by (Hello name key) = (not (is_key s.roster name key), BadKey) ∷ []
 refusals s by Bye = []
 refusals s by (Unreadable at) = (true, BadLine at) ∷ []
-refusals s by what = (not (is_party s.roster by), NotGreeted) ∷ party_refusals s (unwrap_or by []) what
+refusals s by what = (not (is_party s.roster by), NotGreeted) ∷ command_refusals s (unwrap_or by []) what
 
 -- a member's position in a product: what it owes, what it is owed, and the difference
 abbrev pub position_of : ℕ → ℕ → List TradeRow → Answer
@@ -186,7 +178,7 @@ party_answer s by (Plan cycle) = plan_answer s by (member_of s by)
 party_answer s by (Accept cycle version) = accept_answer s (member_of s by)
 party_answer s by (Decline cycle version) = Declined cycle version
 party_answer s by (Cancel cycle) = Cancelled cycle
-party_answer s by what = No NotBuilt
+party_answer s by what = No NotGreeted
 
 -- what an accepted command is answered
 abbrev pub accepted : State → Option (List ℕ) → What → Answer

@@ -1,8 +1,9 @@
 -- A session: lines in, the texts of their replies out.
-use Rattle.std.specs.Prelude.{◌≡◌, ℕ, ◌+◌, ◌≤◌, ℤ, pos, Bool, true, false, ◌&&◌, nat_lt, List, [], ◌∷◌, ◌++◌, length, sum_by, Option, Some, None, Result, Ok, Err, if◌then◌else◌}
+use Rattle.std.specs.Prelude.{◌≡◌, ◌⊎◌, ℕ, ◌+◌, ◌≤◌, ℤ, pos, Bool, IsTrue, true, false, ◌&&◌, nat_lt, List, [], ◌∷◌, ◌++◌, length, sum_by, Option, Some, None, Result, Ok, Err, if◌then◌else◌}
 use Rattle.std.specs.Str.{bytes_eq}
 use Rattle.network_laws.specs.declared.rows.Row.{Row as NetworkRow}
-use Rattle.network_laws.specs.Solutions.{SolutionData}
+use Rattle.network_laws.specs.Solutions.{SolutionData, ProblemData}
+use Rattle.network_laws.specs.Solved.{AreSolved}
 use Rattle.command_types.specs.declared.ask.Ask.{Ask}
 use Rattle.command_types.specs.declared.ask.Entry.{Entry}
 use Rattle.command_types.specs.declared.ask.What.{What}
@@ -10,13 +11,15 @@ use Rattle.command_types.specs.declared.ask.What.TheVariants.{Hello as AskHello,
 use Rattle.command_types.specs.declared.line.Line.{Line}
 use Rattle.command_types.specs.declared.line.Line.TheVariants.{Hello, Trade, Affirm, End, Hold, Free, Tol, Nets, Statement, Freeze, Begin, Limits, Row, Pot, Post, Propose, Plan, Accept, Decline, Cancel, Bye}
 use Rattle.command_types.specs.declared.answer.Answer.{Answer}
-use Rattle.command_types.specs.declared.answer.Answer.TheVariants.{Hello as Greeted, Noted, Proposed, Nothing, Bye as Left}
+use Rattle.command_types.specs.declared.answer.Answer.TheVariants.{Hello as Greeted, Begun, Noted, Proposed, Nothing, Bye as Left, Problems, No}
 use Rattle.command_types.specs.declared.answer.Reply.{Reply}
+use Rattle.command_types.specs.declared.cycle.Mode.{Mode}
+use Rattle.command_types.specs.declared.refusal.Refusal.TheVariants.{Memory}
 use Rattle.command_types.specs.declared.figures.Figures.{Figures}
 use Rattle.command_types.specs.declared.roster.MemberRow.{MemberRow}
 use Rattle.command_types.specs.declared.roster.ProductRow.{ProductRow}
 use Rattle.command_types.specs.Roster.{Rows}
-use Rattle.command_types.specs.History.{History, recorded, entries_of_seat}
+use Rattle.command_types.specs.History.{History, recorded, is_recorded, entries_of_seat}
 use Rattle.command_types.specs.Told.{IsTold}
 use Rattle.command_types.specs.Grammar.{line_within}
 use Rattle.command_types.specs.Details.{reply_text}
@@ -133,7 +136,7 @@ pub record Speaker : Type 0 where
 abbrev pub nobody : Speaker
 nobody = record { party = None; draft = empty_draft }
 
--- the command of a line of the grammar; a ROW and a POT carry the draft's size as it would be, and a POST the draft's solutions
+-- the command of a line of the grammar, of a PROPOSE its first; a ROW and a POT carry the draft's size as it would be, and a POST the draft's solutions
 abbrev pub what_by : Rows → Draft → Line → What
 what_by rows draft (Hello name key) = AskHello name key
 what_by rows draft (Trade seller buyer product amount day) = AskTrade seller buyer product amount day
@@ -151,7 +154,7 @@ what_by rows draft (Row product seller buyer amount) =
     AskRow product seller buyer amount (draft_size (noted_row draft product seller buyer amount)) (capped (draft_sum product (noted_row draft product seller buyer amount).rows))
 what_by rows draft (Pot product member value) = AskPot product member value (draft_size (noted_potential draft product member value))
 what_by rows draft (Post cycle version) = AskPost cycle version (draft_solutions rows draft)
-what_by rows draft (Propose cycle mode) = Fetch cycle 0
+what_by rows draft (Propose cycle mode) = AskBegin cycle mode
 what_by rows draft (Plan cycle) = AskPlan cycle
 what_by rows draft (Accept cycle version) = AskAccept cycle version
 what_by rows draft (Decline cycle version) = AskDecline cycle version
@@ -197,18 +200,91 @@ pub record Standing : Type 0 where
   pub stopped : Bool
   pub over : Bool
 
--- A line is replied to, at a position not below the one before. A stop may begin before the command or in it, and never ends. After an accepted BYE no line is replied to.
-pub record IsAnswered (figures : Figures) (h : History) (seat : ℕ) (from : Standing) (line head : List ℕ) (first : List Entry) (to : Standing) : Type 0 where
-  pub reply : Reply
+-- what a session knows of the history between two commands: the position that it has seen, and whether the desk is stopped
+pub record Mark : Type 0 where
+  pub position : ℕ
+  pub stopped : Bool
+
+abbrev pub mark_of : Standing → Mark
+mark_of standing = record { position = standing.position; stopped = standing.stopped }
+
+-- A command is replied to, at a position not below the one before. A stop may begin before the command or in it, and never ends.
+pub record IsAsked (figures : Figures) (h : History) (seat : ℕ) (from : Mark) (ask : Ask) (reply : Reply) (made : List Entry) (to : Mark) : Type 0 where
   pub before : Bool
-  pub open_yet : from.over ≡ false
-  pub told : IsTold figures before to.stopped h seat (ask_of h.base.state.roster from.speaker line) reply
-  pub later : from.position ≤ reply.at
+  pub told : IsTold figures before to.stopped h seat ask reply
+  pub later : from.position + length made ≤ reply.at
   pub known : from.stopped ≡ true → before ≡ true
   pub stays : before ≡ true → to.stopped ≡ true
-  pub text : head ≡ reply_text h.base.state.roster reply
-  pub made : first ≡ recorded seat (ask_of h.base.state.roster from.speaker line) reply.answer
+  pub runs : IsTrue (is_recorded ask.what reply.answer) → to.stopped ≡ false
+  pub keeps : made ≡ recorded seat ask reply.answer
   pub position : to.position ≡ reply.at
+
+-- the commands of a PROPOSE
+abbrev pub ask_begin : Option (List ℕ) → ℕ → Mode → Ask
+ask_begin by cycle mode = record { by = by; what = AskBegin cycle mode }
+
+abbrev pub ask_fetch : Option (List ℕ) → ℕ → ℕ → Ask
+ask_fetch by cycle version = record { by = by; what = Fetch cycle version }
+
+abbrev pub ask_post : Option (List ℕ) → ℕ → ℕ → List SolutionData → Ask
+ask_post by cycle version solutions = record { by = by; what = AskPost cycle version solutions }
+
+-- nothing more is asked: this is the line's reply
+abbrev pub IsLast : Reply → Mark → Reply → List Entry → Mark → Type 0
+IsLast last mid reply made to = (reply ≡ last) × (made ≡ []) × (to ≡ mid)
+
+-- Where the problems could not be solved for want of memory, that is the line's reply, at the position at which the version began.
+abbrev pub IsUnsolved : ℕ → Mark → Reply → List Entry → Mark → Type 0
+IsUnsolved begun_at mid reply made to = IsLast (record { at = begun_at; answer = No Memory }) mid reply made to
+
+-- The solutions are posted, and the reply to that is the line's.
+pub record IsPosted (figures : Figures) (h : History) (seat : ℕ) (mid : Mark) (by : Option (List ℕ)) (cycle version : ℕ) (problems : List ProblemData) (reply : Reply) (made : List Entry) (to : Mark) : Type 0 where
+  pub solutions : List SolutionData
+  pub solved : AreSolved problems solutions
+  pub asked : IsAsked figures h seat mid (ask_post by cycle version solutions) reply made to
+
+-- what follows on the reply that gave the problems, or none
+abbrev pub GoesOnFetched : Answer → Figures → History → ℕ → Mark → Option (List ℕ) → ℕ → ℕ → ℕ → Reply → Reply → List Entry → Mark → Type 0
+GoesOnFetched (Problems problems) figures h seat mid by cycle version begun_at fetched reply made to =
+    IsUnsolved begun_at mid reply made to ⊎ IsPosted figures h seat mid by cycle version problems reply made to
+GoesOnFetched answer figures h seat mid by cycle version begun_at fetched reply made to = IsLast fetched mid reply made to
+
+-- The problems of the version that was begun are asked for.
+pub record IsFetched (figures : Figures) (h : History) (seat : ℕ) (from : Mark) (by : Option (List ℕ)) (cycle version begun_at : ℕ) (reply : Reply) (made : List Entry) (to : Mark) : Type 0 where
+  pub fetched : Reply
+  pub mid : Mark
+  pub first : List Entry
+  pub others : List Entry
+  pub asked : IsAsked figures h seat from (ask_fetch by cycle version) fetched first mid
+  pub goes_on : GoesOnFetched fetched.answer figures h seat mid by cycle version begun_at fetched reply others to
+  pub order : made ≡ first ++ others
+
+-- what follows on the reply that told the version's number, or none
+abbrev pub GoesOnBegun : Answer → Figures → History → ℕ → Mark → Option (List ℕ) → ℕ → Reply → Reply → List Entry → Mark → Type 0
+GoesOnBegun (Begun number version) figures h seat mid by cycle begun reply made to = IsFetched figures h seat mid by cycle version begun.at reply made to
+GoesOnBegun answer figures h seat mid by cycle begun reply made to = IsLast begun mid reply made to
+
+-- A PROPOSE begins a version, asks for its problems and posts a solution of each. Its reply is the first of these that does not lead on, or the last.
+pub record IsProposed (figures : Figures) (h : History) (seat : ℕ) (from : Mark) (by : Option (List ℕ)) (cycle : ℕ) (mode : Mode) (reply : Reply) (made : List Entry) (to : Mark) : Type 0 where
+  pub begun : Reply
+  pub mid : Mark
+  pub first : List Entry
+  pub others : List Entry
+  pub asked : IsAsked figures h seat from (ask_begin by cycle mode) begun first mid
+  pub goes_on : GoesOnBegun begun.answer figures h seat mid by cycle begun reply others to
+  pub order : made ≡ first ++ others
+
+-- what was read of a line is replied to: a PROPOSE by its commands, each other line by its one
+abbrev pub IsReplied : Figures → History → ℕ → Mark → Rows → Speaker → Result Line ℕ → Reply → List Entry → Mark → Type 0
+IsReplied figures h seat from rows speaker (Ok (Propose cycle mode)) reply made to = IsProposed figures h seat from speaker.party cycle mode reply made to
+IsReplied figures h seat from rows speaker read reply made to = IsAsked figures h seat from (record { by = speaker.party; what = what_or_fault rows speaker.draft read }) reply made to
+
+-- A line is replied to. After an accepted BYE no line is.
+pub record IsAnswered (figures : Figures) (h : History) (seat : ℕ) (from : Standing) (line head : List ℕ) (first : List Entry) (to : Standing) : Type 0 where
+  pub reply : Reply
+  pub open_yet : from.over ≡ false
+  pub replied : IsReplied figures h seat (mark_of from) h.base.state.roster from.speaker (line_within line) reply first (mark_of to)
+  pub text : head ≡ reply_text h.base.state.roster reply
   pub speaker : to.speaker ≡ speaker_after from.speaker (line_within line) reply.answer
   pub over : to.over ≡ is_bye reply.answer
 

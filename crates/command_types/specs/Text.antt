@@ -13,7 +13,7 @@ use Rattle.command_types.specs.declared.answer.Answer.TheVariants.{Hello, Traded
 use Rattle.command_types.specs.declared.refusal.BadPost.{BadPost}
 use Rattle.command_types.specs.declared.refusal.BadPost.TheVariants.{Shape, At}
 use Rattle.command_types.specs.declared.refusal.Refusal.{Refusal}
-use Rattle.command_types.specs.declared.refusal.Refusal.TheVariants.{BadLine, NotGreeted, BadKey, NotOperator, UnknownMember, UnknownProduct, OwnTrade, UnknownTrade, NotParty, AmountOver, Matured, FloorOverCeiling, WrongTradeState, TradeFrozen, CycleOpen, WrongCycle, CycleBroken, WrongPhase, WrongVersion, NotTouched, AlreadyAccepted, BadCertificate, GrossOver, TradesFull, DraftFull, JournalFull, Stopped, Memory, DiskFault, NotBuilt}
+use Rattle.command_types.specs.declared.refusal.Refusal.TheVariants.{BadLine, NotGreeted, BadKey, NotOperator, UnknownMember, UnknownProduct, OwnTrade, UnknownTrade, NotParty, AmountOver, Matured, FloorOverCeiling, WrongTradeState, TradeFrozen, CycleOpen, WrongCycle, CycleBroken, WrongPhase, WrongVersion, NotTouched, AlreadyAccepted, BadCertificate, GrossOver, TradesFull, DraftFull, JournalFull, Stopped, Memory, DiskFault}
 use Rattle.command_types.specs.declared.roster.MemberRow.{MemberRow}
 use Rattle.command_types.specs.declared.roster.ProductRow.{ProductRow}
 use Rattle.command_types.specs.Roster.{Rows}
@@ -92,7 +92,6 @@ refusal_text rows (JournalFull size) = codes "25 journal-full " ++ decimal size
 refusal_text rows (Stopped at) = codes "26 stopped " ++ decimal at
 refusal_text rows Memory = codes "28 memory"
 refusal_text rows DiskFault = codes "27 disk-fault"
-refusal_text rows NotBuilt = codes "30 not-built"
 
 -- two numbers with a space in front of each
 abbrev pub numbers_text : ℕ → ℕ → List ℕ

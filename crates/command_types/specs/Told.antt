@@ -1,5 +1,5 @@
--- What a reply says of the history: exactly one of four cases.
-use Rattle.std.specs.Prelude.{◌≡◌, ℕ, ◌+◌, ◌-◌, nat_lt, Bool, not, ◌⊎◌, List, [], ◌∷◌, ◌++◌, length, drop, Option, Some, None, IsTrue}
+-- What a reply says of the history, by one of four cases.
+use Rattle.std.specs.Prelude.{◌≡◌, ℕ, ◌+◌, ◌-◌, nat_lt, Bool, true, false, not, ◌⊎◌, List, [], ◌∷◌, ◌++◌, length, drop, Option, Some, None, IsTrue}
 use Rattle.command_types.specs.declared.ask.Ask.{Ask}
 use Rattle.command_types.specs.declared.ask.Entry.{Entry}
 use Rattle.command_types.specs.declared.answer.Answer.{Answer}
@@ -65,3 +65,9 @@ pub record IsTold (figures : Figures) (before after : Bool) (h : History) (seat 
       ⊎ IsNotRecorded h.base.state front ask reply.answer
       ⊎ IsHouse figures.journal figures before after h.base.state front reply.at ask reply.answer
       ⊎ IsMemory reply.answer
+
+-- an answer of a desk that a disk fault stopped, in this call or before
+abbrev pub tells_stop : Answer → Bool
+tells_stop (No (Stopped at)) = true
+tells_stop (No DiskFault) = true
+tells_stop answer = false

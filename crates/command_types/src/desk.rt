@@ -3,6 +3,7 @@
 ghost use Rattle.std.specs.Prelude.{◌≡◌, ◌≤◌, ◌<◌, ◌^◌, Bool, IsTrue, true, false};
 ghost use Rattle.command_types.specs.declared.figures.Figures.{Figures};
 ghost use Rattle.command_types.specs.History.{History, IsLegal, end_of, longer, recorded, is_recorded};
+ghost use Rattle.command_types.specs.Roster.{IsRoster};
 ghost use Rattle.command_types.specs.Told.{IsTold};
 
 use crate::answer::Reply;
@@ -38,5 +39,6 @@ pub trait Desk: Send + Drop {
         ensures base { (history self.now).base ≡ (figures self.now).base }
         ensures legal { IsLegal (history self.now) }
         ensures short { end_of (history self.now) < 2 ^ 63 }
-        ensures opening { (figures self.now).opening ≤ end_of (history self.now) };
+        ensures opening { (figures self.now).opening ≤ end_of (history self.now) }
+        ensures roster { IsRoster (figures self.now).base.state.roster };
 }

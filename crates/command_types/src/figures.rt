@@ -1,6 +1,7 @@
 //! What a desk was when it was made, and the state that its history begins with. Contracts alone speak of these
 //! types: no value of them is made.
 
+use crate::ask::Entry;
 use crate::cycle::Phase;
 use crate::plan::PlanRow;
 use crate::roster::Roster;
@@ -46,10 +47,20 @@ pub struct Base {
     pub state: State,
 }
 
-/// What a desk's journal was when the desk was made.
+/// What a desk's journal was when the desk was made. Where the disk tells nothing, both moments are 0.
 pub struct JournalFigures {
+    /// Whether the disk tells its content and its moments.
+    pub tells: bool,
     /// Its bytes.
     pub size: u64,
+    /// How many calls of its disk had failed.
+    pub faults: u64,
+    /// The number of the disk's moment.
+    pub moment: u64,
+    /// The number of the disk's moment when the desk took the disk.
+    pub first_moment: u64,
+    /// The changes for which the disk's content stood then.
+    pub first: LinkedList<Entry>,
 }
 
 /// What a desk was when it was made. No call changes it.

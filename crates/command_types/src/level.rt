@@ -5,7 +5,7 @@ ghost use Rattle.std.specs.Prelude.{◌≡◌, ◌≤◌, nat_le, if◌then◌el
 use std::marker::Model;
 
 /// A whole number from 0 to 10^18, in units of the contract's currency. Contracts see it as the number.
-#[derive(Clone, Copy, Debug, PartialEq, Eq, PartialOrd, Ord)]
+#[derive(Clone, Copy)]
 pub struct Level {
     value: u64,
 }

@@ -32,6 +32,3 @@ pub use refusal::{BadPost, Refusal};
 pub use roster::{MemberRow, OperatorRow, ProductRow, Role, Roster};
 pub use tolerance::ToleranceRow;
 pub use trade::{Side, TradeRow, TradeState};
-
-#[cfg(test)]
-mod tests;

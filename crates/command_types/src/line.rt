@@ -6,7 +6,7 @@ use crate::trade::Side;
 use units_core::{Amount, Day, Name};
 
 /// A line of the grammar.
-#[derive(Clone, Copy, PartialEq, Eq)]
+#[derive(Clone, Copy)]
 pub enum Line {
     /// `HELLO NAME KEY`
     Hello {

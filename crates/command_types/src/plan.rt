@@ -27,7 +27,7 @@ pub enum PlanRow {
 
 /// A pair's limits as a member or the operator is told them: the least and the most that it may come to, where no
 /// most is none, and its frozen amount now.
-#[derive(Clone, Copy, Debug, PartialEq, Eq)]
+#[derive(Clone, Copy, PartialEq, Eq)]
 pub struct LimitLine {
     pub seller: u16,
     pub buyer: u16,

@@ -6,7 +6,7 @@ use network_laws::Clash;
 use units_core::{Day, ProductNo};
 
 /// What is wrong with a posted list of solutions.
-#[derive(Clone, Copy, Debug, PartialEq, Eq)]
+#[derive(Clone, Copy, PartialEq, Eq)]
 pub enum BadPost {
     /// Not one solution for each product, each with the roster's members.
     Shape,
@@ -15,7 +15,7 @@ pub enum BadPost {
 }
 
 /// Why a command is refused. Each has a number and a name in the reply's text.
-#[derive(Clone, Copy, Debug, PartialEq, Eq)]
+#[derive(Clone, Copy, PartialEq, Eq)]
 pub enum Refusal {
     /// 3: the line is not in the grammar; `at` is the offset of the first word that is not of the form.
     BadLine { at: u32 },
@@ -75,6 +75,4 @@ pub enum Refusal {
     Memory,
     /// 27: the disk failed in this call.
     DiskFault,
-    /// 30: the command, or this case of it, is not built yet.
-    NotBuilt,
 }

@@ -5,14 +5,14 @@ use std::marker::Model;
 use units_core::{Day, MemberNo, Name, ProductNo};
 
 /// What a member is registered as.
-#[derive(Clone, Copy, Debug, PartialEq, Eq)]
+#[derive(Clone, Copy, PartialEq, Eq)]
 pub enum Role {
     Dealer,
     Customer,
 }
 
 /// A member, with the key that it greets by.
-#[derive(Clone, Copy, PartialEq, Eq)]
+#[derive(Clone, Copy)]
 pub struct MemberRow {
     pub name: Name,
     pub role: Role,
@@ -20,14 +20,14 @@ pub struct MemberRow {
 }
 
 /// A product, and the day on which it matures.
-#[derive(Clone, Copy, PartialEq, Eq)]
+#[derive(Clone, Copy)]
 pub struct ProductRow {
     pub name: Name,
     pub maturity: Day,
 }
 
 /// The operator, with the key that it greets by.
-#[derive(Clone, Copy, PartialEq, Eq)]
+#[derive(Clone, Copy)]
 pub struct OperatorRow {
     pub name: Name,
     pub key: Name,

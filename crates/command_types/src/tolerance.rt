@@ -6,7 +6,7 @@ use units_core::{MemberNo, ProductNo};
 
 /// A member's setting for what it owes another member in a product (`Out`), or for what it is owed (`In`): what the
 /// amount may fall to, and what it may grow to; no ceiling is none. Both are in units of the contract's currency.
-#[derive(Clone, Copy, PartialEq, Eq)]
+#[derive(Clone, Copy)]
 pub struct ToleranceRow {
     pub member: MemberNo,
     pub product: ProductNo,

@@ -3,7 +3,7 @@
 use units_core::{Amount, Day, MemberNo, ProductNo};
 
 /// How far a trade has come.
-#[derive(Clone, Copy, Debug, PartialEq, Eq)]
+#[derive(Clone, Copy, PartialEq, Eq)]
 pub enum TradeState {
     /// One party submitted it; the other has not affirmed it yet.
     Alleged,
@@ -12,14 +12,14 @@ pub enum TradeState {
 }
 
 /// The two sides of a trade: `Out` is the seller's, who owes, and `In` the buyer's.
-#[derive(Clone, Copy, Debug, PartialEq, Eq)]
+#[derive(Clone, Copy, PartialEq, Eq)]
 pub enum Side {
     Out,
     In,
 }
 
 /// A trade. Numbers count from 1 in the order of submission.
-#[derive(Clone, Copy, PartialEq, Eq)]
+#[derive(Clone, Copy)]
 pub struct TradeRow {
     pub number: u64,
     pub seller: MemberNo,

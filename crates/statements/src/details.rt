@@ -6,7 +6,7 @@ ghost use Rattle.statements.specs.Details.{details_of};
 use command_types::{Answer, LimitLine, PlanRow, TradeRow};
 
 /// What a detail line tells.
-#[derive(Clone, Copy, PartialEq, Eq)]
+#[derive(Clone, Copy)]
 pub enum DetailRow {
     Trade(TradeRow),
     /// The limits of a pair.

@@ -8,6 +8,3 @@ mod trade_text;
 
 pub use details::{DetailRow, detail_count, detail_row};
 pub use row_text::{put_row, write_row};
-
-#[cfg(test)]
-mod tests;

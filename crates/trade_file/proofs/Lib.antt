@@ -7,3 +7,4 @@ pub mod TradeFacts
 pub mod PlaceFacts
 pub mod GivenFacts
 pub mod TableFacts
+pub mod NameFacts

@@ -5,3 +5,4 @@ pub mod Places
 pub mod TradeFile
 pub mod TradeDraft
 pub mod Networks
+pub mod Laws

@@ -3,7 +3,7 @@
 use units_core::{Amount, MemberNo, ProductNo};
 
 /// What the seller sold to the buyer of a product, in the contract's currency unit: a live trade.
-#[derive(Clone, Copy, Debug, PartialEq, Eq)]
+#[derive(Clone, Copy)]
 pub struct FileTrade {
     pub seller: MemberNo,
     pub buyer: MemberNo,

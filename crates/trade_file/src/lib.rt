@@ -5,6 +5,7 @@
 mod directory;
 mod draft;
 mod file_trade;
+mod laws;
 mod names;
 mod places;
 mod roster;
@@ -15,13 +16,7 @@ mod trade_row;
 mod trades;
 
 pub use file_trade::FileTrade;
+pub use laws::roster_file_has_names;
 pub use roster::read_roster;
 pub use trade_networks::networks;
 pub use trades::read_trades;
-
-#[cfg(test)]
-mod network_tests;
-#[cfg(test)]
-mod tests;
-#[cfg(test)]
-mod trade_tests;

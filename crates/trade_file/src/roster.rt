@@ -1,6 +1,7 @@
 //! Reading a roster file.
 ghost use Rattle.std.specs.Prelude.{◌≡◌, ◌≤◌, ◌⊎◌, length, Ok, Err, IfOk, IfErr};
 ghost use Rattle.csv.specs.Records.{fields_of};
+ghost use Rattle.command_types.specs.Roster.{IsRoster};
 ghost use Rattle.command_types.specs.declared.file_fault.FileFault.TheVariants.{Memory};
 ghost use Rattle.trade_file.specs.RosterFile.{roster_file, roster_of, records_of, with_record};
 ghost use Rattle.trade_file.specs.Draft.{IsDraft, rows_of, Steps};
@@ -62,6 +63,7 @@ fn read_records(alloc: Global, bytes: &[u8]) -> Result<Draft, FileFault>
 /// dealer, customer, operator or product by its second field. Want of memory may come at any place.
 pub fn read_roster(alloc: Global, bytes: &[u8]) -> Result<Roster, FileFault>
     ensures rows { IfOk result (λ rows. roster_file bytes.now ≡ Ok rows) }
+    ensures roster { IfOk result (λ rows. IsRoster rows) }
     ensures fault { IfErr result (λ fault. (fault ≡ Memory) ⊎ (roster_file bytes.now ≡ Err fault)) }
 {
     if bytes.len() > 67_108_864 {

@@ -9,7 +9,7 @@ use csv::ByteRecord;
 use units_core::{Day, Name};
 
 /// What the word in a record's second field stands for.
-#[derive(Clone, Copy, Debug, PartialEq, Eq)]
+#[derive(Clone, Copy)]
 pub(crate) enum Kind {
     Member(Role),
     Operator,

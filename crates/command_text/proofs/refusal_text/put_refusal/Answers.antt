@@ -36,9 +36,6 @@ returns-in-DraftFull-clause-text c = told c.args.roster.now _ _ _ _ c.in-DraftFu
 pub returns-in-DiskFault-clause-text : goal.returns-in-DiskFault-clause-text
 returns-in-DiskFault-clause-text c = told c.args.roster.now _ _ _ _ c.in-DiskFault.is c.put-in-DiskFault.ensures.text
 
-pub returns-in-NotBuilt-clause-text : goal.returns-in-NotBuilt-clause-text
-returns-in-NotBuilt-clause-text c = told c.args.roster.now _ _ _ _ c.in-NotBuilt.is c.put-in-NotBuilt.ensures.text
-
 pub returns-in-CycleOpen-clause-text : goal.returns-in-CycleOpen-clause-text
 returns-in-CycleOpen-clause-text c =
     told c.args.roster.now _ _ _ _ c.in-CycleOpen.is

@@ -1,10 +1,43 @@
 //! Roster files, from outside.
-use crate::read_roster;
-use command_types::{FileFault, Role};
+
+use command_types::{FileFault, Role, Roster};
 use std::alloc::{AllocError, Global};
 use std::test::Fail;
+use trade_file::read_roster;
 
 const HEADER: &str = "name,role,key\n";
+
+/// Whether the members are those of the rows, in their order.
+fn has_members(roster: &Roster, rows: &[(&str, Role, &str)]) -> bool {
+    let members = roster.members();
+    for (row, &(name, role, key)) in members.iter().zip(rows) {
+        if row.name.text() != name.as_bytes()
+            || row.role != role
+            || row.key.text() != key.as_bytes()
+        {
+            return false;
+        }
+    }
+    members.len() == rows.len()
+}
+
+/// Whether there is one product, with this name and day.
+fn has_product(roster: &Roster, name: &str, day: &str) -> bool {
+    match roster.products() {
+        [row] => {
+            row.name.text() == name.as_bytes() && row.maturity.text().as_slice() == day.as_bytes()
+        }
+        _ => false,
+    }
+}
+
+/// Whether there is an operator, with this name and key.
+fn has_operator(roster: &Roster, name: &str, key: &str) -> bool {
+    match roster.operator() {
+        Some(row) => row.name.text() == name.as_bytes() && row.key.text() == key.as_bytes(),
+        None => false,
+    }
+}
 
 #[test]
 fn a_roster_of_three_dealers_a_customer_an_operator_and_a_product(
@@ -13,33 +46,44 @@ fn a_roster_of_three_dealers_a_customer_an_operator_and_a_product(
     let text =
         b"name,role,key\nA,dealer,KA\nB,dealer,KB\nC,dealer,KC\nD,customer,KD\nOPS,operator,KO\nP,product,2031-06-30\n";
     let roster = read_roster(rt.alloc(), text)?;
-    let members = roster.members();
-    assert_eq!(rt; members.len(), 4);
-    for (row, want) in members.iter().zip([
+    let rows = [
         ("A", Role::Dealer, "KA"),
         ("B", Role::Dealer, "KB"),
         ("C", Role::Dealer, "KC"),
         ("D", Role::Customer, "KD"),
-    ]) {
-        let (name, role, key) = want;
-        assert!(rt; row.name.text() == name.as_bytes(), "{name}");
-        assert_eq!(rt; row.role, role, "{name}");
-        assert!(rt; row.key.text() == key.as_bytes(), "{name}");
-    }
-    let products = roster.products();
-    assert_eq!(rt; products.len(), 1);
-    assert!(rt; products[0].name.text() == b"P".as_slice());
-    assert!(rt; products[0].maturity.text().as_slice() == b"2031-06-30".as_slice());
-    let operator = roster.operator().expect(&rt, "an operator");
-    assert!(rt; operator.name.text() == b"OPS".as_slice());
-    assert!(rt; operator.key.text() == b"KO".as_slice());
+    ];
+    assert!(rt; has_members(&roster, &rows));
+    assert!(rt; has_product(&roster, "P", "2031-06-30") && has_operator(&roster, "OPS", "KO"));
     Ok(())
+}
+
+/// The first fault of a roster file, or none.
+fn fault_of(alloc: Global, text: &[u8]) -> Result<Option<FileFault>, AllocError> {
+    match read_roster(alloc, text) {
+        Ok(_) => Ok(None),
+        Err(FileFault::Memory) => Err(AllocError),
+        Err(fault) => Ok(Some(fault)),
+    }
+}
+
+/// Whether each file of this header and these records has its first fault, or none.
+fn has_faults(
+    alloc: Global,
+    header: &str,
+    cases: &[(&str, Option<FileFault>)],
+) -> Result<bool, AllocError> {
+    for &(rest, want) in cases {
+        let text = format!(in alloc; "{header}{rest}")?;
+        if fault_of(alloc, text.as_bytes())? != want {
+            return Ok(false);
+        }
+    }
+    Ok(true)
 }
 
 #[test]
 fn the_first_fault_is_told_with_its_row(rt: HostRuntime) -> Result<(), Fail> {
-    let alloc = rt.alloc();
-    let rows: [(&str, Option<FileFault>); 29] = [
+    let cases = [
         ("", None),
         ("A,dealer,KA", None),
         (
@@ -103,17 +147,14 @@ fn the_first_fault_is_told_with_its_row(rt: HostRuntime) -> Result<(), Fail> {
             Some(FileFault::Columns { row: 3 }),
         ),
     ];
-    for (rest, want) in rows {
-        let text = format!(in alloc; "{HEADER}{rest}")?;
-        assert_eq!(rt; read_roster(alloc, text.as_bytes()).err(), want, "{rest}");
-    }
+    assert!(rt; has_faults(rt.alloc(), HEADER, &cases)?);
     Ok(())
 }
 
 #[test]
 fn the_first_record_is_the_header(rt: HostRuntime) -> Result<(), Fail> {
     let first = Some(FileFault::Columns { row: 1 });
-    let rows: [(&str, Option<FileFault>); 8] = [
+    let cases = [
         ("", first),
         ("\n\r\n", first),
         ("A,dealer,KA\n", first),
@@ -123,17 +164,11 @@ fn the_first_record_is_the_header(rt: HostRuntime) -> Result<(), Fail> {
         ("\u{feff}name,role,key", None),
         ("\n\"name\",role,key\r\n", None),
     ];
-    for (text, want) in rows {
-        assert_eq!(rt;
-            read_roster(rt.alloc(), text.as_bytes()).err(),
-            want,
-            "{text}"
-        );
-    }
+    assert!(rt; has_faults(rt.alloc(), "", &cases)?);
     Ok(())
 }
 
-// A roster file with so many dealers, customers and products.
+/// A roster file with so many dealers, customers and products.
 fn file_of(
     alloc: Global,
     dealers: u16,
@@ -153,12 +188,25 @@ fn file_of(
     Ok(text)
 }
 
+/// Whether a file with so many dealers, customers and products has its first fault, or none.
+fn is_limited(
+    alloc: Global,
+    cases: &[(u16, u16, u16, Option<FileFault>)],
+) -> Result<bool, AllocError> {
+    for &(dealers, customers, products, want) in cases {
+        let text = file_of(alloc, dealers, customers, products)?;
+        if fault_of(alloc, text.as_bytes())? != want {
+            return Ok(false);
+        }
+    }
+    Ok(true)
+}
+
 #[test]
 fn a_roster_has_at_most_256_members_64_dealers_and_64_products(
     rt: HostRuntime,
 ) -> Result<(), Fail> {
-    let alloc = rt.alloc();
-    let rows = [
+    let cases = [
         (64, 192, 64, None),
         (0, 256, 0, None),
         (0, 257, 0, Some(FileFault::RowLimit { row: 258 })),
@@ -166,11 +214,18 @@ fn a_roster_has_at_most_256_members_64_dealers_and_64_products(
         (65, 0, 0, Some(FileFault::RowLimit { row: 66 })),
         (1, 1, 65, Some(FileFault::RowLimit { row: 68 })),
     ];
-    for (dealers, customers, products, want) in rows {
-        let text = file_of(alloc, dealers, customers, products)?;
-        assert_eq!(rt; read_roster(alloc, text.as_bytes()).err(), want);
-    }
-    let long = vec![in alloc; b'\n'; 67_108_865]?;
-    assert_eq!(rt; read_roster(alloc, &long).err(), Some(FileFault::TooLong));
+    assert!(rt; is_limited(rt.alloc(), &cases)?);
+    Ok(())
+}
+
+/// Whether a file of so many line feeds is too long.
+fn is_too_long(alloc: Global, size: usize) -> Result<bool, AllocError> {
+    let long = vec![in alloc; b'\n'; size]?;
+    Ok(fault_of(alloc, &long)? == Some(FileFault::TooLong))
+}
+
+#[test]
+fn a_roster_file_of_more_than_64_mib_is_too_long(rt: HostRuntime) -> Result<(), Fail> {
+    assert!(rt; is_too_long(rt.alloc(), 67_108_865)?);
     Ok(())
 }

@@ -1,0 +1,25 @@
+//! The tests of rosters, of the text of sessions, and of roster and trade files. All call public items alone.
+#![tactic(auto)]
+
+#[cfg(test)]
+mod cycle_lines;
+#[cfg(test)]
+mod details;
+#[cfg(test)]
+mod heads;
+#[cfg(test)]
+mod lines;
+#[cfg(test)]
+mod parties;
+#[cfg(test)]
+mod refusals;
+#[cfg(test)]
+mod roster_files;
+#[cfg(test)]
+mod rosters;
+#[cfg(test)]
+mod sums;
+#[cfg(test)]
+mod trade_files;
+#[cfg(test)]
+mod wrong_words;

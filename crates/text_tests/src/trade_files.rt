@@ -1,0 +1,145 @@
+//! Trade files, from outside.
+
+use command_types::{FileFault, Roster};
+use std::alloc::{AllocError, Global};
+use std::test::Fail;
+use trade_file::{FileTrade, read_roster, read_trades};
+
+const HEADER: &str = "seller,buyer,product,amount\n";
+
+/// Two dealers, a customer, an operator and two products.
+fn read_parties(alloc: Global) -> Result<Roster, FileFault> {
+    let text =
+        b"name,role,key\nA,dealer,KA\nB,dealer,KB\nC,customer,KC\nOPS,operator,KO\nP,product,2031-06-30\nQ,product,2031-06-30\n";
+    read_roster(alloc, text)
+}
+
+/// The trades of a file, or its first fault, but for want of memory.
+fn read(alloc: Global, text: &[u8]) -> Result<Result<Vec<FileTrade>, FileFault>, AllocError> {
+    let Ok(roster) = read_parties(alloc) else {
+        return Err(AllocError);
+    };
+    match read_trades(alloc, text, &roster) {
+        Err(FileFault::Memory) => Err(AllocError),
+        trades => Ok(trades),
+    }
+}
+
+/// Whether the file of these records behind the header has these trades, by seller, buyer, product and amount.
+fn has_trades(
+    alloc: Global,
+    rest: &str,
+    rows: &[(u16, u16, u16, u64)],
+) -> Result<bool, AllocError> {
+    let text = format!(in alloc; "{HEADER}{rest}")?;
+    let Ok(trades) = read(alloc, text.as_bytes())? else {
+        return Ok(false);
+    };
+    for (trade, &row) in trades.iter().zip(rows) {
+        let (seller, buyer, product, amount) = row;
+        if trade.seller.0 != seller
+            || trade.buyer.0 != buyer
+            || trade.product.0 != product
+            || trade.amount.get() != amount
+        {
+            return Ok(false);
+        }
+    }
+    Ok(trades.len() == rows.len())
+}
+
+#[test]
+fn trades_are_read_in_their_order(rt: HostRuntime) -> Result<(), Fail> {
+    let rows = [(0, 1, 0, 10), (2, 0, 1, 1_000_000_000_000_000)];
+    assert!(rt; has_trades(rt.alloc(), "A,B,P,10\nC,A,Q,1000000000000000\n", &rows)?);
+    Ok(())
+}
+
+#[test]
+fn a_header_alone_has_no_trades(rt: HostRuntime) -> Result<(), Fail> {
+    assert!(rt; has_trades(rt.alloc(), "", &[])?);
+    Ok(())
+}
+
+/// Whether each file of this header and these records has its first fault, or none.
+fn has_faults(
+    alloc: Global,
+    header: &str,
+    cases: &[(&str, Option<FileFault>)],
+) -> Result<bool, AllocError> {
+    for &(rest, want) in cases {
+        let text = format!(in alloc; "{header}{rest}")?;
+        if read(alloc, text.as_bytes())?.err() != want {
+            return Ok(false);
+        }
+    }
+    Ok(true)
+}
+
+#[test]
+fn a_file_without_a_record_has_not_the_columns(rt: HostRuntime) -> Result<(), Fail> {
+    let first = Some(FileFault::Columns { row: 1 });
+    let cases = [("", first), ("seller,buyer,product\n", first)];
+    assert!(rt; has_faults(rt.alloc(), "", &cases)?);
+    Ok(())
+}
+
+#[test]
+fn the_first_fault_of_a_record_is_told(rt: HostRuntime) -> Result<(), Fail> {
+    let unknown = Some(FileFault::UnknownName { row: 2 });
+    let bad = Some(FileFault::BadAmount { row: 2 });
+    let cases = [
+        ("A,B,P,1\nA,B,P\n", Some(FileFault::Columns { row: 3 })),
+        ("D,B,P,1\n", unknown),
+        ("A,OPS,P,1\n", unknown),
+        ("A,B,A,1\n", unknown),
+        ("a,a,P,0\n", unknown),
+        ("A,A,P,1\n", Some(FileFault::SameParty { row: 2 })),
+        ("A,B,P,1000000000000001\n", bad),
+        ("A,B,P,0\n", bad),
+        ("A,B,P, 1\n", bad),
+    ];
+    assert!(rt; has_faults(rt.alloc(), HEADER, &cases)?);
+    Ok(())
+}
+
+/// Whether a record may come so often, and this fault comes where these records follow it.
+fn is_limited(
+    alloc: Global,
+    record: &str,
+    times: usize,
+    rest: &str,
+    fault: FileFault,
+) -> Result<bool, AllocError> {
+    let most = record.repeat(alloc, times)?;
+    let more = format!(in alloc; "{most}{rest}")?;
+    let cases = [(most.as_str(), None), (more.as_str(), Some(fault))];
+    has_faults(alloc, HEADER, &cases)
+}
+
+#[test]
+fn a_products_amounts_stay_within_10_to_the_18(rt: HostRuntime) -> Result<(), Fail> {
+    let record = "A,B,P,1000000000000000\n";
+    let fault = FileFault::GrossLimit { row: 1003 };
+    assert!(rt; is_limited(rt.alloc(), record, 1000, "A,B,Q,1\nB,A,P,1\n", fault)?);
+    Ok(())
+}
+
+#[test]
+fn a_file_has_at_most_100000_trades(rt: HostRuntime) -> Result<(), Fail> {
+    let fault = FileFault::RowLimit { row: 100_002 };
+    assert!(rt; is_limited(rt.alloc(), "A,B,P,1\n", 100_000, "bad\n", fault)?);
+    Ok(())
+}
+
+/// Whether a file of so many line feeds is too long.
+fn is_too_long(alloc: Global, size: usize) -> Result<bool, AllocError> {
+    let long = vec![in alloc; b'\n'; size]?;
+    Ok(read(alloc, &long)?.err() == Some(FileFault::TooLong))
+}
+
+#[test]
+fn a_trade_file_of_more_than_64_mib_is_too_long(rt: HostRuntime) -> Result<(), Fail> {
+    assert!(rt; is_too_long(rt.alloc(), 67_108_865)?);
+    Ok(())
+}
