@@ -14,8 +14,3 @@ pub use laws::{
 pub use parties::touched;
 pub use planning::{add_change, plan};
 pub use votes::Votes;
-
-#[cfg(test)]
-mod plan_tests;
-#[cfg(test)]
-mod tests;

@@ -3,7 +3,7 @@
 //! and P products a plan costs P walks over the trades, at most 2 M walks over the free ones of each product, and a walk
 //! over the pairs.
 
-ghost use Rattle.std.specs.Prelude.{◌≡◌, ℕ, ◌-◌, ◌<◌, ◌≤◌, ◌^◌, ◌++◌, ◌∷◌, [], length, filter, IfOk, OnOk};
+ghost use Rattle.std.specs.Prelude.{◌≡◌, ℕ, ◌-◌, ◌<◌, ◌≤◌, ◌^◌, ◌++◌, ◌∷◌, [], length, filter, IfOk, OnOk, OnErr};
 ghost use Rattle.command_types.specs.Books.{is_held, listed_below, listed_pairs};
 ghost use Rattle.command_types.specs.Plans.{falling, product_plan, plan_of};
 ghost use Rattle.acceptance.specs.Planning.{is_free_in, is_from, is_to, row_fall, pair_steps, change_steps, product_steps, IsChange};
@@ -187,7 +187,7 @@ fn add_product(
 }
 
 /// Adds to a plan what a product's new network changes in its frozen trades, as [`plan`] does for each product. The
-/// only error is want of memory.
+/// only error is want of memory, and then the plan is as it was.
 pub fn add_change(
     alloc: Global,
     plan: &mut Vec<PlanRow>,
@@ -197,7 +197,8 @@ pub fn add_change(
     new: &Network,
     day: Day,
 ) -> Result<(), AllocError>
-    ensures { OnOk result (plan.new.items ≡ plan.old.items ++ product_plan trades.now day product old.now new.now) }
+    ensures added { OnOk result (plan.new.items ≡ plan.old.items ++ product_plan trades.now day product old.now new.now) }
+    ensures refused { OnErr result (plan.new.items ≡ plan.old.items) }
 {
     let change = Change {
         product,
@@ -205,7 +206,9 @@ pub fn add_change(
         old: old.rows(),
         new: new.rows(),
     };
-    add_product(alloc, plan, trades, &change, old.members())
+    let mut steps = Vec::new(alloc);
+    add_product(alloc, &mut steps, trades, &change, old.members())?;
+    plan.append(&mut steps)
 }
 
 /// What new networks change in the frozen trades, in the order of product, seller and buyer: a pair that falls ends its

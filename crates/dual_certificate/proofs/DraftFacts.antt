@@ -17,7 +17,7 @@ use Rattle.dual_certificate.specs.declared.proposal_line.Figures.{Figures}
 use Rattle.dual_certificate.specs.Proposal.{is_behind, fits, finished, with_finished, with_bound, with_network_row, with_pot}
 use Rattle.dual_certificate.specs.ProposalDraft.{reading_of, IsDraft}
 
-got : (rows : List Row) (k : ℕ) (d : Row) → k < length rows → slice_get rows k ≡ Some (get_or rows k d)
+pub got : (rows : List Row) (k : ℕ) (d : Row) → k < length rows → slice_get rows k ≡ Some (get_or rows k d)
 got [] k d l = absurd (omega arith)
 got (x ∷ rows) zero d l = refl
 got (x ∷ rows) (suc k) d l = got rows k d (omega arith)
@@ -55,8 +55,9 @@ same_eqb a b e = grind (arith, nat_tests)
 
 -- a draft with one row more keeps its rows and their total
 pub row_kept : (roster : Rows) (d new : ProposalDraft) (row : Row) → IsDraft roster d → row.seller < length roster.members → row.buyer < length roster.members → 1 ≤ row.amount
-    → fits d.rows.items row ≡ true → new.rows.items ≡ d.rows.items ++ (row ∷ []) → new.total ≡ d.total + row.amount → new.potentials.items ≡ d.potentials.items → IsDraft roster new
-row_kept roster d new row draft seller buyer positive fine rows total potentials =
+    → fits d.rows.items row ≡ true → new.rows.items ≡ d.rows.items ++ (row ∷ []) → new.total ≡ d.total + row.amount → new.potentials.items ≡ d.potentials.items
+    → new.parts.items ≡ d.parts.items → IsDraft roster new
+row_kept roster d new row draft seller buyer positive fine rows total potentials parts =
     let three = all_three (not (eqb row.seller row.buyer)) (is_behind (slice_get d.rows.items (length d.rows.items - 1)) row) (nat_le (total_of d.rows.items + row.amount) 1000000000000000000) fine in
     let differ : row.seller ≢ row.buyer = eqb-false row.seller row.buyer (not_true (eqb row.seller row.buyer) three.0) in
     let within : total_of d.rows.items + row.amount ≤ 1000000000000000000 = leb-true _ _ three.2 in
@@ -67,6 +68,7 @@ row_kept roster d new row draft seller buyer positive fine rows total potentials
       rows = rw rows pushed;
       all = total ∙ ap (λ t. t + row.amount) draft.all ∙ sym sum ∙ ap total_of (sym rows);
       in_range = rw potentials draft.in_range;
+      good = rw parts draft.good;
     }
 
 -- and is what is due

@@ -8,3 +8,10 @@ pub mod TextFacts
 pub mod RangeFacts
 pub mod PartFacts
 pub mod FirstFacts
+pub mod NumberTexts
+pub mod SpacedWords
+pub mod LineTexts
+pub mod PlaceFacts
+pub mod WrittenRows
+pub mod WrittenLines
+pub mod WrittenParts

@@ -16,6 +16,7 @@ use Rattle.dual_certificate.specs.Proposal.{Reading, nothing_read, is_between, i
 use Rattle.dual_certificate.specs.Writing.{HasMembers}
 use Rattle.dual_certificate.specs.Parts.{AreParts}
 use Rattle.network_laws.specs.declared.rows.Row.{Row as NetworkRow}
+use Rattle.network_laws.specs.Solutions.{IsSolution}
 
 -- each part is one of the roster's members, and once the last line came there is one for each product
 record IsReading (roster : Rows) (r : Reading) : Type 0 where
@@ -106,11 +107,16 @@ taken : (b : Bool) (x y : List ProposalPart) (fault : FileFault) → cond b (Ok 
 taken true x y fault h = (refl, ok_is x y h)
 taken false x y fault h = absurd cc
 
-done : (roster : Rows) (n : ℕ) (r : Reading) (rest : List ℕ) (parts : List ProposalPart) → IsReading roster r → at_end n r rest ≡ Ok parts → AreParts roster parts
-done roster n r rest parts h e =
+-- the solution of each part is well-formed
+abbrev AreGood : List ProposalPart → Type 0
+AreGood parts = All (λ (part : ProposalPart). IsSolution part.solution) parts
+
+done : (roster : Rows) (n : ℕ) (r : Reading) (rest : List ℕ) (parts : List ProposalPart) → AreGood parts → IsReading roster r → at_end n r rest ≡ Ok parts → AreParts roster parts
+done roster n r rest parts good h e =
     let got = taken (eqb (length rest) 0 && r.has_ended) r.parts parts (BadLine n) e in
     let p = both (eqb (length rest) 0) r.has_ended got.0 in
-    subst (AreParts roster) got.1 (record { count = (h.ended p.1).1; members = h.members; potentials = h.potentials })
+    let all : AreGood r.parts = rw got.1 good in
+    subst (AreParts roster) got.1 (record { count = (h.ended p.1).1; members = h.members; potentials = h.potentials; good = all })
 
 further : (roster : Rows) (n : ℕ) (r : Reading) (piece : List ℕ) (more : List (List ℕ)) (parts : List ProposalPart) → IsReading roster r
     → ((next : Reading) → IsReading roster next → with_pieces roster (n + 1) next more ≡ Ok parts → AreParts roster parts)
@@ -118,21 +124,27 @@ further : (roster : Rows) (n : ℕ) (r : Reading) (piece : List ℕ) (more : Lis
 further roster n r piece more parts h rest None w e = absurd cc
 further roster n r piece more parts h rest (Some next) w e = rest next (said_kept roster r next (line_of piece) h w) e
 
-behind : (roster : Rows) (n : ℕ) (r : Reading) (piece : List ℕ) (more : List (List ℕ)) (parts : List ProposalPart) → IsReading roster r
+behind : (roster : Rows) (n : ℕ) (r : Reading) (piece : List ℕ) (more : List (List ℕ)) (parts : List ProposalPart) → AreGood parts → IsReading roster r
     → ((next : Reading) → IsReading roster next → with_pieces roster (n + 1) next more ≡ Ok parts → AreParts roster parts)
     → (t : Bool) → cond t (at_end n r piece) (go_on n (λ next. with_pieces roster (n + 1) next more) (with_line roster r piece)) ≡ Ok parts → AreParts roster parts
-behind roster n r piece more parts h rest true e = done roster n r piece parts h e
-behind roster n r piece more parts h rest false e = further roster n r piece more parts h rest (with_line roster r piece) refl e
+behind roster n r piece more parts good h rest true e = done roster n r piece parts good h e
+behind roster n r piece more parts good h rest false e = further roster n r piece more parts h rest (with_line roster r piece) refl e
 
-parts_of_pieces : (roster : Rows) (n : ℕ) (r : Reading) (texts : List (List ℕ)) (parts : List ProposalPart) → IsReading roster r → with_pieces roster n r texts ≡ Ok parts → AreParts roster parts
+parts_of_pieces : (roster : Rows) (n : ℕ) (r : Reading) (texts : List (List ℕ)) (parts : List ProposalPart) → AreGood parts → IsReading roster r → with_pieces roster n r texts ≡ Ok parts → AreParts roster parts
 unfolding with_pieces
-parts_of_pieces roster n r [] parts h e = absurd cc
-parts_of_pieces roster n r (piece ∷ more) parts h e =
-    behind roster n r piece more parts h (λ next h' e'. parts_of_pieces roster (n + 1) next more parts h' e') (eqb (length more) 0) e
+parts_of_pieces roster n r [] parts good h e = absurd cc
+parts_of_pieces roster n r (piece ∷ more) parts good h e =
+    behind roster n r piece more parts good h (λ next h' e'. parts_of_pieces roster (n + 1) next more parts good h' e') (eqb (length more) 0) e
 
 -- the parts that the lines say are those of the roster
 pub parts_within : {A : Type 0} (roster : Rows) (texts : List (List ℕ)) (items : A → List ProposalPart) (result : Result A FileFault)
-    → IfOk result (λ v. with_pieces roster 1 nothing_read texts ≡ Ok (items v)) → IfOk result (λ v. AreParts roster (items v))
-parts_within roster texts items (Ok v) h =
-    parts_of_pieces roster 1 nothing_read texts (items v) (record { members = search rules; potentials = search rules; ended = λ t. absurd cc }) h
-parts_within roster texts items (Err fault) h = tt
+    → IfOk result (λ v. All (λ (part : ProposalPart). IsSolution part.solution) (items v)) → IfOk result (λ v. with_pieces roster 1 nothing_read texts ≡ Ok (items v)) → IfOk result (λ v. AreParts roster (items v))
+parts_within roster texts items (Ok v) good h =
+    parts_of_pieces roster 1 nothing_read texts (items v) good (record { members = search rules; potentials = search rules; ended = λ t. absurd cc }) h
+parts_within roster texts items (Err fault) good h = tt
+
+-- the parts that were handed out are those of the draft
+pub solutions_within : {A : Type 0} (items : A → List ProposalPart) (parts : List ProposalPart) (result : Result A FileFault) → All (λ (part : ProposalPart). IsSolution part.solution) parts
+    → IfOk result (λ v. items v ≡ parts) → IfOk result (λ v. All (λ (part : ProposalPart). IsSolution part.solution) (items v))
+solutions_within items parts (Ok v) good e = rw e good
+solutions_within items parts (Err fault) good e = tt

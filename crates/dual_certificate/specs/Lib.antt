@@ -7,3 +7,4 @@ pub mod Proposal
 pub mod ProposalDraft
 pub mod Parts
 pub mod Firsts
+pub mod Laws

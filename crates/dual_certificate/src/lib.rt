@@ -10,6 +10,7 @@ mod bounds_test;
 mod checker;
 mod cost;
 mod dual;
+mod laws;
 mod member_search;
 mod net_test;
 mod pieces;
@@ -22,11 +23,7 @@ mod proposal_writer;
 
 pub use checker::check;
 pub use dual::bound;
+pub use laws::what_is_written_reads_back;
 pub use proposal_part::ProposalPart;
 pub use proposal_reader::read_proposal;
 pub use proposal_writer::write_proposal;
-
-#[cfg(test)]
-mod proposal_tests;
-#[cfg(test)]
-mod tests;

@@ -1,5 +1,6 @@
 //! Reading a proposal's text.
-ghost use Rattle.std.specs.Prelude.{◌≡◌, ◌≤◌, ◌⊎◌, length, Ok, Err, IfOk, IfErr};
+ghost use Rattle.std.specs.Prelude.{◌≡◌, ◌≤◌, ◌⊎◌, length, All, Ok, Err, IfOk, IfErr};
+ghost use Rattle.network_laws.specs.Solutions.{IsSolution};
 ghost use Rattle.command_types.specs.declared.file_fault.FileFault.TheVariants.{Memory};
 ghost use Rattle.dual_certificate.specs.Proposal.{at_end, proposal_of, with_pieces, nothing_read};
 ghost use Rattle.dual_certificate.specs.ProposalLine.{pieces};
@@ -17,6 +18,7 @@ use std::alloc::Global;
 // or one too many.
 fn parts_of(draft: ProposalDraft, row: u64, rest: &[u8]) -> Result<Vec<ProposalPart>, FileFault>
     ensures parts { IfOk result (λ parts. at_end row (reading_of draft) rest.now ≡ Ok parts.items) }
+    ensures kept { IfOk result (λ parts. parts.items ≡ (reading_of draft).parts) }
     ensures fault { IfErr result (λ fault. (fault ≡ Memory) ⊎ (at_end row (reading_of draft) rest.now ≡ Err fault)) }
 {
     if rest.is_empty() && draft.has_ended() {
@@ -33,6 +35,7 @@ fn read_lines(
 ) -> Result<Vec<ProposalPart>, FileFault>
     requires { length bytes.now ≤ 67108864 }
     ensures parts { IfOk result (λ parts. with_pieces members.now 1 nothing_read (pieces 10 bytes.now) ≡ Ok parts.items) }
+    ensures solutions { IfOk result (λ parts. All (λ part. IsSolution part.solution) parts.items) }
     ensures fault { IfErr result (λ fault. (fault ≡ Memory) ⊎ (with_pieces members.now 1 nothing_read (pieces 10 bytes.now) ≡ Err fault)) }
 {
     let mut draft = ProposalDraft::new(alloc);

@@ -1,3 +1,6 @@
 pub mod FailingFacts
 pub mod SolutionFacts
 pub mod PassFacts
+pub mod OneNetwork
+pub mod YesFacts
+pub mod SolvedFacts

@@ -4,7 +4,7 @@ use network_laws::Clash;
 use units_core::ProductNo;
 
 /// What keeps a product of a proposal from passing.
-#[derive(Clone, Copy, Debug, PartialEq, Eq)]
+#[derive(Clone, Copy)]
 pub enum Failure {
     /// The first clash of its network with the limits, the old net positions and its potentials.
     Clash(Clash),
@@ -13,7 +13,7 @@ pub enum Failure {
 }
 
 /// A product that fails, and why.
-#[derive(Clone, Copy, Debug, PartialEq, Eq)]
+#[derive(Clone, Copy)]
 pub struct Failing {
     pub product: ProductNo,
     pub failure: Failure,

@@ -11,11 +11,6 @@ mod verdict_text;
 
 pub use checking::check;
 pub use failing::{Failing, Failure};
-pub use laws::nothing_fails_where_all_pass;
+pub use laws::{nothing_fails_where_all_pass, what_is_solved_passes, yes_where_all_are_least};
 pub use solving::solve;
 pub use verdict_text::verdict;
-
-#[cfg(test)]
-mod search_tests;
-#[cfg(test)]
-mod tests;

@@ -6,9 +6,9 @@ ghost use Rattle.file_market.specs.Solve.{IsSolutionOf, AreSolutions, IsSolvedTe
 
 use crate::limits::limits_for;
 use command_types::{Mode, Roster};
-use cycle_cancel::CycleCancel;
 use dual_certificate::write_proposal;
 use network_laws::{Network, Solution, Solver};
+use path_solver::PathSolver;
 use std::alloc::{AllocError, Global};
 use trade_file::{FileTrade, networks};
 use units_core::ProductNo;
@@ -25,7 +25,7 @@ fn solution_of(
     ensures { IfOk result (IsSolutionOf roster.now mode product network.now) }
 {
     let limits = limits_for(alloc, roster, mode, product, network)?;
-    CycleCancel::new(alloc).solve(&limits, network)
+    PathSolver::new(alloc).solve(&limits, network)
 }
 
 // One for each product.

@@ -4,6 +4,3 @@
 mod table;
 
 pub use table::PairTable;
-
-#[cfg(test)]
-mod tests;

@@ -8,6 +8,3 @@ mod tolerances;
 
 pub use laws::{bounds_are_the_pairs, held_is_kept, limits_are_good, network_is_within};
 pub use tolerances::{FloorOverCeiling, Tolerances};
-
-#[cfg(test)]
-mod tests;

@@ -15,7 +15,7 @@ use thiserror::Error;
 use units_core::{MemberNo, ProductNo};
 
 /// The ceiling is given and is below the floor.
-#[derive(Clone, Copy, Debug, PartialEq, Eq, Error)]
+#[derive(Clone, Copy, Debug, Error)]
 #[error("the ceiling is below the floor")]
 pub struct FloorOverCeiling;
 

@@ -2,6 +2,7 @@ use Rattle.std.proofs.Common.{◌∙◌, sym, ap, arith}
 use Rattle.dual_certificate.specs.ProposalLine.{pieces}
 use Rattle.dual_certificate.specs.Proposal.{nothing_read, with_pieces}
 use Rattle.dual_certificate.specs.ProposalDraft.{reading_of}
+use Rattle.dual_certificate.proofs.PartFacts.{solutions_within}
 use Rattle.dual_certificate.proofs.ReadFacts.{stands, fails, last}
 use Rattle.dual_certificate.proofs.proposal_reader.read_lines.Goals as goal
 
@@ -29,3 +30,7 @@ pub returns-clause-fault : goal.returns-clause-fault
 returns-clause-fault c =
     let end = c.loop-line.invariant.0 ∙ last c.args.members.now c.loop-line.row (reading_of c.loop-line.draft) c.loop-line.rest.now c.in_default.ensures.none in
     rw end c.parts_of.ensures.fault
+
+pub returns-clause-solutions : goal.returns-clause-solutions
+returns-clause-solutions c =
+    solutions_within (λ v. v.items) c.loop-line.draft.parts.items c.parts_of.result c.loop-line.invariant.1.good c.parts_of.ensures.kept

@@ -29,4 +29,4 @@ returns c =
     let items : c.push.new.self.items ≡ d.potentials.items ++ (value ∷ []) = pushed ∙ ap (λ z. d.potentials.items ++ (z ∷ [])) c.get.ensures.value in
     let read : reading_of new ≡ record (reading_of d) { potentials = d.potentials.items ++ (value ∷ []) } = rw items refl in
     let kept = All-push IsPotential d.potentials.items c.get.result c.requires.in_range c.get.ensures.range in
-    (record { rows = c.requires.rows; all = c.requires.all; in_range = rw pushed kept }, pot_due roster d new c.args.name value begun named read)
+    (record { rows = c.requires.rows; all = c.requires.all; in_range = rw pushed kept; good = c.requires.good }, pot_due roster d new c.args.name value begun named read)

@@ -18,4 +18,4 @@ returns c =
     let good : is_ok c.push.result ≡ true = search rules in
     let items : c.push.new.self.items ≡ d.rows.items ++ (row ∷ []) = rw good at c.push.ensures.items in
     let read : reading_of new ≡ record (reading_of d) { rows = d.rows.items ++ (row ∷ []) } = rw items refl in
-    (row_kept c.args.roster.now d new row c.requires.draft c.requires.seller c.requires.buyer c.requires.least fine items refl refl, row_due d new row begun none fine read)
+    (row_kept c.args.roster.now d new row c.requires.draft c.requires.seller c.requires.buyer c.requires.least fine items refl refl refl, row_due d new row begun none fine read)

@@ -1,0 +1,73 @@
+//! Roster and trade files of small markets, and the proposals that are checked and solved for them.
+
+use command_types::{Mode, Roster};
+use dual_certificate::read_proposal;
+use file_market::{check, solve, verdict};
+use std::alloc::Global;
+use std::test::Fail;
+use trade_file::{read_roster, read_trades};
+
+pub const FIVE_DEALERS: &str =
+    "name,role,key\nA,dealer,KA\nB,dealer,KB\nC,dealer,KC\nD,dealer,KD\nE,dealer,KE\nP,product,2031-06-30\n";
+
+pub const THREE_DEALERS: &str =
+    "name,role,key\nA,dealer,KA\nB,dealer,KB\nC,dealer,KC\nOPS,operator,KO\nP,product,2031-06-30\n";
+
+/// A dealer and a customer, and two products.
+pub const ONE_AND_ONE: &str =
+    "name,role,key\nA,dealer,KA\nB,customer,KB\nP,product,2031-06-30\nQ,product,2032-06-30\n";
+
+/// Two dealers, two customers and two products.
+pub const TWO_AND_TWO: &str =
+    "name,role,key\nA,dealer,KA\nB,dealer,KB\nC,customer,KC\nD,customer,KD\nP,product,2031-06-30\nQ,product,2031-06-30\n";
+
+/// A roster file, the lines of a trade file below its head, and a mode.
+#[derive(Clone, Copy)]
+pub struct FileMarket<'a> {
+    pub parties: &'a str,
+    pub trades: &'a str,
+    pub mode: Mode,
+}
+
+/// The trade file with these lines below its head.
+fn trades_text(alloc: Global, lines: &str) -> Result<Vec<u8>, Fail> {
+    let mut text = Vec::new(alloc);
+    text.extend_from_slice(b"seller,buyer,product,amount\n")?;
+    text.extend_from_slice(lines.as_bytes())?;
+    Ok(text)
+}
+
+/// Whether a check of a proposal says this.
+pub fn is_told(
+    alloc: Global,
+    market: FileMarket<'_>,
+    proposal: &[u8],
+    told: &str,
+) -> Result<bool, Fail> {
+    let roster = read_roster(alloc, market.parties.as_bytes())?;
+    let text = trades_text(alloc, market.trades)?;
+    let trades = read_trades(alloc, &text, &roster)?;
+    let parts = read_proposal(alloc, proposal, &roster)?;
+    let failing = check(alloc, &roster, market.mode, &trades, &parts)?;
+    let found = verdict(alloc, &roster, &failing)?;
+    Ok(found.as_slice() == told.as_bytes())
+}
+
+/// What is solved for the text of a trade file.
+pub fn solved_text(
+    alloc: Global,
+    roster: &Roster,
+    mode: Mode,
+    text: &[u8],
+) -> Result<Vec<u8>, Fail> {
+    let trades = read_trades(alloc, text, roster)?;
+    let proposal = solve(alloc, roster, mode, &trades)?;
+    Ok(proposal)
+}
+
+/// What is solved for a market.
+pub fn solved(alloc: Global, market: FileMarket<'_>) -> Result<Vec<u8>, Fail> {
+    let roster = read_roster(alloc, market.parties.as_bytes())?;
+    let text = trades_text(alloc, market.trades)?;
+    solved_text(alloc, &roster, market.mode, &text)
+}

@@ -1,0 +1,36 @@
+//! The tests of what is computed: figures of networks, tables of pairs, residual graphs, both solvers, limits,
+//! certificates, proposals, votes and plans, and the market of a trade file. All call public items alone.
+#![tactic(auto)]
+
+#[cfg(test)]
+mod certificates;
+#[cfg(test)]
+mod figures;
+#[cfg(test)]
+mod files;
+#[cfg(test)]
+mod least;
+#[cfg(test)]
+mod networks;
+#[cfg(test)]
+mod pairs;
+#[cfg(test)]
+mod plans;
+#[cfg(test)]
+mod problems;
+#[cfg(test)]
+mod proposals;
+#[cfg(test)]
+mod residual;
+#[cfg(test)]
+mod solved;
+#[cfg(test)]
+mod solvers;
+#[cfg(test)]
+mod threes;
+#[cfg(test)]
+mod tolerances;
+#[cfg(test)]
+mod verdicts;
+#[cfg(test)]
+mod votes;

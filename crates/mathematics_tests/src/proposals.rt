@@ -1,0 +1,126 @@
+//! The text of a proposal over five dealers and one product, from outside.
+
+ghost use Rattle.std.specs.Prelude.{◌≡◌, IfOk, length};
+
+use crate::files::FIVE_DEALERS;
+use crate::networks::{Sale, has_rows, network_of};
+use command_types::{FileFault, Roster};
+use dual_certificate::{ProposalPart, read_proposal, write_proposal};
+use network_laws::{Network, Solution};
+use std::alloc::{AllocError, Global};
+use std::test::Fail;
+use trade_file::read_roster;
+
+const TEXT: &str =
+    "product P 20 10 10 20\nrow A B 5\nrow D C 5\npot A 1\npot B 0\npot C 0\npot D 1\npot E 0\nbound 10\nend 1\n";
+
+// A and D sell to E, and E to B and C.
+const ORIGINAL: [Sale; 4] = [(0, 4, 5), (3, 4, 5), (4, 1, 5), (4, 2, 5)];
+
+// A sells to B, and D to C.
+const LEAST: [Sale; 2] = [(0, 1, 5), (3, 2, 5)];
+
+fn least(alloc: Global) -> Result<Solution, Fail>
+    ensures { IfOk result (λ solution. solution.network.members ≡ 5) }
+{
+    let potentials = Vec::from_array(alloc, [1, 0, 0, 1, 0])?;
+    let network = network_of(alloc, 5, &LEAST)?;
+    Ok(Solution::new(network, potentials))
+}
+
+// The text over one product.
+fn written(
+    alloc: Global,
+    roster: &Roster,
+    old: Network,
+    new: Solution,
+) -> Result<Vec<u8>, AllocError>
+    requires products { length roster.now.products ≡ 1 }
+    requires members { old.members ≡ length roster.now.members }
+    requires solved { new.network.members ≡ length roster.now.members }
+{
+    let mut olds = Vec::new(alloc);
+    olds.push(old)?;
+    let mut news = Vec::new(alloc);
+    news.push(new)?;
+    write_proposal(alloc, roster, &olds, &news)
+}
+
+/// Whether the proposal of the least network is this text.
+fn is_written(alloc: Global, text: &str) -> Result<bool, Fail> {
+    let roster = read_roster(alloc, FIVE_DEALERS.as_bytes())?;
+    let old = network_of(alloc, 5, &ORIGINAL)?;
+    let new = least(alloc)?;
+    if roster.products().len() != 1 || roster.members().len() != 5 {
+        return Ok(false);
+    }
+    let found = written(alloc, &roster, old, new)?;
+    Ok(found.as_slice() == text.as_bytes())
+}
+
+#[test]
+fn a_least_network_of_five_dealers_is_written(rt: HostRuntime) -> Result<(), Fail> {
+    assert!(rt; is_written(rt.alloc(), TEXT)?);
+    Ok(())
+}
+
+/// Whether a part has these figures, the least network and its potentials.
+fn is_least(part: &ProposalPart, figures: [u64; 5]) -> bool {
+    [
+        part.gross,
+        part.least,
+        part.floor_m,
+        part.bilateral,
+        part.bound,
+    ] == figures
+        && part.solution.network().members() == 5
+        && has_rows(part.solution.network(), &LEAST)
+        && part.solution.potentials() == [1, 0, 0, 1, 0].as_slice()
+}
+
+/// Whether a text is read to the least network alone, with these figures.
+fn is_read(alloc: Global, text: &str, figures: [u64; 5]) -> Result<bool, Fail> {
+    let roster = read_roster(alloc, FIVE_DEALERS.as_bytes())?;
+    let parts = read_proposal(alloc, text.as_bytes(), &roster)?;
+    Ok(parts.len() == 1 && is_least(&parts[0], figures))
+}
+
+#[test]
+fn it_reads_to_its_network_potentials_and_figures(rt: HostRuntime) -> Result<(), Fail> {
+    assert!(rt; is_read(rt.alloc(), TEXT, [20, 10, 10, 20, 10])?);
+    Ok(())
+}
+
+/// Whether this is the first line of a text that cannot stand.
+fn is_bad(alloc: Global, text: &str, row: u64) -> Result<bool, Fail> {
+    let roster = read_roster(alloc, FIVE_DEALERS.as_bytes())?;
+    match read_proposal(alloc, text.as_bytes(), &roster) {
+        Err(FileFault::BadLine { row: at }) => Ok(at == row),
+        _ => Ok(false),
+    }
+}
+
+#[test]
+fn the_first_line_that_cannot_stand_is_told(rt: HostRuntime) -> Result<(), Fail> {
+    let without_end =
+        "product P 20 10 10 20\nrow A B 5\nrow D C 5\npot A 1\npot B 0\npot C 0\npot D 1\npot E 0\nbound 10\n";
+    let out_of_order = "product P 20 10 10 20\nrow D C 5\nrow A B 5\npot A 1\n";
+    let twice = "product P 20 10 10 20\nrow A B 5\npot A 1\npot A 1\n";
+    let behind =
+        "product P 0 0 0 0\npot A 0\npot B 0\npot C 0\npot D 0\npot E 0\nbound 0\nend 1\n\n";
+    let unfinished =
+        "product P 0 0 0 0\npot A 0\npot B 0\npot C 0\npot D 0\npot E 0\nbound 0\nend 1";
+    let row_behind_pot = "product P 5 5 5 5\npot A 0\nrow A B 5\n";
+    let cases = [
+        (without_end, 10),
+        (out_of_order, 3),
+        (twice, 4),
+        (behind, 9),
+        (unfinished, 8),
+        (row_behind_pot, 3),
+    ];
+    for (text, row) in cases {
+        assert!(rt; is_bad(rt.alloc(), text, row)?);
+    }
+    Ok(())
+}

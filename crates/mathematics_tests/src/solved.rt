@@ -1,0 +1,147 @@
+//! Proposals that are solved for small markets, worked out by hand.
+
+use crate::files::{FIVE_DEALERS, FileMarket, THREE_DEALERS, TWO_AND_TWO, is_told, solved};
+use command_types::Mode;
+use dual_certificate::read_proposal;
+use std::alloc::Global;
+use std::test::Fail;
+use trade_file::read_roster;
+
+const CHAIN: FileMarket<'static> = FileMarket {
+    parties: THREE_DEALERS,
+    trades: "A,B,P,10\nB,C,P,7\n",
+    mode: Mode::Hybrid,
+};
+
+/// Whether what is solved begins and ends like this, and passes the check.
+fn gives(alloc: Global, market: FileMarket<'_>, head: &str, end: &str) -> Result<bool, Fail> {
+    let text = solved(alloc, market)?;
+    let passes = is_told(alloc, market, &text, "yes\n")?;
+    Ok(passes && text.starts_with(head.as_bytes()) && text.ends_with(end.as_bytes()))
+}
+
+#[test]
+fn a_chain_of_dealers_is_solved(rt: HostRuntime) -> Result<(), Fail> {
+    let head = "product P 17 10 10 17\nrow A B 3\nrow A C 7\npot A ";
+    assert!(rt; gives(rt.alloc(), CHAIN, head, "\nbound 10\nend 1\n")?);
+    Ok(())
+}
+
+#[test]
+fn a_chain_keeps_its_rows_in_conservative_mode(rt: HostRuntime) -> Result<(), Fail> {
+    let market = FileMarket {
+        mode: Mode::Conservative,
+        ..CHAIN
+    };
+    let head = "product P 17 17 10 17\nrow A B 10\nrow B C 7\npot A ";
+    assert!(rt; gives(rt.alloc(), market, head, "\nbound 17\nend 1\n")?);
+    Ok(())
+}
+
+#[test]
+fn a_ring_is_solved_to_nothing(rt: HostRuntime) -> Result<(), Fail> {
+    let market = FileMarket {
+        parties: THREE_DEALERS,
+        trades: "A,B,P,10\nB,C,P,10\nC,A,P,10\n",
+        mode: Mode::Conservative,
+    };
+    let head = "product P 30 0 0 30\npot A ";
+    assert!(rt; gives(rt.alloc(), market, head, "\nbound 0\nend 1\n")?);
+    Ok(())
+}
+
+/// Amounts of 1 and of 10^15 in one market.
+#[test]
+fn large_and_small_amounts_are_solved(rt: HostRuntime) -> Result<(), Fail> {
+    let market = FileMarket {
+        parties: THREE_DEALERS,
+        trades: "A,C,P,1\nB,A,P,1\nB,C,P,1000000000000000\nB,C,P,1000000000000000\nC,A,P,1000000000000000\nC,B,P,1000000000000000\n",
+        mode: Mode::Conservative,
+    };
+    let head =
+        "product P 4000000000000002 2000000000000000 1000000000000001 2000000000000000\nrow B A 1\nrow B C 1000000000000000\nrow C A 999999999999999\npot A ";
+    assert!(rt;
+        gives(
+            rt.alloc(),
+            market,
+            head,
+            "\nbound 2000000000000000\nend 1\n"
+        )?
+    );
+    Ok(())
+}
+
+/// Whether numbers differ from the first one as it says.
+fn differ(numbers: &[i32], differences: &[i64]) -> bool {
+    let Some(first) = numbers.first() else {
+        return differences.is_empty();
+    };
+    for (number, difference) in numbers.iter().zip(differences) {
+        if i64::from(*number) - i64::from(*first) != *difference {
+            return false;
+        }
+    }
+    numbers.len() == differences.len()
+}
+
+/// Whether the potentials of what is solved differ from the first one's as it says.
+fn has_potentials(
+    alloc: Global,
+    market: FileMarket<'_>,
+    differences: &[i64],
+) -> Result<bool, Fail> {
+    let roster = read_roster(alloc, market.parties.as_bytes())?;
+    let text = solved(alloc, market)?;
+    let parts = read_proposal(alloc, &text, &roster)?;
+    match parts.first() {
+        None => Ok(false),
+        Some(part) => Ok(differ(part.solution.potentials(), differences)),
+    }
+}
+
+#[test]
+fn the_first_potential_of_a_chain_is_1_above_the_others(rt: HostRuntime) -> Result<(), Fail> {
+    assert!(rt; has_potentials(rt.alloc(), CHAIN, &[0, -1, -1])?);
+    Ok(())
+}
+
+/// Whether what is solved passes the check, in both modes.
+fn passes(alloc: Global, parties: &str, trades: &str) -> Result<bool, Fail> {
+    for mode in [Mode::Conservative, Mode::Hybrid] {
+        let market = FileMarket {
+            parties,
+            trades,
+            mode,
+        };
+        let text = solved(alloc, market)?;
+        if !is_told(alloc, market, &text, "yes\n")? {
+            return Ok(false);
+        }
+    }
+    Ok(true)
+}
+
+#[test]
+fn what_is_solved_passes_the_check(rt: HostRuntime) -> Result<(), Fail> {
+    let markets = [
+        (THREE_DEALERS, "\n"),
+        (THREE_DEALERS, "A,B,P,1\nB,A,P,1\nB,C,P,3\nA,B,P,2\n"),
+        (FIVE_DEALERS, "A,B,P,9\nB,C,P,8\nC,D,P,7\nD,E,P,6\n"),
+        (
+            FIVE_DEALERS,
+            "A,B,P,9\nB,C,P,8\nC,D,P,7\nD,E,P,6\nE,A,P,5\n",
+        ),
+        (
+            FIVE_DEALERS,
+            "A,B,P,1000000000000000\nB,C,P,999999999999999\n",
+        ),
+        (TWO_AND_TWO, "A,C,P,5\nC,B,P,5\nC,D,Q,4\nD,C,Q,9\n"),
+        (TWO_AND_TWO, "A,B,Q,2\nB,C,Q,3\nC,D,Q,4\nD,A,Q,5\n"),
+        ("name,role,key\nP,product,2031-06-30\n", "\n"),
+        ("name,role,key\nA,customer,KA\n", "\n"),
+    ];
+    for (parties, trades) in markets {
+        assert!(rt; passes(rt.alloc(), parties, trades)?);
+    }
+    Ok(())
+}
