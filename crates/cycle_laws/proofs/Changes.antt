@@ -10,21 +10,21 @@ use Rattle.command_types.specs.Trades.{gross_of}
 use Rattle.command_types.specs.Plans.{executed, thawed}
 use Rattle.command_types.specs.Cycles.{has_limits, bad_post, posted_plan}
 use Rattle.command_types.specs.Machine.{first_of, refusals, answer_to, state_after}
-use Rattle.command_types.specs.History.{History, IsLegalFrom, is_recorded, replayed_from}
+use Rattle.command_types.specs.History.{History, IsLegalFrom, is_recorded, replayed_from, solutions_posted}
 use Rattle.acceptance.specs.FreePlans.{IsFreePlan}
 use Rattle.acceptance.specs.Laws.{position}
 use Rattle.trade_history.specs.Laws.{is_execution}
 use Rattle.trade_history.proofs.Legal.{post-legal}
-use Rattle.trade_history.proofs.Replay.{legal-front, legal-at}
-use Rattle.cycle_states.specs.Machine.{solutions_posted}
+use Rattle.trade_history.proofs.Replay.{legal-front, legal-at, solutions-at}
 use Rattle.cycle_states.proofs.MachineFacts.{not_refused, accepted_answer, recorded_changes}
 use Rattle.cycle_states.proofs.CycleFacts.{solving_limits}
 use Rattle.cycle_states.proofs.KeptFacts.{post_solves, post_certified}
-use Rattle.cycle_laws.specs.Histories.{IsMarketHistory, HasSolutions, HasBegun}
-use Rattle.cycle_laws.specs.Laws.{KeepsNets, NetsStayAtExecutions, IsLeastPosting, PostingsAreLeast, ExecutesPosting, ExecutionsFollowThePosting}
-use Rattle.cycle_laws.proofs.Thawing.{gross_thawed, position_thawed}
+use Rattle.cycle_laws.specs.Histories.{IsMarketHistory, HasBegun}
+use Rattle.posting.specs.Laws.{KeepsNets}
+use Rattle.cycle_laws.specs.Laws.{NetsStayAtExecutions, IsLeastPosting, PostingsAreLeast, ExecutesPosting, ExecutionsFollowThePosting}
+use Rattle.cycle_states.proofs.Thawing.{gross_thawed, position_thawed}
 use Rattle.cycle_laws.proofs.Market.{IsMarket, solutions_settled, market_on, market_empty}
-use Rattle.cycle_laws.proofs.Prefixes.{replayed_push, all_front, all_behind}
+use Rattle.cycle_laws.proofs.Prefixes.{replayed_push}
 use Rattle.cycle_laws.proofs.Traces.{IsTraced, traced_on, traced_empty}
 use Rattle.cycle_laws.proofs.Executed.{RunsSolutions, runs_solutions}
 use Rattle.cycle_laws.proofs.Certified.{certified_free, certified_least, problems_each, solutions_each}
@@ -36,12 +36,9 @@ module _ (roster : Rows) (h : History) (is : IsMarketHistory roster h) (before :
   legal : IsLegalFrom h.base.state (before ++ entry ∷ after)
   legal = subst (IsLegalFrom h.base.state) split is.legal
 
-  sound : HasSolutions (before ++ entry ∷ after)
-  sound = subst HasSolutions split is.solutions
-
   market : IsMarket roster now
   market =
-      market_on roster h.base.state before (legal-front h.base.state before entry after legal) (all_front (λ e. All IsSolution (solutions_posted e.ask.what)) before (entry ∷ after) sound)
+      market_on roster h.base.state before (legal-front h.base.state before entry after legal)
       (subst (IsMarket roster) (sym is.base) (market_empty roster is.few_members is.few_products))
 
   traced : IsTraced h.base.state before now.cycle
@@ -54,7 +51,7 @@ module _ (roster : Rows) (h : History) (is : IsMarketHistory roster h) (before :
   none = not_refused now entry.ask recorded
 
   posts_solutions : All IsSolution (solutions_posted entry.ask.what)
-  posts_solutions = all_behind (λ e. All IsSolution (solutions_posted e.ask.what)) before entry after sound
+  posts_solutions = solutions-at h.base.state before entry after legal
 
   module _ (told : IsTrue (is_execution (answer_to now entry.ask))) where
     run : RunsSolutions now (state_after now entry.ask) (before ++ entry ∷ [])

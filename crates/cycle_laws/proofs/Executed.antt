@@ -14,12 +14,12 @@ use Rattle.command_types.specs.Plans.{executed, thawed}
 use Rattle.command_types.specs.Cycles.{has_limits, is_proposed, bad_post, posted_plan}
 use Rattle.command_types.specs.CycleSteps.{proposed_answer, touched_in, vote_answer, left_after}
 use Rattle.command_types.specs.Machine.{first_of, refusals, changes, accepted, member_of, state_by}
+use Rattle.command_types.specs.History.{solutions_posted}
 use Rattle.trade_history.specs.Laws.{is_execution}
 use Rattle.trade_history.proofs.Steps.{end-told}
-use Rattle.cycle_states.specs.Machine.{solutions_posted}
 use Rattle.cycle_states.proofs.CycleFacts.{solving_limits, proposed_limits}
 use Rattle.cycle_states.proofs.KeptFacts.{post_solves, post_certified, accept_proposed}
-use Rattle.cycle_states.proofs.SettledFacts.{done_after, last_after}
+use Rattle.cycle_states.proofs.SettledFacts.{done_after, last_after, nobody_touched, nobody_left}
 use Rattle.cycle_laws.specs.Histories.{HasPosted}
 use Rattle.cycle_laws.proofs.Market.{IsMarket}
 use Rattle.cycle_laws.proofs.Traces.{posted_now, posted_still}
@@ -32,14 +32,6 @@ pub record RunsSolutions (s after : State) (entries : List Entry) : Type 0 where
   pub certified : bad_post (length s.roster.members) s.cycle.begun solutions ≡ None
   pub posted : HasPosted entries s.cycle.number s.cycle.version solutions
   pub trades : after.trades ≡ thawed (executed (posted_plan s.cycle s.trades solutions) s.trades)
-
-nobody_touched : (s : State) (solutions : List SolutionData) (touched : List ℕ) → IsTrue (is_execution (proposed_answer s solutions touched)) → touched ≡ []
-nobody_touched s solutions [] told = refl
-nobody_touched s solutions (member ∷ members) told = absurd (false≢true told)
-
-nobody_left : (cycle : Cycle) (left : List ℕ) → IsTrue (is_execution (vote_answer cycle left)) → left ≡ []
-nobody_left cycle [] told = refl
-nobody_left cycle (voter ∷ voters) told = absurd (false≢true told)
 
 post_executes : (s : State) (past : List Entry) (entry : Entry) (number version : ℕ) (solutions : List SolutionData) → entry.ask.what ≡ Post number version solutions → first_of (refusals s entry.ask.by (Post number version solutions)) ≡ None →
     All IsSolution solutions → IsTrue (is_execution (accepted s entry.ask.by (Post number version solutions))) → RunsSolutions s (state_by s entry.ask.by (Post number version solutions)) (past ++ entry ∷ [])

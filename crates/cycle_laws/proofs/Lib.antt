@@ -1,4 +1,3 @@
-pub mod Thawing
 pub mod BookSteps
 pub mod Market
 pub mod Prefixes

@@ -14,15 +14,14 @@ use Rattle.command_types.specs.Trades.{trade_numbered}
 use Rattle.command_types.specs.Cycles.{posted_plan, bad_post, has_limits}
 use Rattle.command_types.specs.CycleSteps.{proposed_or_done, touched_in, after_vote, left_after}
 use Rattle.command_types.specs.Machine.{empty_state, first_of, refusals, member_of, side_at, state_by, state_after}
-use Rattle.command_types.specs.History.{IsLegalFrom, replayed_from}
+use Rattle.command_types.specs.History.{IsLegalFrom, replayed_from, solutions_posted}
 use Rattle.command_types.specs.Execution.{IsExecutable}
 use Rattle.posting.specs.Laws.{IsSettled}
-use Rattle.cycle_states.specs.Machine.{IsUnbroken, IsCycle, IsMachine, solutions_posted}
+use Rattle.cycle_states.specs.Machine.{IsUnbroken, IsCycle, IsMachine}
 use Rattle.cycle_states.proofs.MachineFacts.{roster_after, not_refused}
 use Rattle.cycle_states.proofs.CycleFacts.{stays_unbroken, solving_limits}
 use Rattle.cycle_states.proofs.KeptFacts.{closed_kept, stays_kept, post_solves, post_certified, accept_proposed}
 use Rattle.cycle_states.proofs.SettledFacts.{settled, proposal_settled}
-use Rattle.cycle_laws.specs.Histories.{HasSolutions}
 use Rattle.cycle_laws.proofs.BookSteps.{IsBookOfRoster, affirm_book, end_book, hold_book, free_book, freeze_book, thaw_book, execution_book, trade_book, empty_book}
 
 pub record IsMarket (roster : Rows) (s : State) : Type 0 where
@@ -86,11 +85,10 @@ market_after roster s ask none sound market =
     }
 
 -- so does a legal list of changes
-pub market_on : (roster : Rows) (s : State) (entries : List Entry) → IsLegalFrom s entries → HasSolutions entries → IsMarket roster s → IsMarket roster (replayed_from s entries)
-market_on roster s [] legal sound market = market
-market_on roster s (entry ∷ entries) (here, rest) sound market =
-    market_on roster (state_after s entry.ask) entries rest (All-tail (λ e. All IsSolution (solutions_posted e.ask.what)) entry entries sound)
-    (market_after roster s entry.ask (not_refused s entry.ask here) (All-head (λ e. All IsSolution (solutions_posted e.ask.what)) entry entries sound) market)
+pub market_on : (roster : Rows) (s : State) (entries : List Entry) → IsLegalFrom s entries → IsMarket roster s → IsMarket roster (replayed_from s entries)
+market_on roster s [] legal market = market
+market_on roster s (entry ∷ entries) (here, rest) market =
+    market_on roster (state_after s entry.ask) entries rest (market_after roster s entry.ask (not_refused s entry.ask here.0) here.1 market)
 
 -- and it holds before the first command
 pub market_empty : (roster : Rows) → length roster.members ≤ 256 → length roster.products ≤ 64 → IsMarket roster (empty_state roster)

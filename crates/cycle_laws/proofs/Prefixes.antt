@@ -1,6 +1,5 @@
 -- A list of changes, entry by entry: what holds of every front of a legal one.
-use Rattle.std.proofs.Common.{◌≡◌, List, [], ◌∷◌, ◌++◌, append_assoc, append-nil, All, IsTrue, sym, subst}
-use Rattle.std.proofs.lemmas.List.Elements.{All-nil, All-cons, All-head, All-tail}
+use Rattle.std.proofs.Common.{◌≡◌, List, [], ◌∷◌, ◌++◌, append_assoc, append-nil, IsTrue, sym, subst}
 use Rattle.std.proofs.lemmas.List.Sums.{fold-append}
 use Rattle.command_types.specs.declared.ask.Entry.{Entry}
 use Rattle.command_types.specs.declared.figures.State.{State}
@@ -16,18 +15,8 @@ module _ (P : List Entry → Type 0) (base : State) (step : (past : List Entry) 
   from past [] holds legal = subst P (sym (append-nil past)) holds
   from past (entry ∷ rest) holds (here, later) =
       subst P (append_assoc past (entry ∷ []) rest)
-      (from (past ++ entry ∷ []) rest (step past entry here holds) (subst (λ s. IsLegalFrom s rest) (sym (replayed_push base past entry)) later))
+      (from (past ++ entry ∷ []) rest (step past entry here.0 holds) (subst (λ s. IsLegalFrom s rest) (sym (replayed_push base past entry)) later))
 
   -- what holds of no entries, and goes on at each accepted one, holds of a legal list
   pub by_entries : P [] → (entries : List Entry) → IsLegalFrom base entries → P entries
   by_entries none entries legal = from [] entries none legal
-
-module _ {X : Type 0} (P : X → Type 0) where
-  -- what holds of each of a list holds of each of its front, and of the one behind it
-  pub all_front : (xs ys : List X) → All P (xs ++ ys) → All P xs
-  all_front [] ys all = All-nil P
-  all_front (x ∷ xs) ys all = All-cons P x xs (All-head P x (xs ++ ys) all) (all_front xs ys (All-tail P x (xs ++ ys) all))
-
-  pub all_behind : (xs : List X) (y : X) (ys : List X) → All P (xs ++ y ∷ ys) → P y
-  all_behind [] y ys all = All-head P y ys all
-  all_behind (x ∷ xs) y ys all = all_behind xs y ys (All-tail P x (xs ++ y ∷ ys) all)

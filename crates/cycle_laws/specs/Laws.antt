@@ -1,25 +1,18 @@
 -- The laws of cycles in histories, as statements.
-use Rattle.std.specs.Prelude.{◌≡◌, ℕ, ◌<◌, ◌≤◌, List, [], ◌∷◌, ◌++◌, length, IsTrue}
+use Rattle.std.specs.Prelude.{◌≡◌, ℕ, List, [], ◌∷◌, ◌++◌, length, IsTrue}
 use Rattle.network_laws.specs.Solutions.{SolutionData, ProblemData}
 use Rattle.command_types.specs.declared.ask.Entry.{Entry}
 use Rattle.command_types.specs.declared.ask.What.TheVariants.{Post}
 use Rattle.command_types.specs.declared.figures.State.{State}
 use Rattle.command_types.specs.Roster.{Rows}
-use Rattle.command_types.specs.Trades.{gross_of}
 use Rattle.command_types.specs.Plans.{executed, thawed}
 use Rattle.command_types.specs.Cycles.{posted_plan}
 use Rattle.command_types.specs.Machine.{answer_to}
 use Rattle.command_types.specs.History.{History, replayed_from}
 use Rattle.acceptance.specs.FreePlans.{IsFreePlan}
-use Rattle.acceptance.specs.Laws.{position}
-use Rattle.posting.specs.Laws.{AreLeast}
+use Rattle.posting.specs.Laws.{AreLeast, KeepsNets}
 use Rattle.trade_history.specs.Laws.{is_execution}
 use Rattle.cycle_laws.specs.Histories.{IsMarketHistory, HasBegun, HasPosted}
-
--- every member's position in every product is the same in both states, and no product's gross has grown
-pub record KeepsNets (roster : Rows) (before after : State) : Type 0 where
-  pub positions : (product member : ℕ) → product < length roster.products → member < length roster.members → position product member after.trades ≡ position product member before.trades
-  pub gross : (product : ℕ) → gross_of product after.trades ≤ gross_of product before.trades
 
 -- wherever the answer tells an execution, every net stays and no gross grows, trades that came after the freeze included
 abbrev pub NetsStayAtExecutions : Type 0

@@ -4,6 +4,3 @@
 mod laws;
 
 pub use laws::{executions_follow_the_posting, nets_stay_at_executions, postings_are_least};
-
-#[cfg(test)]
-mod tests;

@@ -1,11 +1,12 @@
 -- Beginnings of one history.
-use Rattle.std.proofs.Common.{◌≡◌, ℕ, ◌≤◌, Bool, true, false, cond, nat_lt, ◌==◌, List, [], ◌∷◌, ◌++◌, length, drop, sym, refl, ap, ◌∙◌, arith, length-append}
-use Rattle.std.proofs.lemmas.List.{append-nil, drop-append-le}
+use Rattle.std.proofs.Common.{◌≡◌, ℕ, ◌+◌, ◌-◌, ◌≤◌, Bool, true, false, cond, nat_lt, ◌==◌, List, [], ◌∷◌, ◌++◌, length, drop, sym, refl, ap, ◌∙◌, arith, length-append}
+use Rattle.std.proofs.lemmas.List.{append-nil, append_cancel_left, drop-append-le}
+use Rattle.std.proofs.Math.Seq.{drop-append_seam}
 use Rattle.std.proofs.lemmas.List.Elements.{filter-append}
 use Rattle.std.proofs.lemmas.Bool.Decides.{nat_tests}
 use Rattle.command_types.specs.declared.ask.Entry.{Entry}
-use Rattle.cycle_lock.specs.Accounts.{by}
-use Rattle.cycle_lock.specs.Accounts.{Extends, longest}
+use Rattle.command_types.specs.declared.figures.Figures.{Figures}
+use Rattle.cycle_lock.specs.Accounts.{by, Extends, longest, opening_count}
 
 pub shorter_first : (xs ys rx ry : List Entry) → xs ++ rx ≡ ys ++ ry → length xs ≤ length ys → Extends ys xs
 shorter_first [] ys rx ry e le = (ys, refl)
@@ -40,3 +41,14 @@ between n o log all xs le p q same =
     let la = ap length a in let lb = ap length b in let ls = ap length same in
     let zero_more : length (by n q.0) ≡ 0 = omega (arith, length-append (by n (drop o xs)) (by n q.0), length-append (by n (drop o all)) (by n p.0)) in
     a ∙ (ap (λ (x : List Entry). by n (drop o xs) ++ x) (empty_by_length (by n q.0) zero_more) ∙ append-nil (by n (drop o xs)))
+
+-- what a number has made behind what was seen
+pub made_later : (f f' : Figures) (n : ℕ) (xs ys added : List Entry) → f' ≡ f → f.opening ≤ f.base.position + length xs → Extends ys xs → by n (drop (opening_count f') ys) ≡ by n (drop (opening_count f) xs) ++ added
+    → by n (drop (f.base.position + length xs - f'.base.position) ys) ≡ added
+made_later f f' n xs ys added same opened more made =
+    let le : opening_count f ≤ length xs = omega arith in
+    let position : f'.base.position ≡ f.base.position = ap (λ (x : Figures). x.base.position) same in
+    let start : f.base.position + length xs - f'.base.position ≡ length xs = omega arith in
+    let all : by n (drop (opening_count f) ys) ≡ by n (drop (opening_count f) xs) ++ by n more.0 = ap (λ (x : List Entry). by n (drop (opening_count f) x)) more.1 ∙ by_more n (opening_count f) xs more.0 le in
+    let rest : by n more.0 ≡ added = append_cancel_left (by n (drop (opening_count f) xs)) (by n more.0) added (sym all ∙ (ap (λ (x : Figures). by n (drop (opening_count x) ys)) (sym same) ∙ made)) in
+    ap (λ (k : ℕ). by n (drop k ys)) start ∙ (ap (λ (x : List Entry). by n (drop (length xs) x)) more.1 ∙ (ap (by n) (drop-append_seam xs more.0) ∙ rest))

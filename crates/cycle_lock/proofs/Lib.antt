@@ -1,10 +1,7 @@
 pub mod Histories
-pub mod Stops
 pub mod Line
 pub mod Numbers
 pub mod Steps
 pub mod Joins
 pub mod Opens
 pub mod Calls
-pub mod TradeDesks
-pub mod Includes

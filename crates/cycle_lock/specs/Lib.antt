@@ -6,4 +6,3 @@ pub mod Numbers
 pub mod Kept
 pub mod Plays
 pub mod Passes
-pub mod TradeDesk

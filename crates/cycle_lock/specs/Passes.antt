@@ -1,15 +1,20 @@
 -- What clauses say of a pass.
-use Rattle.std.specs.Prelude.{◌≡◌, ℕ, ◌≤◌, nat_lt, Bool, true, false, List, length, if◌then◌else◌}
+use Rattle.std.specs.Prelude.{◌≡◌, ℕ, ◌≤◌, nat_lt, Bool, true, List, length, if◌then◌else◌}
+use Rattle.atomic_table.specs.Seated.{TableId}
 use Rattle.command_types.specs.declared.ask.Entry.{Entry}
-use Rattle.command_types.specs.declared.answer.Answer.{Answer}
-use Rattle.command_types.specs.declared.answer.Answer.TheVariants.{No}
-use Rattle.command_types.specs.declared.refusal.Refusal.TheVariants.{Stopped, DiskFault}
 use Rattle.command_types.specs.declared.figures.Figures.{Figures}
 use Rattle.command_types.specs.History.{History, longer, entries_of_seat}
 use Rattle.cycle_lock.specs.declared.pass.Pass.{Pass}
 use Rattle.cycle_lock.specs.declared.turns.Turns.{Turns}
 use Rattle.cycle_lock.specs.Accounts.{whole, times}
 use Rattle.cycle_lock.specs.Views.{account_of}
+
+-- which lock a pass belongs to
+abbrev pub LockId : Type 0
+LockId = TableId
+
+abbrev pub lock_of : Pass → LockId
+lock_of p = p.badge.table_id
 
 -- it is a pass of this lock
 abbrev pub IsPassOf : {T : Type 0} → Turns T → Pass → Type 0
@@ -64,9 +69,3 @@ pub record Includes (p q : Pass) : Type 0 where
   pub stands_too : (n : ℕ) → StandsFor q n → StandsFor p n
   pub same_entries : (n : ℕ) → StandsFor q n → made_by n p ≡ made_by n q
   pub stop_too : saw_stop q ≡ true → saw_stop p ≡ true
-
--- the desk was stopped by a disk fault, in this call or before
-abbrev pub tells_stop : Answer → Bool
-tells_stop (No (Stopped at)) = true
-tells_stop (No DiskFault) = true
-tells_stop answer = false

@@ -9,6 +9,3 @@ mod turns;
 
 pub use pass::Pass;
 pub use turns::Turns;
-
-#[cfg(test)]
-mod tests;

@@ -15,7 +15,8 @@ use Rattle.command_types.specs.Cycles.{is_solving, is_proposed, bad_post, posted
 use Rattle.command_types.specs.CycleSteps.{post_answer, after_post, accept_answer, after_accept}
 use Rattle.command_types.specs.Plans.{count_of, is_new}
 use Rattle.command_types.specs.Machine.{first_of, refusals, accepted, member_of, state_by}
-use Rattle.cycle_states.specs.Machine.{is_post, is_accept, plan_made, solutions_posted, votes_counted, rows_needed, rows_added, state_in, state_with, IsMachine}
+use Rattle.command_types.specs.History.{solutions_posted}
+use Rattle.cycle_states.specs.Machine.{is_post, is_accept, plan_made, votes_counted, rows_needed, rows_added, state_in, state_with, IsMachine}
 use Rattle.cycle_states.proofs.CycleFacts.{solving_limits}
 use Rattle.cycle_states.proofs.KeptFacts.{post_solves, post_certified, accept_proposed}
 use Rattle.cycle_states.proofs.SettledFacts.{accept_with, posting_few}

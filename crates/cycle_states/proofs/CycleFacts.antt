@@ -14,7 +14,7 @@ use Rattle.command_types.specs.declared.cycle.Phase.TheVariants as phase
 use Rattle.command_types.specs.declared.figures.Cycle.{Cycle}
 use Rattle.command_types.specs.declared.figures.State.{State}
 use Rattle.command_types.specs.declared.plan.PlanRow.{PlanRow}
-use Rattle.command_types.specs.declared.refusal.Refusal.TheVariants.{NotGreeted, NotBuilt}
+use Rattle.command_types.specs.declared.refusal.Refusal.TheVariants.{NotGreeted}
 use Rattle.command_types.specs.declared.roster.ProductRow.{ProductRow}
 use Rattle.command_types.specs.declared.trade.Side.{Side}
 use Rattle.command_types.specs.declared.trade.Side.TheVariants.{Out, In}
@@ -126,12 +126,12 @@ fetch_solves s by cycle version none = not_false (is_solving s.cycle.phase) (non
 post_breaks : (s : State) (by : Option (List ℕ)) (cycle version : ℕ) (solutions : List SolutionData) → first_of (refusals s by (Post cycle version solutions)) ≡ None → IsTrue (may_break s.cycle.phase)
 post_breaks s by cycle version solutions none =
     limits_break s.cycle.phase (solving_limits s.cycle.phase
-    (not_false (is_solving s.cycle.phase) (none_holds ((not (is_party s.roster by), NotGreeted) ∷ (false, NotBuilt) ∷ post_refusals s (unwrap_or by []) cycle version solutions) none).1.1.1.1.1.0))
+    (not_false (is_solving s.cycle.phase) (none_holds ((not (is_party s.roster by), NotGreeted) ∷ post_refusals s (unwrap_or by []) cycle version solutions) none).1.1.1.1.0))
 
 -- an accepted DECLINE comes in phase proposed
 pub decline_proposed : (s : State) (by : Option (List ℕ)) (cycle version : ℕ) → first_of (refusals s by (Decline cycle version)) ≡ None → is_proposed s.cycle.phase ≡ true
 decline_proposed s by cycle version none =
-    not_false (is_proposed s.cycle.phase) (none_holds ((not (is_party s.roster by), NotGreeted) ∷ (false, NotBuilt) ∷ decline_refusals s (unwrap_or by []) cycle version) none).1.1.1.1.0
+    not_false (is_proposed s.cycle.phase) (none_holds ((not (is_party s.roster by), NotGreeted) ∷ decline_refusals s (unwrap_or by []) cycle version) none).1.1.1.0
 
 posted_unbroken : (s : State) (solutions : List SolutionData) (plan : List PlanRow) (touched : List ℕ) → IsTrue (may_break s.cycle.phase) → IsUnbroken s.cycle.phase s.trades → IsUnbroken (proposed_or_done s solutions plan touched).cycle.phase (proposed_or_done s solutions plan touched).trades
 posted_unbroken s solutions plan [] breaks before = λ may. absurd (false≢true may)
@@ -163,7 +163,7 @@ unbroken_by s by (Freeze day) none before = λ may.
     All-map IsSound (row_at_freeze s.roster.products day) s.trades (λ k d l. freeze_sound s.roster.products day (get_or s.trades k d))
 unbroken_by s by (Begin cycle mode) none before = λ may.
     let tests = none_holds (refusals s by (Begin cycle mode)) none in
-    before (begin_breaks s.cycle.phase (not_false (may_begin s.cycle.phase) tests.1.1.1.1.1.0))
+    before (begin_breaks s.cycle.phase (not_false (may_begin s.cycle.phase) tests.1.1.1.1.0))
 unbroken_by s by (Limits product) none before = before
 unbroken_by s by (Row product seller buyer amount size sum) none before = before
 unbroken_by s by (Pot product member value size) none before = before

@@ -1,14 +1,15 @@
 -- How the history of a desk without a journal goes on, and what its replies tell.
-use Rattle.std.proofs.Common.{◌≡◌, ℕ, ◌+◌, not, Bool, false, List, [], ◌∷◌, ◌++◌, length, IsTrue, if◌then◌else◌, arith, sym, subst, ap, inl, inr, ◌∙◌}
+use Rattle.std.proofs.Common.{◌≡◌, ℕ, ◌+◌, not, Bool, false, List, [], ◌∷◌, ◌++◌, length, All, IsTrue, if◌then◌else◌, arith, sym, subst, ap, inl, inr, ◌∙◌}
 use Rattle.std.proofs.lemmas.List.{length-append, append-nil}
 use Rattle.std.proofs.lemmas.List.Sums.{fold-append}
+use Rattle.network_laws.specs.Solutions.{IsSolution}
 use Rattle.command_types.specs.declared.ask.Ask.{Ask}
 use Rattle.command_types.specs.declared.ask.Entry.{Entry}
 use Rattle.command_types.specs.declared.answer.Answer.{Answer}
 use Rattle.command_types.specs.declared.figures.State.{State}
 use Rattle.command_types.specs.declared.figures.Figures.{Figures}
 use Rattle.command_types.specs.Machine.{empty_state, answer_to, state_after}
-use Rattle.command_types.specs.History.{IsLegalFrom, longer, recorded, is_recorded, replayed_from}
+use Rattle.command_types.specs.History.{IsLegalFrom, longer, recorded, is_recorded, replayed_from, solutions_posted}
 use Rattle.command_types.specs.Told.{IsTold}
 use Rattle.command_types.proofs.HistoryFacts.{legal_on}
 use Rattle.cycle_states.specs.PlainDesk.{history_of, plain_figures, IsReplayed}
@@ -16,11 +17,11 @@ use Rattle.cycle_states.proofs.MachineFacts.{roster_after}
 
 -- the machine after a change is where the longer history leads
 pub replayed_more : (m n : State) (entries more : List Entry) (entry : Entry) → IsReplayed m entries → n ≡ state_after m entry.ask → more ≡ entries ++ entry ∷ [] → IsTrue (is_recorded entry.ask.what (answer_to m entry.ask)) →
-    IsReplayed n more
-replayed_more m n entries more entry before on is change =
+    All IsSolution (solutions_posted entry.ask.what) → IsReplayed n more
+replayed_more m n entries more entry before on is change sound =
     let same : n.roster ≡ m.roster = ap (λ s. s.roster) on ∙ roster_after m entry.ask in
     let accepts : State → Type 0 = λ s. IsTrue (is_recorded entry.ask.what (answer_to s entry.ask)) in
-    let legal : IsLegalFrom (empty_state m.roster) (entries ++ entry ∷ []) = legal_on (empty_state m.roster) entries entry before.legal (subst accepts before.same change) in
+    let legal : IsLegalFrom (empty_state m.roster) (entries ++ entry ∷ []) = legal_on (empty_state m.roster) entries entry before.legal (subst accepts before.same change, sound) in
     record {
       same =
           on ∙ ap (λ s. state_after s entry.ask) before.same

@@ -11,7 +11,7 @@ use Rattle.command_types.specs.declared.cycle.Phase.TheVariants as phase
 use Rattle.command_types.specs.declared.figures.Cycle.{Cycle}
 use Rattle.command_types.specs.declared.figures.State.{State}
 use Rattle.command_types.specs.declared.refusal.BadPost.{BadPost}
-use Rattle.command_types.specs.declared.refusal.Refusal.TheVariants.{NotGreeted, NotBuilt}
+use Rattle.command_types.specs.declared.refusal.Refusal.TheVariants.{NotGreeted}
 use Rattle.command_types.specs.declared.trade.Side.{Side}
 use Rattle.command_types.specs.declared.trade.TradeRow.{TradeRow}
 use Rattle.command_types.specs.declared.trade.TradeState.{TradeState}
@@ -22,10 +22,11 @@ use Rattle.command_types.specs.Cycles.{closed, is_open, is_solving, is_proposed,
 use Rattle.command_types.specs.CycleRefusals.{begin_refusals, post_refusals, accept_refusals, if_bad_post}
 use Rattle.command_types.specs.CycleSteps.{is_frozen_and_marked, proposed_or_done, touched_in, after_vote, left_after}
 use Rattle.command_types.specs.Machine.{first_of, refusals, member_of, product_of, side_at, side_of, state_by, affirm_refusals, hold_refusals, free_refusals}
+use Rattle.command_types.specs.History.{solutions_posted}
 use Rattle.acceptance.specs.Laws.{frozen_of}
 use Rattle.posting.specs.Laws.{HasSamePosting}
 use Rattle.posting.proofs.FrozenStays.{plan_stays, begun_stays, alleged_stays, affirmed_stays, held_stays, freed_stays, ended_stays}
-use Rattle.cycle_states.specs.Machine.{solutions_posted, IsCycle, IsUnbroken}
+use Rattle.cycle_states.specs.Machine.{IsCycle, IsUnbroken}
 use Rattle.cycle_states.proofs.MachineFacts.{none_holds, not_false}
 use Rattle.cycle_states.proofs.CycleFacts.{found, second_fails, begin_breaks, limits_break, proposed_limits, solving_limits, decline_proposed}
 
@@ -63,19 +64,19 @@ closed_kept roster rows number version = record {
 -- what an accepted AFFIRM, HOLD or FREE found
 pub affirm_stands : (s : State) (by : Option (List ℕ)) (trade : ℕ) (row : TradeRow) → first_of (refusals s by (Affirm trade)) ≡ None → trade_numbered s.trades trade ≡ Some row → is_alleged row.state ≡ true
 affirm_stands s by trade row none is =
-    let P : Option TradeRow → Type 0 = λ o. first_of ((not (is_party s.roster by), NotGreeted) ∷ (false, NotBuilt) ∷ affirm_refusals s (unwrap_or by []) o) ≡ None in
+    let P : Option TradeRow → Type 0 = λ o. first_of ((not (is_party s.roster by), NotGreeted) ∷ affirm_refusals s (unwrap_or by []) o) ≡ None in
     not_false (is_alleged row.state)
-    (none_holds ((not (is_party s.roster by), NotGreeted) ∷ (false, NotBuilt) ∷ affirm_refusals s (unwrap_or by []) (Some row)) (subst P is none)).1.1.1.0
+    (none_holds ((not (is_party s.roster by), NotGreeted) ∷ affirm_refusals s (unwrap_or by []) (Some row)) (subst P is none)).1.1.0
 
 hold_stands : (s : State) (by : Option (List ℕ)) (trade : ℕ) (row : TradeRow) → first_of (refusals s by (Hold trade)) ≡ None → trade_numbered s.trades trade ≡ Some row → (is_open s.cycle.phase && row.frozen) ≡ false
 hold_stands s by trade row none is =
-    let P : Option TradeRow → Type 0 = λ o. first_of ((not (is_party s.roster by), NotGreeted) ∷ (false, NotBuilt) ∷ hold_refusals s (unwrap_or by []) o) ≡ None in
-    (none_holds ((not (is_party s.roster by), NotGreeted) ∷ (false, NotBuilt) ∷ hold_refusals s (unwrap_or by []) (Some row)) (subst P is none)).1.1.1.1.0
+    let P : Option TradeRow → Type 0 = λ o. first_of ((not (is_party s.roster by), NotGreeted) ∷ hold_refusals s (unwrap_or by []) o) ≡ None in
+    (none_holds ((not (is_party s.roster by), NotGreeted) ∷ hold_refusals s (unwrap_or by []) (Some row)) (subst P is none)).1.1.1.0
 
 free_stands : (s : State) (by : Option (List ℕ)) (trade : ℕ) (row : TradeRow) → first_of (refusals s by (Free trade)) ≡ None → trade_numbered s.trades trade ≡ Some row → (is_open s.cycle.phase && row.frozen) ≡ false
 free_stands s by trade row none is =
-    let P : Option TradeRow → Type 0 = λ o. first_of ((not (is_party s.roster by), NotGreeted) ∷ (false, NotBuilt) ∷ free_refusals s (unwrap_or by []) o) ≡ None in
-    (none_holds ((not (is_party s.roster by), NotGreeted) ∷ (false, NotBuilt) ∷ free_refusals s (unwrap_or by []) (Some row)) (subst P is none)).1.1.1.1.0
+    let P : Option TradeRow → Type 0 = λ o. first_of ((not (is_party s.roster by), NotGreeted) ∷ free_refusals s (unwrap_or by []) o) ≡ None in
+    (none_holds ((not (is_party s.roster by), NotGreeted) ∷ free_refusals s (unwrap_or by []) (Some row)) (subst P is none)).1.1.1.0
 
 -- an alleged trade is not frozen, where frozen ones are live
 alleged_unfrozen : (frozen : Bool) (state : TradeState) → (IsTrue frozen → IsTrue (is_live state)) → is_alleged state ≡ true → frozen ≡ false
@@ -111,8 +112,8 @@ ended_kept false roster cycle rows trade side is unbroken kept =
 -- what an accepted POST found
 post_rows : (s : State) (by : Option (List ℕ)) (cycle version : ℕ) (solutions : List SolutionData) → first_of (refusals s by (Post cycle version solutions)) ≡ None → (is_solving s.cycle.phase ≡ true) × ((if_bad_post (bad_post (length s.roster.members) s.cycle.begun solutions)).0 ≡ false)
 post_rows s by cycle version solutions none =
-    let tests = none_holds ((not (is_party s.roster by), NotGreeted) ∷ (false, NotBuilt) ∷ post_refusals s (unwrap_or by []) cycle version solutions) none in
-    (not_false (is_solving s.cycle.phase) tests.1.1.1.1.1.0, tests.1.1.1.1.1.1.1.0)
+    let tests = none_holds ((not (is_party s.roster by), NotGreeted) ∷ post_refusals s (unwrap_or by []) cycle version solutions) none in
+    (not_false (is_solving s.cycle.phase) tests.1.1.1.1.0, tests.1.1.1.1.1.1.0)
 
 fine_post : (o : Option BadPost) → (if_bad_post o).0 ≡ false → o ≡ None
 fine_post None is = refl
@@ -128,11 +129,11 @@ post_certified s by cycle version solutions none = fine_post (bad_post (length s
 -- an accepted ACCEPT comes in phase proposed
 pub accept_proposed : (s : State) (by : Option (List ℕ)) (cycle version : ℕ) → first_of (refusals s by (Accept cycle version)) ≡ None → IsTrue (is_proposed s.cycle.phase)
 accept_proposed s by cycle version none =
-    not_false (is_proposed s.cycle.phase) (none_holds ((not (is_party s.roster by), NotGreeted) ∷ (false, NotBuilt) ∷ accept_refusals s (unwrap_or by []) cycle version) none).1.1.1.1.0
+    not_false (is_proposed s.cycle.phase) (none_holds ((not (is_party s.roster by), NotGreeted) ∷ accept_refusals s (unwrap_or by []) cycle version) none).1.1.1.0
 
-begin_may : (s : State) (by : Option (List ℕ)) (cycle : ℕ) → first_of ((not (is_party s.roster by), NotGreeted) ∷ (false, NotBuilt) ∷ begin_refusals s (unwrap_or by []) cycle) ≡ None → IsTrue (may_break s.cycle.phase)
+begin_may : (s : State) (by : Option (List ℕ)) (cycle : ℕ) → first_of ((not (is_party s.roster by), NotGreeted) ∷ begin_refusals s (unwrap_or by []) cycle) ≡ None → IsTrue (may_break s.cycle.phase)
 begin_may s by cycle none =
-    begin_breaks s.cycle.phase (not_false (may_begin s.cycle.phase) (none_holds ((not (is_party s.roster by), NotGreeted) ∷ (false, NotBuilt) ∷ begin_refusals s (unwrap_or by []) cycle) none).1.1.1.1.1.0)
+    begin_breaks s.cycle.phase (not_false (may_begin s.cycle.phase) (none_holds ((not (is_party s.roster by), NotGreeted) ∷ begin_refusals s (unwrap_or by []) cycle) none).1.1.1.1.0)
 
 posted_kept : (s : State) (solutions : List SolutionData) (touched : List ℕ) → IsTrue (is_solving s.cycle.phase) → bad_post (length s.roster.members) s.cycle.begun solutions ≡ None → All IsSolution solutions → IsCycle s.roster s.trades s.cycle →
     IsCycle s.roster (proposed_or_done s solutions (posted_plan s.cycle s.trades solutions) touched).trades (proposed_or_done s solutions (posted_plan s.cycle s.trades solutions) touched).cycle

@@ -3,6 +3,9 @@ pub mod LoopFacts
 pub mod CycleFacts
 pub mod KeptFacts
 pub mod SettledFacts
+pub mod Thawing
+pub mod CommitFacts
 pub mod PlanSizes
 pub mod DeskFacts
 pub mod CommandFacts
+pub mod RecordFacts

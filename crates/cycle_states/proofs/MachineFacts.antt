@@ -23,7 +23,7 @@ use Rattle.command_types.specs.declared.roster.Role.TheVariants.{Dealer}
 use Rattle.command_types.specs.declared.roster.MemberRow.{MemberRow}
 use Rattle.command_types.specs.Roster.{Rows, member_place, is_operator}
 use Rattle.command_types.specs.Trades.{gross_of}
-use Rattle.command_types.specs.Machine.{first_of, refusals, party_refusals, trade_refusals, product_of, member_of, position_of, changes, is_refusal, refused_or, accepted, answer_to, state_by, state_after}
+use Rattle.command_types.specs.Machine.{first_of, refusals, command_refusals, trade_refusals, product_of, member_of, position_of, changes, is_refusal, refused_or, accepted, answer_to, state_by, state_after}
 use Rattle.command_types.specs.Cycles.{posted_plan}
 use Rattle.command_types.specs.Books.{live_network}
 use Rattle.command_types.specs.CycleRefusals.{is_crossed, has_voted_at, if_voted}
@@ -111,7 +111,7 @@ pub terms_stand : (s : State) (by : Option (List ℕ)) (name seller buyer produc
     NoneHolds (trade_refusals s name seller buyer product amount day)
 terms_stand s by name seller buyer product amount day greeted none =
     let P : Option (List ℕ) → Type 0 = λ b. first_of (refusals s b (Trade seller buyer product amount day)) ≡ None in
-    none_holds (trade_refusals s name seller buyer product amount day) (none_of _ NotGreeted (party_refusals s name (Trade seller buyer product amount day)) (subst P greeted none)).1
+    none_holds (trade_refusals s name seller buyer product amount day) (none_of _ NotGreeted (command_refusals s name (Trade seller buyer product amount day)) (subst P greeted none)).1
 
 -- an accepted TRADE fits its product's gross
 pub trade_fits : (s : State) (by : Option (List ℕ)) (name seller buyer product : List ℕ) (amount : ℕ) (day : DayParts) → by ≡ Some name → first_of (refusals s by (Trade seller buyer product amount day)) ≡ None →
@@ -180,7 +180,7 @@ pub tol_fits : (s : State) (by : Option (List ℕ)) (name other product : List �
     is_crossed floor ceiling ≡ false
 tol_fits s by name other product side floor ceiling greeted none =
     let P : Option (List ℕ) → Type 0 = λ b. first_of (refusals s b (Tol other product side floor ceiling)) ≡ None in
-    (none_holds (refusals s (Some name) (Tol other product side floor ceiling)) (subst P greeted none)).1.1.1.1.1.1.0
+    (none_holds (refusals s (Some name) (Tol other product side floor ceiling)) (subst P greeted none)).1.1.1.1.1.0
 
 -- settings are told of by no refusal
 pub refusals_stand : (roster : Rows) (rows : List TradeRow) (settings : List ToleranceRow) (cycle : Cycle) (by : Option (List ℕ)) (what : What) → refusals (state_in roster rows cycle) by what ≡ refusals (state_with roster rows settings cycle) by what
@@ -258,7 +258,7 @@ not_looking (Decline cycle version) t a e h f c d = absurd (d cycle version refl
 not_looking what t a e h f c d = refl
 
 -- the trades are told of by no refusal of a command that looks at none
-pub rows_apart : (roster : Rows) (rows : List TradeRow) (cycle : Cycle) (by : List ℕ) (what : What) → looks_at_trades what ≡ false → first_of (party_refusals (state_in roster [] cycle) by what) ≡ first_of (party_refusals (state_in roster rows cycle) by what)
+pub rows_apart : (roster : Rows) (rows : List TradeRow) (cycle : Cycle) (by : List ℕ) (what : What) → looks_at_trades what ≡ false → first_of (command_refusals (state_in roster [] cycle) by what) ≡ first_of (command_refusals (state_in roster rows cycle) by what)
 rows_apart roster rows cycle by (Hello name key) apart = refl
 rows_apart roster rows cycle by (Trade seller buyer product amount day) apart = cc
 rows_apart roster rows cycle by (Affirm trade) apart = cc

@@ -20,6 +20,7 @@ use Rattle.command_types.specs.CycleSteps.{proposed_or_done, proposed_answer, to
 use Rattle.command_types.specs.Plans.{plan_of, count_of, is_new, touched_by}
 use Rattle.command_types.specs.Execution.{IsExecutable}
 use Rattle.acceptance.specs.Parties.{HasPartiesBelow, IsStepBelow, IsPlanBelow}
+use Rattle.trade_history.specs.Laws.{is_execution}
 use Rattle.product_book.specs.Book.{gross_limit, AreTrades}
 use Rattle.posting.specs.Laws.{IsFrozenMarket, IsSettled}
 use Rattle.posting.specs.Posted.{AreOfMembers}
@@ -44,7 +45,7 @@ module _ (roster : Rows) (members products : ℕ) (rows : List TradeRow) (cycle 
   pub has_day : IsTrue (is_solving cycle.phase) → IsTrue (is_some cycle.day)
   has_day on = kept.cycle_kept.day (limits_break cycle.phase (solving_limits cycle.phase on))
 
-  market : IsTrue (may_break cycle.phase) → AreTrades members products 1 rows → ((product : ℕ) → gross_of product rows ≤ gross_limit) → IsFrozenMarket roster rows
+  pub market : IsTrue (may_break cycle.phase) → AreTrades members products 1 rows → ((product : ℕ) → gross_of product rows ≤ gross_limit) → IsFrozenMarket roster rows
   market may trades bounded = record {
     few_members = kept.few_members;
     few_products = kept.few_products;
@@ -139,6 +140,15 @@ last_after s member (voter ∷ voters) n is none = absurd (omega (arith, is, non
 pub counted_after : (s : State) (member : ℕ) (left : List ℕ) (n : ℕ) (votes : List ℕ) → n ≡ length left → (n ≡ 0 → ⊥) → votes ≡ s.cycle.votes ++ member ∷ [] → record s { cycle = record s.cycle { votes = votes } } ≡ after_vote s member left
 counted_after s member [] n votes is some same = absurd (some is)
 counted_after s member (voter ∷ voters) n votes is some same = ap (λ vs. record s { cycle = record s.cycle { votes = vs } }) same
+
+-- a posting that is answered by an execution touches nobody, and after a vote that is nobody's is left
+pub nobody_touched : (s : State) (solutions : List SolutionData) (touched : List ℕ) → IsTrue (is_execution (proposed_answer s solutions touched)) → touched ≡ []
+nobody_touched s solutions [] told = refl
+nobody_touched s solutions (member ∷ members) told = absurd (false≢true told)
+
+pub nobody_left : (cycle : Cycle) (left : List ℕ) → IsTrue (is_execution (vote_answer cycle left)) → left ≡ []
+nobody_left cycle [] told = refl
+nobody_left cycle (voter ∷ voters) told = absurd (false≢true told)
 
 done_with : (roster : Rows) (rows : List TradeRow) (settings : List ToleranceRow) (cycle : Cycle) (solutions : List SolutionData) (plan : List PlanRow) (touched : List ℕ) →
     record (proposed_or_done (state_in roster rows cycle) solutions plan touched) { tolerances = settings } ≡ proposed_or_done (state_with roster rows settings cycle) solutions plan touched

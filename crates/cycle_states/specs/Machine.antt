@@ -22,6 +22,7 @@ use Rattle.posting.specs.Posted.{AreOfMembers}
 use Rattle.posting.specs.Laws.{AreBegun}
 use Rattle.command_types.specs.Trades.{is_live, gross_of, submitted_count}
 use Rattle.command_types.specs.Machine.{empty_state, maturity_refusal, member_of}
+use Rattle.command_types.specs.History.{solutions_posted}
 
 -- the machine's state, and for how many more trades and settings there is room without memory
 pub record MachineView : Type 0 where
@@ -89,12 +90,7 @@ abbrev pub problems_begun : State → What → List ProblemData
 problems_begun s (Begin cycle mode) = problems_of s.roster s.trades s.tolerances mode
 problems_begun s what = []
 
--- the solutions that a change posts, if it is a POST
-abbrev pub solutions_posted : What → List SolutionData
-solutions_posted (Post cycle version solutions) = solutions
-solutions_posted what = []
-
--- and what they change in the trades
+-- what the solutions that a change posts change in the trades
 abbrev pub plan_made : State → What → List PlanRow
 plan_made s (Post cycle version solutions) = posted_plan s.cycle s.trades solutions
 plan_made s what = []

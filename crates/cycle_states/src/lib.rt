@@ -3,9 +3,8 @@
 
 mod machine;
 mod plain_desk;
+mod recorded;
 
 pub use machine::{Machine, Ready};
 pub use plain_desk::PlainDesk;
-
-#[cfg(test)]
-mod tests;
+pub use recorded::is_recorded;

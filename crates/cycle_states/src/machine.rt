@@ -11,6 +11,7 @@ mod making;
 mod nets_refusals;
 mod parties;
 mod positions;
+mod problem_copies;
 mod problems;
 mod proposal;
 mod proposal_answers;
@@ -26,11 +27,14 @@ mod tol_refusals;
 mod trade_refusals;
 mod vote_refusals;
 
-ghost use Rattle.std.specs.Prelude.{◌≡◌, ◌≤◌, All, IsTrue, IfOk, OnOk};
+ghost use Rattle.std.specs.Prelude.{◌≡◌, ◌≤◌, All, IsTrue, IfOk, OnOk, is_some};
 ghost use Rattle.network_laws.specs.Solutions.{IsSolution};
 ghost use Rattle.command_types.specs.Machine.{answer_to, state_after};
-ghost use Rattle.command_types.specs.History.{is_recorded};
-ghost use Rattle.cycle_states.specs.Machine.{rows_added, settings_added, solutions_posted, IsReady, IsYoung};
+ghost use Rattle.command_types.specs.History.{is_recorded, solutions_posted};
+ghost use Rattle.command_types.specs.Spelling.{posted, most_solutions};
+ghost use Rattle.trade_history.specs.Laws.{is_execution};
+ghost use Rattle.posting.specs.Laws.{AreLeast, KeepsNets};
+ghost use Rattle.cycle_states.specs.Machine.{rows_added, settings_added, IsReady, IsYoung};
 
 use answers::{accepted, change_answer};
 use changes::change;
@@ -89,10 +93,13 @@ impl Machine {
         &self.roster
     }
 
-    /// What a command is answered now. The only error is want of memory.
+    /// What a command is answered now. What is accepted and changes the machine has a party, and posts few solutions. The
+    /// only error is want of memory.
     pub fn answer(&self, ask: &Ask) -> Result<Answer, AllocError>
         requires { IsYoung self.now.state.cycle }
-        ensures { IfOk result (λ answer. answer ≡ answer_to self.now.state ask.now) }
+        ensures answer { IfOk result (λ answer. answer ≡ answer_to self.now.state ask.now) }
+        ensures party { IfOk result (λ answer. IsTrue (is_recorded ask.now.what answer) → IsTrue (is_some ask.now.by)) }
+        ensures few { IfOk result (λ answer. IsTrue (is_recorded ask.now.what answer) → posted ask.now.what ≤ most_solutions) }
     {
         match refusal(&self.roster, &self.book, &self.cycle, ask) {
             Some(refusal) => Ok(Answer::No(refusal)),
@@ -131,7 +138,8 @@ impl Machine {
     }
 
     /// Makes the change that was prepared in this state, and answers it. It takes no memory and can't fail. The solutions
-    /// of a POST are well-formed, as their type keeps them.
+    /// of a POST are well-formed, as their type keeps them, and of the least gross that their problems allow. Where the
+    /// change executes a plan, every member's position in every product stays, and no product's gross grows.
     pub fn commit(&mut self, ready: Ready) -> (Entry, Answer)
         requires accepted { IsTrue (is_recorded ready.entry.ask.what (answer_to self.old.state ready.entry.ask)) }
         requires young { IsYoung self.old.state.cycle }
@@ -142,7 +150,11 @@ impl Machine {
         ensures entry { result.0 ≡ ready.entry }
         ensures answer { result.1 ≡ answer_to self.old.state ready.entry.ask }
         ensures solutions { All IsSolution (solutions_posted ready.entry.ask.what) }
+        ensures least { AreLeast self.old.state.cycle.begun (solutions_posted ready.entry.ask.what) }
+        ensures nets { IsTrue (is_execution result.1) → KeepsNets self.old.state.roster self.old.state self.new.state }
     {
+        // What a book says of its trades is what the nets rest on.
+        let _rows = self.book.rows();
         let (entry, made) = ready.into_parts();
         let answer = change_answer(
             &self.roster,

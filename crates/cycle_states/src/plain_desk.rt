@@ -1,47 +1,16 @@
 //! A desk without a journal: a machine, and the list of its changes.
 
-ghost use Rattle.std.specs.Prelude.{◌≡◌, ◌<◌, [], ◌∷◌, ◌++◌, IsTrue, IfOk, OnOk, OnErr, vec_len, vec_capacity};
-ghost use Rattle.command_types.specs.Machine.{answer_to, state_after, changes, is_refusal};
-ghost use Rattle.command_types.specs.History.{is_recorded};
+ghost use Rattle.std.specs.Prelude.{◌≡◌, ◌<◌, [], ◌∷◌, ◌++◌, All, IsTrue, IfOk, OnOk, OnErr, vec_len, vec_capacity};
+ghost use Rattle.command_types.specs.Machine.{answer_to, state_after};
+ghost use Rattle.network_laws.specs.Solutions.{IsSolution};
+ghost use Rattle.command_types.specs.History.{is_recorded, solutions_posted};
 ghost use Rattle.cycle_states.specs.Machine.{IsYoung};
 
 use crate::machine::Machine;
-use command_types::{Answer, Ask, Desk, Entry, Refusal, Reply, What};
+use crate::recorded::is_recorded;
+use command_types::{Answer, Ask, Desk, Entry, Refusal, Reply};
 use std::alloc::{AllocError, Global};
 use std::marker::Model;
-
-fn is_change(what: &What) -> bool
-    ensures { result ≡ changes what.now }
-{
-    matches!(
-        what,
-        What::Trade { .. }
-            | What::Affirm { .. }
-            | What::End { .. }
-            | What::Hold { .. }
-            | What::Free { .. }
-            | What::Tol { .. }
-            | What::Freeze { .. }
-            | What::Begin { .. }
-            | What::Post { .. }
-            | What::Accept { .. }
-            | What::Decline { .. }
-            | What::Cancel { .. }
-    )
-}
-
-fn is_refusal(answer: &Answer) -> bool
-    ensures { result ≡ is_refusal answer.now }
-{
-    matches!(answer, Answer::No(_))
-}
-
-// Whether the history keeps a command that is answered so.
-fn is_recorded(what: &What, answer: &Answer) -> bool
-    ensures { result ≡ is_recorded what.now answer.now }
-{
-    is_change(what) && !is_refusal(answer)
-}
 
 // The reply where no memory is to be had.
 fn no_memory(at: u64) -> Reply
@@ -73,6 +42,7 @@ fn record(
     ensures answer { IfOk result (λ answer. answer ≡ answer_to machine.old.state entry.ask) }
     ensures state { OnOk result (machine.new.state ≡ state_after machine.old.state entry.ask) }
     ensures entries { OnOk result (entries.new.items ≡ entries.old.items ++ entry ∷ []) }
+    ensures solutions { OnOk result (All IsSolution (solutions_posted entry.ask.what)) }
     ensures same_state { OnErr result (machine.new.state ≡ machine.old.state) }
     ensures same_entries { OnErr result (entries.new.items ≡ entries.old.items) }
 {
@@ -144,6 +114,8 @@ impl Desk for PlainDesk {
     }
 
     fn length(&self) -> u64 {
+        // A roster's members say that it keeps its limits.
+        let _members = self.machine.roster().members();
         self.entries.len() as u64
     }
 }

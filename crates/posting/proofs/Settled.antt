@@ -23,7 +23,7 @@ use Rattle.acceptance.proofs.NetLaws.{plan_is_executable, nets_stay, gross_moves
 use Rattle.product_book.specs.Book.{AreTrades}
 use Rattle.product_book.proofs.BookFacts.{trades_at}
 use Rattle.posting.specs.Posted.{AreOfMembers}
-use Rattle.posting.specs.Laws.{IsFrozenMarket, IsPosting, IsSettled, AreBegun, PostingCanBeExecuted}
+use Rattle.posting.specs.Laws.{IsFrozenMarket, IsPosting, IsSettled, AreLeast, AreBegun, PostingCanBeExecuted}
 use Rattle.posting.proofs.ProblemFacts.{problems_size, problem_is, networks_frozen, problems_of_members}
 use Rattle.posting.proofs.RenewalFacts.{renewal, room, network_there, solution_least}
 
@@ -96,13 +96,22 @@ module _ (roster : Rows) (rows : List TradeRow) (problems : List ProblemData) (b
   pub begun_of_members : AreOfMembers (length roster.members) problems
   begun_of_members = subst (AreOfMembers (length roster.members)) (sym begun.same) (problems_of_members roster rows begun.settings begun.mode)
 
+  begun_is_posting : (solutions : List SolutionData) → IsFrozenMarket roster rows → All IsSolution solutions → bad_post (length roster.members) problems solutions ≡ None → IsPosting roster rows begun.settings begun.mode solutions
+  begun_is_posting solutions market each fine = record {
+    market = market;
+    each = each;
+    certified = ap (λ (ps : List ProblemData). bad_post (length roster.members) ps solutions) (sym begun.same) ∙ fine;
+  }
+
   -- what certified solutions of them change can be executed
   pub begun_is_settled : (solutions : List SolutionData) (day : DayParts) → IsFrozenMarket roster rows → All IsSolution solutions → bad_post (length roster.members) problems solutions ≡ None →
       IsSettled (length roster.members) (length roster.products) rows (plan_of rows (old_networks problems) (new_networks solutions) day)
   begun_is_settled solutions day market each fine =
       subst (λ (ps : List ProblemData). IsSettled (length roster.members) (length roster.products) rows (plan_of rows (old_networks ps) (new_networks solutions) day)) (sym begun.same)
-      (posting_can_be_executed roster rows begun.settings begun.mode solutions day (record {
-        market = market;
-        each = each;
-        certified = ap (λ (ps : List ProblemData). bad_post (length roster.members) ps solutions) (sym begun.same) ∙ fine;
-      })).0
+      (posting_can_be_executed roster rows begun.settings begun.mode solutions day (begun_is_posting solutions market each fine)).0
+
+  -- and each of them is least
+  pub begun_is_least : (solutions : List SolutionData) (day : DayParts) → IsFrozenMarket roster rows → All IsSolution solutions → bad_post (length roster.members) problems solutions ≡ None → AreLeast problems solutions
+  begun_is_least solutions day market each fine =
+      subst (λ (ps : List ProblemData). AreLeast ps solutions) (sym begun.same)
+      (posting_can_be_executed roster rows begun.settings begun.mode solutions day (begun_is_posting solutions market each fine)).1

@@ -5,6 +5,7 @@ use Rattle.network_laws.specs.Networks.{NetworkData}
 use Rattle.network_laws.specs.Limits.{IsLeast}
 use Rattle.network_laws.specs.Solutions.{SolutionData, IsSolution, ProblemData}
 use Rattle.command_types.specs.declared.cycle.Mode.{Mode}
+use Rattle.command_types.specs.declared.figures.State.{State}
 use Rattle.command_types.specs.declared.plan.PlanRow.{PlanRow}
 use Rattle.command_types.specs.declared.tolerance.ToleranceRow.{ToleranceRow}
 use Rattle.command_types.specs.declared.trade.TradeRow.{TradeRow}
@@ -42,6 +43,11 @@ pub record IsSettled (members products : ℕ) (rows : List TradeRow) (plan : Lis
   pub parties : IsPlanBelow rows members plan
   pub positions : (product member : ℕ) → product < products → member < members → position product member (executed plan rows) ≡ position product member rows
   pub gross : (product : ℕ) → gross_of product (executed plan rows) ≤ gross_of product rows
+
+-- every member's position in every product is the same in both states, and no product's gross has grown
+pub record KeepsNets (roster : Rows) (before after : State) : Type 0 where
+  pub positions : (product member : ℕ) → product < length roster.products → member < length roster.members → position product member after.trades ≡ position product member before.trades
+  pub gross : (product : ℕ) → gross_of product after.trades ≤ gross_of product before.trades
 
 -- each solution's network has the least gross that its problem allows
 abbrev pub AreLeast : List ProblemData → List SolutionData → Type 0

@@ -16,6 +16,3 @@ pub use planned::posted_plan;
 pub use posted::bad_post;
 pub use steps::{is_touched, steps_of};
 pub use touching::{left_after, touches_nobody};
-
-#[cfg(test)]
-mod tests;

@@ -13,12 +13,3 @@ mod sums;
 pub use book::{Book, Position};
 pub use laws::{freezes_by_maturity, held_is_within_frozen};
 pub use networks::Which;
-
-#[cfg(test)]
-mod execution_tests;
-#[cfg(test)]
-mod freeze_tests;
-#[cfg(test)]
-mod network_tests;
-#[cfg(test)]
-mod tests;

@@ -9,11 +9,11 @@ use Rattle.command_types.specs.declared.figures.State.{State}
 use Rattle.command_types.specs.declared.refusal.Refusal.{Refusal}
 use Rattle.network_laws.specs.Solutions.{SolutionData}
 use Rattle.units_core.specs.Day.{DayParts}
-use Rattle.command_types.specs.declared.refusal.Refusal.TheVariants.{NotGreeted, NotBuilt, CycleOpen}
+use Rattle.command_types.specs.declared.refusal.Refusal.TheVariants.{NotGreeted, CycleOpen}
 use Rattle.command_types.specs.Roster.{member_place, is_party}
 use Rattle.command_types.specs.Cycles.{is_open, may_begin, is_solving, is_proposed}
 use Rattle.command_types.specs.CycleRefusals.{is_touched_at, unless_cycle, unless_phase, unless_version, unless_touched, freeze_refusals, begin_refusals, post_refusals, accept_refusals, decline_refusals}
-use Rattle.command_types.specs.Machine.{first_of, refused_or, is_refusal, refusals, party_refusals, command_refusals, is_built, changes, answer_to, accepted}
+use Rattle.command_types.specs.Machine.{first_of, refused_or, is_refusal, refusals, command_refusals, changes, answer_to, accepted}
 use Rattle.command_types.specs.History.{is_recorded}
 
 no_refusal : (c : Bool) (a : Answer) (o : Option Refusal) → (c && not (is_refusal (refused_or a o))) ≡ true → o ≡ None
@@ -45,14 +45,13 @@ holds : (b : Bool) → not b ≡ false → b ≡ true
 holds true e = refl
 holds false e = cc
 
--- the refusals of a party's command stand behind those that it has not greeted, and that the command is not built yet
+-- the refusals of a party's command stand behind that it has not greeted
 abbrev pub WantsParty : What → Type 0
-WantsParty what = (s : State) (by : Option (List ℕ)) → refusals s by what ≡ (not (is_party s.roster by), NotGreeted) ∷ party_refusals s (unwrap_or by []) what
+WantsParty what = (s : State) (by : Option (List ℕ)) → refusals s by what ≡ (not (is_party s.roster by), NotGreeted) ∷ command_refusals s (unwrap_or by []) what
 
 command-passes : (s : State) (by : Option (List ℕ)) (what : What) → WantsParty what → first_of (refusals s by what) ≡ None → first_of (command_refusals s (unwrap_or by []) what) ≡ None
 command-passes s by what wants e =
-    tail-passes (not (is_built s (unwrap_or by []) what), NotBuilt) (command_refusals s (unwrap_or by []) what)
-    (tail-passes (not (is_party s.roster by), NotGreeted) (party_refusals s (unwrap_or by []) what) (sym (ap first_of (wants s by)) ∙ e))
+    tail-passes (not (is_party s.roster by), NotGreeted) (command_refusals s (unwrap_or by []) what) (sym (ap first_of (wants s by)) ∙ e)
 
 pub freeze-legal : (s : State) (by : Option (List ℕ)) (day : DayParts) → first_of (refusals s by (Freeze day)) ≡ None → is_open s.cycle.phase ≡ false
 freeze-legal s by day e =

@@ -1,12 +1,13 @@
 -- The replay of a legal history, beside its book: the laws.
-use Rattle.std.proofs.Common.{◌≡◌, ℕ, List, [], ◌∷◌, ◌++◌, fold, IsTrue, refl, sym, ap, ◌∙◌, subst}
+use Rattle.std.proofs.Common.{◌≡◌, ℕ, List, [], ◌∷◌, ◌++◌, fold, IsTrue, refl, sym, ap, ◌∙◌, subst, All}
 use Rattle.std.proofs.lemmas.List.Sums.{fold-append}
+use Rattle.network_laws.specs.Solutions.{IsSolution}
 use Rattle.command_types.specs.declared.ask.Entry.{Entry}
 use Rattle.command_types.specs.declared.figures.State.{State}
 use Rattle.command_types.specs.Roster.{Rows}
 use Rattle.command_types.specs.Plans.{thawed}
 use Rattle.command_types.specs.Machine.{answer_to, accepted, refused_or, state_after}
-use Rattle.command_types.specs.History.{IsLegalFrom, replayed_from, is_recorded}
+use Rattle.command_types.specs.History.{IsLegalFrom, solutions_posted, replayed_from, is_recorded}
 use Rattle.trade_history.specs.Search.{execution_at}
 use Rattle.trade_history.specs.Book.{Book, IsClosedBase, AreNumbered, book_after, noted, book_from}
 use Rattle.trade_history.specs.Laws.{TradesAreTheHistorys, AnswersTellExecutions, TellsExecution}
@@ -40,7 +41,7 @@ pub run-on : (roster : Rows) (number : ℕ) (s : State) (book : Book) (entries :
     IsRun roster number (replayed_from s entries) (fold (noted roster number) book entries)
 run-on roster number s book [] run legal = run
 run-on roster number s book (entry ∷ entries) run (here, rest) =
-    run-on roster number (state_after s entry.ask) (noted roster number book entry) entries (run-next roster number s book entry run here) rest
+    run-on roster number (state_after s entry.ask) (noted roster number book entry) entries (run-next roster number s book entry run here.0) rest
 
 -- a closed base is a run of nothing
 pub run-none : (s : State) → IsClosedBase s → IsRun s.roster s.cycle.number s (record { moments = []; rows = thawed s.trades })
@@ -67,8 +68,13 @@ legal-front s (e ∷ front) entry back (here, rest) = (here, legal-front (state_
 
 pub legal-at : (s : State) (front : List Entry) (entry : Entry) (back : List Entry) → IsLegalFrom s (front ++ entry ∷ back) →
     IsTrue (is_recorded entry.ask.what (answer_to (replayed_from s front) entry.ask))
-legal-at s [] entry back (here, rest) = here
+legal-at s [] entry back (here, rest) = here.0
 legal-at s (e ∷ front) entry back (here, rest) = legal-at (state_after s e.ask) front entry back rest
+
+-- and it posts well-formed solutions
+pub solutions-at : (s : State) (front : List Entry) (entry : Entry) (back : List Entry) → IsLegalFrom s (front ++ entry ∷ back) → All IsSolution (solutions_posted entry.ask.what)
+solutions-at s [] entry back (here, rest) = here.1
+solutions-at s (e ∷ front) entry back (here, rest) = solutions-at (state_after s e.ask) front entry back rest
 
 accepted-answer : (s : State) (entry : Entry) → IsTrue (is_recorded entry.ask.what (answer_to s entry.ask)) → answer_to s entry.ask ≡ accepted s entry.ask.by entry.ask.what
 accepted-answer s entry is = ap (refused_or (accepted s entry.ask.by entry.ask.what)) (none-holds s entry.ask.by entry.ask.what is)

@@ -111,7 +111,7 @@ later_by s by what is = absurd (false≢true (is-change s by what is))
 later-run : (s : State) (entries rest : List Entry) → IsLegalFrom s (entries ++ rest) → IsLater s.cycle (replayed_from s entries).cycle
 later-run s [] rest legal = later-same s.cycle
 later-run s (entry ∷ entries) rest (here, legal) =
-    later-trans s.cycle (state_after s entry.ask).cycle (replayed_from (state_after s entry.ask) entries).cycle (later_by s entry.ask.by entry.ask.what here)
+    later-trans s.cycle (state_after s entry.ask).cycle (replayed_from (state_after s entry.ask) entries).cycle (later_by s entry.ask.by entry.ask.what here.0)
     (later-run (state_after s entry.ask) entries rest legal)
 
 legal-back : (s : State) (front back : List Entry) → IsLegalFrom s (front ++ back) → IsLegalFrom (replayed_from s front) back
@@ -153,7 +153,7 @@ once : (k v : ℕ) (s : State) (first : Entry) (middle : List Entry) (second : E
 once k v s first middle second back (here, rest) post again =
     let next = state_after s first.ask in
     let last = replayed_from next middle in
-    let one = post-accepted k v s first.ask.by first.ask.what post here in
+    let one = post-accepted k v s first.ask.by first.ask.what post here.0 in
     let left = post-leaves k v s first.ask.by first.ask.what post in
     let other = post-accepted k v last second.ask.by second.ask.what again (legal-at next middle second back rest) in
     let later = later-run next middle (second ∷ back) rest in

@@ -10,6 +10,3 @@ pub use laws::{
     positions_are_changes, search_finds_executions, trades_are_the_historys,
     trades_follow_at_each_position, versions_are_posted_once,
 };
-
-#[cfg(test)]
-mod tests;

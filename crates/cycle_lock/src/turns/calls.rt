@@ -1,8 +1,8 @@
 //! A call in its turn.
 ghost use Rattle.std.specs.Prelude.{◌≡◌, ◌≢◌, ℕ, Bool, true, false, ◌++◌, IsTrue};
-ghost use Rattle.command_types.specs.History.{IsLegal, end_of, recorded, is_recorded};
-ghost use Rattle.command_types.specs.Told.{IsTold};
-ghost use Rattle.cycle_lock.specs.Passes.{IsPassOf, seat_of, figures_of, seen, saw_stop, may_split, numbers, StandsFor, made_by, made, Continues, tells_stop};
+ghost use Rattle.command_types.specs.History.{IsLegal, end_of, recorded, is_recorded, entries_of_seat};
+ghost use Rattle.command_types.specs.Told.{IsTold, tells_stop};
+ghost use Rattle.cycle_lock.specs.Passes.{IsPassOf, seat_of, figures_of, seen, saw_stop, may_split, numbers, StandsFor, made_by, made, Continues};
 
 use super::Turns;
 use super::steps::SeatOf;
@@ -34,6 +34,8 @@ impl<T: Desk> Turns<T> {
         ensures made { made pass.new ≡ made pass.old ++ recorded (seat_of pass.old) ask result.answer }
         ensures others { (n : ℕ) → StandsFor pass.old n → n ≢ seat_of pass.old → made_by n pass.new ≡ made_by n pass.old }
 
+        ensures later { entries_of_seat (seen pass.new) (seat_of pass.old) (end_of (seen pass.old)) ≡ recorded (seat_of pass.old) ask result.answer }
+
         // The stop.
         ensures stop { IsTrue (tells_stop result.answer) → saw_stop pass.new ≡ true }
         ensures stays { saw_stop pass.old ≡ true → saw_stop pass.new ≡ true }
@@ -49,6 +51,7 @@ impl<T: Desk> Turns<T> {
         self.table.shared.fetch_add::<PassOn>(&mut seat, 2, 1);
         self.table.shared.wake_all(2);
         pass.badge = seat.into_badge();
+        pass.at = reply.at;
         reply
     }
 }

@@ -40,6 +40,7 @@ impl<T: Desk> Turns<T> {
                 Pass {
                     badge: seat.into_badge(),
                     number: 0,
+                    at,
                 },
             )),
             Err(Refused { mut slots }) => {
@@ -60,7 +61,7 @@ impl<T: Desk> Turns<T> {
         ensures numbers { (n : ℕ) → 2 ^ 32 ≤ n + may_split pass → entries_of_seat (T.history result) n (T.figures result).opening ≡ [] }
         ensures stop { saw_stop pass ≡ true → T.stopped result ≡ true }
     {
-        let Pass { badge, number: _ } = pass;
+        let Pass { badge, .. } = pass;
         let mut seat: SeatOf<T> = badge.into_seat();
         self.enter(rt, &mut seat);
         self.take_out(&mut seat)

@@ -33,6 +33,7 @@ impl<T: Desk> Turns<T> {
         Pass {
             badge: child.into_badge(),
             number: number as u32,
+            at: pass.at,
         }
     }
 
@@ -52,11 +53,16 @@ impl<T: Desk> Turns<T> {
         ensures other { Includes pass.new other }
     {
         let mut seat: SeatOf<T> = mem::replace(&mut pass.badge, Badge::blank()).into_seat();
-        let Pass { badge, number: _ } = other;
+        let Pass {
+            badge,
+            number: _,
+            at,
+        } = other;
         self.table
             .shared
             .join_seat::<Host>(&mut seat, badge.into_seat());
         self.table.shared.load::<Settle>(&mut seat, 0);
         pass.badge = seat.into_badge();
+        pass.at = pass.at.max(at);
     }
 }

@@ -9,6 +9,7 @@ use super::cycle::Cycle;
 use super::freezing::taken_count;
 use super::parties::{place_of_member, place_of_product};
 use super::positions::{market_of, position_of};
+use super::problem_copies::problem_copies;
 use super::proposal::plan_made;
 use super::proposal_answers::{post_answer, shown_plan, vote_answer};
 use command_types::{Answer, Ask, Listed, PlanRow, Refusal, Roster, TradeRow, TradeState, What};
@@ -122,6 +123,14 @@ fn plan_rows(
     }
 }
 
+// What a FETCH is answered that is not refused.
+fn fetched(cycle: &Cycle) -> Result<Answer, AllocError>
+    ensures { IfOk result (λ answer. answer ≡ Answer.Problems cycle.now.begun) }
+{
+    let problems = problem_copies(cycle.allocator(), cycle.begun())?;
+    Ok(Answer::Problems(Listed::new(problems)))
+}
+
 // What an ACCEPT is answered that is not refused.
 fn accept_answer(roster: &Roster, book: &Book, cycle: &Cycle, ask: &Ask) -> Answer
     requires kept { IsMachine roster.now book.now.members book.now.products book.now.rows cycle.now }
@@ -199,6 +208,7 @@ pub(super) fn accepted(
         What::Row { size, .. } => Ok(Answer::Noted { size: *size }),
         What::Pot { size, .. } => Ok(Answer::Noted { size: *size }),
         What::Plan { cycle: number } => plan_rows(roster, book, cycle, &ask.by, *number),
+        What::Fetch { .. } => fetched(cycle),
         What::Bye => Ok(Answer::Bye),
         What::Unreadable { at } => Ok(Answer::No(Refusal::BadLine { at: *at })),
         _ => {

@@ -4,7 +4,8 @@ ghost use Rattle.std.specs.Prelude.{◌≡◌, ◌≤◌, [], true, All, IsTrue,
 ghost use Rattle.network_laws.specs.Solutions.{IsSolution};
 ghost use Rattle.command_types.specs.Trades.{trade_numbered};
 ghost use Rattle.command_types.specs.Machine.{changes, empty_state, first_of, refusals, side_at, state_after, state_by};
-ghost use Rattle.cycle_states.specs.Machine.{is_accept, is_of_trade, plan_made, problems_begun, rows_added, settings_added, solutions_posted, state_in, state_of, state_with, votes_counted, IsBookOf, IsMachine, IsYoung};
+ghost use Rattle.command_types.specs.History.{solutions_posted};
+ghost use Rattle.cycle_states.specs.Machine.{is_accept, is_of_trade, plan_made, problems_begun, rows_added, settings_added, state_in, state_of, state_with, votes_counted, IsBookOf, IsMachine, IsYoung};
 
 use super::cycle::Cycle;
 use super::freezing::freeze;

@@ -92,7 +92,7 @@ pub(super) fn limits_refusal(
 }
 
 // The first refusal of what the operator alone does with a begun version, as a POST, if there is one.
-fn version_refusal(
+pub(super) fn version_refusal(
     roster: &Roster,
     cycle: &Cycle,
     by: &Name,

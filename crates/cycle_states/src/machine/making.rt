@@ -3,7 +3,8 @@
 ghost use Rattle.std.specs.Prelude.{◌≡◌, ◌∷◌, ◌++◌, [], None, IfOk, IsTrue, is_some, unwrap_or};
 ghost use Rattle.command_types.specs.Roster.{member_place};
 ghost use Rattle.command_types.specs.Machine.{first_of, refusals};
-ghost use Rattle.cycle_states.specs.Machine.{plan_made, problems_begun, solutions_posted, state_in, state_with, votes_counted, IsMachine};
+ghost use Rattle.command_types.specs.History.{solutions_posted};
+ghost use Rattle.cycle_states.specs.Machine.{plan_made, problems_begun, state_in, state_with, votes_counted, IsMachine};
 
 use super::cycle::Cycle;
 use super::parties::place_of_member;

@@ -47,6 +47,13 @@ impl Ready {
         &self.entry
     }
 
+    /// The change, given back. It takes no memory.
+    pub fn into_entry(self) -> Entry
+        ensures { result ≡ self.entry }
+    {
+        self.entry
+    }
+
     /// The change, and what it is made with, given back.
     pub(super) fn into_parts(self) -> (Entry, Made)
         ensures entry { result.0 ≡ self.entry }

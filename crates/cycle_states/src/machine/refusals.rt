@@ -3,12 +3,13 @@
 
 ghost use Rattle.std.specs.Prelude.{◌≡◌, ◌∷◌, [], not, None, unwrap_or, IsTrue, false, true};
 ghost use Rattle.command_types.specs.Roster.{is_party};
-ghost use Rattle.command_types.specs.Machine.{empty_state, first_of, refusals, party_refusals};
+ghost use Rattle.command_types.specs.Machine.{empty_state, first_of, refusals, command_refusals};
 ghost use Rattle.cycle_states.specs.Machine.{state_in, looks_at_trades, wants_party, HasProblems};
 
 use super::cycle::Cycle;
 use super::cycle_refusals::{
     begin_refusal, cancel_refusal, freeze_refusal, limits_refusal, plan_refusal, post_refusal,
+    version_refusal,
 };
 use super::draft_refusals::{pot_refusal, row_refusal};
 use super::nets_refusals::nets_refusal;
@@ -27,7 +28,7 @@ use units_core::Name;
 fn other_refusal(roster: &Roster, cycle: &Cycle, by: &Name, what: &What) -> Option<Refusal>
     requires problems { HasProblems roster.now cycle.now }
     requires other { looks_at_trades what.now ≡ false }
-    ensures { result ≡ first_of (party_refusals (state_in roster.now [] cycle.now) by.now what.now) }
+    ensures { result ≡ first_of (command_refusals (state_in roster.now [] cycle.now) by.now what.now) }
 {
     match what {
         What::Tol {
@@ -61,10 +62,14 @@ fn other_refusal(roster: &Roster, cycle: &Cycle, by: &Name, what: &What) -> Opti
             version,
             solutions,
         } => post_refusal(roster, cycle, by, *number, *version, solutions.rows()),
+        What::Fetch {
+            cycle: number,
+            version,
+        } => version_refusal(roster, cycle, by, *number, *version),
         What::Plan { cycle: number } => plan_refusal(roster, cycle, *number),
         What::Cancel { cycle: number } => cancel_refusal(roster, cycle, by, *number),
         What::Hello { .. } | What::Unreadable { .. } | What::Bye => None,
-        _ => Some(Refusal::NotBuilt),
+        _ => unreachable!(),
     }
 }
 
@@ -77,7 +82,7 @@ fn party_refusal(
     what: &What,
 ) -> Option<Refusal>
     requires { HasProblems roster.now cycle.now }
-    ensures { result ≡ first_of (party_refusals (state_in roster.now book.now.rows cycle.now) by.now what.now) }
+    ensures { result ≡ first_of (command_refusals (state_in roster.now book.now.rows cycle.now) by.now what.now) }
 {
     let trades = book.rows();
     match what {
@@ -122,7 +127,7 @@ fn greeted_refusal(
     what: &What,
 ) -> Option<Refusal>
     requires { HasProblems roster.now cycle.now }
-    ensures { result ≡ first_of ((not (is_party roster.now by.now), Refusal.NotGreeted) ∷ party_refusals (state_in roster.now book.now.rows cycle.now) (unwrap_or by.now []) what.now) }
+    ensures { result ≡ first_of ((not (is_party roster.now by.now), Refusal.NotGreeted) ∷ command_refusals (state_in roster.now book.now.rows cycle.now) (unwrap_or by.now []) what.now) }
 {
     match by {
         None => Some(Refusal::NotGreeted),

@@ -13,8 +13,8 @@ join_seat-requires g c = let p = c.args.pass.now in let q = c.args.other in
     let is' = rested q.badge.views _ c.into_seat.result.me.0 q.rests (λ i. q.badge.views) c.into_seat.ensures.2 in
     (search rules, search rules, search rules, search rules, joins g.T.Desk.history g.T.Desk.figures g.T.Desk.stopped _ _ _ _ _ _ _ is is')
 
-pub load-requires : goal.load-requires
-load-requires g c = let p = c.args.pass.now in let q = c.args.other in
+pub load-pass-requires : goal.load-pass-requires
+load-pass-requires g c = let p = c.args.pass.now in let q = c.args.other in
     let is = rested p.badge.views _ c.into_seat-seat.result.me.0 p.rests (ap (λ b. b.views) c.replace.ensures.value) c.into_seat-seat.ensures.2 in
     let is' = rested q.badge.views _ c.into_seat.result.me.0 q.rests (λ i. q.badge.views) c.into_seat.ensures.2 in
     let h = ap (λ m. m.0) c.join_seat.ensures.2 in
@@ -27,9 +27,9 @@ returns-clause-old g c =
     let is' = rested q.badge.views _ c.into_seat.result.me.0 q.rests (λ i. q.badge.views) c.into_seat.ensures.2 in
     let h = ap (λ m. m.0) c.join_seat.ensures.2 in
     let x = account_of c.into_badge.result.views in
-    let to = ap account_of c.into_badge.ensures.2 ∙ ap (λ v. v.account) c.load.ensures.2.0 in
+    let to = ap account_of c.into_badge.ensures.2 ∙ ap (λ v. v.account) c.load-pass.ensures.2.0 in
     let own : c.join_seat.new.seat.me.0.account ≡ account_of p.badge.views = ap (λ v. v.account) h ∙ ap (λ v. v.account) is in
-    let t = takes_host c.join_seat.new.seat.me c.load.new.seat.me x (account_of p.badge.views) c.load.ensures.2 to own in
+    let t = takes_host c.join_seat.new.seat.me c.load-pass.new.seat.me x (account_of p.badge.views) c.load-pass.ensures.2 to own in
     record { seen_too = continues _ _ _ _ (ap (λ a. a.figures) to ∙ ap (λ a. a.figures) own) t.0; stands_too = λ n h. (t.1 n h).0; same_entries = λ n h. (t.1 n h).1; stop_too = t.2 }
 
 pub returns-clause-other : goal.returns-clause-other
@@ -39,17 +39,17 @@ returns-clause-other g c =
     let is' = rested q.badge.views _ c.into_seat.result.me.0 q.rests (λ i. q.badge.views) c.into_seat.ensures.2 in
     let h = ap (λ m. m.0) c.join_seat.ensures.2 in
     let x = account_of c.into_badge.result.views in
-    let to = ap account_of c.into_badge.ensures.2 ∙ ap (λ v. v.account) c.load.ensures.2.0 in
+    let to = ap account_of c.into_badge.ensures.2 ∙ ap (λ v. v.account) c.load-pass.ensures.2.0 in
     let own : c.join_seat.new.seat.me.0.guest ≡ account_of q.badge.views = ap (λ v. v.guest) h ∙ ap (λ v. v.account) is' in
-    let t = takes_guest c.join_seat.new.seat.me c.load.new.seat.me x (account_of q.badge.views) c.load.ensures.2 to own in
-    record { seen_too = continues _ _ _ _ (ap (λ a. a.figures) to ∙ (sym c.load.ensures.2.2 ∙ ap (λ a. a.figures) own)) t.0; stands_too = λ n h. (t.1 n h).0; same_entries = λ n h. (t.1 n h).1; stop_too = t.2 }
+    let t = takes_guest c.join_seat.new.seat.me c.load-pass.new.seat.me x (account_of q.badge.views) c.load-pass.ensures.2 to own in
+    record { seen_too = continues _ _ _ _ (ap (λ a. a.figures) to ∙ (sym c.load-pass.ensures.2.2 ∙ ap (λ a. a.figures) own)) t.0; stands_too = λ n h. (t.1 n h).0; same_entries = λ n h. (t.1 n h).1; stop_too = t.2 }
 
 pub invariant_of-pass-clause-mine : goal.invariant_of-pass-clause-mine
 invariant_of-pass-clause-mine g c =
     let p = c.args.pass.now in
     let is = rested p.badge.views _ c.into_seat-seat.result.me.0 p.rests (ap (λ b. b.views) c.replace.ensures.value) c.into_seat-seat.ensures.2 in
     let h = ap (λ m. m.0) c.join_seat.ensures.2 in
-    let to = ap account_of c.into_badge.ensures.2 ∙ ap (λ v. v.account) c.load.ensures.2.0 in
+    let to = ap account_of c.into_badge.ensures.2 ∙ ap (λ v. v.account) c.load-pass.ensures.2.0 in
     let own : c.join_seat.new.seat.me.0.account ≡ account_of p.badge.views = ap (λ v. v.account) h ∙ ap (λ v. v.account) is in
     let first : 1 ≤ times p.number c.join_seat.new.seat.me.0.account.stands = subst (λ a. 1 ≤ times p.number a.stands) (sym own) p.mine in
     subst (λ a. 1 ≤ times p.number a.stands) (sym to) (omega (arith, times-append p.number c.join_seat.new.seat.me.0.account.stands c.join_seat.new.seat.me.0.guest.stands))

@@ -1,11 +1,16 @@
-use Rattle.std.proofs.Common.{◌≡◌, ◌∙◌, ◌≤◌, None, All, ap, sym, subst}
+use Rattle.std.proofs.Common.{rules, ◌≡◌, ◌∙◌, ◌≤◌, None, All, IsTrue, ap, sym, subst}
+use Rattle.command_types.specs.declared.answer.Answer.{Answer}
+use Rattle.trade_history.specs.Laws.{is_execution}
 use Rattle.network_laws.specs.Solutions.{IsSolution}
 use Rattle.command_types.specs.declared.ask.Entry.{Entry}
 use Rattle.command_types.specs.Machine.{accepted, answer_to, first_of, refusals}
-use Rattle.cycle_states.specs.Machine.{plan_made, problems_begun, rows_added, solutions_posted, votes_counted, state_in, state_with, MachineView}
+use Rattle.command_types.specs.History.{solutions_posted}
+use Rattle.cycle_states.specs.Machine.{plan_made, problems_begun, rows_added, votes_counted, state_in, state_with, MachineView}
 use Rattle.cycle_states.proofs.MachineFacts.{recorded_changes, not_refused, not_refused_in, accepted_answer, accepted_stands}
 use Rattle.cycle_states.proofs.CycleFacts.{stays_unbroken}
 use Rattle.cycle_states.proofs.KeptFacts.{stays_kept}
+use Rattle.posting.specs.Laws.{AreLeast}
+use Rattle.cycle_states.proofs.CommitFacts.{least_posted, nets_kept}
 use Rattle.cycle_states.proofs.CommandFacts.{plan_stands, votes_stand, rows_stand}
 use Rattle.cycle_states.proofs.machine.Machine.commit.Goals as goal
 
@@ -98,3 +103,27 @@ returns-clause-answer c =
 pub returns-clause-solutions : goal.returns-clause-solutions
 returns-clause-solutions c =
     subst (λ (e : Entry). All IsSolution (solutions_posted e.ask.what)) c.into_parts-entry.ensures.entry c.change.ensures.solutions
+
+pub returns-clause-least : goal.returns-clause-least
+returns-clause-least c =
+    let m = c.self.inside in
+    let ask = c.args.ready.entry.ask in
+    let s = state_with m.roster m.book.rows m.tolerances.settings m.cycle in
+    let none = not_refused s ask (rw (← c.self.view_is) at c.requires.accepted) in
+    let sound = subst (λ (e : Entry). All IsSolution (solutions_posted e.ask.what)) c.into_parts-entry.ensures.entry c.change.ensures.solutions in
+    subst (λ (view : MachineView). AreLeast view.state.cycle.begun (solutions_posted ask.what)) c.self.view_is
+    (least_posted m.roster m.book.members m.book.products m.book.rows m.tolerances.settings m.cycle c.self.invariant c.rows-rows.ensures.trades c.rows-rows.ensures.bounded ask.by ask.what none sound)
+
+pub returns-clause-nets : goal.returns-clause-nets
+returns-clause-nets c = λ told.
+    let m = c.self.inside in
+    let ask = c.args.ready.entry.ask in
+    let s = state_with m.roster m.book.rows m.tolerances.settings m.cycle in
+    let given = rw (← c.self.view_is) at c.requires.accepted in
+    let none = not_refused s ask given in
+    let sound = subst (λ (e : Entry). All IsSolution (solutions_posted e.ask.what)) c.into_parts-entry.ensures.entry c.change.ensures.solutions in
+    let change = recorded_changes ask.what (answer_to s ask) given in
+    let answers : c.change_answer-answer.result ≡ accepted s ask.by ask.what = returns-clause-answer c ∙ ap (λ (view : MachineView). answer_to view.state ask) (sym c.self.view_is) ∙ accepted_answer s ask none in
+    let kept = nets_kept m.roster m.book.members m.book.products m.book.rows m.tolerances.settings m.cycle c.self.invariant c.rows-rows.ensures.trades c.rows-rows.ensures.bounded ask.by ask.what change none sound
+    (subst (λ (answer : Answer). IsTrue (is_execution answer)) answers told) in
+    search rules

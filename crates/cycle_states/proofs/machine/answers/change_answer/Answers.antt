@@ -2,7 +2,8 @@ use Rattle.std.proofs.Common.{◌≡◌, ◌∙◌, List, length, None, ap, sym,
 use Rattle.network_laws.specs.Solutions.{SolutionData}
 use Rattle.command_types.specs.Cycles.{bad_post, posted_plan}
 use Rattle.command_types.specs.CycleSteps.{post_answer}
-use Rattle.cycle_states.specs.Machine.{is_accept, is_post, solutions_posted, state_in}
+use Rattle.command_types.specs.History.{solutions_posted}
+use Rattle.cycle_states.specs.Machine.{is_accept, is_post, state_in}
 use Rattle.cycle_states.proofs.CommandFacts.{post_stands, post_plan, post_told, accept_greeted}
 use Rattle.cycle_states.proofs.machine.answers.change_answer.Goals as goal
 

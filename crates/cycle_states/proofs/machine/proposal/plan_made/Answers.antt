@@ -1,7 +1,8 @@
 use Rattle.std.proofs.Common.{◌≡◌, ◌∙◌, IfOk, List, length, ap, sym, subst}
 use Rattle.command_types.specs.declared.plan.PlanRow.{PlanRow}
 use Rattle.command_types.specs.Cycles.{posted_plan}
-use Rattle.cycle_states.specs.Machine.{is_post, plan_made, solutions_posted, state_in}
+use Rattle.command_types.specs.History.{solutions_posted}
+use Rattle.cycle_states.specs.Machine.{is_post, plan_made, state_in}
 use Rattle.cycle_states.proofs.CommandFacts.{post_stands}
 use Rattle.cycle_states.proofs.CycleFacts.{solving_limits}
 use Rattle.cycle_states.proofs.SettledFacts.{has_day, few_problems, as_many}

@@ -22,7 +22,7 @@ pub returns-then-not-is_recorded-clause-told : goal.returns-then-not-is_recorded
 returns-then-not-is_recorded-clause-told c =
     rw (← c.self.view_is)
     (told_not_recorded c.self.inside.machine.state c.self.inside.entries.items c.args.seat c.len-at.result c.args.ask c.in-Ok.answer (plain_figures (history_of c.self.inside.machine.state c.self.inside.entries.items))
-    c.self.invariant (ap not (sym c.is_recorded.ensures ∙ c.if-not-is_recorded.true)) c.in-Ok.ensures (omega arith))
+    c.self.invariant (ap not (sym c.is_recorded.ensures ∙ c.if-not-is_recorded.true)) c.in-Ok.ensures.answer (omega arith))
 
 pub returns-in-Err-record-clause-told : goal.returns-in-Err-record-clause-told
 returns-in-Err-record-clause-told c =
@@ -32,21 +32,21 @@ returns-in-Err-record-clause-told c =
 pub invariant_of-self-2 : goal.invariant_of-self-2
 invariant_of-self-2 c =
     let change : IsTrue (is_recorded c.args.ask.what (answer_to c.self.inside.machine.state c.args.ask)) =
-    ap (λ a. is_recorded c.args.ask.what a) (sym c.in-Ok.ensures) ∙ sym c.is_recorded.ensures ∙ c.if-not-is_recorded.false in
+    ap (λ a. is_recorded c.args.ask.what a) (sym c.in-Ok.ensures.answer) ∙ sym c.is_recorded.ensures ∙ c.if-not-is_recorded.false in
     replayed_more c.self.inside.machine.state c.record.new.machine.state c.self.inside.entries.items c.record.new.entries.items (record { seat = c.args.seat; ask = c.args.ask })
-    c.self.invariant c.in-Ok-record.ensures.state c.in-Ok-record.ensures.entries change
+    c.self.invariant c.in-Ok-record.ensures.state c.in-Ok-record.ensures.entries change c.in-Ok-record.ensures.solutions
 
 pub returns-clause-told : goal.returns-clause-told
 returns-clause-told c =
     let change : IsTrue (is_recorded c.args.ask.what c.in-Ok-record.answer) =
-    ap (λ a. is_recorded c.args.ask.what a) (c.in-Ok-record.ensures.answer ∙ sym c.in-Ok.ensures) ∙ sym c.is_recorded.ensures ∙ c.if-not-is_recorded.false in
+    ap (λ a. is_recorded c.args.ask.what a) (c.in-Ok-record.ensures.answer ∙ sym c.in-Ok.ensures.answer) ∙ sym c.is_recorded.ensures ∙ c.if-not-is_recorded.false in
     told_recorded c.self.inside.machine.state c.record.new.machine.state c.self.inside.entries.items c.record.new.entries.items c.args.seat (c.len-at.result + 1) c.args.ask c.in-Ok-record.answer (plain_figures c.args.self.now)
     c.self.invariant c.in-Ok-record.ensures.state c.in-Ok-record.ensures.entries change c.in-Ok-record.ensures.answer (omega arith)
 
 pub returns-clause-grows : goal.returns-clause-grows
 returns-clause-grows c =
     let change : IsTrue (is_recorded c.args.ask.what c.in-Ok-record.answer) =
-    ap (λ a. is_recorded c.args.ask.what a) (c.in-Ok-record.ensures.answer ∙ sym c.in-Ok.ensures) ∙ sym c.is_recorded.ensures ∙ c.if-not-is_recorded.false in
+    ap (λ a. is_recorded c.args.ask.what a) (c.in-Ok-record.ensures.answer ∙ sym c.in-Ok.ensures.answer) ∙ sym c.is_recorded.ensures ∙ c.if-not-is_recorded.false in
     grown c.self.inside.machine.state c.record.new.machine.state c.self.inside.entries.items c.record.new.entries.items c.args.seat c.args.ask c.in-Ok-record.answer
     c.in-Ok-record.ensures.state c.in-Ok-record.ensures.entries change
     ∙ ap (λ h. longer h (recorded c.args.seat c.args.ask c.in-Ok-record.answer)) c.self.view_is
@@ -54,9 +54,9 @@ returns-clause-grows c =
 pub returns-clause-legal : goal.returns-clause-legal
 returns-clause-legal c =
     let change : IsTrue (is_recorded c.args.ask.what (answer_to c.self.inside.machine.state c.args.ask)) =
-    ap (λ a. is_recorded c.args.ask.what a) (sym c.in-Ok.ensures) ∙ sym c.is_recorded.ensures ∙ c.if-not-is_recorded.false in
+    ap (λ a. is_recorded c.args.ask.what a) (sym c.in-Ok.ensures.answer) ∙ sym c.is_recorded.ensures ∙ c.if-not-is_recorded.false in
     (replayed_more c.self.inside.machine.state c.record.new.machine.state c.self.inside.entries.items c.record.new.entries.items (record { seat = c.args.seat; ask = c.args.ask })
-    c.self.invariant c.in-Ok-record.ensures.state c.in-Ok-record.ensures.entries change).legal
+    c.self.invariant c.in-Ok-record.ensures.state c.in-Ok-record.ensures.entries change c.in-Ok-record.ensures.solutions).legal
 
 pub returns-clause-figures : goal.returns-clause-figures
 returns-clause-figures c =

@@ -1,0 +1,17 @@
+//! Tests of the trades' book, of postings, of the machine and the laws of its histories, and of the lock round it.
+#![tactic(auto)]
+
+#[cfg(test)]
+mod histories;
+#[cfg(test)]
+mod laws;
+#[cfg(test)]
+mod lock;
+#[cfg(test)]
+mod machine;
+#[cfg(test)]
+mod market;
+#[cfg(test)]
+mod postings;
+#[cfg(test)]
+mod trade_book;

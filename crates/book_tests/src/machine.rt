@@ -1,0 +1,96 @@
+//! The desk over three dealers, their operator and one product: rows of commands, each with its party, the position of
+//! its reply and its answer.
+
+pub mod answers;
+mod broken;
+pub mod commands;
+mod cycles;
+mod drafts;
+mod greetings;
+mod postings;
+mod refusals;
+mod starts;
+mod trades;
+mod votes;
+pub mod words;
+
+ghost use Rattle.std.specs.Prelude.{◌≡◌, IfOk};
+ghost use Rattle.command_types.specs.History.{end_of};
+
+use crate::market::{three_dealers, with_customer};
+use answers::{Told, is_told};
+use command_types::{Ask, Desk};
+use commands::{Said, command_of};
+use cycle_states::{Machine, PlainDesk};
+use std::alloc::{AllocError, Global};
+use std::test::Fail;
+use words::Word;
+
+/// Who asks, what it asks, the position of the reply, and the answer.
+pub type Row = (Word, Said, u64, Told);
+
+/// A desk without a trade.
+pub fn empty_desk(alloc: Global) -> Result<PlainDesk, AllocError>
+    ensures { IfOk result (λ desk. end_of desk ≡ 0) }
+{
+    let machine = Machine::new(alloc, three_dealers(alloc)?)?;
+    Ok(PlainDesk::new(alloc, machine))
+}
+
+fn is_answered(desk: &mut PlainDesk, ask: Ask, at: u64, told: Told) -> bool {
+    let reply = desk.ask(7, ask);
+    reply.at == at && desk.length() == at && is_told(&reply.answer, told)
+}
+
+/// Whether the command of each row is answered so, one after the other.
+pub fn goes(alloc: Global, desk: &mut PlainDesk, rows: &[Row]) -> Result<bool, Fail> {
+    for (by, said, at, told) in rows {
+        let Some(what) = command_of(alloc, *said)? else {
+            return Ok(false);
+        };
+        let by = Some(by.name());
+        if !is_answered(desk, Ask { by, what }, *at, *told) {
+            return Ok(false);
+        }
+    }
+    Ok(true)
+}
+
+/// The same where nobody has greeted, at the start of the history.
+pub fn goes_unnamed(
+    alloc: Global,
+    desk: &mut PlainDesk,
+    rows: &[(Said, Told)],
+) -> Result<bool, Fail> {
+    for (said, told) in rows {
+        let Some(what) = command_of(alloc, *said)? else {
+            return Ok(false);
+        };
+        if !is_answered(desk, Ask { by: None, what }, 0, *told) {
+            return Ok(false);
+        }
+    }
+    Ok(true)
+}
+
+fn goes_all(alloc: Global, desk: &mut PlainDesk, tables: &[&[Row]]) -> Result<bool, Fail> {
+    for rows in tables {
+        if !goes(alloc, desk, rows)? {
+            return Ok(false);
+        }
+    }
+    Ok(true)
+}
+
+/// Whether a desk of the three dealers answers the rows of these tables so, one after the other.
+pub fn plays(alloc: Global, tables: &[&[Row]]) -> Result<bool, Fail> {
+    let mut desk = empty_desk(alloc)?;
+    goes_all(alloc, &mut desk, tables)
+}
+
+/// The same where the customer D is a member too.
+pub fn plays_with_customer(alloc: Global, tables: &[&[Row]]) -> Result<bool, Fail> {
+    let machine = Machine::new(alloc, with_customer(alloc)?)?;
+    let mut desk = PlainDesk::new(alloc, machine);
+    goes_all(alloc, &mut desk, tables)
+}

@@ -1,0 +1,34 @@
+//! The names that commands have.
+
+use crate::market::named;
+use units_core::Name;
+
+/// The names of the dealers, of the customer and the operator, of two keys, of the product P, and of none.
+#[derive(Clone, Copy)]
+pub enum Word {
+    A,
+    B,
+    C,
+    D,
+    Ops,
+    KeyA,
+    KeyOps,
+    P,
+    Q,
+}
+
+impl Word {
+    pub fn name(self) -> Name {
+        match self {
+            Word::A => named(b"A"),
+            Word::B => named(b"B"),
+            Word::C => named(b"C"),
+            Word::D => named(b"D"),
+            Word::Ops => named(b"OPS"),
+            Word::KeyA => named(b"KA"),
+            Word::KeyOps => named(b"KO"),
+            Word::P => named(b"P"),
+            Word::Q => named(b"Q"),
+        }
+    }
+}

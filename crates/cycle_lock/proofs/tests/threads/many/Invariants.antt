@@ -1,5 +1,0 @@
-use Rattle.cycle_lock.specs.Passes.{IsPassOf}
-use Rattle.cycle_lock.proofs.tests.threads.many.Given as goal
-
-abbrev pub invariant-loop-number : goal.invariant-loop-number
-invariant-loop-number g l = IsPassOf l.turns l.pass

@@ -1,0 +1,7 @@
+use Rattle.std.proofs.Common.{subst}
+use Rattle.command_types.specs.History.{History}
+use Rattle.command_types.specs.Roster.{IsRoster}
+use Rattle.cycle_states.proofs.plain_desk.PlainDeskDesk.length.Goals as goal
+
+pub returns-clause-roster : goal.returns-clause-roster
+returns-clause-roster c = subst (λ (h : History). IsRoster h.base.state.roster) c.self.view_is (subst IsRoster c.roster.ensures c.members-members.ensures.roster)
