@@ -114,13 +114,14 @@ module _ (records : List (List ℕ)) (bytes : List ℕ) where
       ap (overwritten gate (1 ∷ [])) is ∙ overwritten_at (front records) (shut ∷ (staged bytes ++ more)) (1 ∷ []) gate (omega (arith, place))
 
   pub first_moments : (o mid : Option History) (end count : ℕ) → IsAtRest o end records → LeavesOnly o mid (TornOf o end count) → LeavesOnly o mid (HoldsWithOrWithout records bytes)
-  first_moments None mid end count rest leaves = tt
+  first_moments None mid end count rest leaves = leaves
   first_moments (Some h) mid end count rest leaves =
       leaves_more (Some h) mid (IsTorn end count h.content) (HoldsWithOrWithout records bytes) (λ image torn. inl (behind_gate h.content image end count rest.1 rest.2 torn)) leaves
 
   pub second_moments : (o mid after : Option History) (end gate : ℕ) → IsAtRest o end records → gate ≡ end - 1 → end + 5 + length bytes ≤ limit → Puts o end (staged bytes) mid
       → LeavesOnly mid after (TornOf mid gate 1) → LeavesOnly mid after (HoldsWithOrWithout records bytes)
-  second_moments None mid after end gate rest place fits puts leaves = subst (λ (m : Option History). LeavesOnly m after (HoldsWithOrWithout records bytes)) (sym puts) tt
+  second_moments None mid after end gate rest place fits puts leaves =
+      subst (λ (m : Option History). LeavesOnly m after (HoldsWithOrWithout records bytes)) (sym puts) (subst (λ (m : Option History). LeavesOnly m after (TornOf m gate 1)) puts leaves)
   second_moments (Some h) mid after end gate rest place fits puts leaves =
       let content = puts.2 ∙ behind_done h.content end rest.1 rest.2 in
       let here : gate + 1 ≡ end_of records = omega (arith, place, rest.2) in
@@ -197,7 +198,7 @@ begun (Some h) after size records long short holds puts =
 
 pub begin_moments : (o after : Option History) (size : ℕ) (records : List (List ℕ)) → HasLength o size → size < 10 → DiskHolds o records → LeavesOnly o after (TornOf o 0 9)
     → LeavesOnly o after (λ image. Holds image records)
-begin_moments None after size records long short holds leaves = tt
+begin_moments None after size records long short holds leaves = leaves
 begin_moments (Some h) after size records long short holds leaves =
     let none : records ≡ [] = no_records h.content records (omega (arith, long, short)) holds in
     leaves_more (Some h) after (IsTorn 0 9 h.content) (λ image. Holds image records) (λ image torn. inl (omega (arith, torn.no_longer, long, short), none)) leaves
@@ -209,7 +210,7 @@ stays (Some h) size records settled same long (inl short) = absurd (omega (arith
 stays (Some h) size records settled same long (inr j) = (settled, j.1, refl)
 
 pub holds_now : (o : Option History) (records : List (List ℕ)) → IsSettled o → DiskHolds o records → LeavesOnly o o (λ image. Holds image records)
-holds_now None records settled holds = tt
+holds_now None records settled holds = refl
 holds_now (Some h) records settled holds = started h (λ image. Holds image records) (λ image now. subst (λ (f : List ℕ). Holds f records) (sym (settled image now)) holds)
 
 -- after these a journal is ready

@@ -29,7 +29,7 @@ goes_on old mid now content P so_far here = record {
 
 -- a weaker fact
 pub leaves_more : (old new : Option History) (P Q : List ℕ → Type 0) → ((image : List ℕ) → P image → Q image) → LeavesOnly old new P → LeavesOnly old new Q
-leaves_more None new P Q weaker leaves = tt
+leaves_more None new P Q weaker leaves = leaves
 leaves_more (Some old) None P Q weaker leaves = absurd leaves
 leaves_more (Some old) (Some new) P Q weaker leaves = record {
   later = leaves.later;
@@ -39,7 +39,7 @@ leaves_more (Some old) (Some new) P Q weaker leaves = record {
 
 -- one call after another
 pub leaves_both : (a b c : Option History) (P : List ℕ → Type 0) → LeavesOnly a b P → LeavesOnly b c P → LeavesOnly a c P
-leaves_both None b c P first second = tt
+leaves_both None b c P first second = subst (λ (o : Option History). LeavesOnly o c P) first second
 leaves_both (Some a) None c P first second = absurd first
 leaves_both (Some a) (Some b) None P first second = absurd second
 leaves_both (Some a) (Some b) (Some c) P first second = record {
@@ -71,12 +71,12 @@ module _ (h : History) (settled : IsSettled (Some h)) (place count : ℕ) where
 
 -- a write that failed
 pub write_broken : (a b : Option History) (place count : ℕ) → IsSettled a → Breaks (Change.Write place count) a b → LeavesOnly a b (TornOf a place count)
-write_broken None b place count settled breaks = tt
+write_broken None b place count settled breaks = breaks
 write_broken (Some h) b place count settled breaks = in_broken h settled place count b breaks
 
 -- a write, after which the sync failed
 pub sync_failed : (a b c : Option History) (place : ℕ) (bytes : List ℕ) → IsSettled a → Steps (after_write place bytes) a b → c ≡ b → LeavesOnly a c (TornOf a place (length bytes))
-sync_failed None b c place bytes settled wrote same = tt
+sync_failed None b c place bytes settled wrote same = same ∙ wrote
 sync_failed (Some h) b c place bytes settled wrote same =
     subst (λ (o : Option History). LeavesOnly (Some h) o (IsTorn place (length bytes) h.content)) (sym (same ∙ wrote)) (after_change h settled place (length bytes) (overwritten place bytes h.content))
 
@@ -106,7 +106,7 @@ put_done (Some h) b c place bytes wrote synced =
 
 pub put_moments : (a b c : Option History) (place : ℕ) (bytes : List ℕ) → IsPlace a place → IsSettled a → Steps (after_write place bytes) a b → Steps after_sync b c
     → LeavesOnly a c (TornOf a place (length bytes))
-put_moments None b c place bytes within settled wrote synced = tt
+put_moments None b c place bytes within settled wrote synced = subst (λ (o : Option History). Steps after_sync o c) wrote synced
 put_moments (Some h) b c place bytes within settled wrote synced =
     let written = overwritten place bytes h.content in
     let same : c ≡ Some (after_sync (after_write place bytes h)) = subst (λ (o : Option History). Steps after_sync o c) wrote synced in

@@ -9,9 +9,9 @@ pub record EachMoment (old new : History) (P : List ℕ → Type 0) : Type 0 whe
   -- for a run that began earlier
   pub before : (since : ℕ) (image : List ℕ) → since ≤ moment old → left_since new since image → left_since old since image ⊎ P image
 
--- the same where the disk tells what it holds
+-- the same where the disk tells what it holds; a disk that tells nothing goes on so
 abbrev pub LeavesOnly : Option History → Option History → (List ℕ → Type 0) → Type 0
-LeavesOnly None after P = Unit {0}
+LeavesOnly None after P = after ≡ None
 LeavesOnly (Some old) None P = ⊥
 LeavesOnly (Some old) (Some new) P = EachMoment old new P
 

@@ -17,7 +17,11 @@ placed place (bytes ∷ records) = (place, bytes) ∷ placed (place + (5 + lengt
 abbrev pub place_and_bytes : RecordAt → ℕ × List ℕ
 place_and_bytes r = (r.at, r.bytes.items)
 
--- the records that a walk found, with the places of their gates
+-- the records that a walk found
+abbrev pub records_of : Walked → List (List ℕ)
+records_of w = map (λ (r : RecordAt). r.bytes.items) w.records.items
+
+-- these with the places of their gates
 abbrev pub found : Walked → List (ℕ × List ℕ)
 found w = map place_and_bytes w.records.items
 

@@ -49,6 +49,7 @@ impl<D: Disk> Journal<D> {
         ensures any_moment { (records : List (List ℕ)) → DiskHolds (D.history disk) records → IfOk result (λ j. LeavesOnly (D.history disk) (D.history (disk_of j)) (λ image. Holds image records)) }
         ensures any_moment_failed { (records : List (List ℕ)) → DiskHolds (D.history disk) records → IfErr result (λ e. LeavesOnly (D.history disk) (D.history e.1) (λ image. Holds image records)) }
         ensures never_falls { IfOk result (λ j. D.fault_count disk ≤ D.fault_count (disk_of j)) }
+        ensures never_falls_failed { IfErr result (λ e. D.fault_count disk ≤ D.fault_count e.1) }
         ensures failed { IfErr result (λ e. Rose (D.fault_count disk) (D.fault_count e.1)) }
     {
         let mut disk = disk;

@@ -13,6 +13,3 @@ pub use journal::Journal;
 pub use laws::files_hold_one_list;
 pub use walked::{RecordAt, WalkFault, Walked};
 pub use walking::walk;
-
-#[cfg(test)]
-mod tests;

@@ -2,8 +2,8 @@
 ghost use Rattle.std.specs.Prelude.{◌≡◌, ◌≢◌, ◌≤◌, ◌<◌, ◌+◌, ◌^◌, ◌∷◌, ◌++◌, List, ℕ, length, IfSome, IfNone, IfOk, IfErr, OnErr, Err};
 ghost use Rattle.std.specs.Int.{w32, to_le_bytes};
 ghost use Rattle.outside.specs.Faults.{Rose};
-ghost use Rattle.journal_core.specs.Holds.{header, limit};
-ghost use Rattle.journal_core.specs.Walk.{IsWalked, IsFault, FindsRecords, FindsFault, NamesNoRecord, EndsAt};
+ghost use Rattle.journal_core.specs.Holds.{header, limit, end_of};
+ghost use Rattle.journal_core.specs.Walk.{records_of, IsWalked, IsFault, FindsRecords, FindsFault, NamesNoRecord, EndsAt};
 
 use crate::journal::LIMIT;
 use crate::{RecordAt, WalkFault, Walked};
@@ -63,6 +63,7 @@ fn behind_open(rest: &[u8]) -> Option<&[u8]>
 fn read_records(alloc: Global, bytes: &[u8]) -> Result<Walked, WalkFault>
     requires { length bytes.now ≤ limit }
     ensures found { IfOk result (IsWalked bytes.now) }
+    ensures size { IfOk result (λ w. w.end ≡ end_of (records_of w)) }
     ensures fault { IfErr result (IsFault bytes.now) }
     ensures no_disk { result ≢ Err WalkFault.DiskFault }
 {
@@ -104,6 +105,7 @@ fn read_records(alloc: Global, bytes: &[u8]) -> Result<Walked, WalkFault>
 pub fn walk<D: Disk>(alloc: Global, disk: &mut D) -> Result<Walked, WalkFault>
     ensures found { IfOk result (FindsRecords (D.history disk.old)) }
     ensures ends { IfOk result (λ w. EndsAt (D.history disk.old) w.end) }
+    ensures size { IfOk result (λ w. w.end ≡ end_of (records_of w)) }
     ensures fault { IfErr result (FindsFault (D.history disk.old)) }
     ensures same { D.history disk.new ≡ D.history disk.old }
     ensures never_falls { D.fault_count disk.old ≤ D.fault_count disk.new }

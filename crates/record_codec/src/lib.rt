@@ -20,6 +20,3 @@ pub use encoding::encode;
 pub use fault::DecodeFault;
 pub use laws::spellings_are_unique;
 pub use size::length;
-
-#[cfg(test)]
-mod tests;

@@ -1,17 +1,23 @@
 -- The entries that records spell, and the fault of records that spell none.
-use Rattle.std.proofs.Common.{◌≡◌, inl, inr, ℕ, ◌+◌, ◌<◌, List, [], ◌∷◌, ◌++◌, length, take, drop, get_or, map, Result, Ok, Err, IfOk, IfErr, Option, Some, None, refl, subst, sym, ◌∙◌, ap, take-append-drop}
+use Rattle.std.proofs.Common.{◌≡◌, inl, inr, ℕ, ◌+◌, ◌<◌, List, [], ◌∷◌, ◌++◌, length, take, drop, get_or, map, Result, Ok, Err, IfOk, IfErr, Option, Some, None, refl, subst, sym, ◌∙◌, ap, arith, length-append, take-append-drop}
 use Rattle.std.proofs.lemmas.List.{drop_more, map-append, map_more}
-use Rattle.std.specs.List.{AllZip}
+use Rattle.std.proofs.lemmas.List.Concat.{flat_map-cons}
+use Rattle.std.proofs.lemmas.List.Sums.{sum_by-cons}
+use Rattle.std.specs.List.{AllZip, flat_map}
 use Rattle.command_types.specs.declared.ask.Entry.{Entry}
+use Rattle.command_types.specs.Sizes.{frame_size, frames_size}
+use Rattle.command_types.specs.Spelling.{Spells}
 use Rattle.outside.specs.Disk.{History}
-use Rattle.journal_core.specs.Holds.{Holds}
-use Rattle.journal_core.specs.Walk.{placed, place_and_bytes, FindsRecords, FindsFault as FindsWalkFault}
+use Rattle.journal_core.specs.Holds.{header, frame, end_of, Holds}
+use Rattle.journal_core.specs.Walk.{records_of, placed, place_and_bytes, FindsRecords, FindsFault as FindsWalkFault}
 use Rattle.journal_core.specs.declared.walked.Walked.{Walked}
 use Rattle.journal_core.specs.declared.walked.RecordAt.{RecordAt}
 use Rattle.journal_core.specs.declared.walked.WalkFault.{WalkFault}
 use Rattle.journal_core.specs.declared.walked.WalkFault.TheVariants as walks
+use Rattle.journal_core.proofs.JournalFacts.{length-frame}
 use Rattle.journal_core.proofs.OneReading.{one_list, one_place, not_both}
 use Rattle.record_codec.proofs.RecordReading.{unique}
+use Rattle.record_codec.proofs.SizeFacts.{fields_change, spelling_length}
 use Rattle.recovery.specs.StandsFor.{SpellAll, StandsFor, IsFirstBad, IsUnreadable}
 use Rattle.recovery.specs.Reading.{entries_of, SpellsAt, IsFaultAmong, IsRead, IsFault, IsOnlyFault, FindsEntries, GivesOnly, FindsFault}
 use Rattle.recovery.specs.Laws.{FilesStandForOneList}
@@ -76,7 +82,7 @@ only_place file p q (inl a) (inr b) = absurd (not_both file b.0 p b.1 a)
 only_place file p q (inr a) (inl b) = absurd (not_both file a.0 q a.1 b)
 only_place file p q (inr a) (inr b) = unreadable_at file q p b a
 
-stands_for_none : (file : List ℕ) (place : ℕ) (entries : List Entry) → IsFault file (Damaged place) → StandsFor file entries → ⊥
+pub stands_for_none : (file : List ℕ) (place : ℕ) (entries : List Entry) → IsFault file (Damaged place) → StandsFor file entries → ⊥
 stands_for_none file place entries (inl damaged) s = not_both file s.0 place s.1 damaged
 stands_for_none file place entries (inr bad) s = unreadable_stands_for_none file place entries bad s
 
@@ -136,6 +142,33 @@ pub fault_of : (o : Option History) (fault : WalkFault) → FindsWalkFault o fau
 fault_of None fault finds = tt
 fault_of (Some h) fault finds =
     let told : IsFault h.content (fault_of_walk fault) = walk_told h fault finds in (told, only_fault h.content (fault_of_walk fault) told)
+
+-- ---- how many bytes they take
+
+spelled_length : (bytes : List ℕ) (entry : Entry) → Spells bytes entry → length (frame bytes) ≡ frame_size entry.ask
+spelled_length bytes entry s = length-frame bytes ∙ ap (λ (l : List ℕ). 5 + length l) s.same ∙ ap (λ (n : ℕ). 5 + n) (spelling_length entry (fields_change entry.ask.what s.change.fields))
+
+frames_length : (rs : List Placed) (xs : List EntryAt) → AllZip SpellsAt rs xs → length (flat_map frame (bytes_of rs)) ≡ frames_size (map (λ (x : EntryAt). x.entry) xs)
+frames_length [] [] is = refl
+frames_length [] (x ∷ xs) is = absurd is
+frames_length (r ∷ rs) [] is = absurd is
+frames_length (r ∷ rs) (x ∷ xs) is =
+    let behind = flat_map frame (bytes_of rs) in
+    let others = map (λ (y : EntryAt). y.entry) xs in
+    ap length (flat_map-cons frame r.1 (bytes_of rs)) ∙ length-append (frame r.1) behind
+    ∙ ap (λ (n : ℕ). n + length behind) (spelled_length r.1 x.entry is.0.1) ∙ ap (λ (n : ℕ). frame_size x.entry.ask + n) (frames_length rs xs is.1)
+    ∙ sym (sum_by-cons (λ (e : Entry). frame_size e.ask) x.entry others)
+
+bytes_of-records : (records : List RecordAt) → bytes_of (map place_and_bytes records) ≡ map (λ (r : RecordAt). r.bytes.items) records
+bytes_of-records [] = refl
+bytes_of-records (r ∷ records) = ap (λ (l : List (List ℕ)). r.bytes.items ∷ l) (bytes_of-records records)
+
+pub size_of_entries : (w : Walked) (records : List RecordAt) (e : Entries) → records ≡ w.records.items → w.end ≡ end_of (records_of w) → AllZip SpellsAt (map place_and_bytes records) e.list.items → e.end ≡ w.end → e.end ≡ 9 + frames_size (entries_of e)
+size_of_entries w records e same ends is end =
+    let those : records_of w ≡ bytes_of (map place_and_bytes records) = ap (λ (l : List RecordAt). map (λ (r : RecordAt). r.bytes.items) l) (sym same) ∙ sym (bytes_of-records records) in
+    let frames = flat_map frame (bytes_of (map place_and_bytes records)) in
+    let sized : end_of (bytes_of (map place_and_bytes records)) ≡ 9 + length frames = omega (arith, length-append header frames) in
+    end ∙ ends ∙ ap end_of those ∙ sized ∙ ap (λ (n : ℕ). 9 + n) (frames_length (map place_and_bytes records) e.list.items is)
 
 -- ---- the answer is the only one
 

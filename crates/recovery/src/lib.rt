@@ -10,6 +10,3 @@ pub use entries::{Entries, EntryAt};
 pub use fault::RecoverFault;
 pub use laws::files_stand_for_one_list;
 pub use reading::read_entries;
-
-#[cfg(test)]
-mod tests;

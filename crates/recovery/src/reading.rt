@@ -1,9 +1,10 @@
 //! The entries of a disk's journal.
-ghost use Rattle.std.specs.Prelude.{◌≡◌, ◌≤◌, [], ◌∷◌, map, Err, IfOk, IfErr};
+ghost use Rattle.std.specs.Prelude.{◌≡◌, ◌+◌, ◌≤◌, [], ◌∷◌, map, Err, IfOk, IfErr};
 ghost use Rattle.std.specs.List.{AllZip};
+ghost use Rattle.command_types.specs.Sizes.{frames_size};
 ghost use Rattle.outside.specs.Faults.{Rose};
 ghost use Rattle.journal_core.specs.Walk.{place_and_bytes, EndsAt};
-ghost use Rattle.recovery.specs.Reading.{SpellsAt, IsFaultAmong, FindsEntries, GivesOnly, FindsFault};
+ghost use Rattle.recovery.specs.Reading.{entries_of, SpellsAt, IsFaultAmong, FindsEntries, GivesOnly, FindsFault};
 
 use crate::{Entries, EntryAt, RecoverFault};
 use journal_core::{RecordAt, walk};
@@ -47,6 +48,7 @@ fn read_all(alloc: Global, records: &[RecordAt]) -> Result<Vec<EntryAt>, Recover
 pub fn read_entries<D: Disk>(alloc: Global, disk: &mut D) -> Result<Entries, RecoverFault>
     ensures found { IfOk result (FindsEntries (D.history disk.old)) }
     ensures ends { IfOk result (λ e. EndsAt (D.history disk.old) e.end) }
+    ensures size { IfOk result (λ e. e.end ≡ 9 + frames_size (entries_of e)) }
     ensures only { GivesOnly (D.history disk.old) result }
     ensures fault { IfErr result (FindsFault (D.history disk.old)) }
     ensures same { D.history disk.new ≡ D.history disk.old }

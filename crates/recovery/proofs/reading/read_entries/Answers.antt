@@ -1,7 +1,7 @@
-use Rattle.std.proofs.Common.{◌≡◌, Ok, Err, IfErr, sym, subst, rules}
+use Rattle.std.proofs.Common.{◌≡◌, Ok, Err, IfErr, refl, sym, subst, rules}
 use Rattle.recovery.specs.Reading.{GivesOnly, FindsFault}
 use Rattle.recovery.specs.Faults.{fault_of_walk}
-use Rattle.recovery.proofs.EntryFacts.{found_of, fault_of, fault_among, only_of}
+use Rattle.recovery.proofs.EntryFacts.{found_of, size_of_entries, fault_of, fault_among, only_of}
 use Rattle.recovery.proofs.reading.read_entries.Goals as goal
 
 pub returns-in_err-walked-clause-fault : goal.returns-in_err-walked-clause-fault
@@ -41,3 +41,7 @@ returns-clause-found g c =
 pub returns-clause-only : goal.returns-clause-only
 returns-clause-only g c =
     only_of (g.D.Disk.history c.args.disk.now) (Ok (record { list = c.in_ok-list.list; end = c.in_ok-walked.walked.end })) (returns-clause-found g c) tt
+
+pub returns-clause-size : goal.returns-clause-size
+returns-clause-size g c =
+    size_of_entries c.in_ok-walked.walked c.deref.result.now (record { list = c.in_ok-list.list; end = c.in_ok-walked.walked.end }) c.deref.ensures.value c.in_ok-walked.ensures.size c.in_ok-list.ensures.found refl

@@ -1,0 +1,7 @@
+pub mod JournalFacts
+pub mod StoringFacts
+pub mod StopFacts
+pub mod ToldFacts
+pub mod CallingFacts
+pub mod ChangeFacts
+pub mod OpeningFacts

@@ -1,0 +1,78 @@
+-- What contracts see of a house, and what it keeps.
+use Rattle.std.specs.Prelude.{◌≡◌, ℕ, ◌+◌, ◌≤◌, Bool, true, is_some, List, take, drop, length, Option, Some, None}
+use Rattle.command_types.specs.declared.ask.Entry.{Entry}
+use Rattle.command_types.specs.declared.figures.Figures.{Figures}
+use Rattle.command_types.specs.declared.figures.JournalFigures.{JournalFigures}
+use Rattle.command_types.specs.declared.figures.State.{State}
+use Rattle.command_types.specs.History.{History, IsLegal}
+use Rattle.command_types.specs.Sizes.{frames_size}
+use Rattle.cycle_states.specs.PlainDesk.{history_of, IsReplayed}
+use Rattle.outside.specs.Disk as disks
+use Rattle.outside.specs.Faults.{Rose}
+use Rattle.house.specs.Storing.{AreOnDisk, moment_of, LeavesEntries}
+
+-- A house's history, how long it was at the opening and what the journal was then, the entry that was kept where a disk fault
+-- stopped the house, the disk, and the count of its faults.
+pub record HouseView : Type 0 where
+  pub history : History
+  pub opening : ℕ
+  pub journal : JournalFigures
+  pub kept : Option Entry
+  pub disk : Option disks.History
+  pub faults : ℕ
+
+-- what it was when it was made
+abbrev pub figures_of : HouseView → Figures
+figures_of v = record { base = v.history.base; opening = v.opening; journal = Some v.journal }
+
+-- a disk fault stopped it
+abbrev pub is_stopped : HouseView → Bool
+is_stopped v = is_some v.kept
+
+-- the journal's bytes now
+abbrev pub bytes_of : HouseView → ℕ
+bytes_of v = v.journal.size + frames_size (drop v.opening v.history.entries)
+
+-- what a house keeps, as far as callers see it
+pub record Keeps (v : HouseView) : Type 0 where
+  pub legal : IsLegal v.history
+  pub opened : v.opening ≤ length v.history.entries
+  pub first : v.journal.first ≡ take v.opening v.history.entries
+  pub size : v.journal.size ≡ 9 + frames_size v.journal.first
+  -- a disk that told what it holds tells it still
+  pub tells : is_some v.disk ≡ v.journal.tells
+  -- the same holds of the moments since the opening, which are among these
+  pub on_disk : AreOnDisk v.journal.first_moment v.opening v.disk (bytes_of v) v.history.entries v.kept
+  pub moments : (v.journal.first_moment ≤ v.journal.moment) × (v.journal.moment ≤ moment_of v.disk)
+  pub leaves : v.kept ≡ None → LeavesEntries v.disk v.history.entries
+  pub counted : v.journal.faults ≤ v.faults
+  pub stopped : is_stopped v ≡ true → Rose v.journal.faults v.faults
+
+-- and besides: the machine is where the history leads, and the journal has its bytes
+pub record IsHouse (state : State) (size : ℕ) (v : HouseView) : Type 0 where
+  pub replayed : IsReplayed state v.history.entries
+  pub sized : size ≡ bytes_of v
+  pub keeps : Keeps v
+
+-- a house of these parts: the machine's state, the entries, and what it was when it was made
+abbrev pub house_of : State → List Entry → ℕ → JournalFigures → Option Entry → Option disks.History → ℕ → HouseView
+house_of state entries opening journal kept disk faults = record {
+  history = history_of state entries;
+  opening = opening;
+  journal = journal;
+  kept = kept;
+  disk = disk;
+  faults = faults;
+}
+
+-- what the journal was at the opening: its bytes, the disk's faults, the disk when it was taken and at the opening, and the
+-- first entries
+abbrev pub journal_of : ℕ → ℕ → Option disks.History → Option disks.History → List Entry → JournalFigures
+journal_of size faults taken opened first = record {
+  tells = is_some taken;
+  size = size;
+  faults = faults;
+  moment = moment_of opened;
+  first_moment = moment_of taken;
+  first = first;
+}

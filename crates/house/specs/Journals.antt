@@ -1,0 +1,79 @@
+-- What a house rests on: how a file comes to stand for entries. All else in this crate is proved from these facts, and from
+-- the one of `recovery` that a file stands for one list of entries, and looks into no record.
+use Rattle.std.specs.Prelude.{◌≡◌, ℕ, List, [], ◌∷◌, ◌++◌, Option}
+use Rattle.command_types.specs.declared.ask.Entry.{Entry}
+use Rattle.command_types.specs.Spelling.{Spells}
+use Rattle.outside.specs.Disk.{History}
+use Rattle.journal_core.specs.Holds.{end_of, Holds}
+use Rattle.journal_core.specs.Moments.{LeavesOnly}
+use Rattle.journal_core.specs.Walk.{EndsAt}
+use Rattle.journal_core.specs.Journal.{DiskHolds, IsAtRest, IsReady, HoldsWithOrWithout}
+use Rattle.recovery.specs.declared.entries.Entries.{Entries}
+use Rattle.recovery.specs.StandsFor.{StandsFor}
+use Rattle.recovery.specs.Reading.{entries_of, IsRead}
+use Rattle.house.specs.Storing.{IsStored, AreStored, StandsForEither, ContentStandsFor}
+
+-- ---- what a journal's calls tell of its records
+
+-- from old to new, bytes were appended at this place, or in part
+abbrev pub IsAppending : Option History → Option History → ℕ → List ℕ → Type 0
+IsAppending old new end bytes =
+    (records : List (List ℕ)) → IsAtRest old end records → LeavesOnly old new (HoldsWithOrWithout records bytes)
+
+-- they were, and the journal ends at the next place
+abbrev pub IsAppended : Option History → Option History → ℕ → ℕ → List ℕ → Type 0
+IsAppended old new end next bytes =
+    (records : List (List ℕ)) → IsAtRest old end records → IsAtRest new next (records ++ bytes ∷ [])
+
+-- from old to new, the journal was started, or in part
+abbrev pub IsStarting : Option History → Option History → Type 0
+IsStarting old new = (records : List (List ℕ)) → DiskHolds old records → LeavesOnly old new (λ image. Holds image records)
+
+-- it was, where its records end
+abbrev pub IsStarted : Option History → Option History → ℕ → Type 0
+IsStarted old new end =
+    (records : List (List ℕ)) → DiskHolds old records → end ≡ end_of records → IsAtRest new end records
+
+-- ---- the facts
+
+-- What is read of a file is what it stands for,
+abbrev pub ReadEntriesStand : Type 0
+ReadEntriesStand = (file : List ℕ) (e : Entries) → IsRead file e → StandsFor file (entries_of e)
+
+-- and is read with the same places each time.
+abbrev pub FilesReadOneWay : Type 0
+FilesReadOneWay = (file : List ℕ) (e f : Entries) → IsRead file e → IsRead file f → e.list.items ≡ f.list.items
+
+-- What is stored on a disk is what its content stands for,
+abbrev pub StoredEntriesStand : Type 0
+StoredEntriesStand = (h : History) (end : ℕ) (entries : List Entry) → IsStored h end entries → StandsFor h.content entries
+
+-- and is ready for one more record.
+abbrev pub StoredEntriesAreReady : Type 0
+StoredEntriesAreReady =
+    (disk : Option History) (end : ℕ) (entries : List Entry) → AreStored disk end entries → IsReady disk end
+
+-- After an append of what spells an entry, the entries from before and this one are stored,
+abbrev pub AppendAddsTheEntry : Type 0
+AppendAddsTheEntry =
+    (old new : Option History) (end next : ℕ) (entries : List Entry) (bytes : List ℕ) (entry : Entry) → Spells bytes entry
+    → IsAppending old new end bytes → IsAppended old new end next bytes → AreStored old end entries
+    → AreStored new next (entries ++ entry ∷ [])
+
+-- and a crash at any moment of it leaves what stands for the entries from before, or for these and the one.
+abbrev pub AppendLeavesEither : Type 0
+AppendLeavesEither =
+    (old new : Option History) (end : ℕ) (entries : List Entry) (bytes : List ℕ) (entry : Entry) → Spells bytes entry
+    → IsAppending old new end bytes → AreStored old end entries → LeavesOnly old new (StandsForEither entries entry)
+
+-- A crash at any moment of a start leaves what stands for the same entries,
+abbrev pub StartChangesNothing : Type 0
+StartChangesNothing =
+    (old new : Option History) (entries : List Entry) → IsStarting old new → ContentStandsFor old entries
+    → LeavesOnly old new (λ image. StandsFor image entries)
+
+-- which are stored behind it.
+abbrev pub StartStoresTheSame : Type 0
+StartStoresTheSame =
+    (old new : Option History) (end : ℕ) (entries : List Entry) → IsStarting old new → IsStarted old new end
+    → EndsAt old end → ContentStandsFor old entries → AreStored new end entries

@@ -1,0 +1,79 @@
+-- What opening a house finds.
+use Rattle.std.specs.Prelude.{◌≡◌, ◌⊎◌, ℕ, ◌+◌, ◌≤◌, List, [], ◌∷◌, length, Option, Some, None, is_some}
+use Rattle.command_types.specs.declared.ask.Entry.{Entry}
+use Rattle.command_types.specs.declared.figures.State.{State}
+use Rattle.command_types.specs.Machine.{empty_state, state_after}
+use Rattle.command_types.specs.History.{IsAcceptedIn, IsLegalFrom}
+use Rattle.command_types.specs.Roster.{Rows}
+use Rattle.command_types.specs.Sizes.{frames_size}
+use Rattle.cycle_states.specs.PlainDesk.{history_of}
+use Rattle.outside.specs.Disk.{History}
+use Rattle.recovery.specs.declared.entries.Entries.{Entries}
+use Rattle.recovery.specs.declared.entries.EntryAt.{EntryAt}
+use Rattle.recovery.specs.declared.fault.RecoverFault.TheVariants as recovers
+use Rattle.recovery.specs.StandsFor.{StandsFor}
+use Rattle.recovery.specs.Reading.{IsRead, IsFault}
+use Rattle.house.specs.declared.fault.OpenFault.{OpenFault}
+use Rattle.house.specs.declared.fault.OpenFault.TheVariants.{Damaged, DiskFault, Memory}
+use Rattle.house.specs.Storing.{moment_of, ContentStandsFor}
+use Rattle.house.specs.House.{HouseView}
+
+-- of entries with the places of their gates, the first that the machine does not accept at its place has its gate there
+abbrev pub IsFirstRefused : State → List EntryAt → ℕ → Type 0
+IsFirstRefused s [] place = ⊥
+IsFirstRefused s (x ∷ xs) place =
+    ((¬ IsAcceptedIn s x.entry) × (place ≡ x.at)) ⊎ (IsAcceptedIn s x.entry × IsFirstRefused (state_after s x.entry.ask) xs place)
+
+-- the file stands for entries, and the first of them that is not accepted at its place has its gate at this one
+abbrev pub IsRefused : Rows → List ℕ → ℕ → Type 0
+IsRefused roster file place = (e : Entries) × IsRead file e × IsFirstRefused (empty_state roster) e.list.items place
+
+-- The file stands for no legal history: it stands for no entries, and is damaged at this place as recovery tells, or it
+-- stands for some of which one is not accepted at its place.
+abbrev pub IsDamaged : Rows → List ℕ → ℕ → Type 0
+IsDamaged roster file place = IsFault file (recovers.Damaged place) ⊎ IsRefused roster file place
+
+-- a fault of opening a house on this file tells true
+abbrev pub TellsTrue : Rows → List ℕ → OpenFault → Type 0
+TellsTrue roster file (Damaged place) = IsDamaged roster file place
+TellsTrue roster file DiskFault = Unit {0}
+TellsTrue roster file Memory = Unit {0}
+
+-- no other damage can be told of the file, and it stands for no legal history
+abbrev pub IsOnlyFault : Rows → List ℕ → OpenFault → Type 0
+IsOnlyFault roster file (Damaged place) =
+    ((other : ℕ) → IsDamaged roster file other → other ≡ place)
+    × ((entries : List Entry) → StandsFor file entries → IsLegalFrom (empty_state roster) entries → ⊥)
+IsOnlyFault roster file DiskFault = Unit {0}
+IsOnlyFault roster file Memory = Unit {0}
+
+-- a fault of replaying these entries from this state: damage is told at the gate of the first that is not accepted, and no
+-- disk is asked
+abbrev pub IsReplayFault : State → List EntryAt → OpenFault → Type 0
+IsReplayFault s xs (Damaged place) = IsFirstRefused s xs place
+IsReplayFault s xs DiskFault = ⊥
+IsReplayFault s xs Memory = Unit {0}
+
+-- Each fact below says nothing where the disk tells nothing.
+
+-- the disk's content stands for no history that is legal for the roster
+abbrev pub StandsForNone : Rows → Option History → Type 0
+StandsForNone roster disk = (entries : List Entry) → ContentStandsFor disk entries → IsLegalFrom (empty_state roster) entries → ⊥
+
+-- the fault tells true, and is the only one
+abbrev pub FindsFault : Rows → Option History → OpenFault → Type 0
+FindsFault roster None fault = Unit {0}
+FindsFault roster (Some h) fault = TellsTrue roster h.content fault × IsOnlyFault roster h.content fault
+
+-- A house just opened with this roster on this disk, whose count of faults was this: its history is the one for which the
+-- content stands.
+pub record IsOpened (roster : Rows) (disk : Option History) (count : ℕ) (v : HouseView) : Type 0 where
+  pub base : v.history.base ≡ (history_of (empty_state roster) []).base
+  pub opening : v.opening ≡ length v.history.entries
+  pub stands : ContentStandsFor disk v.history.entries
+  pub running : v.kept ≡ None
+  pub size : v.journal.size ≡ 9 + frames_size v.history.entries
+  pub tells : v.journal.tells ≡ is_some disk
+  pub first_moment : v.journal.first_moment ≡ moment_of disk
+  pub moment : v.journal.moment ≡ moment_of v.disk
+  pub counted : (count ≤ v.faults) × (v.journal.faults ≡ v.faults)

@@ -1,0 +1,103 @@
+//! A desk over a disk.
+ghost use Rattle.std.specs.Prelude.{◌≡◌, ◌<◌, ◌^◌};
+
+use command_types::{Ask, Desk, Entry, Reply};
+use cycle_states::Machine;
+use journal_core::Journal;
+use outside::Disk;
+use std::alloc::Global;
+use std::marker::Model;
+use std::snapshot::Snapshot;
+
+/// A machine, the history of its accepted changes, and the journal that keeps them. Each change is on the disk before it is
+/// answered. After a fault of the disk it makes no change any more, and is to be opened again.
+#[derive(Drop)]
+pub struct House<D: Disk> {
+    pub(crate) alloc: Global,
+    pub(crate) machine: Machine,
+    pub(crate) entries: Vec<Entry>,
+    pub(crate) journal: Journal<D>,
+    // The change on which the disk failed.
+    pub(crate) kept: Option<Entry>,
+    // How many entries there were at the opening.
+    pub(crate) opening: u64,
+    // The disk as it was handed in, and the journal at the opening, for contracts alone.
+    pub(crate) taken: Snapshot<D>,
+    pub(crate) opened: Snapshot<Journal<D>>,
+}
+
+impl<D: Disk> Model for House<D> {
+    ghost use Rattle.journal_core.specs.Journal.{disk_of, size_of};
+    ghost use Rattle.std.specs.Prelude.{take};
+    ghost use Rattle.house.specs.House.{HouseView, house_of, journal_of, IsHouse};
+
+    ghost Value = { HouseView };
+
+    ghost view = { λ h. house_of h.machine.state h.entries.items h.opening (journal_of (size_of h.opened.value) (D.fault_count (disk_of h.opened.value)) (D.history h.taken.value) (D.history (disk_of h.opened.value)) (take h.opening h.entries.items)) h.kept (D.history (disk_of h.journal)) (D.fault_count (disk_of h.journal)) };
+
+    ghost invariant = { λ h. IsHouse h.machine.state (size_of h.journal)
+        (house_of h.machine.state h.entries.items h.opening (journal_of (size_of h.opened.value) (D.fault_count (disk_of h.opened.value)) (D.history h.taken.value) (D.history (disk_of h.opened.value)) (take h.opening h.entries.items)) h.kept (D.history (disk_of h.journal)) (D.fault_count (disk_of h.journal))) };
+}
+
+impl<D: Disk> House<D> {
+    ghost use Rattle.command_types.specs.History.{end_of};
+    ghost use Rattle.command_types.specs.Roster.{IsRoster};
+    ghost use Rattle.house.specs.House.{is_stopped, Keeps};
+
+    /// Whether a disk fault stopped it. It takes no memory.
+    pub fn is_stopped(&self) -> bool
+        ensures stopped { result ≡ is_stopped self.now }
+        ensures keeps { Keeps self.now }
+    {
+        self.kept.is_some()
+    }
+
+    /// The length of the history. It takes no memory.
+    pub fn length(&self) -> u64
+        ensures length { result ≡ end_of self.now.history }
+        ensures short { end_of self.now.history < 2 ^ 63 }
+        ensures roster { IsRoster self.now.history.base.state.roster }
+        ensures keeps { Keeps self.now }
+    {
+        // A roster's members say that it keeps its limits.
+        let _members = self.machine.roster().members();
+        self.entries.len() as u64
+    }
+
+    /// The disk, given back. It takes no memory.
+    pub fn end(self) -> D
+        ensures disk { D.history result ≡ self.disk }
+        ensures faults { D.fault_count result ≡ self.faults }
+        ensures keeps { Keeps self }
+    {
+        let House {
+            alloc: _,
+            machine: _,
+            entries: _,
+            journal,
+            kept: _,
+            opening: _,
+            taken: _,
+            opened: _,
+        } = self;
+        journal.end()
+    }
+}
+
+impl<D: Disk + Send> Desk for House<D> {
+    ghost use Rattle.house.specs.House.{figures_of, is_stopped};
+
+    ghost history = { λ house. house.history };
+
+    ghost figures = { figures_of };
+
+    ghost stopped = { is_stopped };
+
+    fn ask(&mut self, seat: u32, ask: Ask) -> Reply {
+        self.call(seat, ask)
+    }
+
+    fn length(&self) -> u64 {
+        House::length(self)
+    }
+}

@@ -1,0 +1,11 @@
+//! A desk over a disk: a machine, its history, and the journal that keeps it.
+#![tactic(auto)]
+
+mod calling;
+pub mod fault;
+pub mod house;
+mod opening;
+mod storing;
+
+pub use fault::OpenFault;
+pub use house::House;

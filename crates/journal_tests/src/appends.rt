@@ -1,0 +1,90 @@
+//! Appends, and what a crash in one leaves.
+
+ghost use Rattle.std.specs.Prelude.{◌<◌, ◌^◌, length};
+
+use crate::disks::{ONE, append_to, disk_of, holds, is_walked};
+use journal_core::{Journal, walk};
+use std::alloc::Global;
+use std::test::Fail;
+
+// The file of one record, and behind it what an append of the record AB writes, but for the gate at byte 38.
+const ONE_AND_AB: [u8; 46] =
+    *b"OTCJRNL1\x01\x19\0\0\0\0\0\0\0\x01A\x01\x01A\x01B\x01P\x0a\0\0\0\0\0\0\0\xea\x07\x03\x02\0\x02\0\0\0AB\0";
+
+/// Whether a record that is appended to this file is the last that a crash leaves, with its gate there, in this file.
+fn is_appended(
+    alloc: Global,
+    before: &[u8],
+    record_bytes: &[u8],
+    at: u64,
+    after: &[u8],
+) -> Result<bool, Fail>
+    requires { length record_bytes.now < 2 ^ 32 }
+{
+    let (disk, answer) = append_to(alloc, disk_of(alloc, before)?, record_bytes)?;
+    let mut disk = disk.crash();
+    let walked = walk(alloc, &mut disk)?;
+    let is_last = match walked.records.last() {
+        Some(last) => last.at == at && last.bytes.as_slice() == record_bytes,
+        None => false,
+    };
+    Ok(answer.is_ok() && is_last && holds(&mut disk, after)?)
+}
+
+#[test]
+fn a_record_that_was_appended_is_found_after_a_crash(rt: HostRuntime) -> Result<(), Fail> {
+    let alloc = rt.alloc();
+    assert!(rt; is_appended(alloc, b"", b"AB", 8, b"OTCJRNL1\x01\x02\0\0\0AB\0")?);
+    assert!(rt; is_appended(alloc, b"OTCJRNL1\0", &ONE[13..38], 8, &ONE)?);
+    let mut both = ONE_AND_AB;
+    both[38] = 1;
+    assert!(rt; is_appended(alloc, &ONE, b"AB", 38, &both)?);
+    Ok(())
+}
+
+#[test]
+fn a_start_gives_an_empty_disk_its_header(rt: HostRuntime) -> Result<(), Fail> {
+    let Ok(journal) = Journal::start(disk_of(rt.alloc(), b"")?, 9) else {
+        return Err(Fail::new("the journal does not start"));
+    };
+    let mut disk = journal.end().crash();
+    assert!(rt; holds(&mut disk, b"OTCJRNL1\0")?);
+    Ok(())
+}
+
+#[test]
+fn a_crash_leaves_the_record_where_its_gate_is_open(rt: HostRuntime) -> Result<(), Fail> {
+    let mut torn = ONE_AND_AB;
+    torn[39] = 0xff;
+    torn[45] = 1;
+    let mut whole = ONE_AND_AB;
+    whole[38] = 1;
+    let cases = [
+        (&ONE_AND_AB[..40], (1, 39)),
+        (&ONE_AND_AB[..44], (1, 39)),
+        (ONE_AND_AB.as_slice(), (1, 39)),
+        (torn.as_slice(), (1, 39)),
+        (whole.as_slice(), (2, 46)),
+    ];
+    for (file, found) in cases {
+        assert!(rt; is_walked(rt.alloc(), file, Ok(found))?);
+    }
+    Ok(())
+}
+
+/// Whether a journal whose records end there says so, and that a record of this length fits, or not.
+fn says(alloc: Global, file: &[u8], end: u64, length: u64, fits: bool) -> Result<bool, Fail> {
+    let Ok(journal) = Journal::start(disk_of(alloc, file)?, end) else {
+        return Ok(false);
+    };
+    Ok(journal.bytes() == end && journal.fits(length) == fits)
+}
+
+#[test]
+fn the_last_record_that_fits_ends_one_byte_below_the_limit(rt: HostRuntime) -> Result<(), Fail> {
+    let cases = [(268_435_412, true), (268_435_413, false), (u64::MAX, false)];
+    for (length, fits) in cases {
+        assert!(rt; says(rt.alloc(), &ONE, 39, length, fits)?, "{length}");
+    }
+    Ok(())
+}

@@ -1,0 +1,97 @@
+//! Records that break the grammar: the first byte of the first field that does, that is cut, or that is too many.
+
+use crate::records::{AFFIRM, TRADE};
+use record_codec::{DecodeFault, decode};
+use std::alloc::Global;
+use std::test::Fail;
+
+/// Whether these bytes spell a change, or are told as no record at this byte.
+pub fn is_told(alloc: Global, bytes: &[u8], offset: Option<usize>) -> bool {
+    match decode(alloc, bytes) {
+        Ok(_) => offset.is_none(),
+        Err(fault) => offset.map(|at| DecodeFault::BadRecord { at }) == Some(fault),
+    }
+}
+
+/// A record with another byte at a place.
+fn with<const N: usize>(record: [u8; N], place: usize, byte: u8) -> [u8; N] {
+    let mut record = record;
+    if let Some(there) = record.get_mut(place) {
+        *there = byte;
+    }
+    record
+}
+
+#[test]
+fn fields_of_a_trade(rt: HostRuntime) -> Result<(), Fail> {
+    let amount = with(TRADE, 13, 0);
+    let buyer = with(amount, 9, 0);
+    let seller = with(buyer, 8, 0x61);
+    let party = with(seller, 4, 17);
+    let february = with(with(TRADE, 24, 30), 23, 2);
+    let april = with(february, 23, 4);
+    let cases = [
+        (amount, Some(13)),
+        (buyer, Some(9)),
+        (seller, Some(7)),
+        (party, Some(4)),
+        (february, Some(21)),
+        (april, None),
+    ];
+    for (record, offset) in cases {
+        assert!(rt; is_told(rt.alloc(), &record, offset), "{offset:?}");
+    }
+    Ok(())
+}
+
+#[test]
+fn an_unknown_tag(rt: HostRuntime) -> Result<(), Fail> {
+    for tag in [0, 13] {
+        assert!(rt;
+            is_told(rt.alloc(), &with(AFFIRM, 6, tag), Some(6)),
+            "{tag}"
+        );
+    }
+    Ok(())
+}
+
+#[test]
+fn fields_of_a_tolerance(rt: HostRuntime) -> Result<(), Fail> {
+    let whole = [
+        7, 0, 0, 0, 1, 0x41, 6, 1, 0x42, 1, 0x50, 1, 4, 0, 0, 0, 0, 0, 0, 0, 0,
+    ];
+    let ceiling = with(whole, 20, 2);
+    let floor = with(ceiling, 19, 0x7f);
+    let cases = [
+        (whole, None),
+        (with(whole, 20, 1), Some(21)),
+        (ceiling, Some(20)),
+        (floor, Some(12)),
+        (with(floor, 11, 2), Some(11)),
+    ];
+    for (record, offset) in cases {
+        assert!(rt; is_told(rt.alloc(), &record, offset), "{offset:?}");
+    }
+    Ok(())
+}
+
+#[test]
+fn cut_fields_and_a_byte_too_many(rt: HostRuntime) -> Result<(), Fail> {
+    let long = [0, 0, 0, 0, 1, 0x42, 2, 1, 0, 0, 0, 0, 0, 0, 0, 0, 0];
+    let cases = [
+        ([].as_slice(), Some(0)),
+        (&TRADE[..3], Some(0)),
+        (&TRADE[..5], Some(4)),
+        (&TRADE[..6], Some(6)),
+        (&TRADE[..8], Some(7)),
+        (&TRADE[..20], Some(13)),
+        (&TRADE[..24], Some(21)),
+        (&AFFIRM[..14], Some(7)),
+        (long.as_slice(), Some(15)),
+        (&long[..15], None),
+    ];
+    for (record, offset) in cases {
+        assert!(rt; is_told(rt.alloc(), record, offset), "{offset:?}");
+    }
+    Ok(())
+}

@@ -1,0 +1,106 @@
+//! Cut files, and records that spell no change.
+
+use crate::disks::{FIRST_TAG, ONE, SECOND_TAG, TWO, damaged, is_read};
+use recovery::RecoverFault;
+use std::test::Fail;
+
+/// The answer to the file of two records cut to this size. From 10 bytes on a gate is due at byte 8, with 38 one at byte
+/// 38, and with 58 one at byte 58; a record ends where the next gate is due.
+fn answer_when_cut(size: usize) -> Result<(usize, u64), RecoverFault> {
+    match size {
+        0..=9 => Ok((0, 9)),
+        10..=37 => damaged(8),
+        38..=57 => damaged(38),
+        58 => damaged(58),
+        _ => Ok((2, 59)),
+    }
+}
+
+#[test]
+fn each_cut_of_a_file_has_its_answer(rt: HostRuntime) -> Result<(), Fail> {
+    for size in 0..=59 {
+        assert!(rt;
+            is_read(rt.alloc(), &TWO[..size], answer_when_cut(size))?,
+            "cut to {size}"
+        );
+    }
+    Ok(())
+}
+
+/// The file of two records with these tags.
+fn tagged(first: u8, second: u8) -> [u8; 59] {
+    let mut file = TWO;
+    file[FIRST_TAG] = first;
+    file[SECOND_TAG] = second;
+    file
+}
+
+#[test]
+fn the_first_record_that_spells_no_change_decides(rt: HostRuntime) -> Result<(), Fail> {
+    let cases = [(1, 13, 38), (13, 13, 8), (13, 2, 8)];
+    for (first, second, place) in cases {
+        assert!(rt;
+            is_read(rt.alloc(), &tagged(first, second), damaged(place))?,
+            "tags {first} and {second}"
+        );
+    }
+    Ok(())
+}
+
+#[test]
+fn damage_of_the_journal_decides_over_a_record_before_it(rt: HostRuntime) -> Result<(), Fail> {
+    let bad = tagged(13, 2);
+    let mut open = bad;
+    open[58] = 1;
+    let mut headless = open;
+    headless[0] = 0;
+    let cases = [
+        (&bad[..58], 58),
+        (&bad[..50], 38),
+        (open.as_slice(), 58),
+        (headless.as_slice(), 0),
+    ];
+    for (file, place) in cases {
+        assert!(rt; is_read(rt.alloc(), file, damaged(place))?, "at {place}");
+    }
+    Ok(())
+}
+
+#[test]
+fn a_record_of_less_or_more_than_a_change_spells_none(rt: HostRuntime) -> Result<(), Fail> {
+    let mut long = [0; 40];
+    long[..39].copy_from_slice(&ONE);
+    let whole = long;
+    long[9] = 26;
+    let cases = [
+        (b"OTCJRNL1\x01\0\0\0\0\0".as_slice(), damaged(8)),
+        (long.as_slice(), damaged(8)),
+        (whole.as_slice(), Ok((1, 39))),
+    ];
+    for (file, answer) in cases {
+        assert!(rt; is_read(rt.alloc(), file, answer)?, "{answer:?}");
+    }
+    Ok(())
+}
+
+#[test]
+fn what_is_short_or_behind_a_closed_gate_is_not_read(rt: HostRuntime) -> Result<(), Fail> {
+    let mut one = tagged(1, 13);
+    one[38] = 0;
+    let mut none = tagged(13, 13);
+    none[38] = 0;
+    none[8] = 7;
+    let cases = [
+        (one.as_slice(), (1, 39)),
+        (none.as_slice(), (0, 9)),
+        (&none[..30], (0, 9)),
+        (b"".as_slice(), (0, 9)),
+        (b"\x01\x01\x01".as_slice(), (0, 9)),
+        (b"OTCJRNL1\0".as_slice(), (0, 9)),
+        (b"OTCJRNL1\x01".as_slice(), (0, 9)),
+    ];
+    for (file, answer) in cases {
+        assert!(rt; is_read(rt.alloc(), file, Ok(answer))?, "{answer:?}");
+    }
+    Ok(())
+}

@@ -1,0 +1,123 @@
+//! Calls of the disk that fail: in an append, a walk, a start and in reading entries.
+
+use crate::disks::{FIRST_TAG, ONE, append_to, damaged, failing_disk};
+use journal_core::{Journal, WalkFault, walk};
+use outside::Disk;
+use recovery::{RecoverFault, read_entries};
+use std::alloc::Global;
+use std::test::Fail;
+
+/// Whether an append to the file of one record is done or not where that call of the disk fails, with so many faults and
+/// so many records after a crash.
+fn append_leaves(
+    alloc: Global,
+    call: u64,
+    is_done: bool,
+    faults: u64,
+    records: usize,
+) -> Result<bool, Fail> {
+    let disk = failing_disk(alloc, &ONE, call)?;
+    let (disk, answer) = append_to(alloc, disk, b"AB")?;
+    let counted = disk.faults();
+    let mut disk = disk.crash();
+    let walked = walk(alloc, &mut disk)?;
+    Ok(answer.is_ok() == is_done && counted == faults && walked.records.len() == records)
+}
+
+#[test]
+fn an_append_fails_where_one_of_its_four_calls_does(rt: HostRuntime) -> Result<(), Fail> {
+    for call in 4..=7 {
+        assert!(rt;
+            append_leaves(rt.alloc(), call, false, 1, 1)?,
+            "call {call}"
+        );
+    }
+    assert!(rt; append_leaves(rt.alloc(), 8, true, 0, 2)?);
+    Ok(())
+}
+
+/// Whether a walk over the file of one record fails with its disk where that call does.
+fn walk_fails(alloc: Global, call: u64) -> Result<bool, Fail> {
+    let mut disk = failing_disk(alloc, &ONE, call)?;
+    let fault = walk(alloc, &mut disk).err();
+    Ok(fault == Some(WalkFault::DiskFault) && disk.faults() == 1)
+}
+
+#[test]
+fn a_walk_fails_where_one_of_its_calls_does(rt: HostRuntime) -> Result<(), Fail> {
+    assert!(rt; walk_fails(rt.alloc(), 1)?);
+    assert!(rt; walk_fails(rt.alloc(), 2)?);
+    Ok(())
+}
+
+/// Whether a start on an empty disk whose call with this number fails leaves so many faults, or is done.
+fn start_leaves(alloc: Global, call: u64, faults: Option<u64>) -> Result<bool, Fail> {
+    let disk = failing_disk(alloc, b"", call)?;
+    match Journal::start(disk, 9) {
+        Ok(_) => Ok(faults.is_none()),
+        Err((_, disk)) => Ok(faults == Some(disk.faults())),
+    }
+}
+
+#[test]
+fn a_start_fails_where_one_of_its_calls_does(rt: HostRuntime) -> Result<(), Fail> {
+    for call in 1..=3 {
+        assert!(rt; start_leaves(rt.alloc(), call, Some(1))?, "call {call}");
+    }
+    assert!(rt; start_leaves(rt.alloc(), 4, None)?);
+    Ok(())
+}
+
+/// Whether reading these bytes gives this fault or none where the disk's call with that number fails, with so many faults.
+fn reading_gives(
+    alloc: Global,
+    bytes: &[u8],
+    call: u64,
+    fault: Option<RecoverFault>,
+    faults: u64,
+) -> Result<bool, Fail> {
+    let mut disk = failing_disk(alloc, bytes, call)?;
+    let answer = read_entries(alloc, &mut disk);
+    Ok(answer.err() == fault && disk.faults() == faults)
+}
+
+// Reading asks the length, and then for the bytes.
+#[test]
+fn reading_fails_where_one_of_its_two_calls_does(rt: HostRuntime) -> Result<(), Fail> {
+    let mut bad = ONE;
+    bad[FIRST_TAG] = 13;
+    let failed = Some(RecoverFault::DiskFault);
+    let cases = [
+        (&ONE, 1, failed, 1),
+        (&ONE, 2, failed, 1),
+        (&ONE, 3, None, 0),
+        (&bad, 1, failed, 1),
+        (&bad, 2, failed, 1),
+        (&bad, 3, damaged(8).err(), 0),
+    ];
+    for (file, call, fault, faults) in cases {
+        assert!(rt;
+            reading_gives(rt.alloc(), file, call, fault, faults)?,
+            "call {call}"
+        );
+    }
+    Ok(())
+}
+
+/// Whether a fault has this text.
+fn has_text(alloc: Global, fault: RecoverFault, text: &str) -> Result<bool, Fail> {
+    Ok(format!(in alloc; "{fault}")?.as_str() == text)
+}
+
+#[test]
+fn faults_have_these_texts(rt: HostRuntime) -> Result<(), Fail> {
+    let cases = [
+        (RecoverFault::Damaged { offset: 38 }, "damaged at 38"),
+        (RecoverFault::DiskFault, "the disk failed"),
+        (RecoverFault::Memory, "out of memory"),
+    ];
+    for (fault, text) in cases {
+        assert!(rt; has_text(rt.alloc(), fault, text)?, "{text}");
+    }
+    Ok(())
+}

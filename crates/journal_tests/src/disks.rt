@@ -1,0 +1,100 @@
+//! Disks in memory that hold small journals, and what is read of them.
+
+ghost use Rattle.std.specs.Prelude.{◌<◌, ◌^◌, length, Some, IfOk};
+ghost use Rattle.outside.specs.Disk.{IsSettled};
+
+use journal_core::{Frame, Journal, WalkFault, walk};
+use outside::{Disk, Failed, MemoryDisk};
+use recovery::{RecoverFault, read_entries};
+use std::alloc::Global;
+use std::test::Fail;
+
+/// The header, an open gate, the length 25, and A's command TRADE A B P 10 2026-03-02 from seat 0, with a closed gate.
+pub const ONE: [u8; 39] =
+    *b"OTCJRNL1\x01\x19\0\0\0\0\0\0\0\x01A\x01\x01A\x01B\x01P\x0a\0\0\0\0\0\0\0\xea\x07\x03\x02\0";
+
+/// The same with B's command AFFIRM 1, whose gate is byte 38 and whose record is bytes 43 to 57.
+pub const TWO: [u8; 59] =
+    *b"OTCJRNL1\x01\x19\0\0\0\0\0\0\0\x01A\x01\x01A\x01B\x01P\x0a\0\0\0\0\0\0\0\xea\x07\x03\x02\x01\x0f\0\0\0\0\0\0\0\x01B\x02\x01\0\0\0\0\0\0\0\0";
+
+/// The place of the first change's tag in a file.
+pub const FIRST_TAG: usize = 19;
+
+/// The place of the second one's.
+pub const SECOND_TAG: usize = 49;
+
+/// A disk that holds these bytes, all of them synced.
+pub fn disk_of(alloc: Global, bytes: &[u8]) -> Result<MemoryDisk, Fail>
+    ensures { IfOk result (λ d. IsSettled (Some d.history)) }
+{
+    let mut disk = MemoryDisk::new(alloc, 256, 16)?;
+    disk.write_at(0, bytes)?;
+    disk.sync()?;
+    Ok(disk.crash())
+}
+
+/// A disk that holds these bytes, and whose call with this number fails.
+pub fn failing_disk(alloc: Global, bytes: &[u8], call: u64) -> Result<MemoryDisk, Fail>
+    ensures { IfOk result (λ d. IsSettled (Some d.history)) }
+{
+    let mut disk = disk_of(alloc, bytes)?;
+    disk.fail_at(call)?;
+    Ok(disk)
+}
+
+/// Whether a disk holds just these bytes, at most 64.
+pub fn holds(disk: &mut MemoryDisk, bytes: &[u8]) -> Result<bool, Fail> {
+    let length = disk.length()?;
+    let mut into = [0; 64];
+    let read = disk.read(0, &mut into)?;
+    Ok(length == bytes.len() as u64 && into.get(..read) == Some(bytes))
+}
+
+/// Whether a walk over these bytes finds so many records that end there, or this fault.
+pub fn is_walked(
+    alloc: Global,
+    bytes: &[u8],
+    answer: Result<(usize, u64), WalkFault>,
+) -> Result<bool, Fail> {
+    let mut disk = disk_of(alloc, bytes)?;
+    let given = walk(alloc, &mut disk).map(|walked| (walked.records.len(), walked.end));
+    Ok(given == answer)
+}
+
+/// Whether so many entries that end there are read of these bytes, or this fault.
+pub fn is_read(
+    alloc: Global,
+    bytes: &[u8],
+    answer: Result<(usize, u64), RecoverFault>,
+) -> Result<bool, Fail> {
+    let mut disk = disk_of(alloc, bytes)?;
+    let given = read_entries(alloc, &mut disk).map(|entries| (entries.list.len(), entries.end));
+    Ok(given == answer)
+}
+
+/// The answer that the file is damaged at this place.
+pub fn damaged(offset: u64) -> Result<(usize, u64), RecoverFault> {
+    Err(RecoverFault::Damaged { offset })
+}
+
+/// Opens the journal of a disk, appends a record, and gives the disk back with the answer.
+pub fn append_to<D: Disk>(
+    alloc: Global,
+    disk: D,
+    record_bytes: &[u8],
+) -> Result<(D, Result<(), Failed>), Fail>
+    requires settled { IsSettled (D.history disk) }
+    requires small { length record_bytes.now < 2 ^ 32 }
+{
+    let mut disk = disk;
+    let end = walk(alloc, &mut disk)?.end;
+    let Ok(mut journal) = Journal::start(disk, end) else {
+        return Err(Fail::new("the journal does not start"));
+    };
+    if !journal.fits(record_bytes.len() as u64) {
+        return Err(Fail::new("the record does not fit"));
+    }
+    let frame = Frame::of(alloc, record_bytes)?;
+    let answer = journal.append(&frame);
+    Ok((journal.end(), answer))
+}

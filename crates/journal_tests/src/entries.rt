@@ -1,0 +1,80 @@
+//! The entries that files have.
+
+use crate::disks::{ONE, TWO, append_to, disk_of};
+use crate::records::named;
+use command_types::{Entry, What};
+use recovery::{Entries, read_entries};
+use std::alloc::Global;
+use std::test::Fail;
+
+/// Whether it is A's command TRADE A B P 10 2026-03-02 from seat 0.
+fn is_the_trade(entry: &Entry) -> Result<bool, Fail> {
+    let What::Trade {
+        seller,
+        buyer,
+        product,
+        amount,
+        day,
+    } = &entry.ask.what
+    else {
+        return Ok(false);
+    };
+    let is_said_by_a = entry.seat == 0 && entry.ask.by == Some(named(b"A")?);
+    let has_names = *seller == named(b"A")? && *buyer == named(b"B")? && *product == named(b"P")?;
+    let has_numbers = amount.get() == 10 && (day.year(), day.month(), day.day()) == (2026, 3, 2);
+    Ok(is_said_by_a && has_names && has_numbers)
+}
+
+/// Whether it is B's command AFFIRM 1 from seat 0.
+fn is_the_affirmation(entry: &Entry) -> Result<bool, Fail> {
+    let is_said_by_b = entry.seat == 0 && entry.ask.by == Some(named(b"B")?);
+    Ok(is_said_by_b && matches!(entry.ask.what, What::Affirm { trade: 1 }))
+}
+
+/// Whether these are the trade alone, with its gate at byte 8.
+fn are_one(entries: &Entries) -> Result<bool, Fail> {
+    let [only] = entries.list.as_slice() else {
+        return Ok(false);
+    };
+    Ok(entries.end == 39 && only.at == 8 && is_the_trade(&only.entry)?)
+}
+
+/// Whether these are the trade and the affirmation, with their gates at the bytes 8 and 38.
+fn are_two(entries: &Entries) -> Result<bool, Fail> {
+    let [first, second] = entries.list.as_slice() else {
+        return Ok(false);
+    };
+    let are_placed = entries.end == 59 && (first.at, second.at) == (8, 38);
+    Ok(are_placed && is_the_trade(&first.entry)? && is_the_affirmation(&second.entry)?)
+}
+
+/// The entries of a file of these bytes.
+fn entries_of(alloc: Global, bytes: &[u8]) -> Result<Entries, Fail> {
+    let mut disk = disk_of(alloc, bytes)?;
+    Ok(read_entries(alloc, &mut disk)?)
+}
+
+#[test]
+fn a_file_of_one_record_has_its_entry(rt: HostRuntime) -> Result<(), Fail> {
+    for gate in [0, 7] {
+        let mut file = ONE;
+        file[38] = gate;
+        assert!(rt; are_one(&entries_of(rt.alloc(), &file)?)?, "gate {gate}");
+    }
+    Ok(())
+}
+
+#[test]
+fn entries_come_in_the_order_of_their_records(rt: HostRuntime) -> Result<(), Fail> {
+    assert!(rt; are_two(&entries_of(rt.alloc(), &TWO)?)?);
+    Ok(())
+}
+
+#[test]
+fn a_journal_goes_on_where_the_entries_end(rt: HostRuntime) -> Result<(), Fail> {
+    let alloc = rt.alloc();
+    let (disk, answer) = append_to(alloc, disk_of(alloc, &ONE)?, &TWO[43..58])?;
+    let mut disk = disk.crash();
+    assert!(rt; answer.is_ok() && are_two(&read_entries(alloc, &mut disk)?)?);
+    Ok(())
+}

@@ -1,0 +1,38 @@
+//! The tests of the journal and of what stands on it: byte records in a file, changes as records, the entries that a
+//! file stands for, and the house over a disk. All call public items alone.
+#![tactic(auto)]
+
+#[cfg(test)]
+mod appends;
+#[cfg(test)]
+mod bad_records;
+#[cfg(test)]
+mod changed_bytes;
+#[cfg(test)]
+mod crashes;
+#[cfg(test)]
+mod cut_files;
+#[cfg(test)]
+mod disk_faults;
+#[cfg(test)]
+mod disks;
+#[cfg(test)]
+mod entries;
+#[cfg(test)]
+mod houses;
+#[cfg(test)]
+mod openings;
+#[cfg(test)]
+mod posts;
+#[cfg(test)]
+mod records;
+#[cfg(test)]
+mod sessions;
+#[cfg(test)]
+mod stopped;
+#[cfg(test)]
+mod system_files;
+#[cfg(test)]
+mod traced_disk;
+#[cfg(test)]
+mod walks;

@@ -1,0 +1,93 @@
+//! What opening a house finds.
+
+use crate::disks::{ONE, TWO};
+use crate::houses::{content_of, disk_below, house_on, large_disk_of, opened};
+use house::OpenFault;
+use outside::Disk;
+use std::alloc::Global;
+use std::process::Abort;
+use std::test::Fail;
+
+#[test]
+fn an_empty_disk_gets_its_header_and_a_closed_gate(rt: HostRuntime) -> Result<(), Fail> {
+    let alloc = rt.alloc();
+    let house = house_on(&rt, alloc, large_disk_of(alloc, b"")?)?;
+    assert!(rt; house.length() == 0 && !house.is_stopped());
+    let mut disk = disk_below(house);
+    let bytes = content_of(alloc, &mut disk)?;
+    assert!(rt; bytes.as_slice() == b"OTCJRNL1\0".as_slice());
+    Ok(())
+}
+
+/// How many entries a house on these bytes has, or why it is not opened.
+fn answer_to(rt: &impl Abort, alloc: Global, bytes: &[u8]) -> Result<Result<u64, OpenFault>, Fail> {
+    match opened(rt, alloc, large_disk_of(alloc, bytes)?)? {
+        Ok(house) => Ok(Ok(house.length())),
+        Err((fault, _)) => Ok(Err(fault)),
+    }
+}
+
+fn damaged(offset: u64) -> Result<u64, OpenFault> {
+    Err(OpenFault::Damaged { offset })
+}
+
+#[test]
+fn a_journal_has_its_entries_or_its_damage(rt: HostRuntime) -> Result<(), Fail> {
+    let mut closed = ONE;
+    closed[38] = 7;
+    let mut none = closed;
+    none[8] = 7;
+    let cases = [
+        (ONE.as_slice(), Ok(1)),
+        (TWO.as_slice(), Ok(2)),
+        (&ONE[..38], damaged(38)),
+        (&ONE[..30], damaged(8)),
+        (closed.as_slice(), Ok(1)),
+        (none.as_slice(), Ok(0)),
+        (&none[..30], Ok(0)),
+    ];
+    for (file, answer) in cases {
+        assert!(rt; answer_to(&rt, rt.alloc(), file)? == answer, "{answer:?}");
+    }
+    Ok(())
+}
+
+// Byte 48 of the second record is the party: A can't affirm its own trade. Byte 50 is the trade's number, byte 49 the tag:
+// where a later record spells no change, that is told before.
+#[test]
+fn a_change_that_is_not_accepted_at_its_place_is_damage(rt: HostRuntime) -> Result<(), Fail> {
+    let mut own = TWO;
+    own[48] = b'A';
+    let mut unknown = TWO;
+    unknown[50] = 2;
+    let mut stranger = unknown;
+    stranger[18] = b'C';
+    let mut unreadable = stranger;
+    unreadable[49] = 13;
+    let cases = [(own, 38), (unknown, 38), (stranger, 8), (unreadable, 38)];
+    for (file, place) in cases {
+        assert!(rt;
+            answer_to(&rt, rt.alloc(), &file)? == damaged(place),
+            "at {place}"
+        );
+    }
+    Ok(())
+}
+
+/// Whether opening an empty disk fails with its disk where the call with this number does.
+fn opening_fails(rt: &impl Abort, alloc: Global, call: u64) -> Result<bool, Fail> {
+    let mut disk = large_disk_of(alloc, b"")?;
+    disk.fail_at(call)?;
+    match opened(rt, alloc, disk)? {
+        Ok(_) => Ok(false),
+        Err((fault, disk)) => Ok(fault == OpenFault::DiskFault && disk.faults() == 1),
+    }
+}
+
+#[test]
+fn opening_fails_where_one_of_its_calls_does(rt: HostRuntime) -> Result<(), Fail> {
+    for call in 1..=5 {
+        assert!(rt; opening_fails(&rt, rt.alloc(), call)?, "call {call}");
+    }
+    Ok(())
+}

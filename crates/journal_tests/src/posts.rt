@@ -1,0 +1,183 @@
+//! Posts of one and of two solutions, both ways and with one fault each.
+
+use crate::bad_records::is_told;
+use command_types::What;
+use network_laws::MOST_GROSS;
+use record_codec::{decode, encode};
+use std::alloc::Global;
+use std::test::Fail;
+
+// POST 1 2 by OPS with one solution: three members, rows (0, 1, 5) and (1, 2, 7), potentials 1, 0 and -1.
+const POST: [u8; 69] = [
+    0, 0, 0, 0, 3, 0x4f, 0x50, 0x53, 9, 1, 0, 0, 0, 0, 0, 0, 0, 2, 0, 0, 0, 0, 0, 0, 0, 1, 0, 3, 0,
+    2, 0, 0, 0, 0, 0, 1, 0, 5, 0, 0, 0, 0, 0, 0, 0, 1, 0, 2, 0, 7, 0, 0, 0, 0, 0, 0, 0, 1, 0, 0, 0,
+    0, 0, 0, 0, 0xff, 0xff, 0xff, 0xff,
+];
+
+// POST 1 2 by OPS with two solutions: two members, the row (0, 1, 5), potentials 1 and 0; three members, the rows
+// (0, 1, 3) and (2, 0, 4), which begin at bytes 59 and 71, potentials 0.
+const TWO: [u8; 95] = [
+    0, 0, 0, 0, 3, 0x4f, 0x50, 0x53, 9, 1, 0, 0, 0, 0, 0, 0, 0, 2, 0, 0, 0, 0, 0, 0, 0, 2, 0, 2, 0,
+    1, 0, 0, 0, 0, 0, 1, 0, 5, 0, 0, 0, 0, 0, 0, 0, 1, 0, 0, 0, 0, 0, 0, 0, 3, 0, 2, 0, 0, 0, 0, 0,
+    1, 0, 3, 0, 0, 0, 0, 0, 0, 0, 2, 0, 0, 0, 4, 0, 0, 0, 0, 0, 0, 0, 0, 0, 0, 0, 0, 0, 0, 0, 0, 0,
+    0, 0,
+];
+
+/// One solution of a post: its place, its members, how many rows it has, and its potentials.
+type Posted<'a> = (usize, u16, usize, &'a [i32]);
+
+/// Whether these bytes post so many solutions for this cycle and version, of which one is this, with these rows.
+fn posts(
+    alloc: Global,
+    bytes: &[u8],
+    count: usize,
+    posted: Posted<'_>,
+    rows: &[(u16, u16, u64)],
+) -> Result<bool, Fail> {
+    let entry = decode(alloc, bytes)?;
+    let What::Post {
+        cycle,
+        version,
+        solutions,
+    } = &entry.ask.what
+    else {
+        return Ok(false);
+    };
+    if (*cycle, *version) != (1, 2) || solutions.rows().len() != count {
+        return Ok(false);
+    }
+    let Some(solution) = solutions.rows().get(posted.0) else {
+        return Ok(false);
+    };
+    let network = solution.network();
+    for (seller, buyer, amount) in rows {
+        if *seller >= network.members()
+            || *buyer >= network.members()
+            || network.amount(*seller, *buyer) != *amount
+        {
+            return Ok(false);
+        }
+    }
+    let has_rows = network.rows().len() == posted.2;
+    Ok(network.members() == posted.1 && has_rows && solution.potentials() == posted.3)
+}
+
+#[test]
+fn solutions_are_read(rt: HostRuntime) -> Result<(), Fail> {
+    let cases = [
+        (
+            POST.as_slice(),
+            1,
+            (0, 3, 2, [1, 0, -1].as_slice()),
+            [(0, 1, 5), (1, 2, 7)].as_slice(),
+        ),
+        (
+            TWO.as_slice(),
+            2,
+            (0, 2, 1, [1, 0].as_slice()),
+            [(0, 1, 5)].as_slice(),
+        ),
+        (
+            TWO.as_slice(),
+            2,
+            (1, 3, 2, [0, 0, 0].as_slice()),
+            [(0, 1, 3), (2, 0, 4)].as_slice(),
+        ),
+    ];
+    for (bytes, count, posted, rows) in cases {
+        assert!(rt; posts(rt.alloc(), bytes, count, posted, rows)?, "{rows:?}");
+    }
+    Ok(())
+}
+
+/// Whether a post of one solution is written again as it was read.
+fn is_written_again(alloc: Global, bytes: &[u8]) -> Result<bool, Fail> {
+    let entry = decode(alloc, bytes)?;
+    let is_post = match &entry.ask.what {
+        What::Post { solutions, .. } => solutions.rows().len() == 1,
+        _ => false,
+    };
+    if is_post && entry.ask.by.is_some() {
+        return Ok(encode(alloc, &entry)?.as_slice() == bytes);
+    }
+    Ok(false)
+}
+
+#[test]
+fn a_post_is_written_again(rt: HostRuntime) -> Result<(), Fail> {
+    assert!(rt; is_written_again(rt.alloc(), &POST)?);
+    Ok(())
+}
+
+/// A post with other bytes from a place on.
+fn with<const N: usize>(post: [u8; N], place: usize, bytes: &[u8]) -> [u8; N] {
+    let mut post = post;
+    let mut place = place;
+    for byte in bytes {
+        if let Some(there) = post.get_mut(place) {
+            *there = *byte;
+        }
+        place = place.saturating_add(1);
+    }
+    post
+}
+
+#[test]
+fn rows_counts_and_potentials_have_their_limits(rt: HostRuntime) -> Result<(), Fail> {
+    let twice = with(POST, 45, &[0, 0, 1]);
+    let potential = with(POST, 68, &[0x7f]);
+    let members = with(potential, 28, &[2]);
+    let cases = [
+        (with(POST, 45, &[2]), 45),
+        (twice, 45),
+        (with(twice, 35, &[3]), 33),
+        (potential, 65),
+        (members, 27),
+        (with(members, 25, &[65]), 25),
+    ];
+    for (post, told) in cases {
+        assert!(rt; is_told(rt.alloc(), &post, Some(told)), "{told}");
+    }
+    assert!(rt; is_told(rt.alloc(), &POST[..68], Some(65)));
+    Ok(())
+}
+
+#[test]
+fn members_of_a_later_solutions_rows_have_their_rules(rt: HostRuntime) -> Result<(), Fail> {
+    // The row, its seller and buyer, and the row that is told: a pair again, a lower pair, a member with itself, and
+    // members past the last.
+    let cases = [
+        (71, [0, 0, 1, 0], 71),
+        (59, [2, 0, 1, 0], 71),
+        (71, [2, 0, 2, 0], 71),
+        (59, [1, 0, 1, 0], 59),
+        (71, [3, 0, 0, 0], 71),
+        (71, [2, 0, 3, 0], 71),
+        (71, [2, 1, 0, 0], 71),
+    ];
+    for (row, pair, told) in cases {
+        assert!(rt;
+            is_told(rt.alloc(), &with(TWO, row, &pair), Some(told)),
+            "row {row}"
+        );
+    }
+    Ok(())
+}
+
+#[test]
+fn amounts_of_a_later_solutions_rows_have_their_rules(rt: HostRuntime) -> Result<(), Fail> {
+    // The first row's amount is 3, and the amounts of the solution before count for nothing.
+    let cases = [
+        (59, 0, Some(59)),
+        (71, 0, Some(71)),
+        (71, MOST_GROSS - 3, None),
+        (71, MOST_GROSS - 2, Some(71)),
+        (71, u64::MAX, Some(71)),
+        (59, MOST_GROSS + 1, Some(59)),
+    ];
+    for (row, amount, told) in cases {
+        let post = with(TWO, row + 4, &amount.to_le_bytes());
+        assert!(rt; is_told(rt.alloc(), &post, told), "row {row}");
+    }
+    Ok(())
+}

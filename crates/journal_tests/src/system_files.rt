@@ -1,0 +1,34 @@
+//! A journal over a file of the system.
+
+use crate::disks::append_to;
+use journal_core::walk;
+use outside::{Disk, FileDisk};
+use std::fs;
+use std::test::Fail;
+
+const FOLDER: &str = "journal_core_file";
+
+const FILE: &str = "journal_core_file/journal";
+
+#[test]
+fn a_journal_over_a_file_is_found_again(rt: HostRuntime) -> Result<(), Fail> {
+    let alloc = rt.alloc();
+    let _ = fs::remove_dir_all(&rt, FOLDER);
+    fs::create_dir(&rt, FOLDER)?;
+    let mut disk = FileDisk::new(rt);
+    disk.attach(FILE)?;
+    let (_, answer) = append_to(alloc, disk, b"AB")?;
+    assert_eq!(rt; answer, Ok(()));
+    let mut disk = FileDisk::new(rt);
+    disk.attach(FILE)?;
+    let (_, answer) = append_to(alloc, disk, b"C")?;
+    assert_eq!(rt; answer, Ok(()));
+    let mut disk = FileDisk::new(rt);
+    disk.attach(FILE)?;
+    let walked = walk(alloc, &mut disk)?;
+    assert_eq!(rt; (walked.records.len(), walked.end), (2, 22));
+    let file = fs::read(&rt, FILE)?;
+    assert!(rt; file.as_slice() == b"OTCJRNL1\x01\x02\0\0\0AB\x01\x01\0\0\0C\0".as_slice());
+    fs::remove_dir_all(&rt, FOLDER)?;
+    Ok(())
+}
