@@ -1,0 +1,123 @@
+-- What is right of found solutions, when one more is.
+use Rattle.std.proofs.Common.{◌≡◌, ℕ, ◌+◌, ◌<◌, nat_lt, Bool, true, false, List, zero, suc, [], ◌∷◌, ◌++◌, length, take, set, get_or, slice_get, if◌then◌else◌, IfSome, Result, Ok, Err, Option, Some, None, sym, subst, ap, ◌∙◌, arith, refl}
+use Rattle.std.specs.Prelude.{All}
+use Rattle.std.specs.Result.{is_ok, is_err}
+use Rattle.std.proofs.lemmas.List.{take-append-le, take_all, length-set, length-append, get_or-set_same, get_or-set_other}
+use Rattle.std.proofs.lemmas.Option.{slice_get_within, get_or_from_slice_get, slice_get-get_or}
+use Rattle.std.proofs.Math.ListN.{get_or-append}
+use mathlib.Core.Logic.{dite}
+use native.Mathlib.Decide.{ℕ_discrete}
+use Rattle.network_laws.specs.Solutions.{ProblemData, SolutionData}
+use Rattle.parallel_solver.specs.declared.job.Done.{Done}
+use Rattle.parallel_solver.specs.Places.{SolvesAt}
+use Rattle.parallel_solver.specs.declared.job.Job.{Job}
+use Rattle.claim_counter.specs.declared.rule.Claims.{Claims}
+use Rattle.claim_counter.specs.declared.workers.Counter.{Counter}
+use Rattle.claim_counter.specs.Claims.{room_after, with_claim}
+use Rattle.claim_counter.specs.Workers.{IsWorkerOf, view_of}
+use Rattle.std.proofs.lemmas.Bool.Decides.{nat_tests}
+use Rattle.parallel_solver.specs.Jobs.{IsRight, AreRight, MayWork}
+
+some_is : (x y : SolutionData) → Some x ≡ Some y → x ≡ y
+some_is x y e = cc
+
+pub put_right : (problems : List ProblemData) (found : List (Option SolutionData)) (done : Done) → IsRight problems done → AreRight problems found → AreRight problems (set found done.place (Some done.solution))
+put_right problems found done right a = record {
+  size = length-set found done.place (Some done.solution) ∙ a.size;
+  each = λ place s at.
+      let now : List (Option SolutionData) = set found done.place (Some done.solution) in
+      let within : place < length now = slice_get_within now place (Some s) at in
+      let sizes = length-set found done.place (Some done.solution) in
+      let is : get_or now place (Some s) ≡ Some s = get_or_from_slice_get now place (Some s) (Some s) at in
+      dite (ℕ_discrete place done.place)
+      (λ e.
+      let here : get_or now done.place (Some s) ≡ Some done.solution = get_or-set_same found done.place (Some done.solution) (Some s) (let w = right.within in let z = a.size in omega arith) in
+      let same : done.solution ≡ s = some_is _ _ (sym here ∙ (ap (λ n. get_or now n (Some s)) (sym e) ∙ is)) in
+      let P : ℕ × SolutionData → Type 0 = λ x. SolvesAt problems x.0 x.1 in
+      subst P (λ i. (sym e i, same i)) right.solves)
+      (λ ne.
+      let before : get_or found place (Some s) ≡ Some s = sym (get_or-set_other found done.place place (Some done.solution) (Some s) ne) ∙ is in
+      let lt : place < length found = omega arith in
+      a.each place s (slice_get-get_or found place (Some s) lt ∙ ap Some before));
+}
+
+none_more : (found : List (Option SolutionData)) (place : ℕ) (s : SolutionData) → slice_get (found ++ None ∷ []) place ≡ Some (Some s) → slice_get found place ≡ Some (Some s)
+none_more [] zero s e = let f : None ≡ Some s = cc in absurd (let g = f in cc)
+none_more [] (suc place) s e = cc
+none_more (x ∷ found) zero s e = e
+none_more (x ∷ found) (suc place) s e = none_more found place s e
+
+-- places without a solution
+pub record AreEmpty (found : List (Option SolutionData)) (n : ℕ) : Type 0 where
+  pub size : length found ≡ n
+  pub each : (place : ℕ) (s : SolutionData) → slice_get found place ≡ Some (Some s) → ⊥
+
+pub empty_none : AreEmpty [] 0
+empty_none = record { size = refl; each = λ place s at. cc }
+
+pub empty_more : (found found' : List (Option SolutionData)) (n : ℕ) → found' ≡ found ++ None ∷ [] → AreEmpty found n → AreEmpty found' (n + 1)
+empty_more found found' n is a =
+    let P : List (Option SolutionData) → Type 0 = λ xs. AreEmpty xs (n + 1) in
+    subst P (sym is) (record { size = (let z = a.size in omega (arith, length-append found (None ∷ []))); each = λ place s at. a.each place s (none_more found place s at) })
+
+pub empty_right : (problems : List ProblemData) (found : List (Option SolutionData)) (n : ℕ) → AreEmpty found n → n ≡ length problems → AreRight problems found
+empty_right problems found n a is = record { size = a.size ∙ is; each = λ place s at. absurd (a.each place s at) }
+
+pub all_front : {X : Type 0} (P : X → Type 0) (xs ys zs : List X) → zs ≡ xs ++ ys → All P zs → All P xs
+all_front {X = X} P xs ys zs is h =
+    let Q : List X → Type 0 = λ l. All P l in
+    let g = subst Q is h in
+    λ k d lt. subst P (get_or-append xs ys d k lt) (g k d (omega (arith, length-append xs ys)))
+
+last_place : {X : Type 0} (xs : List X) (x d : X) → get_or (xs ++ x ∷ []) (length xs) d ≡ x
+last_place [] x d = refl
+last_place (y ∷ xs) x d = last_place xs x d
+
+pub all_last : {X : Type 0} (P : X → Type 0) (xs zs : List X) (x : X) → zs ≡ xs ++ x ∷ [] → All P zs → P x
+all_last {X = X} P xs zs x is h =
+    let Q : List X → Type 0 = λ l. All P l in
+    let g = subst Q is h in
+    subst P (last_place xs x x) (g (length xs) x (omega (arith, length-append xs (x ∷ []))))
+
+pub all_more : {X : Type 0} (P : X → Type 0) (xs zs : List X) (x : X) → zs ≡ xs ++ x ∷ [] → All P xs → P x → All P zs
+all_more {X = X} P xs zs x is h here =
+    let Q : List X → Type 0 = λ l. All P l in
+    subst Q (sym is) (λ k d lt. at xs k d h lt)
+  where
+    at : (xs : List X) (k : ℕ) (d : X) → All P xs → k < length (xs ++ x ∷ []) → P (get_or (xs ++ x ∷ []) k d)
+    at [] zero d h lt = here
+    at [] (suc k) d h lt = absurd (omega arith)
+    at (y ∷ xs) zero d h lt = h 0 d (omega arith)
+    at (y ∷ xs) (suc k) d h lt = at xs k d (λ j e l. h (suc j) e (omega arith)) (omega arith)
+
+pub whole_front : {X : Type 0} (n : ℕ) (new rest : List X) → length new ≡ n → take n (new ++ rest) ≡ new
+whole_front n new rest size = take-append-le n new rest (omega arith) ∙ take_all n new (omega arith)
+
+pub new_work : (table : Counter) (problems : List ProblemData) (job : Job) → IsWorkerOf table job.worker → 0 < (view_of job.worker).room → 0 < (view_of job.worker).parts → (view_of job.worker).pieces ≡ length problems → job.done.items ≡ [] → MayWork table problems job
+new_work table problems job own room parts pieces none =
+    let P : List Done → Type 0 = λ l. All (IsRight problems) l in
+    record { own = own; room = room; parts = parts; pieces = pieces; done = subst P (sym none) (λ k d lt. absurd (omega arith)) }
+
+pub more_work : (table : Counter) (problems : List ProblemData) (job job' : Job) (n : ℕ) (one : Done) → MayWork table problems job → IsWorkerOf table job'.worker → view_of job'.worker ≡ with_claim n (view_of job.worker) →
+    n < length problems → IsRight problems one → job'.done.items ≡ job.done.items ++ one ∷ [] → MayWork table problems job'
+more_work table problems job job' n one may own claimed within right more =
+    let lt : nat_lt n (view_of job.worker).pieces ≡ true = let p = may.pieces in grind (arith, nat_tests) in
+    let room : (view_of job'.worker).room ≡ (view_of job.worker).room = ap (λ (v : Claims). v.room) claimed ∙ ap (λ b. room_after b (view_of job.worker).room) lt in
+    let parts = ap (λ (v : Claims). v.parts) claimed in
+    record {
+      own = own;
+      room = (let r = may.room in omega arith);
+      parts = (let r = may.parts in omega arith);
+      pieces = ap (λ (v : Claims). v.pieces) claimed ∙ may.pieces;
+      done = all_more (IsRight problems) job.done.items job'.done.items one more may.done right;
+    }
+
+pub some_holds : {T : Type 0} (P : T → Type 0) (o : Option T) (x : T) → o ≡ Some x → IfSome o P → P x
+some_holds {T = T} P o x is holds = let Q : Option T → Type 0 = λ v. IfSome v P in subst Q is holds
+
+pub ok_where_no_err : {T E : Type 0} (r : Result T E) → is_err r ≡ false → is_ok r ≡ true
+ok_where_no_err (Ok x) e = refl
+ok_where_no_err (Err x) e = cc
+
+pub pushed : {T : Type 0} (b : Bool) (now before more : List T) → now ≡ (if b then more else before) → b ≡ true → now ≡ more
+pushed b now before more is e = is ∙ ap (λ t. if t then more else before) e

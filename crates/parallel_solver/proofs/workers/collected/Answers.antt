@@ -1,0 +1,15 @@
+use Rattle.std.proofs.Common.{◌≡◌, ◌++◌, ◌∷◌, [], sym, ◌∙◌, append_assoc, ap}
+use Rattle.parallel_solver.proofs.Placed.{collected_step}
+use Rattle.parallel_solver.proofs.workers.collected.Goals as goal
+
+pub loop-slot-preserved : goal.loop-slot-preserved
+loop-slot-preserved c =
+    let i = c.loop-slot.invariant in
+    let rest = c.next.new.self.rest.items in
+    let order : (c.loop-slot.yielded ++ c.in-Some.slot ∷ []) ++ rest ≡ c.args.found.items = append_assoc c.loop-slot.yielded (c.in-Some.slot ∷ []) rest ∙ (ap (λ xs. c.loop-slot.yielded ++ xs) (sym c.in-Some.ensures.steps.0) ∙ i.order) in
+    let split : c.loop-slot.yielded ++ c.in-Some.slot ∷ rest ≡ c.args.found.items = sym (append_assoc c.loop-slot.yielded (c.in-Some.slot ∷ []) rest) ∙ order in
+    record {
+      order = order;
+      solved = collected_step c.args.problems.now c.args.found.items c.loop-slot.yielded c.next.new.self.rest.items c.loop-slot.solutions.items c.push.new.self.items c.in-Some.slot c.in-Some-slot.solution c.requires.size c.requires.each
+          split c.in-Some-slot.is c.in_ok-push.ensures.items i.solved;
+    }

@@ -1,0 +1,11 @@
+pub mod Refused
+pub mod Fine
+pub mod Stages
+pub mod Begun
+pub mod NeverBad
+pub mod Overtaken
+pub mod Positions
+pub mod Alone
+pub mod Counts
+pub mod Others
+pub mod Worked

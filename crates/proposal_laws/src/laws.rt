@@ -1,0 +1,30 @@
+//! The laws of PROPOSE, each the contract of a function that does nothing.
+
+ghost use Rattle.proposal_laws.specs.Laws.{ProposalsAreNeverBad, ProposalsAreOvertaken, ProposalsAloneStand, ScriptsStandAlone, OthersOvertake};
+
+/// A PROPOSE is never refused for a bad certificate.
+pub fn proposals_are_never_bad()
+    ensures { ProposalsAreNeverBad }
+{}
+
+/// Once its version was begun, a PROPOSE is refused for its cycle, its phase or its version only at a later position: it
+/// was overtaken.
+pub fn proposals_are_overtaken()
+    ensures { ProposalsAreOvertaken }
+{}
+
+/// No PROPOSE is overtaken whose reply stands at the position before the line and the line's own changes.
+pub fn proposals_alone_stand()
+    ensures { ProposalsAloneStand }
+{}
+
+/// In a history without changes but those of one talk, each line's reply stands so, and no PROPOSE is overtaken.
+pub fn scripts_stand_alone()
+    ensures { ScriptsStandAlone }
+{}
+
+/// In a session a PROPOSE is overtaken only where a change of another seat stands between the reply to its BEGIN and its
+/// own.
+pub fn others_overtake()
+    ensures { OthersOvertake }
+{}
