@@ -1,2 +1,3 @@
+pub mod OnlyFacts
 pub mod RunFacts
 pub mod EndFacts

@@ -2,9 +2,11 @@
 use Rattle.std.specs.Prelude.{◌≡◌, ℕ, List, Option, Some, None}
 use Rattle.outside.specs.Files.{Folder}
 use Rattle.outside.specs.Flow.{Takes, TakesFront}
-use Rattle.command_types.specs.Roster.{Rows}
+use Rattle.command_types.specs.Roster.{Rows, IsRoster}
 use Rattle.trade_file.specs.declared.file_trade.FileTrade.{FileTrade}
+use Rattle.trade_file.specs.TradeFile.{AreFileTrades}
 use Rattle.dual_certificate.specs.declared.proposal_part.ProposalPart.{ProposalPart}
+use Rattle.dual_certificate.specs.Parts.{AreParts}
 use Rattle.file_market.specs.declared.failing.Failing.{Failing}
 use Rattle.file_market.specs.Check.{IsChecked}
 use Rattle.file_market.specs.Verdict.{verdict_text}
@@ -18,6 +20,9 @@ pub record IsVerdict (folder : Option Folder) (market : Market) (proposal : List
   pub parts : List ProposalPart
   pub says_market : SaysMarket folder market rows trades
   pub says_proposal : SaysProposal folder proposal rows parts
+  pub roster : IsRoster rows
+  pub good_trades : AreFileTrades rows trades
+  pub good_parts : AreParts rows parts
   pub checked : IsChecked rows market.mode trades parts found
   pub told : text ≡ verdict_text rows found
 

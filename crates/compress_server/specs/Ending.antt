@@ -4,7 +4,7 @@ use Rattle.outside.specs.Files.{Folder}
 use Rattle.outside.specs.Flow.{Flow, Takes, TakesFront}
 use Rattle.command_types.specs.declared.cycle.Mode.{Mode}
 use Rattle.command_types.specs.declared.file_fault.FileFault.{FileFault}
-use Rattle.command_types.specs.Roster.{Rows}
+use Rattle.command_types.specs.Roster.{Rows, IsRoster}
 use Rattle.trade_file.specs.declared.file_trade.FileTrade.{FileTrade}
 use Rattle.dual_certificate.specs.declared.proposal_part.ProposalPart.{ProposalPart}
 use Rattle.file_market.specs.declared.failing.Failing.{Failing}
@@ -16,27 +16,27 @@ use Rattle.compress_server.specs.declared.load.LoadFault.TheVariants.{Files, Fau
 use Rattle.compress_server.specs.declared.ending.End.{End}
 use Rattle.compress_server.specs.declared.ending.End.TheVariants.{Done, No, BadWords, Unloaded, SourceFault, SinkFault, Limit, Memory}
 use Rattle.compress_server.specs.Words.{Market, Form}
-use Rattle.compress_server.specs.Files.{SaysRoster, IsRosterFault, IsMarketFault, IsCheckFault}
+use Rattle.compress_server.specs.Files.{SaysRoster, IsRosterFault, IsMarketFault, IsCheckFault, ReadBeforeRoster, ReadBeforeMarket, ReadBeforeCheck}
 use Rattle.compress_server.specs.Run.{IsWhole, IsStopped, IsAtLimit, IsUnwritten}
 use Rattle.compress_server.specs.Check.{SaysYes, SaysNo, SaysFront}
 use Rattle.compress_server.specs.Solve.{Proposes, ProposesFront}
 
--- a fault among the files is the first one
-abbrev pub IsFault : (FileRole → FileFault → Type 0) → LoadFault → Type 0
-IsFault P (Faulty role fault) = P role fault
-IsFault P Files = Unit {0}
-IsFault P NoMemory = Unit {0}
+-- a fault among the files is the first one, and where the files failed this holds of the role
+abbrev pub IsFault : (FileRole → FileFault → Type 0) → (FileRole → Type 0) → LoadFault → Type 0
+IsFault P Q (Faulty role fault) = P role fault
+IsFault P Q (Files role) = Q role
+IsFault P Q NoMemory = Unit {0}
 
--- the roster's file says rows, of which this holds
+-- the roster's file says rows, which are those of a roster, and of which this holds
 abbrev pub OverRoster : Option Folder → List ℕ → (Rows → Type 0) → Type 0
-OverRoster folder name P = (rows : Rows) × SaysRoster folder name rows × P rows
+OverRoster folder name P = (rows : Rows) × SaysRoster folder name rows × IsRoster rows × P rows
 
 -- by the end of a script over the roster's file
 abbrev pub ScriptRuns : Option Folder → List ℕ → Option Flow → Option Flow → Option (List ℕ) → Option (List ℕ) → End → Type 0
 ScriptRuns folder roster opened flow begun taken Done = OverRoster folder roster (λ rows. IsWhole rows opened flow begun taken)
 ScriptRuns folder roster opened flow begun taken No = ⊥
 ScriptRuns folder roster opened flow begun taken BadWords = ⊥
-ScriptRuns folder roster opened flow begun taken (Unloaded fault) = (flow ≡ opened) × (taken ≡ begun) × IsFault (IsRosterFault folder roster) fault
+ScriptRuns folder roster opened flow begun taken (Unloaded fault) = (flow ≡ opened) × (taken ≡ begun) × IsFault (IsRosterFault folder roster) ReadBeforeRoster fault
 ScriptRuns folder roster opened flow begun taken SourceFault = OverRoster folder roster (λ rows. IsStopped rows opened flow begun taken)
 ScriptRuns folder roster opened flow begun taken SinkFault = OverRoster folder roster (λ rows. IsUnwritten rows opened flow begun taken)
 ScriptRuns folder roster opened flow begun taken Limit = OverRoster folder roster (λ rows. IsAtLimit rows opened flow begun taken)
@@ -60,7 +60,7 @@ abbrev pub CheckRuns : Option Folder → Market → List ℕ → Option (List �
 CheckRuns folder market proposal begun taken Done = SaysYes folder begun taken market proposal
 CheckRuns folder market proposal begun taken No = SaysNo folder begun taken market proposal
 CheckRuns folder market proposal begun taken BadWords = ⊥
-CheckRuns folder market proposal begun taken (Unloaded fault) = (taken ≡ begun) × IsFault (IsCheckFault folder market proposal) fault
+CheckRuns folder market proposal begun taken (Unloaded fault) = (taken ≡ begun) × IsFault (IsCheckFault folder market proposal) (ReadBeforeCheck folder market) fault
 CheckRuns folder market proposal begun taken SourceFault = ⊥
 CheckRuns folder market proposal begun taken SinkFault = SaysFront folder begun taken market proposal
 CheckRuns folder market proposal begun taken Limit = ⊥
@@ -71,7 +71,7 @@ abbrev pub SolveRuns : Option Folder → Market → Option (List ℕ) → Option
 SolveRuns folder market begun taken Done = Proposes folder begun taken market
 SolveRuns folder market begun taken No = ⊥
 SolveRuns folder market begun taken BadWords = ⊥
-SolveRuns folder market begun taken (Unloaded fault) = (taken ≡ begun) × IsFault (IsMarketFault folder market) fault
+SolveRuns folder market begun taken (Unloaded fault) = (taken ≡ begun) × IsFault (IsMarketFault folder market) (ReadBeforeMarket folder market) fault
 SolveRuns folder market begun taken SourceFault = ⊥
 SolveRuns folder market begun taken SinkFault = ProposesFront folder begun taken market
 SolveRuns folder market begun taken Limit = ⊥

@@ -62,8 +62,33 @@ IsFirstFault folder (Some (Form.Script roster journal)) role fault = IsRosterFau
 IsFirstFault folder (Some (Form.Check market proposal)) role fault = IsCheckFault folder market proposal role fault
 IsFirstFault folder (Some (Form.Solve market)) role fault = IsMarketFault folder market role fault
 
--- why a file in this role could not be had: its first fault, or the files, or memory
+-- a script reads its roster first
+abbrev pub ReadBeforeRoster : FileRole → Type 0
+ReadBeforeRoster Roster = Unit {0}
+ReadBeforeRoster Trades = ⊥
+ReadBeforeRoster Proposal = ⊥
+
+-- of a market's two files, those before the one in this role say what they should
+abbrev pub ReadBeforeMarket : Option Folder → Market → FileRole → Type 0
+ReadBeforeMarket folder market Roster = Unit {0}
+ReadBeforeMarket folder market Trades = (rows : Rows) × SaysRoster folder market.roster rows
+ReadBeforeMarket folder market Proposal = ⊥
+
+-- of a market's two files and a proposal, those before the one in this role say what they should
+abbrev pub ReadBeforeCheck : Option Folder → Market → FileRole → Type 0
+ReadBeforeCheck folder market Roster = ReadBeforeMarket folder market Roster
+ReadBeforeCheck folder market Trades = ReadBeforeMarket folder market Trades
+ReadBeforeCheck folder market Proposal = (rows : Rows) × (trades : List FileTrade) × SaysMarket folder market rows trades
+
+-- of the files of a form, those before the one in this role say what they should
+abbrev pub AreReadBefore : Option Folder → Option Form → FileRole → Type 0
+AreReadBefore folder None role = ⊥
+AreReadBefore folder (Some (Form.Script roster journal)) role = ReadBeforeRoster role
+AreReadBefore folder (Some (Form.Check market proposal)) role = ReadBeforeCheck folder market role
+AreReadBefore folder (Some (Form.Solve market)) role = ReadBeforeMarket folder market role
+
+-- why the file in this role could not be had: its first fault, or the files, or memory
 abbrev pub IsLoadFault : {A : Type 0} → Option Folder → List ℕ → FileRole → (List ℕ → Result A FileFault) → LoadFault → Type 0
 IsLoadFault folder name role read (Faulty at fault) = (at ≡ role) × Reads folder name read (Err fault)
-IsLoadFault folder name role read Files = Unit {0}
+IsLoadFault folder name role read (Files at) = at ≡ role
 IsLoadFault folder name role read Memory = Unit {0}

@@ -6,7 +6,7 @@ use Rattle.command_types.specs.declared.ask.Entry.{Entry}
 use Rattle.command_types.specs.declared.figures.Figures.{Figures}
 use Rattle.command_types.specs.Roster.{Rows}
 use Rattle.command_types.specs.Machine.{empty_state}
-use Rattle.command_types.specs.History.{History, IsLegal, entries_of_seat}
+use Rattle.command_types.specs.History.{History, IsLegal}
 use Rattle.command_types.specs.Lines.{cut_of, lines_of}
 use Rattle.command_types.specs.Session.{Standing, IsSession, IsTalk, IsAnswered, nobody}
 use Rattle.session.specs.Ending.{session_limit}
@@ -24,12 +24,13 @@ pub record IsOwnHistory (rows : Rows) (h : History) : Type 0 where
   pub base : h.base ≡ (program_figures rows).base
   pub legal : IsLegal h
 
--- The lines were replied to, in one session of seat 0, and the whole text was written.
+-- The lines were replied to, in one session of seat 0, and the whole text was written. The history's changes are those of these lines, in order, and no others.
 pub record IsReplied (rows : Rows) (begun taken : Option (List ℕ)) (lines : List (List ℕ)) : Type 0 where
   pub history : History
   pub text : List ℕ
   pub own : IsOwnHistory rows history
   pub session : IsSession (program_figures rows) history 0 at_first lines text
+  pub all : history.entries ≡ session.made
   pub took : Takes begun taken text
 
 -- The first of the lines were replied to, up to an accepted BYE, and their whole text was written.
@@ -40,7 +41,7 @@ pub record IsLeft (rows : Rows) (begun taken : Option (List ℕ)) (lines : List 
   pub replied : IsReplied rows begun taken said
   pub over : replied.session.to.over ≡ true
 
--- The lines up to one of them were replied to, in one session of seat 0. The texts before that line's were written whole, and of its own a front that is not the whole.
+-- The lines up to one of them were replied to, in one session of seat 0. The texts before that line's were written whole, and of its own a front that is not the whole. The history's changes are those of the lines up to that one, in order, and no others.
 pub record IsCutOff (rows : Rows) (begun taken : Option (List ℕ)) (lines : List (List ℕ)) : Type 0 where
   pub history : History
   pub own : IsOwnHistory rows history
@@ -56,7 +57,7 @@ pub record IsCutOff (rows : Rows) (begun taken : Option (List ℕ)) (lines : Lis
   pub to : Standing
   pub talk : IsTalk (program_figures rows) history 0 at_first earlier text made mid
   pub answered : IsAnswered (program_figures rows) history 0 mid line last first to
-  pub all : made ++ first ≡ entries_of_seat history 0 0
+  pub all : history.entries ≡ made ++ first
   pub written : ℕ
   pub unfinished : written < length last
   pub took : Takes begun taken (text ++ take written last)
@@ -86,7 +87,8 @@ IsAtLimit rows opened flow begun taken =
 abbrev pub IsUnwritten : Rows → Option Flow → Option Flow → Option (List ℕ) → Option (List ℕ) → Type 0
 IsUnwritten rows opened flow begun taken =
     (bytes : List ℕ) × Gives opened flow bytes
-    × (IsCutOff rows begun taken (cut_of bytes).whole ⊎ (IsAtEnd flow × IsCutOff rows begun taken (lines_of bytes)))
+    × (((length bytes ≤ session_limit) × IsCutOff rows begun taken (cut_of bytes).whole)
+    ⊎ (IsAtEnd flow × (length bytes < session_limit) × IsCutOff rows begun taken (lines_of bytes)))
 
 -- the line that tells a status on the errors; statuses 0 and 1 have none, and status 3 the fault's
 abbrev pub status_line : ℕ → List ℕ

@@ -2,7 +2,7 @@
 use Rattle.std.specs.Prelude.{â„•, List, Option}
 use Rattle.outside.specs.Files.{Folder}
 use Rattle.outside.specs.Flow.{Takes, TakesFront}
-use Rattle.command_types.specs.Roster.{Rows}
+use Rattle.command_types.specs.Roster.{Rows, IsRoster}
 use Rattle.trade_file.specs.declared.file_trade.FileTrade.{FileTrade}
 use Rattle.file_market.specs.Solve.{IsSolvedText}
 use Rattle.compress_server.specs.Words.{Market}
@@ -13,6 +13,7 @@ pub record IsProposal (folder : Option Folder) (market : Market) (text : List â„
   pub rows : Rows
   pub trades : List FileTrade
   pub says_market : SaysMarket folder market rows trades
+  pub roster : IsRoster rows
   pub solved : IsSolvedText rows market.mode trades text
 
 -- the whole proposal was written

@@ -5,6 +5,7 @@ ghost use Rattle.outside.specs.Faults.{Rose};
 ghost use Rattle.trade_file.specs.TradeFile.{AreFileTrades};
 ghost use Rattle.dual_certificate.specs.Parts.{AreParts};
 ghost use Rattle.compress_server.specs.Words.{read_market};
+ghost use Rattle.compress_server.specs.declared.load.FileRole.{FileRole as Role};
 ghost use Rattle.compress_server.specs.Ending.{IsTold, CheckRuns};
 
 use crate::ending::End;
@@ -57,7 +58,7 @@ pub fn run_check<F: Files, K: Sink>(
     ensures runs { CheckRuns (F.folder files.old) (read_market market.now) proposal.now (K.taken output.old) (K.taken output.new) result }
     ensures stays { F.folder files.new ≡ F.folder files.old }
     ensures sink_fault { result ≡ End.SinkFault → Rose (K.faults output.old) (K.faults output.new) }
-    ensures file_fault { result ≡ End.Unloaded LoadFault.Files → Rose (F.faults files.old) (F.faults files.new) }
+    ensures file_fault { (role : Role) → result ≡ End.Unloaded (LoadFault.Files role) → Rose (F.faults files.old) (F.faults files.new) }
 {
     let roster = match load_roster(alloc, files, market.roster) {
         Ok(roster) => roster,

@@ -3,7 +3,7 @@
 use crate::load::LoadFault;
 
 /// The end of a call.
-#[derive(Clone, Copy, Debug, PartialEq, Eq)]
+#[derive(Clone, Copy)]
 pub enum End {
     /// All was done and written; a check said yes.
     Done,

@@ -3,6 +3,7 @@
 ghost use Rattle.std.specs.Prelude.{◌≡◌, ◌≤◌, ◌⊎◌, Ok, Err, IfOk, IfErr};
 ghost use Rattle.outside.specs.Faults.{Rose};
 ghost use Rattle.outside.specs.Files.{IsFront};
+ghost use Rattle.command_types.specs.Roster.{IsRoster};
 ghost use Rattle.trade_file.specs.RosterFile.{roster_file};
 ghost use Rattle.trade_file.specs.TradeFile.{trade_file, AreFileTrades};
 ghost use Rattle.dual_certificate.specs.Proposal.{proposal_of};
@@ -19,7 +20,7 @@ use trade_file::{FileTrade, read_roster, read_trades};
 const FILE_FRONT: u64 = 67_108_865;
 
 /// What a file is to a form.
-#[derive(Clone, Copy, Debug, PartialEq, Eq)]
+#[derive(Clone, Copy)]
 pub enum FileRole {
     Roster,
     Trades,
@@ -27,26 +28,31 @@ pub enum FileRole {
 }
 
 /// Why a file could not be had.
-#[derive(Clone, Copy, Debug, PartialEq, Eq)]
+#[derive(Clone, Copy)]
 pub enum LoadFault {
-    /// The files failed.
-    Files,
+    /// The files failed at the file in this role.
+    Files(FileRole),
     /// The file's first fault.
     Faulty(FileRole, FileFault),
     Memory,
 }
 
-// The front of the file with this name.
-fn read_front<F: Files>(alloc: Global, files: &mut F, name: &str) -> Result<Vec<u8>, LoadFault>
+// The front of the file with this name, which is read in this role.
+fn read_front<F: Files>(
+    alloc: Global,
+    files: &mut F,
+    role: FileRole,
+    name: &str,
+) -> Result<Vec<u8>, LoadFault>
     ensures front { IfOk result (λ bytes. IsFront (F.folder files.old) name.now file_front bytes.items) }
-    ensures other { IfErr result (λ fault. (fault ≡ LoadFault.Files) ⊎ (fault ≡ LoadFault.Memory)) }
+    ensures other { IfErr result (λ fault. (fault ≡ LoadFault.Files role) ⊎ (fault ≡ LoadFault.Memory)) }
     ensures stays { F.folder files.new ≡ F.folder files.old }
     ensures never_falls { F.faults files.old ≤ F.faults files.new }
-    ensures failed { result ≡ Err LoadFault.Files → Rose (F.faults files.old) (F.faults files.new) }
+    ensures failed { (at : FileRole) → result ≡ Err (LoadFault.Files at) → Rose (F.faults files.old) (F.faults files.new) }
 {
     match files.read_front(alloc, name, FILE_FRONT) {
         Ok(bytes) => Ok(bytes),
-        Err(Trouble::Failed) => Err(LoadFault::Files),
+        Err(Trouble::Failed) => Err(LoadFault::Files(role)),
         Err(Trouble::Memory) => Err(LoadFault::Memory),
     }
 }
@@ -54,12 +60,13 @@ fn read_front<F: Files>(alloc: Global, files: &mut F, name: &str) -> Result<Vec<
 /// The roster of the file with this name. No file changes.
 pub fn load_roster<F: Files>(alloc: Global, files: &mut F, name: &str) -> Result<Roster, LoadFault>
     ensures says { IfOk result (λ roster. SaysRoster (F.folder files.old) name.now roster) }
+    ensures roster { IfOk result (λ roster. IsRoster roster) }
     ensures fault { IfErr result (IsLoadFault (F.folder files.old) name.now FileRole.Roster roster_file) }
     ensures stays { F.folder files.new ≡ F.folder files.old }
     ensures never_falls { F.faults files.old ≤ F.faults files.new }
-    ensures failed { result ≡ Err LoadFault.Files → Rose (F.faults files.old) (F.faults files.new) }
+    ensures failed { (at : FileRole) → result ≡ Err (LoadFault.Files at) → Rose (F.faults files.old) (F.faults files.new) }
 {
-    let bytes = read_front(alloc, files, name)?;
+    let bytes = read_front(alloc, files, FileRole::Roster, name)?;
     match read_roster(alloc, &bytes) {
         Ok(roster) => Ok(roster),
         Err(FileFault::Memory) => Err(LoadFault::Memory),
@@ -79,9 +86,9 @@ pub fn load_trades<F: Files>(
     ensures fault { IfErr result (IsLoadFault (F.folder files.old) name.now FileRole.Trades (trade_file roster.now)) }
     ensures stays { F.folder files.new ≡ F.folder files.old }
     ensures never_falls { F.faults files.old ≤ F.faults files.new }
-    ensures failed { result ≡ Err LoadFault.Files → Rose (F.faults files.old) (F.faults files.new) }
+    ensures failed { (at : FileRole) → result ≡ Err (LoadFault.Files at) → Rose (F.faults files.old) (F.faults files.new) }
 {
-    let bytes = read_front(alloc, files, name)?;
+    let bytes = read_front(alloc, files, FileRole::Trades, name)?;
     match read_trades(alloc, &bytes, roster) {
         Ok(trades) => Ok(trades),
         Err(FileFault::Memory) => Err(LoadFault::Memory),
@@ -101,9 +108,9 @@ pub fn load_proposal<F: Files>(
     ensures fault { IfErr result (IsLoadFault (F.folder files.old) name.now FileRole.Proposal (proposal_of roster.now)) }
     ensures stays { F.folder files.new ≡ F.folder files.old }
     ensures never_falls { F.faults files.old ≤ F.faults files.new }
-    ensures failed { result ≡ Err LoadFault.Files → Rose (F.faults files.old) (F.faults files.new) }
+    ensures failed { (at : FileRole) → result ≡ Err (LoadFault.Files at) → Rose (F.faults files.old) (F.faults files.new) }
 {
-    let bytes = read_front(alloc, files, name)?;
+    let bytes = read_front(alloc, files, FileRole::Proposal, name)?;
     match read_proposal(alloc, &bytes, roster) {
         Ok(parts) => Ok(parts),
         Err(FileFault::Memory) => Err(LoadFault::Memory),

@@ -3,19 +3,29 @@
 ghost use Rattle.std.specs.Prelude.{◌≡◌};
 ghost use Rattle.outside.specs.Faults.{Rose};
 ghost use Rattle.compress_server.specs.Script.{ScriptEnds};
+ghost use Rattle.compress_server.specs.declared.load.FileRole.{FileRole as Role};
 ghost use Rattle.compress_server.specs.Ending.{ScriptRuns};
 
 use crate::ending::End;
 use crate::load::{LoadFault, load_roster};
 use command_types::Roster;
+use cycle_lock::Turns;
 use cycle_states::{Machine, PlainDesk};
 use outside::{Files, Sink, Source};
-use session::{SessionEnd, serve_desk};
+use parallel_solver::OpenGate;
+use path_solver::PathSolver;
+use session::{SessionEnd, serve_session};
 use std::alloc::Global;
+use std::sync::Wait;
+use std::thread::Threads;
+
+// How many workers solve.
+const WORKERS: u32 = 4;
 
 // Serves one session under seat 0, over a new machine of this roster. Where memory for the machine or the session's
 // buffers is not to be had, nothing is read or written.
-fn serve_script<S: Source, K: Sink>(
+fn serve_script<R: Threads + Wait + Sync, S: Source, K: Sink>(
+    rt: &R,
     alloc: Global,
     roster: &Roster,
     input: &mut S,
@@ -31,12 +41,28 @@ fn serve_script<S: Source, K: Sink>(
     let Ok(machine) = Machine::new(alloc, copy) else {
         return SessionEnd::Memory;
     };
-    let mut desk = PlainDesk::new(alloc, machine);
-    serve_desk(alloc, &mut desk, 0, roster, input, output)
+    let Ok((turns, pass)) = Turns::new(alloc, PlainDesk::new(alloc, machine)) else {
+        return SessionEnd::Memory;
+    };
+    let (end, pass) = serve_session(
+        rt,
+        alloc,
+        &turns,
+        WORKERS,
+        &PathSolver::new(alloc),
+        &OpenGate,
+        roster,
+        pass,
+        input,
+        output,
+    );
+    turns.close(rt, pass);
+    end
 }
 
 /// Reads the roster of the file with this name, and serves one session over it. No file changes.
-pub fn run_script<F: Files, S: Source, K: Sink>(
+pub fn run_script<R: Threads + Wait + Sync, F: Files, S: Source, K: Sink>(
+    rt: &R,
     alloc: Global,
     files: &mut F,
     roster: &str,
@@ -47,13 +73,13 @@ pub fn run_script<F: Files, S: Source, K: Sink>(
     ensures stays { F.folder files.new ≡ F.folder files.old }
     ensures source_fault { result ≡ End.SourceFault → Rose (S.faults input.old) (S.faults input.new) }
     ensures sink_fault { result ≡ End.SinkFault → Rose (K.faults output.old) (K.faults output.new) }
-    ensures file_fault { result ≡ End.Unloaded LoadFault.Files → Rose (F.faults files.old) (F.faults files.new) }
+    ensures file_fault { (role : Role) → result ≡ End.Unloaded (LoadFault.Files role) → Rose (F.faults files.old) (F.faults files.new) }
 {
     let roster = match load_roster(alloc, files, roster) {
         Ok(roster) => roster,
         Err(fault) => return End::Unloaded(fault),
     };
-    match serve_script(alloc, &roster, input, output) {
+    match serve_script(rt, alloc, &roster, input, output) {
         SessionEnd::Ended => End::Done,
         SessionEnd::SourceFault => End::SourceFault,
         SessionEnd::SinkFault => End::SinkFault,

@@ -7,7 +7,7 @@ ghost use Rattle.command_types.specs.Roster.{Rows};
 ghost use Rattle.command_types.specs.declared.file_fault.FileFault.{FileFault as Fault};
 ghost use Rattle.compress_server.specs.declared.load.FileRole.{FileRole as Role};
 ghost use Rattle.compress_server.specs.Words.{form_of, OnScript, OnCheck, OnSolve, IsScriptAnd, IsCheckAnd};
-ghost use Rattle.compress_server.specs.Files.{SaysRoster, IsFirstFault};
+ghost use Rattle.compress_server.specs.Files.{SaysRoster, IsFirstFault, AreReadBefore};
 ghost use Rattle.compress_server.specs.Faults.{fault_line};
 ghost use Rattle.compress_server.specs.Run.{status_line, IsReported, IsWhole, IsStopped, IsAtLimit, IsUnwritten};
 ghost use Rattle.compress_server.specs.Check.{SaysYes, SaysNo, SaysFront};
@@ -25,6 +25,8 @@ use command_types::FileFault;
 use outside::sink::write_all;
 use outside::{Files, Sink, Source};
 use std::alloc::Global;
+use std::sync::Wait;
+use std::thread::Threads;
 
 // Writes the line of a status. A fault of the errors changes nothing.
 fn report<E: Sink>(errors: &mut E, line: &[u8])
@@ -48,7 +50,8 @@ fn report_fault<E: Sink>(alloc: Global, errors: &mut E, role: FileRole, fault: F
 }
 
 // Does what the words ask for.
-fn run_form<F: Files, S: Source, K: Sink>(
+fn run_form<R: Threads + Wait + Sync, F: Files, S: Source, K: Sink>(
+    rt: &R,
     alloc: Global,
     words: &[String],
     files: &mut F,
@@ -60,11 +63,11 @@ fn run_form<F: Files, S: Source, K: Sink>(
     ensures stays { F.folder files.new ≡ F.folder files.old }
     ensures source_fault { result ≡ End.SourceFault → Rose (S.faults input.old) (S.faults input.new) }
     ensures sink_fault { result ≡ End.SinkFault → Rose (K.faults output.old) (K.faults output.new) }
-    ensures file_fault { result ≡ End.Unloaded LoadFault.Files → Rose (F.faults files.old) (F.faults files.new) }
+    ensures file_fault { (role : Role) → result ≡ End.Unloaded (LoadFault.Files role) → Rose (F.faults files.old) (F.faults files.new) }
 {
     match read_words(words) {
         None => End::BadWords,
-        Some(Form::Script { roster, .. }) => run_script(alloc, files, roster, input, output),
+        Some(Form::Script { roster, .. }) => run_script(rt, alloc, files, roster, input, output),
         Some(Form::Check { market, proposal }) => {
             run_check(alloc, files, &market, proposal, output)
         }
@@ -90,12 +93,12 @@ fn run_form<F: Files, S: Source, K: Sink>(
 /// - 5: the output failed; a front of what was to be written is there;
 /// - 8: a script's session took 2^30 bytes; its whole lines up to there are replied to;
 /// - 9: memory was not to be had;
-/// - 11: the files failed.
+/// - 11: the files failed at one of them, and the files before it have no fault.
 ///
 /// At 2, 3, 9 and 11 nothing was read from the input or written to the output. A check and a solve read no input. For
 /// each status but 0 and 1 one line goes to the errors.
-pub fn run<R, F: Files, S: Source, K: Sink, E: Sink>(
-    _rt: &R,
+pub fn run<R: Threads + Wait + Sync, F: Files, S: Source, K: Sink, E: Sink>(
+    rt: &R,
     alloc: Global,
     words: &[String],
     files: &mut F,
@@ -126,6 +129,7 @@ pub fn run<R, F: Files, S: Source, K: Sink, E: Sink>(
     ensures input_fault { result ≡ 4 → Rose (S.faults input.old) (S.faults input.new) }
     ensures output_fault { result ≡ 5 → Rose (K.faults output.old) (K.faults output.new) }
     ensures file_fault { result ≡ 11 → Rose (F.faults files.old) (F.faults files.new) }
+    ensures files_before { result ≡ 11 → (role : Role) × AreReadBefore (F.folder files.old) (form_of (map string_bytes words.now)) role }
     ensures reported { result ≢ 3 → IsReported (E.taken errors.old) (E.taken errors.new) (E.faults errors.old) (E.faults errors.new) (status_line result) }
 
     // What stays.
@@ -135,7 +139,7 @@ pub fn run<R, F: Files, S: Source, K: Sink, E: Sink>(
     ensures solve_reads_no_input { OnSolve (form_of (map string_bytes words.now)) (λ market. S.flow input.new ≡ S.flow input.old) }
     ensures files { F.folder files.new ≡ F.folder files.old }
 {
-    match run_form(alloc, words, files, input, output) {
+    match run_form(rt, alloc, words, files, input, output) {
         End::Done => 0,
         End::No => 1,
         End::BadWords => {
@@ -143,7 +147,7 @@ pub fn run<R, F: Files, S: Source, K: Sink, E: Sink>(
             2
         }
         End::Unloaded(LoadFault::Faulty(role, fault)) => report_fault(alloc, errors, role, fault),
-        End::Unloaded(LoadFault::Files) => {
+        End::Unloaded(LoadFault::Files(_)) => {
             report(errors, b"file fault\n");
             11
         }
@@ -169,6 +173,3 @@ pub fn run<R, F: Files, S: Source, K: Sink, E: Sink>(
         }
     }
 }
-
-#[cfg(test)]
-mod tests;

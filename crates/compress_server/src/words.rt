@@ -8,7 +8,7 @@ ghost use Rattle.compress_server.specs.Words.{begins_with_dash, market_of, form_
 use command_types::Mode;
 
 /// The names of a market's two files, and the mode in which it is compressed.
-#[derive(Clone, Copy, Debug, PartialEq, Eq)]
+#[derive(Clone, Copy)]
 pub struct MarketFiles<'a> {
     pub roster: &'a str,
     pub trades: &'a str,
@@ -16,7 +16,7 @@ pub struct MarketFiles<'a> {
 }
 
 /// What the program is to do, with the names of its files.
-#[derive(Clone, Copy, Debug, PartialEq, Eq)]
+#[derive(Clone, Copy)]
 pub enum Form<'a> {
     /// One session over a roster. The journal is not touched yet.
     Script {

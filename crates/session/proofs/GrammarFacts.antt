@@ -1,13 +1,13 @@
 -- A potential that the grammar reads is one.
-use Rattle.std.proofs.Common.{◌≡◌, ℕ, ◌≤◌, ℤ, pos, neg_ℤ, Bool, true, false, ◌==◌, ◌&&◌, not, nat_lt, List, [], ◌∷◌, length, ◌+◌, drop, slice_index, position, Option, Some, None, Result, Ok, Err, refl, sym, subst, ap, ◌∙◌, cond, codes, arith}
+use Rattle.std.proofs.Common.{◌≡◌, ℕ, ◌≤◌, ℤ, pos, neg_ℤ, Bool, true, false, ◌==◌, ◌&&◌, not, nat_lt, List, [], ◌∷◌, length, ◌+◌, drop, slice_index, position, Option, Some, None, Result, Ok, Err, refl, subst, cond, codes, arith}
 use Rattle.std.proofs.lemmas.Bool.Decides.{nat_tests}
 use Rattle.std.proofs.lemmas.Int.{ints}
 use Rattle.std.specs.Str.{bytes_eq}
 use Rattle.network_laws.specs.Solutions.{IsPotential}
 use Rattle.units_core.specs.declared.number.NumberFault.{NumberFault}
 use Rattle.units_core.specs.declared.number.NumberFault.TheVariants.{NotDigit, LeadingZero, Zero, TooLarge, Empty}
-use Rattle.units_core.specs.Number.{is_digit, value_of, of_digits, of_first, number_of}
-use Rattle.units_core.specs.Signed.{has_minus, plus_of, minus_of, signed_of}
+use Rattle.units_core.specs.Number.{is_digit, value_of, of_first, number_of}
+use Rattle.units_core.specs.Signed.{has_minus, plus_of, minus_of}
 use Rattle.command_types.specs.declared.cycle.Mode.{Mode}
 use Rattle.command_types.specs.declared.line.Line.{Line}
 use Rattle.command_types.specs.declared.line.Line.TheVariants.{Hello, Trade, Affirm, End, Hold, Free, Tol, Nets, Statement, Freeze, Begin, Limits, Row, Post, Propose, Plan, Accept, Decline, Cancel, Bye, Pot}

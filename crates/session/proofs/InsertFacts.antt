@@ -1,5 +1,5 @@
 -- What an insert into a draft's maps does, by the tests of names.
-use Rattle.std.proofs.Common.{◌≡◌, ◌∙◌, ℕ, ℤ, Bool, List, Option, Some, Result, Ok, Err, IsOk, OnOk, refl, sym, ap, subst, cond}
+use Rattle.std.proofs.Common.{◌≡◌, ◌∙◌, ℕ, ℤ, Bool, List, Option, Some, Result, Ok, Err, IsOk, OnOk, sym, ap, subst, cond}
 use Rattle.std.specs.Map.{lookup}
 use Rattle.std.specs.Str.{bytes_eq}
 use Rattle.indexmap.specs.IndexMap.{insert_entry}
@@ -11,7 +11,7 @@ use Rattle.session.specs.contracts.draft_rows.PairKeyPartialEq.TheImpl.{eq-value
 use Rattle.session.specs.contracts.draft_potentials.PlaceKeyPartialEq.TheImpl.{eq-value as place_eq}
 use Rattle.session.specs.declared.draft_rows.PairKey.{PairKey}
 use Rattle.session.specs.declared.draft_potentials.PlaceKey.{PlaceKey}
-use Rattle.session.specs.Drafts.{row_of, rows_of, is_same_pair, potential_of, potentials_of, is_same_place, AreInRange}
+use Rattle.session.specs.Drafts.{row_of, rows_of, is_same_pair, potential_of, potentials_of, AreInRange}
 use Rattle.session.proofs.KeyFacts.{pair_test, place_test}
 use Rattle.session.proofs.DraftRowFacts.{rows_insert}
 use Rattle.session.proofs.DraftNoteFacts.{IsWith}

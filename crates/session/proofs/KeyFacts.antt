@@ -5,7 +5,6 @@ use Rattle.units_core.proofs.NameTests.{same_name}
 use Rattle.session.specs.contracts.draft_rows.PairKeyPartialEq.TheImpl.{eq-value as pair_eq}
 use Rattle.session.specs.contracts.draft_potentials.PlaceKeyPartialEq.TheImpl.{eq-value as place_eq}
 use Rattle.session.specs.declared.draft_rows.PairKey.{PairKey}
-use Rattle.session.specs.declared.draft_potentials.PlaceKey.{PlaceKey}
 use Rattle.session.specs.Drafts.{is_same_pair, is_same_place}
 
 and_grouped : (x y z : Bool) → (x && (y && z)) ≡ (x && y && z)

@@ -7,11 +7,13 @@ pub mod DraftNoteFacts
 pub mod PotentialFacts
 pub mod KeyFacts
 pub mod InsertFacts
-pub mod PairSumFacts
+pub mod PlaceFacts
+pub mod RowSumFacts
 pub mod NetworkFacts
 pub mod SolutionFacts
 pub mod GrammarFacts
 pub mod NotedFacts
+pub mod GrowthFacts
 pub mod ServedFacts
 pub mod StepFacts
 pub mod WholeFacts

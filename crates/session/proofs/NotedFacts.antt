@@ -1,5 +1,5 @@
 -- What is known of a row or a potential that the machine took: none of its refusals held.
-use Rattle.std.proofs.Common.{◌≡◌, ◌⊎◌, ℕ, ◌≤◌, Bool, true, false, nat_lt, List, [], ◌∷◌, Option, Some, None, Result, Ok, Err, refl, sym, subst, ap, ◌∙◌, inl, inr, cond, unwrap_or, ℤ, arith}
+use Rattle.std.proofs.Common.{◌≡◌, ◌⊎◌, ℕ, ◌≤◌, Bool, true, false, nat_lt, List, [], ◌∷◌, Option, Some, None, Result, Ok, refl, sym, ◌∙◌, inl, inr, cond, ℤ, arith}
 use Rattle.std.proofs.lemmas.Bool.Decides.{nat_tests}
 use Rattle.command_types.specs.declared.line.Line.{Line}
 use Rattle.command_types.specs.declared.line.Line.TheVariants.{Row, Pot}
@@ -75,7 +75,7 @@ row_passes : (draft : Draft) (by : Option (List ℕ)) (product seller buyer : Li
     IsRowFor draft product seller buyer amount
 row_passes draft by product seller buyer amount p =
     let none = none_holds (refusals p.state by (AskRow product seller buyer amount (draft_size (noted_row draft product seller buyer amount)) (capped (draft_sum product (noted_row draft product seller buyer amount).rows)))) p.none in
-    let terms = none.1.1.1.1.1 in
+    let terms = none.1.1.1.1 in
     record {
       parties = terms.0;
       within = not_capped (draft_sum product (noted_row draft product seller buyer amount).rows) terms.1.0;
@@ -86,7 +86,7 @@ potential_passes : (draft : Draft) (by : Option (List ℕ)) (product member : Li
     Passes (record { by = by; what = AskPot product member value (draft_size (noted_potential draft product member value)) }) → IsPotentialFor draft product member value
 potential_passes draft by product member value in_range p =
     let none = none_holds (refusals p.state by (AskPot product member value (draft_size (noted_potential draft product member value)))) p.none in
-    record { in_range = in_range; few = not_above 100000 (draft_size (noted_potential draft product member value)) none.1.1.1.1.1.0 }
+    record { in_range = in_range; few = not_above 100000 (draft_size (noted_potential draft product member value)) none.1.1.1.1.0 }
 
 -- what the machine took may be noted
 pub may_note : (figures : Figures) (before after : Bool) (h : History) (seat : ℕ) (rows : Rows) (speaker : Speaker) (read : Result Line ℕ) (reply : Reply) (size : ℕ) → HasPotential read →

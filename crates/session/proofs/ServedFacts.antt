@@ -1,108 +1,70 @@
 -- How a session goes on by one byte, and ends.
-use Rattle.std.proofs.Common.{◌≡◌, ◌⊎◌, ℕ, zero, suc, ◌+◌, ◌≤◌, ◌<◌, ◌==◌, Bool, true, false, List, [], ◌∷◌, ◌++◌, length, take, drop, get_or, Option, Result, Ok, Err, OnErr, arith, refl, sym, subst, ap, inl, inr, ◌∙◌, append_assoc, cond, if◌then◌else◌}
+use Rattle.std.proofs.Common.{◌≡◌, ℕ, ◌+◌, ◌≤◌, ◌<◌, ◌==◌, Bool, true, false, List, [], ◌∷◌, ◌++◌, length, take, drop, get_or, Option, Result, Ok, Err, OnErr, arith, refl, sym, subst, ap, ◌∙◌, append_assoc}
 use Rattle.std.proofs.lemmas.Bool.Decides.{nat_tests}
-use Rattle.std.proofs.lemmas.List.{length-append, append-nil, take_all, length-take, take_more, take-append-drop, take-append-le}
+use Rattle.std.proofs.lemmas.List.{length-append, append-nil, length-take, take_more, take-append-drop, take-append-le}
 use Rattle.outside.specs.Flow.{Takes}
 use Rattle.outside.proofs.FlowFacts.{takes_both}
 use Rattle.session.proofs.StreamFacts.{takes_none}
-use Rattle.command_types.specs.declared.ask.Ask.{Ask}
 use Rattle.command_types.specs.declared.line.Line.{Line}
 use Rattle.command_types.specs.declared.ask.Entry.{Entry}
 use Rattle.command_types.specs.declared.answer.Reply.{Reply}
-use Rattle.command_types.specs.declared.figures.Figures.{Figures}
-use Rattle.command_types.specs.History.{History, IsLegal, end_of, longer, recorded}
-use Rattle.command_types.specs.Told.{IsTold}
+use Rattle.command_types.specs.History.{History}
 use Rattle.command_types.specs.Roster.{Rows}
-use Rattle.command_types.specs.Session.{Speaker, nobody, ask_of, what_or_fault, speaker_after, is_bye, Standing, IsAnswered, IsTalk}
+use Rattle.command_types.specs.Session.{Speaker, nobody, is_bye, Standing, IsReplied, IsAnswered, IsTalk}
 use Rattle.command_types.specs.Details.{reply_text}
-use Rattle.command_types.specs.Lines.{cut_of, ended_line, last_line, lines_of}
+use Rattle.command_types.specs.Lines.{cut_of, ended_line, lines_of}
 use Rattle.command_types.specs.Grammar.{line_within}
 use Rattle.command_types.proofs.LineFacts.{cut_byte, cut_line, whole_grows, read_of_front, read_of_ended_front, take_push, none_last, some_last}
 use Rattle.command_types.proofs.TalkFacts.{talk_on, talk_longer}
 use Rattle.session.specs.declared.serve.Step.{Step}
-use Rattle.session.specs.Serving.{Sight, standing, roster_of, Answers, RepliesWhole, RepliesInPart, Served, Left, CutOff, Written}
-
--- what is recorded of a line of this party
-abbrev kept_of : Sight → ℕ → Speaker → List ℕ → Reply → List Entry
-kept_of desk seat before line reply = recorded seat (ask_of (roster_of desk) before line) reply.answer
+use Rattle.session.specs.Serving.{Seat, Sight, mark, standing, roster_of, Grows, AnswersRead, Answers, RepliesWhole, RepliesInPart, Served, Left, CutOff, Written}
+use Rattle.session.proofs.GrowthFacts.{grows_none, grows_both, same_roster}
 
 -- the text of a reply over this desk's roster
 abbrev text_of : Sight → Reply → List ℕ
 text_of desk reply = reply_text (roster_of desk) reply
 
-longer_longer : (h : History) (made more : List Entry) → longer (longer h made) more ≡ longer h (made ++ more)
-longer_longer h made more = ap (λ es. record h { entries = es }) (append_assoc h.entries made more)
-
-grown_on : (start old new : History) (made more : List Entry) → old ≡ longer start made → new ≡ longer old more → new ≡ longer start (made ++ more)
-grown_on start old new made more before on = on ∙ ap (λ h. longer h more) before ∙ longer_longer start made more
-
--- the roster stays
-pub same_roster : (old new : Sight) (seat : ℕ) (before after : Speaker) (line : List ℕ) (reply : Reply) → Answers old new seat before after line reply → roster_of new ≡ roster_of old
-same_roster old new seat before after line reply a = ap (λ (h : History). h.base.state.roster) a.grown
-
--- an answer of the desk is an answer to the line
-line_answered : (start : Figures) (old new : Sight) (seat : ℕ) (before after : Speaker) (line : List ℕ) (reply : Reply) → old.figures ≡ start →
-    Answers old new seat before after line reply →
-    IsAnswered start new.history seat (standing old before false) line (text_of old reply) (kept_of old seat before line reply) (standing new after (is_bye reply.answer))
-line_answered start old new seat before after line reply figures a =
-    let rows : roster_of new ≡ roster_of old = same_roster old new seat before after line reply a in
-    let asked : ask_of (roster_of old) before line ≡ ask_of (roster_of new) before line = ap (λ r. ask_of r before line) (sym rows) in
-    let T : Ask → Type 0 = λ ask. IsTold start old.stopped new.stopped new.history seat ask reply in
-    let F : Figures → Type 0 = λ f. IsTold f old.stopped new.stopped new.history seat (ask_of (roster_of old) before line) reply in
-    let ends : end_of new.history ≡ end_of (longer old.history (kept_of old seat before line reply)) = ap end_of a.grown in
+-- an answer is an answer to the line
+line_answered : (start : Seat) (old new : Sight) (before after : Speaker) (line : List ℕ) (reply : Reply) → old.seat ≡ start → (a : Answers old new before after line reply) →
+    IsAnswered start.figures new.history start.number (standing old before false) line (text_of old reply) a.made (standing new after (is_bye reply.answer))
+line_answered start old new before after line reply seat a =
+    let rows : roster_of old ≡ roster_of new = sym (same_roster old new a.made a.grows) in
+    let R : Rows → Type 0 = λ r. IsReplied start.figures new.history start.number (mark old) r before (line_within line) reply a.made (mark new) in
+    let F : Seat → Type 0 = λ s. IsReplied s.figures new.history s.number (mark old) (roster_of old) before (line_within line) reply a.made (mark new) in
     record {
       reply = reply;
-      before = old.stopped;
       open_yet = refl;
-      told = subst T asked (subst F figures a.told);
-      later = omega (arith, a.place, ends, length-append old.history.entries (kept_of old seat before line reply));
-      known = λ e. e;
-      stays = a.stays;
-      text = ap (λ r. reply_text r reply) (sym rows);
-      made = ap (λ ask. recorded seat ask reply.answer) asked;
-      position = sym a.place;
+      replied = subst R rows (subst F seat a.replied);
+      text = ap (λ r. reply_text r reply) rows;
       speaker = a.speaker;
       over = refl;
     }
 
--- a talk in the desk's longer history
-talk_there : (start : Sight) (seat : ℕ) (old new : Sight) (more : List Entry) (lines : List (List ℕ)) (text : List ℕ) (made : List Entry) (to : Standing) →
-    new.history ≡ longer old.history more →
-    IsTalk start.figures old.history seat (standing start nobody false) lines text made to → IsTalk start.figures new.history seat (standing start nobody false) lines text made to
-talk_there start seat old new more lines text made to grown talk =
-    let H : History → Type 0 = λ h. IsTalk start.figures h seat (standing start nobody false) lines text made to in
-    subst H (sym grown) (talk_longer start.figures old.history more seat (standing start nobody false) lines text made to talk)
+-- a talk in a history that has grown
+talk_there : (start old new : Sight) (made : List Entry) (lines : List (List ℕ)) (text : List ℕ) (talked : List Entry) (to : Standing) → Grows old new made →
+    IsTalk start.seat.figures old.history start.seat.number (standing start nobody false) lines text talked to →
+    IsTalk start.seat.figures new.history start.seat.number (standing start nobody false) lines text talked to
+talk_there start old new made lines text talked to g talk =
+    let H : History → Type 0 = λ h. IsTalk start.seat.figures h start.seat.number (standing start nobody false) lines text talked to in
+    subst H (sym g.grown) (talk_longer start.seat.figures old.history g.more start.seat.number (standing start nobody false) lines text talked to talk)
 
 -- a line of the same command as another
-read_alike : (old new : Sight) (seat : ℕ) (before after : Speaker) (a b : List ℕ) (reply : Reply) → line_within a ≡ line_within b → Answers old new seat before after a reply → Answers old new seat before after b reply
-read_alike old new seat before after a b reply e r =
-    let K : Result Line ℕ → Ask = λ l. record { by = before.party; what = what_or_fault (roster_of old) before.draft l } in
-    let T : Ask → Type 0 = λ ask. IsTold old.figures old.stopped new.stopped new.history seat ask reply in
-    record {
-      told = subst T (ap K e) r.told;
-      grown = r.grown ∙ ap (λ l. longer old.history (recorded seat (K l) reply.answer)) e;
-      place = r.place;
-      speaker = r.speaker ∙ ap (λ l. speaker_after before l reply.answer) e;
-      figures = r.figures;
-      stays = r.stays;
-      legal = r.legal;
-    }
+read_alike : (old new : Sight) (before after : Speaker) (a b : List ℕ) (reply : Reply) → line_within a ≡ line_within b → Answers old new before after a reply → Answers old new before after b reply
+read_alike old new before after a b reply e r = let P : Result Line ℕ → Type 0 = λ l. AnswersRead old new before after l reply in subst P e r
 
 -- a byte that ends no line
-pub served_byte : (seat : ℕ) (start : Sight) (begun taken : Option (List ℕ)) (now : Sight) (speaker : Speaker) (kept next bytes : List ℕ) (b : ℕ) →
-    Served seat start begun taken now speaker kept bytes → (b == 10) ≡ false → next ≡ take 4097 (kept ++ b ∷ []) → Served seat start begun taken now speaker next (bytes ++ b ∷ [])
-served_byte seat start begun taken now speaker kept next bytes b v other is =
+pub served_byte : (start : Sight) (begun taken : Option (List ℕ)) (now : Sight) (speaker : Speaker) (kept next bytes : List ℕ) (b : ℕ) →
+    Served start begun taken now speaker kept bytes → (b == 10) ≡ false → next ≡ take 4097 (kept ++ b ∷ []) → Served start begun taken now speaker next (bytes ++ b ∷ [])
+served_byte start begun taken now speaker kept next bytes b v other is =
     let same = cut_byte bytes b other in
-    let P : List (List ℕ) → Type 0 = λ lines. IsTalk start.figures now.history seat (standing start nobody false) lines v.text v.made (standing now speaker false) in
+    let P : List (List ℕ) → Type 0 = λ lines. IsTalk start.seat.figures now.history start.seat.number (standing start nobody false) lines v.text v.made (standing now speaker false) in
     record {
-      figures = v.figures;
       text = v.text;
       made = v.made;
-      grown = v.grown;
+      grows = v.grows;
       took = v.took;
       talk = subst P (sym (ap (λ c. c.whole) same)) v.talk;
       line = is ∙ ap (λ k. take 4097 (k ++ b ∷ [])) v.line ∙ take_push 4097 (cut_of bytes).rest b ∙ ap (λ c. take 4097 c.rest) (sym same);
-      legal = v.legal;
     }
 
 -- a line that was ended, from what is kept of it
@@ -114,70 +76,68 @@ last_front : (kept rest : List ℕ) → kept ≡ take 4097 rest → line_within 
 last_front kept rest is = ap line_within is ∙ read_of_front rest
 
 -- the lines with one more, which was replied to
-talk_with : (seat : ℕ) (start : Sight) (begun taken : Option (List ℕ)) (old new : Sight) (before after : Speaker) (kept bytes line : List ℕ) (reply : Reply) →
-    (v : Served seat start begun taken old before kept bytes) → Answers old new seat before after line reply →
-    IsTalk start.figures new.history seat (standing start nobody false) ((cut_of bytes).whole ++ line ∷ []) (v.text ++ text_of old reply) (v.made ++ kept_of old seat before line reply) (standing new after (is_bye reply.answer))
-talk_with seat start begun taken old new before after kept bytes line reply v a =
-    talk_on start.figures new.history seat (standing start nobody false) (cut_of bytes).whole v.text v.made (standing old before false) line (text_of old reply) (kept_of old seat before line reply) (standing new after (is_bye reply.answer))
-    (talk_there start seat old new (kept_of old seat before line reply) (cut_of bytes).whole v.text v.made (standing old before false) a.grown v.talk)
-    (line_answered start.figures old new seat before after line reply v.figures a)
+talk_with : (start : Sight) (begun taken : Option (List ℕ)) (old new : Sight) (before after : Speaker) (kept bytes line : List ℕ) (reply : Reply) →
+    (v : Served start begun taken old before kept bytes) → (a : Answers old new before after line reply) →
+    IsTalk start.seat.figures new.history start.seat.number (standing start nobody false) ((cut_of bytes).whole ++ line ∷ []) (v.text ++ text_of old reply) (v.made ++ a.made) (standing new after (is_bye reply.answer))
+talk_with start begun taken old new before after kept bytes line reply v a =
+    talk_on start.seat.figures new.history start.seat.number (standing start nobody false) (cut_of bytes).whole v.text v.made (standing old before false) line (text_of old reply) a.made (standing new after (is_bye reply.answer))
+    (talk_there start old new a.made (cut_of bytes).whole v.text v.made (standing old before false) a.grows v.talk)
+    (line_answered start.seat old new before after line reply v.grows.seat a)
 
 -- these lines are written, with one more
-written_with : (seat : ℕ) (start : Sight) (begun taken taken' : Option (List ℕ)) (old new : Sight) (before after : Speaker) (kept bytes line : List ℕ) (reply : Reply) (lines : List (List ℕ)) →
-    (v : Served seat start begun taken old before kept bytes) → Answers old new seat before after line reply → Takes taken taken' (text_of old reply) → lines ≡ (cut_of bytes).whole ++ line ∷ [] →
-    Written seat start begun taken' new lines
-written_with seat start begun taken taken' old new before after kept bytes line reply lines v a took order =
-    let P : List (List ℕ) → Type 0 = λ ls. IsTalk start.figures new.history seat (standing start nobody false) ls (v.text ++ text_of old reply) (v.made ++ kept_of old seat before line reply) (standing new after (is_bye reply.answer)) in
+written_with : (start : Sight) (begun taken taken' : Option (List ℕ)) (old new : Sight) (before after : Speaker) (kept bytes line : List ℕ) (reply : Reply) (lines : List (List ℕ)) →
+    (v : Served start begun taken old before kept bytes) → Answers old new before after line reply → Takes taken taken' (text_of old reply) → lines ≡ (cut_of bytes).whole ++ line ∷ [] →
+    Written start begun taken' new lines
+written_with start begun taken taken' old new before after kept bytes line reply lines v a took order =
+    let P : List (List ℕ) → Type 0 = λ ls. IsTalk start.seat.figures new.history start.seat.number (standing start nobody false) ls (v.text ++ text_of old reply) (v.made ++ a.made) (standing new after (is_bye reply.answer)) in
     record {
       text = v.text ++ text_of old reply;
-      made = v.made ++ kept_of old seat before line reply;
+      made = v.made ++ a.made;
       to = standing new after (is_bye reply.answer);
-      grown = grown_on start.history old.history new.history v.made (kept_of old seat before line reply) v.grown a.grown;
+      there = refl;
+      grows = grows_both start old new v.made a.made v.grows a.grows;
       took = takes_both _ _ _ _ _ v.took took;
-      talk = subst P (sym order) (talk_with seat start begun taken old new before after kept bytes line reply v a);
-      legal = λ legal. a.legal;
+      talk = subst P (sym order) (talk_with start begun taken old new before after kept bytes line reply v a);
     }
 
 -- a line feed after which the session goes on
-pub served_line : (seat : ℕ) (start : Sight) (begun taken taken' : Option (List ℕ)) (old new : Sight) (before after : Speaker) (kept next bytes : List ℕ) (b : ℕ) (reply : Reply) →
-    Served seat start begun taken old before kept bytes → (b == 10) ≡ true → next ≡ [] → Answers old new seat before after (ended_line kept) reply → Takes taken taken' (text_of old reply) → is_bye reply.answer ≡ false →
-    Served seat start begun taken' new after next (bytes ++ b ∷ [])
-served_line seat start begun taken taken' old new before after kept next bytes b reply v feed is said took stays =
+pub served_line : (start : Sight) (begun taken taken' : Option (List ℕ)) (old new : Sight) (before after : Speaker) (kept next bytes : List ℕ) (b : ℕ) (reply : Reply) →
+    Served start begun taken old before kept bytes → (b == 10) ≡ true → next ≡ [] → Answers old new before after (ended_line kept) reply → Takes taken taken' (text_of old reply) → is_bye reply.answer ≡ false →
+    Served start begun taken' new after next (bytes ++ b ∷ [])
+served_line start begun taken taken' old new before after kept next bytes b reply v feed is said took stays =
     let same = cut_line bytes b feed in
     let line = ended_line (cut_of bytes).rest in
-    let a = read_alike old new seat before after (ended_line kept) line reply (ended_front kept (cut_of bytes).rest v.line) said in
-    let P : List (List ℕ) → Type 0 = λ lines. IsTalk start.figures new.history seat (standing start nobody false) lines (v.text ++ text_of old reply) (v.made ++ kept_of old seat before line reply) (standing new after false) in
-    let Q : Bool → Type 0 = λ over. IsTalk start.figures new.history seat (standing start nobody false) ((cut_of bytes).whole ++ line ∷ []) (v.text ++ text_of old reply) (v.made ++ kept_of old seat before line reply) (standing new after over) in
+    let a = read_alike old new before after (ended_line kept) line reply (ended_front kept (cut_of bytes).rest v.line) said in
+    let P : List (List ℕ) → Type 0 = λ lines. IsTalk start.seat.figures new.history start.seat.number (standing start nobody false) lines (v.text ++ text_of old reply) (v.made ++ a.made) (standing new after false) in
+    let Q : Bool → Type 0 = λ over. IsTalk start.seat.figures new.history start.seat.number (standing start nobody false) ((cut_of bytes).whole ++ line ∷ []) (v.text ++ text_of old reply) (v.made ++ a.made) (standing new after over) in
     record {
-      figures = a.figures ∙ v.figures;
       text = v.text ++ text_of old reply;
-      made = v.made ++ kept_of old seat before line reply;
-      grown = grown_on start.history old.history new.history v.made (kept_of old seat before line reply) v.grown a.grown;
+      made = v.made ++ a.made;
+      grows = grows_both start old new v.made a.made v.grows a.grows;
       took = takes_both _ _ _ _ _ v.took took;
-      talk = subst P (sym (ap (λ c. c.whole) same)) (subst Q stays (talk_with seat start begun taken old new before after kept bytes line reply v a));
+      talk = subst P (sym (ap (λ c. c.whole) same)) (subst Q stays (talk_with start begun taken old new before after kept bytes line reply v a));
       line = is ∙ ap (λ c. take 4097 c.rest) (sym same);
-      legal = λ legal. a.legal;
     }
 
 -- a line feed after which the session is over
-pub left_line : (seat : ℕ) (start : Sight) (begun taken taken' : Option (List ℕ)) (old new : Sight) (before after : Speaker) (kept bytes : List ℕ) (b : ℕ) (reply : Reply) →
-    Served seat start begun taken old before kept bytes → (b == 10) ≡ true → Answers old new seat before after (ended_line kept) reply → Takes taken taken' (text_of old reply) → is_bye reply.answer ≡ true →
-    Left seat start begun taken' new (cut_of (bytes ++ b ∷ [])).whole
+pub left_line : (start : Sight) (begun taken taken' : Option (List ℕ)) (old new : Sight) (before after : Speaker) (kept bytes : List ℕ) (b : ℕ) (reply : Reply) →
+    Served start begun taken old before kept bytes → (b == 10) ≡ true → Answers old new before after (ended_line kept) reply → Takes taken taken' (text_of old reply) → is_bye reply.answer ≡ true →
+    Left start begun taken' new (cut_of (bytes ++ b ∷ [])).whole
 unfolding written_with
-left_line seat start begun taken taken' old new before after kept bytes b reply v feed said took bye =
+left_line start begun taken taken' old new before after kept bytes b reply v feed said took bye =
     let line = ended_line (cut_of bytes).rest in
-    let a = read_alike old new seat before after (ended_line kept) line reply (ended_front kept (cut_of bytes).rest v.line) said in
+    let a = read_alike old new before after (ended_line kept) line reply (ended_front kept (cut_of bytes).rest v.line) said in
     record {
       said = (cut_of bytes).whole ++ line ∷ [];
       others = [];
       order = ap (λ c. c.whole) (cut_line bytes b feed) ∙ sym (append-nil _);
-      written = written_with seat start begun taken taken' old new before after kept bytes line reply _ v a took refl;
+      written = written_with start begun taken taken' old new before after kept bytes line reply _ v a took refl;
       over = bye;
     }
 
 -- a front of the lines up to a BYE is one of more lines
-pub left_more : (seat : ℕ) (start : Sight) (begun taken : Option (List ℕ)) (now : Sight) (xs ys : List ℕ) → Left seat start begun taken now (cut_of xs).whole → Left seat start begun taken now (cut_of (xs ++ ys)).whole
-left_more seat start begun taken now xs ys v =
+pub left_more : (start : Sight) (begun taken : Option (List ℕ)) (now : Sight) (xs ys : List ℕ) → Left start begun taken now (cut_of xs).whole → Left start begun taken now (cut_of (xs ++ ys)).whole
+left_more start begun taken now xs ys v =
     let more = whole_grows xs ys in
     record {
       said = v.said;
@@ -188,10 +148,10 @@ left_more seat start begun taken now xs ys v =
     }
 
 -- a reply that is not written whole
-cut_off_at : (seat : ℕ) (start : Sight) (begun taken taken' : Option (List ℕ)) (old new : Sight) (before after : Speaker) (kept bytes line : List ℕ) (n : ℕ) (reply : Reply) (lines : List (List ℕ)) →
-    Served seat start begun taken old before kept bytes → Answers old new seat before after line reply → n < length (text_of old reply) → Takes taken taken' (take n (text_of old reply)) →
-    lines ≡ (cut_of bytes).whole ++ line ∷ [] → CutOff seat start begun taken' new lines
-cut_off_at seat start begun taken taken' old new before after kept bytes line n reply lines v a short took order = record {
+cut_off_at : (start : Sight) (begun taken taken' : Option (List ℕ)) (old new : Sight) (before after : Speaker) (kept bytes line : List ℕ) (n : ℕ) (reply : Reply) (lines : List (List ℕ)) →
+    Served start begun taken old before kept bytes → Answers old new before after line reply → n < length (text_of old reply) → Takes taken taken' (take n (text_of old reply)) →
+    lines ≡ (cut_of bytes).whole ++ line ∷ [] → CutOff start begun taken' new lines
+cut_off_at start begun taken taken' old new before after kept bytes line n reply lines v a short took order = record {
   earlier = (cut_of bytes).whole;
   line = line;
   others = [];
@@ -199,30 +159,30 @@ cut_off_at seat start begun taken taken' old new before after kept bytes line n 
   text = v.text;
   last = text_of old reply;
   made = v.made;
-  first = kept_of old seat before line reply;
+  first = a.made;
   mid = standing old before false;
   to = standing new after (is_bye reply.answer);
-  grown = grown_on start.history old.history new.history v.made (kept_of old seat before line reply) v.grown a.grown;
-  talk = talk_there start seat old new (kept_of old seat before line reply) (cut_of bytes).whole v.text v.made (standing old before false) a.grown v.talk;
-  answered = line_answered start.figures old new seat before after line reply v.figures a;
+  there = refl;
+  grows = grows_both start old new v.made a.made v.grows a.grows;
+  talk = talk_there start old new a.made (cut_of bytes).whole v.text v.made (standing old before false) a.grows v.talk;
+  answered = line_answered start.seat old new before after line reply v.grows.seat a;
   written = n;
   unfinished = short;
   took = takes_both _ _ _ _ _ v.took took;
-  legal = λ legal. a.legal;
 }
 
 -- a line feed whose reply is not written whole
-pub cut_off_line : (seat : ℕ) (start : Sight) (begun taken taken' : Option (List ℕ)) (old new : Sight) (before after : Speaker) (kept bytes : List ℕ) (b : ℕ) →
-    Served seat start begun taken old before kept bytes → (b == 10) ≡ true → RepliesInPart old new seat before after (ended_line kept) taken taken' →
-    CutOff seat start begun taken' new (cut_of (bytes ++ b ∷ [])).whole
-cut_off_line seat start begun taken taken' old new before after kept bytes b v feed r =
+pub cut_off_line : (start : Sight) (begun taken taken' : Option (List ℕ)) (old new : Sight) (before after : Speaker) (kept bytes : List ℕ) (b : ℕ) →
+    Served start begun taken old before kept bytes → (b == 10) ≡ true → RepliesInPart old new before after (ended_line kept) taken taken' →
+    CutOff start begun taken' new (cut_of (bytes ++ b ∷ [])).whole
+cut_off_line start begun taken taken' old new before after kept bytes b v feed r =
     let line = ended_line (cut_of bytes).rest in
-    let a = read_alike old new seat before after (ended_line kept) line r.reply (ended_front kept (cut_of bytes).rest v.line) r.answers in
-    cut_off_at seat start begun taken taken' old new before after kept bytes line r.written r.reply _ v a r.unfinished r.took (ap (λ c. c.whole) (cut_line bytes b feed))
+    let a = read_alike old new before after (ended_line kept) line r.reply (ended_front kept (cut_of bytes).rest v.line) r.answers in
+    cut_off_at start begun taken taken' old new before after kept bytes line r.written r.reply _ v a r.unfinished r.took (ap (λ c. c.whole) (cut_line bytes b feed))
 
 -- a front of the lines is a front of more lines
-cut_off_by : (seat : ℕ) (start : Sight) (begun taken : Option (List ℕ)) (now : Sight) (lines more all : List (List ℕ)) → all ≡ lines ++ more → CutOff seat start begun taken now lines → CutOff seat start begun taken now all
-cut_off_by seat start begun taken now lines more all is v = record {
+cut_off_by : (start : Sight) (begun taken : Option (List ℕ)) (now : Sight) (lines more all : List (List ℕ)) → all ≡ lines ++ more → CutOff start begun taken now lines → CutOff start begun taken now all
+cut_off_by start begun taken now lines more all is v = record {
   earlier = v.earlier;
   line = v.line;
   others = v.others ++ more;
@@ -233,20 +193,20 @@ cut_off_by seat start begun taken now lines more all is v = record {
   first = v.first;
   mid = v.mid;
   to = v.to;
-  grown = v.grown;
+  there = v.there;
+  grows = v.grows;
   talk = v.talk;
   answered = v.answered;
   written = v.written;
   unfinished = v.unfinished;
   took = v.took;
-  legal = v.legal;
 }
 
 -- a front of the lines is a front of the lines of more bytes
-pub cut_off_more : (seat : ℕ) (start : Sight) (begun taken : Option (List ℕ)) (now : Sight) (xs ys : List ℕ) → CutOff seat start begun taken now (cut_of xs).whole → CutOff seat start begun taken now (cut_of (xs ++ ys)).whole
-cut_off_more seat start begun taken now xs ys v =
+pub cut_off_more : (start : Sight) (begun taken : Option (List ℕ)) (now : Sight) (xs ys : List ℕ) → CutOff start begun taken now (cut_of xs).whole → CutOff start begun taken now (cut_of (xs ++ ys)).whole
+cut_off_more start begun taken now xs ys v =
     let more = whole_grows xs ys in
-    cut_off_by seat start begun taken now (cut_of xs).whole more.0 (cut_of (xs ++ ys)).whole more.1 v
+    cut_off_by start begun taken now (cut_of xs).whole more.0 (cut_of (xs ++ ys)).whole more.1 v
 
 -- a piece is what was taken of it, and the rest
 pub piece_rest : (bytes p : List ℕ) (i : ℕ) → i < length p → ((bytes ++ take i p) ++ get_or p i 0 ∷ []) ++ drop (i + 1) p ≡ bytes ++ p
@@ -255,48 +215,46 @@ piece_rest bytes p i lt =
     ∙ append_assoc bytes (take (i + 1) p) (drop (i + 1) p) ∙ ap (λ v. bytes ++ v) (take-append-drop (i + 1) p)
 
 -- an input that ended, where no begun line is left
-pub written_none : (seat : ℕ) (start : Sight) (begun taken : Option (List ℕ)) (now : Sight) (speaker : Speaker) (kept bytes : List ℕ) →
-    Served seat start begun taken now speaker kept bytes → kept ≡ [] → Written seat start begun taken now (lines_of bytes)
-written_none seat start begun taken now speaker kept bytes v empty =
+pub written_none : (start : Sight) (begun taken : Option (List ℕ)) (now : Sight) (speaker : Speaker) (kept bytes : List ℕ) →
+    Served start begun taken now speaker kept bytes → kept ≡ [] → Written start begun taken now (lines_of bytes)
+written_none start begun taken now speaker kept bytes v empty =
     let all : lines_of bytes ≡ (cut_of bytes).whole = ap (λ l. (cut_of bytes).whole ++ l) (none_last (cut_of bytes).rest (sym v.line ∙ empty)) ∙ append-nil (cut_of bytes).whole in
-    let P : List (List ℕ) → Type 0 = λ lines. IsTalk start.figures now.history seat (standing start nobody false) lines v.text v.made (standing now speaker false) in
-    record { text = v.text; made = v.made; to = standing now speaker false; grown = v.grown; took = v.took; talk = subst P (sym all) v.talk; legal = v.legal }
+    let P : List (List ℕ) → Type 0 = λ lines. IsTalk start.seat.figures now.history start.seat.number (standing start nobody false) lines v.text v.made (standing now speaker false) in
+    record { text = v.text; made = v.made; to = standing now speaker false; there = refl; grows = v.grows; took = v.took; talk = subst P (sym all) v.talk }
 
 -- the whole lines so far, without a BYE among them
-pub whole_open : (seat : ℕ) (start : Sight) (begun taken : Option (List ℕ)) (now : Sight) (speaker : Speaker) (kept bytes : List ℕ) →
-    Served seat start begun taken now speaker kept bytes → (written : Written seat start begun taken now (cut_of bytes).whole) × (written.to.over ≡ false)
-whole_open seat start begun taken now speaker kept bytes v =
-    (record { text = v.text; made = v.made; to = standing now speaker false; grown = v.grown; took = v.took; talk = v.talk; legal = v.legal }, refl)
+pub whole_open : (start : Sight) (begun taken : Option (List ℕ)) (now : Sight) (speaker : Speaker) (kept bytes : List ℕ) →
+    Served start begun taken now speaker kept bytes → (written : Written start begun taken now (cut_of bytes).whole) × (written.to.over ≡ false)
+whole_open start begun taken now speaker kept bytes v =
+    (record { text = v.text; made = v.made; to = standing now speaker false; there = refl; grows = v.grows; took = v.took; talk = v.talk }, refl)
 
 all_lines : (bytes kept : List ℕ) → kept ≡ take 4097 (cut_of bytes).rest → (kept ≡ [] → ⊥) → lines_of bytes ≡ (cut_of bytes).whole ++ (cut_of bytes).rest ∷ []
 all_lines bytes kept is some = ap (λ l. (cut_of bytes).whole ++ l) (some_last (cut_of bytes).rest (λ e. some (is ∙ e)))
 
 -- and where one is left, which is replied to
-pub written_last : (seat : ℕ) (start : Sight) (begun taken taken' : Option (List ℕ)) (old new : Sight) (before after : Speaker) (kept bytes : List ℕ) (step : Step) →
-    Served seat start begun taken old before kept bytes → (kept ≡ [] → ⊥) → RepliesWhole old new seat before after kept taken taken' step →
-    Written seat start begun taken' new (lines_of bytes)
-written_last seat start begun taken taken' old new before after kept bytes step v some r =
-    let a = read_alike old new seat before after kept (cut_of bytes).rest r.reply (last_front kept (cut_of bytes).rest v.line) r.answers in
-    written_with seat start begun taken taken' old new before after kept bytes (cut_of bytes).rest r.reply (lines_of bytes) v a r.took (all_lines bytes kept v.line some)
+pub written_last : (start : Sight) (begun taken taken' : Option (List ℕ)) (old new : Sight) (before after : Speaker) (kept bytes : List ℕ) (step : Step) →
+    Served start begun taken old before kept bytes → (kept ≡ [] → ⊥) → RepliesWhole old new before after kept taken taken' step →
+    Written start begun taken' new (lines_of bytes)
+written_last start begun taken taken' old new before after kept bytes step v some r =
+    let a = read_alike old new before after kept (cut_of bytes).rest r.reply (last_front kept (cut_of bytes).rest v.line) r.answers in
+    written_with start begun taken taken' old new before after kept bytes (cut_of bytes).rest r.reply (lines_of bytes) v a r.took (all_lines bytes kept v.line some)
 
-pub cut_off_last : (seat : ℕ) (start : Sight) (begun taken taken' : Option (List ℕ)) (old new : Sight) (before after : Speaker) (kept bytes : List ℕ) →
-    Served seat start begun taken old before kept bytes → (kept ≡ [] → ⊥) → RepliesInPart old new seat before after kept taken taken' →
-    CutOff seat start begun taken' new (lines_of bytes)
-cut_off_last seat start begun taken taken' old new before after kept bytes v some r =
-    let a = read_alike old new seat before after kept (cut_of bytes).rest r.reply (last_front kept (cut_of bytes).rest v.line) r.answers in
-    cut_off_at seat start begun taken taken' old new before after kept bytes (cut_of bytes).rest r.written r.reply (lines_of bytes) v a r.unfinished r.took (all_lines bytes kept v.line some)
+pub cut_off_last : (start : Sight) (begun taken taken' : Option (List ℕ)) (old new : Sight) (before after : Speaker) (kept bytes : List ℕ) →
+    Served start begun taken old before kept bytes → (kept ≡ [] → ⊥) → RepliesInPart old new before after kept taken taken' →
+    CutOff start begun taken' new (lines_of bytes)
+cut_off_last start begun taken taken' old new before after kept bytes v some r =
+    let a = read_alike old new before after kept (cut_of bytes).rest r.reply (last_front kept (cut_of bytes).rest v.line) r.answers in
+    cut_off_at start begun taken taken' old new before after kept bytes (cut_of bytes).rest r.written r.reply (lines_of bytes) v a r.unfinished r.took (all_lines bytes kept v.line some)
 
 -- nothing is served yet
-pub served_none : (seat : ℕ) (start : Sight) (begun : Option (List ℕ)) (kept : List ℕ) → kept ≡ [] → Served seat start begun begun start nobody kept []
-served_none seat start begun kept empty = record {
-  figures = refl;
+pub served_none : (start : Sight) (begun : Option (List ℕ)) (kept : List ℕ) → kept ≡ [] → Served start begun begun start nobody kept []
+served_none start begun kept empty = record {
   text = [];
   made = [];
-  grown = ap (λ es. record (start.history) { entries = es }) (sym (append-nil start.history.entries));
+  grows = grows_none start;
   took = takes_none begun;
   talk = (refl, refl, refl);
   line = empty;
-  legal = λ legal. legal;
 }
 
 -- the byte is a line feed, or not

@@ -1,5 +1,5 @@
 -- Whether a session goes on after a line.
-use Rattle.std.proofs.Common.{◌≡◌, Bool, true, false, Result, Ok, Err, IfOk, OnErr, refl, sym, subst, ap, ◌∙◌, cond, if◌then◌else◌}
+use Rattle.std.proofs.Common.{◌≡◌, Bool, true, false, Result, Ok, IfOk, refl, subst, cond}
 use Rattle.session.specs.declared.serve.Step.{Step}
 use Rattle.session.specs.declared.serve.Step.TheVariants.{On, Over}
 use Rattle.command_types.specs.declared.answer.Answer.{Answer}

@@ -1,5 +1,5 @@
 -- Streams that gave or took nothing more.
-use Rattle.std.proofs.Common.{◌≡◌, ℕ, List, [], ◌∷◌, ◌++◌, take, Option, Some, None, refl, sym, subst}
+use Rattle.std.proofs.Common.{◌≡◌, ℕ, List, [], take, Option, Some, None, refl, sym, subst}
 use Rattle.std.proofs.lemmas.List.{append-nil}
 use Rattle.outside.specs.Flow.{Flow, Gives, Takes}
 use Rattle.outside.proofs.FlowFacts.{gives_both}

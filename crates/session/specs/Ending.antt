@@ -11,18 +11,19 @@ abbrev pub session_limit : ℕ
 session_limit = 1073741824
 
 -- What was read and what was written, by the session's end.
-abbrev pub Ends : ℕ → Sight → Option Flow → Option Flow → Option (List ℕ) → Option (List ℕ) → Sight → SessionEnd → Type 0
-Ends seat start opened flow begun taken now Ended =
+abbrev pub Ends : Sight → Option Flow → Option Flow → Option (List ℕ) → Option (List ℕ) → Sight → SessionEnd → Type 0
+Ends start opened flow begun taken now Ended =
     (bytes : List ℕ) × Gives opened flow bytes
-    × ((IsAtEnd flow × (length bytes < session_limit) × Written seat start begun taken now (lines_of bytes))
-    ⊎ ((length bytes ≤ session_limit) × Left seat start begun taken now (cut_of bytes).whole))
-Ends seat start opened flow begun taken now SourceFault =
+    × ((IsAtEnd flow × (length bytes < session_limit) × Written start begun taken now (lines_of bytes))
+    ⊎ ((length bytes ≤ session_limit) × Left start begun taken now (cut_of bytes).whole))
+Ends start opened flow begun taken now SourceFault =
     (bytes : List ℕ) × Gives opened flow bytes × (length bytes < session_limit)
-    × ((written : Written seat start begun taken now (cut_of bytes).whole) × (written.to.over ≡ false))
-Ends seat start opened flow begun taken now Limit =
+    × ((written : Written start begun taken now (cut_of bytes).whole) × (written.to.over ≡ false))
+Ends start opened flow begun taken now Limit =
     (bytes : List ℕ) × Gives opened flow bytes × (length bytes ≡ session_limit)
-    × ((written : Written seat start begun taken now (cut_of bytes).whole) × (written.to.over ≡ false))
-Ends seat start opened flow begun taken now SinkFault =
+    × ((written : Written start begun taken now (cut_of bytes).whole) × (written.to.over ≡ false))
+Ends start opened flow begun taken now SinkFault =
     (bytes : List ℕ) × Gives opened flow bytes
-    × (CutOff seat start begun taken now (cut_of bytes).whole ⊎ (IsAtEnd flow × CutOff seat start begun taken now (lines_of bytes)))
-Ends seat start opened flow begun taken now Memory = (flow ≡ opened) × (taken ≡ begun) × (now ≡ start)
+    × (((length bytes ≤ session_limit) × CutOff start begun taken now (cut_of bytes).whole)
+    ⊎ (IsAtEnd flow × (length bytes < session_limit) × CutOff start begun taken now (lines_of bytes)))
+Ends start opened flow begun taken now Memory = (flow ≡ opened) × (taken ≡ begun) × (now ≡ start)

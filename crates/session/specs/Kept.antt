@@ -1,5 +1,5 @@
 -- The rows and potentials that a draft keeps, and its room for more.
-use Rattle.std.specs.Prelude.{ℕ, ◌<◌, List}
+use Rattle.std.specs.Prelude.{◌<◌, List}
 use Rattle.indexmap.specs.IndexMap.{spare}
 use Rattle.command_types.specs.Session.{DraftRow, DraftPotential}
 use Rattle.session.specs.declared.draft_rows.DraftRows.{DraftRows}

@@ -1,5 +1,5 @@
 -- What a session keeps between two lines, and what may be noted in it.
-use Rattle.std.specs.Prelude.{◌≡◌, ℕ, ◌≤◌, ℤ, Bool, false, List, Result, Ok, Err}
+use Rattle.std.specs.Prelude.{◌≡◌, ℕ, ◌≤◌, ℤ, false, List, Result, Ok}
 use Rattle.std.specs.Str.{bytes_eq}
 use Rattle.network_laws.specs.Solutions.{IsPotential}
 use Rattle.command_types.specs.declared.line.Line.{Line}

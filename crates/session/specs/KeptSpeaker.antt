@@ -1,5 +1,4 @@
 -- What a session keeps between two lines, as the definitions of sessions see it.
-use Rattle.std.specs.Prelude.{List}
 use Rattle.command_types.specs.Session.{Speaker as SpeakerData}
 use Rattle.session.specs.declared.speaker.Speaker.{Speaker}
 use Rattle.session.specs.KeptDraft.{draft_of}

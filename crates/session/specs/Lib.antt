@@ -3,6 +3,8 @@ pub mod Drafts
 pub mod Kept
 pub mod KeptDraft
 pub mod KeptSpeaker
+pub mod Places
 pub mod Serving
+pub mod Proposing
 pub mod Ending
 pub mod Pending

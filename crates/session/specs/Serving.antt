@@ -1,5 +1,5 @@
 -- How far a session has come.
-use Rattle.std.specs.Prelude.{◌≡◌, ℕ, ◌<◌, Bool, true, false, List, [], ◌∷◌, ◌++◌, take, length, Option, Result, if◌then◌else◌}
+use Rattle.std.specs.Prelude.{◌≡◌, ℕ, ◌<◌, Bool, true, false, List, ◌∷◌, ◌++◌, take, length, filter, ◌==◌, Option, Result, if◌then◌else◌}
 use Rattle.outside.specs.Flow.{Takes}
 use Rattle.command_types.specs.declared.ask.Ask.{Ask}
 use Rattle.command_types.specs.declared.ask.Entry.{Entry}
@@ -9,106 +9,124 @@ use Rattle.command_types.specs.declared.answer.Reply.{Reply}
 use Rattle.command_types.specs.declared.figures.Figures.{Figures}
 use Rattle.command_types.specs.Roster.{Rows}
 use Rattle.command_types.specs.History.{History, IsLegal, end_of, longer, recorded}
-use Rattle.command_types.specs.Told.{IsTold}
 use Rattle.command_types.specs.Lines.{cut_of}
 use Rattle.command_types.specs.Grammar.{line_within}
 use Rattle.command_types.specs.Details.{reply_text}
+use Rattle.cycle_lock.specs.declared.pass.Pass.{Pass}
+use Rattle.cycle_lock.specs.Passes.{LockId, lock_of, seat_of, figures_of, seen, saw_stop, may_split}
 use Rattle.session.specs.declared.serve.Step.{Step}
 use Rattle.session.specs.declared.serve.Step.TheVariants.{On, Over}
-use Rattle.command_types.specs.Session.{is_bye, Speaker, nobody, ask_of, what_or_fault, speaker_after, Standing, IsAnswered, IsTalk}
+use Rattle.command_types.specs.Session.{is_bye, Speaker, nobody, what_or_fault, speaker_after, Standing, Mark, mark_of, IsAsked, IsReplied, IsAnswered, IsTalk}
 
--- what a session sees of a desk
-pub record Sight : Type 0 where
+-- what stays while a session asks: the lock that the desk is in, what the desk was when it was made, the number of the session's seat, and how many passes may be split off for others
+pub record Seat : Type 0 where
+  pub lock : LockId
   pub figures : Figures
+  pub number : ℕ
+  pub splits : ℕ
+
+-- what a session sees of the desk that it asks
+pub record Sight : Type 0 where
+  pub seat : Seat
   pub history : History
   pub stopped : Bool
 
--- what is seen of a desk whose kind has these meanings
-abbrev pub sight : {D : Type 0} → (D → Figures) → (D → History) → (D → Bool) → D → Sight
-sight figures history stopped desk = record { figures = figures desk; history = history desk; stopped = stopped desk }
+-- what a pass has seen
+abbrev pub of_pass : Pass → Sight
+of_pass pass = record { seat = record { lock = lock_of pass; figures = figures_of pass; number = seat_of pass; splits = may_split pass }; history = seen pass; stopped = saw_stop pass }
 
 -- the roster of the desk
 abbrev pub roster_of : Sight → Rows
 roster_of desk = desk.history.base.state.roster
 
--- how a session stands that has seen the desk's end, before a BYE or after it
+-- the end of what a session has seen
+abbrev pub mark : Sight → Mark
+mark desk = record { position = end_of desk.history; stopped = desk.stopped }
+
+-- how a session stands that has seen that end, before a BYE or after it
 abbrev pub standing : Sight → Speaker → Bool → Standing
 standing desk speaker over = record { position = end_of desk.history; speaker = speaker; stopped = desk.stopped; over = over }
 
--- the command of what was read of a line
+-- the changes of a seat among these
+abbrev pub own_of : ℕ → List Entry → List Entry
+own_of seat entries = filter (λ entry. entry.seat == seat) entries
+
+-- The history has grown. Of what came, these are the seat's own changes.
+pub record Grows (old new : Sight) (made : List Entry) : Type 0 where
+  pub seat : new.seat ≡ old.seat
+  pub more : List Entry
+  pub grown : new.history ≡ longer old.history more
+  pub own : own_of old.seat.number more ≡ made
+  pub legal : IsLegal old.history → IsLegal new.history
+
+-- A command is replied to at the new end of what the asker has seen. Its seat's own changes have grown by it where it is recorded.
+pub record Asks (old new : Sight) (ask : Ask) (reply : Reply) : Type 0 where
+  pub grows : Grows old new (recorded old.seat.number ask reply.answer)
+  pub asked : IsAsked old.seat.figures new.history old.seat.number (mark old) ask reply (recorded old.seat.number ask reply.answer) (mark new)
+
+-- the one command of what was read of a line that is no PROPOSE
 abbrev pub ask_read : Rows → Speaker → Result Line ℕ → Ask
 ask_read rows speaker read = record { by = speaker.party; what = what_or_fault rows speaker.draft read }
 
--- What was read of a line is replied to at the desk's new end, and the history has grown by its command where that is recorded.
-pub record AnswersRead (old new : Sight) (seat : ℕ) (before after : Speaker) (read : Result Line ℕ) (reply : Reply) : Type 0 where
-  pub told : IsTold old.figures old.stopped new.stopped new.history seat (ask_read (roster_of old) before read) reply
-  pub grown : new.history ≡ longer old.history (recorded seat (ask_read (roster_of old) before read) reply.answer)
-  pub place : reply.at ≡ end_of new.history
+-- What was read of a line is replied to.
+pub record AnswersRead (old new : Sight) (before after : Speaker) (read : Result Line ℕ) (reply : Reply) : Type 0 where
+  pub made : List Entry
+  pub grows : Grows old new made
+  pub replied : IsReplied old.seat.figures new.history old.seat.number (mark old) (roster_of old) before read reply made (mark new)
   pub speaker : after ≡ speaker_after before read reply.answer
-  pub figures : new.figures ≡ old.figures
-  pub stays : old.stopped ≡ true → new.stopped ≡ true
-  pub legal : IsLegal new.history
 
--- A line is replied to at the desk's new end, and the history has grown by its command where that is recorded.
-pub record Answers (old new : Sight) (seat : ℕ) (before after : Speaker) (line : List ℕ) (reply : Reply) : Type 0 where
-  pub told : IsTold old.figures old.stopped new.stopped new.history seat (ask_of (roster_of old) before line) reply
-  pub grown : new.history ≡ longer old.history (recorded seat (ask_of (roster_of old) before line) reply.answer)
-  pub place : reply.at ≡ end_of new.history
-  pub speaker : after ≡ speaker_after before (line_within line) reply.answer
-  pub figures : new.figures ≡ old.figures
-  pub stays : old.stopped ≡ true → new.stopped ≡ true
-  pub legal : IsLegal new.history
+-- A line is replied to.
+abbrev pub Answers : Sight → Sight → Speaker → Speaker → List ℕ → Reply → Type 0
+Answers old new before after line reply = AnswersRead old new before after (line_within line) reply
 
 -- a session goes on after each answer but that to an accepted BYE
 abbrev pub step_of : Answer → Step
 step_of answer = if is_bye answer then Over else On
 
 -- A line is replied to, and the reply is written.
-pub record RepliesWhole (old new : Sight) (seat : ℕ) (before after : Speaker) (line : List ℕ) (taken then_taken : Option (List ℕ)) (step : Step) : Type 0 where
+pub record RepliesWhole (old new : Sight) (before after : Speaker) (line : List ℕ) (taken then_taken : Option (List ℕ)) (step : Step) : Type 0 where
   pub reply : Reply
-  pub answers : Answers old new seat before after line reply
+  pub answers : Answers old new before after line reply
   pub took : Takes taken then_taken (reply_text (roster_of old) reply)
   pub next : step ≡ step_of reply.answer
 
 -- A line is replied to, and a front of the reply is written that is not the whole.
-pub record RepliesInPart (old new : Sight) (seat : ℕ) (before after : Speaker) (line : List ℕ) (taken then_taken : Option (List ℕ)) : Type 0 where
+pub record RepliesInPart (old new : Sight) (before after : Speaker) (line : List ℕ) (taken then_taken : Option (List ℕ)) : Type 0 where
   pub reply : Reply
-  pub answers : Answers old new seat before after line reply
+  pub answers : Answers old new before after line reply
   pub written : ℕ
   pub unfinished : written < length (reply_text (roster_of old) reply)
   pub took : Takes taken then_taken (take written (reply_text (roster_of old) reply))
 
 -- All whole lines of these bytes are replied to, the replies are written, and the begun line is kept, as far as it counts.
-pub record Served (seat : ℕ) (start : Sight) (begun taken : Option (List ℕ)) (now : Sight) (speaker : Speaker) (kept bytes : List ℕ) : Type 0 where
-  pub figures : now.figures ≡ start.figures
+pub record Served (start : Sight) (begun taken : Option (List ℕ)) (now : Sight) (speaker : Speaker) (kept bytes : List ℕ) : Type 0 where
   pub text : List ℕ
   pub made : List Entry
-  pub grown : now.history ≡ longer start.history made
+  pub grows : Grows start now made
   pub took : Takes begun taken text
-  pub talk : IsTalk start.figures now.history seat (standing start nobody false) (cut_of bytes).whole text made (standing now speaker false)
+  pub talk : IsTalk start.seat.figures now.history start.seat.number (standing start nobody false) (cut_of bytes).whole text made (standing now speaker false)
   pub line : kept ≡ take 4097 (cut_of bytes).rest
-  pub legal : IsLegal start.history → IsLegal now.history
 
 -- These lines are replied to, and the replies are written, all of them.
-pub record Written (seat : ℕ) (start : Sight) (begun taken : Option (List ℕ)) (now : Sight) (lines : List (List ℕ)) : Type 0 where
+pub record Written (start : Sight) (begun taken : Option (List ℕ)) (now : Sight) (lines : List (List ℕ)) : Type 0 where
   pub text : List ℕ
   pub made : List Entry
   pub to : Standing
-  pub grown : now.history ≡ longer start.history made
+  pub there : mark_of to ≡ mark now
+  pub grows : Grows start now made
   pub took : Takes begun taken text
-  pub talk : IsTalk start.figures now.history seat (standing start nobody false) lines text made to
-  pub legal : IsLegal start.history → IsLegal now.history
+  pub talk : IsTalk start.seat.figures now.history start.seat.number (standing start nobody false) lines text made to
 
 -- The first of these lines are replied to, up to an accepted BYE, and the replies are written.
-pub record Left (seat : ℕ) (start : Sight) (begun taken : Option (List ℕ)) (now : Sight) (lines : List (List ℕ)) : Type 0 where
+pub record Left (start : Sight) (begun taken : Option (List ℕ)) (now : Sight) (lines : List (List ℕ)) : Type 0 where
   pub said : List (List ℕ)
   pub others : List (List ℕ)
   pub order : lines ≡ said ++ others
-  pub written : Written seat start begun taken now said
+  pub written : Written start begun taken now said
   pub over : written.to.over ≡ true
 
 -- The first of these lines are replied to, and the replies are written but for the last, of which a front is written.
-pub record CutOff (seat : ℕ) (start : Sight) (begun taken : Option (List ℕ)) (now : Sight) (lines : List (List ℕ)) : Type 0 where
+pub record CutOff (start : Sight) (begun taken : Option (List ℕ)) (now : Sight) (lines : List (List ℕ)) : Type 0 where
   pub earlier : List (List ℕ)
   pub line : List ℕ
   pub others : List (List ℕ)
@@ -119,10 +137,10 @@ pub record CutOff (seat : ℕ) (start : Sight) (begun taken : Option (List ℕ))
   pub first : List Entry
   pub mid : Standing
   pub to : Standing
-  pub grown : now.history ≡ longer start.history (made ++ first)
-  pub talk : IsTalk start.figures now.history seat (standing start nobody false) earlier text made mid
-  pub answered : IsAnswered start.figures now.history seat mid line last first to
+  pub there : mark_of to ≡ mark now
+  pub grows : Grows start now (made ++ first)
+  pub talk : IsTalk start.seat.figures now.history start.seat.number (standing start nobody false) earlier text made mid
+  pub answered : IsAnswered start.seat.figures now.history start.seat.number mid line last first to
   pub written : ℕ
   pub unfinished : written < length last
   pub took : Takes begun taken (text ++ take written last)
-  pub legal : IsLegal start.history → IsLegal now.history

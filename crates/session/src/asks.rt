@@ -142,7 +142,7 @@ fn what_of_line(
                 solutions,
             }
         }
-        Line::Propose { cycle, .. } => What::Fetch { cycle, version: 0 },
+        Line::Propose { cycle, mode } => What::Begin { cycle, mode },
         Line::Plan { cycle } => What::Plan { cycle },
         Line::Accept { cycle, version } => What::Accept { cycle, version },
         Line::Decline { cycle, version } => What::Decline { cycle, version },

@@ -10,7 +10,7 @@ use std::alloc::{AllocError, Global};
 use units_core::Name;
 
 /// A product and a member, by their names.
-#[derive(Clone, Copy, Debug, PartialEq, Eq, Hash)]
+#[derive(Clone, Copy, PartialEq, Eq, Hash)]
 pub struct PlaceKey {
     pub product: Name,
     pub member: Name,

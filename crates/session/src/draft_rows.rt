@@ -1,6 +1,6 @@
 //! The rows of a draft.
 
-ghost use Rattle.std.specs.Prelude.{◌≡◌, ◌+◌, ◌≤◌, ◌<◌, ◌^◌, ℕ, [], length, false, OnOk};
+ghost use Rattle.std.specs.Prelude.{◌≡◌, ◌+◌, ◌≤◌, ◌<◌, ◌^◌, ℕ, [], length, slice_get, Some, true, false, OnOk};
 ghost use Rattle.std.specs.Str.{bytes_eq};
 ghost use Rattle.command_types.specs.Session.{draft_amount, draft_sum, with_draft_row};
 ghost use Rattle.session.specs.Drafts.{row_of, AreFound, AreSums, AreWithin, NoneWithItself};
@@ -10,7 +10,7 @@ use std::alloc::{AllocError, Global};
 use units_core::{Amount, Name};
 
 /// A product, and a pair of members, by their names.
-#[derive(Clone, Copy, Debug, PartialEq, Eq, Hash)]
+#[derive(Clone, Copy, PartialEq, Eq, Hash)]
 pub struct PairKey {
     pub product: Name,
     pub seller: Name,
@@ -59,6 +59,18 @@ impl DraftRows {
             return self.rows.len();
         }
         self.rows.len() + 1
+    }
+
+    /// The row at a place. If it is of a member with itself, its amount is 0.
+    pub fn row(&self, place: usize) -> (PairKey, u64)
+        requires { place < length (kept_rows self.now) }
+        ensures row { slice_get (kept_rows self.now) place ≡ Some (row_of result) }
+        ensures parties { bytes_eq result.0.seller result.0.buyer ≡ true → result.1 ≡ 0 }
+    {
+        match self.rows.get_index(place) {
+            Some((key, amount)) => (*key, *amount),
+            None => unreachable!(),
+        }
     }
 
     /// The amount of a pair, or 0.

@@ -1,15 +1,19 @@
 //! A session over a desk: lines in, the texts of their replies out.
 #![tactic(auto)]
 
+mod asker;
 mod asks;
 mod draft;
 mod draft_potentials;
 mod draft_rows;
 mod line_buffer;
+mod member_places;
+mod product_network;
+mod proposals;
 mod replies;
 mod reply_text;
 mod serve;
 mod solutions;
 mod speaker;
 
-pub use serve::{SessionEnd, serve_desk};
+pub use serve::{SessionEnd, serve_session};

@@ -1,64 +1,102 @@
 //! How a line is replied to.
 
-ghost use Rattle.std.specs.Prelude.{◌≡◌};
-ghost use Rattle.command_types.specs.History.{IsLegal, end_of};
+ghost use Rattle.std.specs.Prelude.{◌≡◌, Some, None};
+ghost use Rattle.command_types.specs.History.{end_of};
 ghost use Rattle.command_types.specs.Session.{what_or_fault};
-ghost use Rattle.session.specs.Asks.{line_read};
+ghost use Rattle.cycle_lock.specs.Passes.{seen};
+ghost use Rattle.session.specs.Asks.{line_read, proposal_in};
 ghost use Rattle.session.specs.KeptDraft.{HasRoom, HasPotential};
 ghost use Rattle.session.specs.KeptSpeaker.{speaker_of};
-ghost use Rattle.session.specs.Serving.{sight, roster_of, AnswersRead, Answers};
+ghost use Rattle.session.specs.Serving.{of_pass, roster_of, AnswersRead, Answers};
 
+use crate::asker::Asker;
 use crate::asks::read_within;
+use crate::proposals::propose;
 use crate::speaker::Speaker;
 use command_text::BadLine;
-use command_types::{Answer, Ask, Desk, Line, Refusal, Reply, Roster, What};
+use command_types::{Answer, Ask, Desk, Line, Mode, Refusal, Reply, Roster, What};
+use network_laws::Solver;
+use parallel_solver::Gate;
 use std::alloc::Global;
+use std::sync::Wait;
+use std::thread::Threads;
 
-// Asks the desk what was read of a line, and takes the answer in.
-fn ask<T: Desk>(
-    desk: &mut T,
-    seat: u32,
+// The cycle and the mode of a PROPOSE.
+fn proposal_in(read: &Result<Line, BadLine>) -> Option<(u64, Mode)>
+    ensures { result ≡ proposal_in (line_read read.now) }
+{
+    match *read {
+        Ok(Line::Propose { cycle, mode }) => Some((cycle, mode)),
+        _ => None,
+    }
+}
+
+// Solves and posts, and takes the answer in.
+fn answer_proposal<T: Desk, R: Threads + Wait + Sync, V: Solver, G: Gate>(
+    alloc: Global,
+    asker: &mut Asker<'_, T, R, V, G>,
+    speaker: &mut Speaker,
+    read: &Result<Line, BadLine>,
+    cycle: u64,
+    mode: Mode,
+) -> Reply
+    requires { proposal_in (line_read read.now) ≡ Some (cycle, mode) }
+    ensures { AnswersRead (of_pass asker.old.pass) (of_pass asker.new.pass) (speaker_of speaker.old) (speaker_of speaker.new) (line_read read.now) result }
+{
+    let by = speaker.party();
+    let reply = propose(alloc, asker, &by, cycle, mode);
+    speaker.hear(read, &reply.answer);
+    reply
+}
+
+// Asks what was read of a line, and takes the answer in.
+fn ask<T: Desk, R: Threads + Wait + Sync, V: Solver, G: Gate>(
+    asker: &mut Asker<'_, T, R, V, G>,
     speaker: &mut Speaker,
     read: &Result<Line, BadLine>,
     what: What,
 ) -> Reply
     requires room { HasRoom speaker.old.draft read.now }
     requires potential { HasPotential (line_read read.now) }
-    requires what { what ≡ what_or_fault (roster_of (sight T.figures T.history T.stopped desk.old)) (speaker_of speaker.old).draft (line_read read.now) }
-    ensures { AnswersRead (sight T.figures T.history T.stopped desk.old) (sight T.figures T.history T.stopped desk.new) seat (speaker_of speaker.old) (speaker_of speaker.new) (line_read read.now) result }
+    requires one { proposal_in (line_read read.now) ≡ None }
+    requires what { what ≡ what_or_fault (roster_of (of_pass asker.old.pass)) (speaker_of speaker.old).draft (line_read read.now) }
+    ensures { AnswersRead (of_pass asker.old.pass) (of_pass asker.new.pass) (speaker_of speaker.old) (speaker_of speaker.new) (line_read read.now) result }
 {
     let by = speaker.party();
-    let reply = desk.ask(seat, Ask { by, what });
+    let reply = asker.ask(Ask { by, what });
     speaker.hear(read, &reply.answer);
     reply
 }
 
 // The reply where no memory was to be had for a command.
-fn no_memory<T: Desk>(desk: &T) -> Reply
-    ensures reply { result ≡ record { at = end_of (T.history desk.now); answer = Answer.No Refusal.Memory } }
-    ensures legal { IsLegal (T.history desk.now) }
+fn no_memory<T: Desk, R: Threads + Wait + Sync, V: Solver, G: Gate>(
+    asker: &Asker<'_, T, R, V, G>,
+) -> Reply
+    ensures { result ≡ record { at = end_of (seen asker.now.pass); answer = Answer.No Refusal.Memory } }
 {
     Reply {
-        at: desk.length(),
+        at: asker.length(),
         answer: Answer::No(Refusal::Memory),
     }
 }
 
 /// Replies to a line, of which at least the first 4,097 bytes are given.
-pub fn reply_to<T: Desk>(
+pub fn reply_to<T: Desk, R: Threads + Wait + Sync, V: Solver, G: Gate>(
     alloc: Global,
-    desk: &mut T,
-    seat: u32,
+    asker: &mut Asker<'_, T, R, V, G>,
     roster: &Roster,
     speaker: &mut Speaker,
     line: &[u8],
 ) -> Reply
-    requires { roster.now ≡ roster_of (sight T.figures T.history T.stopped desk.old) }
-    ensures { Answers (sight T.figures T.history T.stopped desk.old) (sight T.figures T.history T.stopped desk.new) seat (speaker_of speaker.old) (speaker_of speaker.new) line.now result }
+    requires { roster.now ≡ roster_of (of_pass asker.old.pass) }
+    ensures { Answers (of_pass asker.old.pass) (of_pass asker.new.pass) (speaker_of speaker.old) (speaker_of speaker.new) line.now result }
 {
     let read = read_within(line);
+    if let Some((cycle, mode)) = proposal_in(&read) {
+        return answer_proposal(alloc, asker, speaker, &read, cycle, mode);
+    }
     match speaker.prepare(alloc, roster, &read) {
-        Ok(what) => ask(desk, seat, speaker, &read, what),
-        Err(_) => no_memory(desk),
+        Ok(what) => ask(asker, speaker, &read, what),
+        Err(_) => no_memory(asker),
     }
 }

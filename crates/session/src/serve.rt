@@ -3,18 +3,25 @@
 ghost use Rattle.std.specs.Prelude.{◌≡◌, ℕ, ◌≤◌, ◌<◌, ◌≢◌, List, [], ◌∷◌, ◌++◌, length, Option, IfOk, OnOk, OnErr, Ok};
 ghost use Rattle.outside.specs.Faults.{Rose};
 ghost use Rattle.command_types.specs.Lines.{cut_of, lines_of};
-ghost use Rattle.session.specs.Serving.{Sight, sight, roster_of, step_of, RepliesWhole, RepliesInPart, Served, Written, Left, CutOff};
+ghost use Rattle.cycle_lock.specs.Passes.{IsPassOf, seen};
+ghost use Rattle.session.specs.Serving.{Sight, of_pass, roster_of, step_of, RepliesWhole, RepliesInPart, Served, Written, Left, CutOff};
 ghost use Rattle.session.specs.Ending.{Ends};
 ghost use Rattle.session.specs.KeptSpeaker.{speaker_of};
 
+use crate::asker::Asker;
 use crate::asks::ended;
 use crate::line_buffer::LineBuffer;
 use crate::replies::reply_to;
 use crate::reply_text::write_reply;
 use crate::speaker::Speaker;
 use command_types::{Answer, Desk, Roster};
+use cycle_lock::{Pass, Turns};
+use network_laws::Solver;
 use outside::{Failed, Sink, Source};
+use parallel_solver::Gate;
 use std::alloc::Global;
+use std::sync::Wait;
+use std::thread::Threads;
 
 /// How a session ended.
 #[derive(Clone, Copy, Debug, PartialEq, Eq)]
@@ -52,23 +59,22 @@ fn step_after(answer: &Answer) -> Step
 }
 
 // Replies to a line.
-fn answer_line<T: Desk, K: Sink>(
+fn answer_line<T: Desk, R: Threads + Wait + Sync, V: Solver, G: Gate, K: Sink>(
     alloc: Global,
-    desk: &mut T,
-    seat: u32,
+    asker: &mut Asker<'_, T, R, V, G>,
     roster: &Roster,
     speaker: &mut Speaker,
     text: &mut [u8; 4096],
     sink: &mut K,
     line: &[u8],
 ) -> Result<Step, Failed>
-    requires { roster.now ≡ roster_of (sight T.figures T.history T.stopped desk.old) }
-    ensures whole { IfOk result (RepliesWhole (sight T.figures T.history T.stopped desk.old) (sight T.figures T.history T.stopped desk.new) seat (speaker_of speaker.old) (speaker_of speaker.new) line.now (K.taken sink.old) (K.taken sink.new)) }
-    ensures in_part { OnErr result (RepliesInPart (sight T.figures T.history T.stopped desk.old) (sight T.figures T.history T.stopped desk.new) seat (speaker_of speaker.old) (speaker_of speaker.new) line.now (K.taken sink.old) (K.taken sink.new)) }
+    requires { roster.now ≡ roster_of (of_pass asker.old.pass) }
+    ensures whole { IfOk result (RepliesWhole (of_pass asker.old.pass) (of_pass asker.new.pass) (speaker_of speaker.old) (speaker_of speaker.new) line.now (K.taken sink.old) (K.taken sink.new)) }
+    ensures in_part { OnErr result (RepliesInPart (of_pass asker.old.pass) (of_pass asker.new.pass) (speaker_of speaker.old) (speaker_of speaker.new) line.now (K.taken sink.old) (K.taken sink.new)) }
     ensures never_falls { K.faults sink.old ≤ K.faults sink.new }
     ensures failed { OnErr result (Rose (K.faults sink.old) (K.faults sink.new)) }
 {
-    let reply = reply_to(alloc, desk, seat, roster, speaker, line);
+    let reply = reply_to(alloc, asker, roster, speaker, line);
     match write_reply(text, roster, &reply, sink) {
         Ok(()) => Ok(step_after(&reply.answer)),
         Err(fault) => Err(fault),
@@ -76,10 +82,9 @@ fn answer_line<T: Desk, K: Sink>(
 }
 
 // Takes one byte of the input. A line feed ends a line, which is replied to.
-fn take_byte<T: Desk, K: Sink>(
+fn take_byte<T: Desk, R: Threads + Wait + Sync, V: Solver, G: Gate, K: Sink>(
     alloc: Global,
-    desk: &mut T,
-    seat: u32,
+    asker: &mut Asker<'_, T, R, V, G>,
     roster: &Roster,
     speaker: &mut Speaker,
     line: &mut LineBuffer,
@@ -87,17 +92,17 @@ fn take_byte<T: Desk, K: Sink>(
     sink: &mut K,
     byte: u8,
 ) -> Result<Step, Failed>
-    requires { roster.now ≡ roster_of (sight T.figures T.history T.stopped desk.old) }
+    requires { roster.now ≡ roster_of (of_pass asker.old.pass) }
     ensures on { result ≡ Ok Step.On → (start : Sight) (begun : Option (List ℕ)) (bytes : List ℕ) →
-        Served seat start begun (K.taken sink.old) (sight T.figures T.history T.stopped desk.old) (speaker_of speaker.old) line.old bytes →
-        Served seat start begun (K.taken sink.new) (sight T.figures T.history T.stopped desk.new) (speaker_of speaker.new) line.new (bytes ++ byte ∷ []) }
+        Served start begun (K.taken sink.old) (of_pass asker.old.pass) (speaker_of speaker.old) line.old bytes →
+        Served start begun (K.taken sink.new) (of_pass asker.new.pass) (speaker_of speaker.new) line.new (bytes ++ byte ∷ []) }
     ensures over { result ≡ Ok Step.Over → (start : Sight) (begun : Option (List ℕ)) (bytes : List ℕ) →
-        Served seat start begun (K.taken sink.old) (sight T.figures T.history T.stopped desk.old) (speaker_of speaker.old) line.old bytes →
-        Left seat start begun (K.taken sink.new) (sight T.figures T.history T.stopped desk.new) (cut_of (bytes ++ byte ∷ [])).whole }
+        Served start begun (K.taken sink.old) (of_pass asker.old.pass) (speaker_of speaker.old) line.old bytes →
+        Left start begun (K.taken sink.new) (of_pass asker.new.pass) (cut_of (bytes ++ byte ∷ [])).whole }
     ensures cut_off { OnErr result ((start : Sight) (begun : Option (List ℕ)) (bytes : List ℕ) →
-        Served seat start begun (K.taken sink.old) (sight T.figures T.history T.stopped desk.old) (speaker_of speaker.old) line.old bytes →
-        CutOff seat start begun (K.taken sink.new) (sight T.figures T.history T.stopped desk.new) (cut_of (bytes ++ byte ∷ [])).whole) }
-    ensures roster { roster.now ≡ roster_of (sight T.figures T.history T.stopped desk.new) }
+        Served start begun (K.taken sink.old) (of_pass asker.old.pass) (speaker_of speaker.old) line.old bytes →
+        CutOff start begun (K.taken sink.new) (of_pass asker.new.pass) (cut_of (bytes ++ byte ∷ [])).whole) }
+    ensures roster { roster.now ≡ roster_of (of_pass asker.new.pass) }
     ensures never_falls { K.faults sink.old ≤ K.faults sink.new }
     ensures failed { OnErr result (Rose (K.faults sink.old) (K.faults sink.new)) }
 {
@@ -107,8 +112,7 @@ fn take_byte<T: Desk, K: Sink>(
     }
     let step = answer_line(
         alloc,
-        desk,
-        seat,
+        asker,
         roster,
         speaker,
         text,
@@ -120,10 +124,9 @@ fn take_byte<T: Desk, K: Sink>(
 }
 
 // Takes a piece of the input, up to a BYE.
-fn take_piece<T: Desk, K: Sink>(
+fn take_piece<T: Desk, R: Threads + Wait + Sync, V: Solver, G: Gate, K: Sink>(
     alloc: Global,
-    desk: &mut T,
-    seat: u32,
+    asker: &mut Asker<'_, T, R, V, G>,
     roster: &Roster,
     speaker: &mut Speaker,
     line: &mut LineBuffer,
@@ -131,22 +134,22 @@ fn take_piece<T: Desk, K: Sink>(
     sink: &mut K,
     piece: &[u8],
 ) -> Result<Step, Failed>
-    requires { roster.now ≡ roster_of (sight T.figures T.history T.stopped desk.old) }
+    requires { roster.now ≡ roster_of (of_pass asker.old.pass) }
     ensures on { result ≡ Ok Step.On → (start : Sight) (begun : Option (List ℕ)) (bytes : List ℕ) →
-        Served seat start begun (K.taken sink.old) (sight T.figures T.history T.stopped desk.old) (speaker_of speaker.old) line.old bytes →
-        Served seat start begun (K.taken sink.new) (sight T.figures T.history T.stopped desk.new) (speaker_of speaker.new) line.new (bytes ++ piece.now) }
+        Served start begun (K.taken sink.old) (of_pass asker.old.pass) (speaker_of speaker.old) line.old bytes →
+        Served start begun (K.taken sink.new) (of_pass asker.new.pass) (speaker_of speaker.new) line.new (bytes ++ piece.now) }
     ensures over { result ≡ Ok Step.Over → (start : Sight) (begun : Option (List ℕ)) (bytes : List ℕ) →
-        Served seat start begun (K.taken sink.old) (sight T.figures T.history T.stopped desk.old) (speaker_of speaker.old) line.old bytes →
-        Left seat start begun (K.taken sink.new) (sight T.figures T.history T.stopped desk.new) (cut_of (bytes ++ piece.now)).whole }
+        Served start begun (K.taken sink.old) (of_pass asker.old.pass) (speaker_of speaker.old) line.old bytes →
+        Left start begun (K.taken sink.new) (of_pass asker.new.pass) (cut_of (bytes ++ piece.now)).whole }
     ensures cut_off { OnErr result ((start : Sight) (begun : Option (List ℕ)) (bytes : List ℕ) →
-        Served seat start begun (K.taken sink.old) (sight T.figures T.history T.stopped desk.old) (speaker_of speaker.old) line.old bytes →
-        CutOff seat start begun (K.taken sink.new) (sight T.figures T.history T.stopped desk.new) (cut_of (bytes ++ piece.now)).whole) }
-    ensures roster { roster.now ≡ roster_of (sight T.figures T.history T.stopped desk.new) }
+        Served start begun (K.taken sink.old) (of_pass asker.old.pass) (speaker_of speaker.old) line.old bytes →
+        CutOff start begun (K.taken sink.new) (of_pass asker.new.pass) (cut_of (bytes ++ piece.now)).whole) }
+    ensures roster { roster.now ≡ roster_of (of_pass asker.new.pass) }
     ensures never_falls { K.faults sink.old ≤ K.faults sink.new }
     ensures failed { OnErr result (Rose (K.faults sink.old) (K.faults sink.new)) }
 {
     for byte in piece {
-        match take_byte(alloc, desk, seat, roster, speaker, line, text, sink, *byte) {
+        match take_byte(alloc, asker, roster, speaker, line, text, sink, *byte) {
             Ok(Step::On) => {}
             Ok(Step::Over) => return Ok(Step::Over),
             Err(fault) => return Err(fault),
@@ -156,40 +159,38 @@ fn take_piece<T: Desk, K: Sink>(
 }
 
 // Replies to a last line without a line feed, if it is not empty.
-fn take_end<T: Desk, K: Sink>(
+fn take_end<T: Desk, R: Threads + Wait + Sync, V: Solver, G: Gate, K: Sink>(
     alloc: Global,
-    desk: &mut T,
-    seat: u32,
+    asker: &mut Asker<'_, T, R, V, G>,
     roster: &Roster,
     speaker: &mut Speaker,
     line: &LineBuffer,
     text: &mut [u8; 4096],
     sink: &mut K,
 ) -> Result<(), Failed>
-    requires { roster.now ≡ roster_of (sight T.figures T.history T.stopped desk.old) }
+    requires { roster.now ≡ roster_of (of_pass asker.old.pass) }
     ensures written { OnOk result ((start : Sight) (begun : Option (List ℕ)) (bytes : List ℕ) →
-        Served seat start begun (K.taken sink.old) (sight T.figures T.history T.stopped desk.old) (speaker_of speaker.old) line.now bytes →
-        Written seat start begun (K.taken sink.new) (sight T.figures T.history T.stopped desk.new) (lines_of bytes)) }
+        Served start begun (K.taken sink.old) (of_pass asker.old.pass) (speaker_of speaker.old) line.now bytes →
+        Written start begun (K.taken sink.new) (of_pass asker.new.pass) (lines_of bytes)) }
     ensures cut_off { OnErr result ((start : Sight) (begun : Option (List ℕ)) (bytes : List ℕ) →
-        Served seat start begun (K.taken sink.old) (sight T.figures T.history T.stopped desk.old) (speaker_of speaker.old) line.now bytes →
-        CutOff seat start begun (K.taken sink.new) (sight T.figures T.history T.stopped desk.new) (lines_of bytes)) }
+        Served start begun (K.taken sink.old) (of_pass asker.old.pass) (speaker_of speaker.old) line.now bytes →
+        CutOff start begun (K.taken sink.new) (of_pass asker.new.pass) (lines_of bytes)) }
     ensures never_falls { K.faults sink.old ≤ K.faults sink.new }
     ensures failed { OnErr result (Rose (K.faults sink.old) (K.faults sink.new)) }
 {
     if line.bytes().is_empty() {
         return Ok(());
     }
-    match answer_line(alloc, desk, seat, roster, speaker, text, sink, line.bytes()) {
+    match answer_line(alloc, asker, roster, speaker, text, sink, line.bytes()) {
         Ok(_) => Ok(()),
         Err(fault) => Err(fault),
     }
 }
 
 // Replies to the lines of a source, with buffers for the begun line, for a reply and for what is read.
-fn serve_over<T: Desk, S: Source, K: Sink>(
+fn serve_over<T: Desk, R: Threads + Wait + Sync, V: Solver, G: Gate, S: Source, K: Sink>(
     alloc: Global,
-    desk: &mut T,
-    seat: u32,
+    asker: &mut Asker<'_, T, R, V, G>,
     roster: &Roster,
     line: &mut LineBuffer,
     text: &mut [u8; 4096],
@@ -199,8 +200,8 @@ fn serve_over<T: Desk, S: Source, K: Sink>(
 ) -> SessionEnd
     requires piece { 0 < length piece.old }
     requires line { line.old ≡ [] }
-    requires roster { roster.now ≡ roster_of (sight T.figures T.history T.stopped desk.old) }
-    ensures ends { Ends seat (sight T.figures T.history T.stopped desk.old) (S.flow source.old) (S.flow source.new) (K.taken sink.old) (K.taken sink.new) (sight T.figures T.history T.stopped desk.new) result }
+    requires roster { roster.now ≡ roster_of (of_pass asker.old.pass) }
+    ensures ends { Ends (of_pass asker.old.pass) (S.flow source.old) (S.flow source.new) (K.taken sink.old) (K.taken sink.new) (of_pass asker.new.pass) result }
     ensures memory { result ≢ SessionEnd.Memory }
     ensures source_fault { result ≡ SessionEnd.SourceFault → Rose (S.faults source.old) (S.faults source.new) }
     ensures sink_fault { result ≡ SessionEnd.SinkFault → Rose (K.faults sink.old) (K.faults sink.new) }
@@ -214,15 +215,14 @@ fn serve_over<T: Desk, S: Source, K: Sink>(
             Err(Failed) => return SessionEnd::SourceFault,
         };
         if n == 0 {
-            match take_end(alloc, desk, seat, roster, &mut speaker, line, text, sink) {
+            match take_end(alloc, asker, roster, &mut speaker, line, text, sink) {
                 Ok(()) => return SessionEnd::Ended,
                 Err(Failed) => return SessionEnd::SinkFault,
             }
         }
         match take_piece(
             alloc,
-            desk,
-            seat,
+            asker,
             roster,
             &mut speaker,
             line,
@@ -238,19 +238,16 @@ fn serve_over<T: Desk, S: Source, K: Sink>(
     SessionEnd::Limit
 }
 
-/// Replies to the lines of a source for one seat, up to the input's end, an accepted BYE or the session's limit of 2^30
-/// bytes. Every whole line that was read is answered before more is read; what was read behind an accepted BYE is
-/// dropped. It takes its memory before it reads. The roster is the desk's.
-pub fn serve_desk<T: Desk, S: Source, K: Sink>(
+// Replies to the lines of a source, with memory of its own.
+fn serve<T: Desk, R: Threads + Wait + Sync, V: Solver, G: Gate, S: Source, K: Sink>(
     alloc: Global,
-    desk: &mut T,
-    seat: u32,
+    asker: &mut Asker<'_, T, R, V, G>,
     roster: &Roster,
     source: &mut S,
     sink: &mut K,
 ) -> SessionEnd
-    requires { roster.now ≡ roster_of (sight T.figures T.history T.stopped desk.old) }
-    ensures ends { Ends seat (sight T.figures T.history T.stopped desk.old) (S.flow source.old) (S.flow source.new) (K.taken sink.old) (K.taken sink.new) (sight T.figures T.history T.stopped desk.new) result }
+    requires { roster.now ≡ roster_of (of_pass asker.old.pass) }
+    ensures ends { Ends (of_pass asker.old.pass) (S.flow source.old) (S.flow source.new) (K.taken sink.old) (K.taken sink.new) (of_pass asker.new.pass) result }
     ensures source_fault { result ≡ SessionEnd.SourceFault → Rose (S.faults source.old) (S.faults source.new) }
     ensures sink_fault { result ≡ SessionEnd.SinkFault → Rose (K.faults sink.old) (K.faults sink.new) }
 {
@@ -262,6 +259,34 @@ pub fn serve_desk<T: Desk, S: Source, K: Sink>(
     };
     let mut text = [0; 4096];
     serve_over(
-        alloc, desk, seat, roster, &mut line, &mut text, &mut piece, source, sink,
+        alloc, asker, roster, &mut line, &mut text, &mut piece, source, sink,
     )
+}
+
+/// Replies to the lines of a source with a pass, up to the input's end, an accepted BYE or the session's limit of 2^30
+/// bytes. Every whole line that was read is answered before more is read; what was read behind an accepted BYE is
+/// dropped. It takes its memory before it reads. The roster is the desk's, and the pass comes back.
+pub fn serve_session<T: Desk, R: Threads + Wait + Sync, V: Solver, G: Gate, S: Source, K: Sink>(
+    rt: &R,
+    alloc: Global,
+    turns: &Turns<T>,
+    workers: u32,
+    solver: &V,
+    gate: &G,
+    roster: &Roster,
+    pass: Pass,
+    source: &mut S,
+    sink: &mut K,
+) -> (SessionEnd, Pass)
+    requires own { IsPassOf turns.now pass }
+    requires workers { (1 ≤ workers) × (workers ≤ 64) }
+    requires roster { roster.now ≡ (seen pass).base.state.roster }
+    ensures own { IsPassOf turns.now result.1 }
+    ensures ends { Ends (of_pass pass) (S.flow source.old) (S.flow source.new) (K.taken sink.old) (K.taken sink.new) (of_pass result.1) result.0 }
+    ensures source_fault { result.0 ≡ SessionEnd.SourceFault → Rose (S.faults source.old) (S.faults source.new) }
+    ensures sink_fault { result.0 ≡ SessionEnd.SinkFault → Rose (K.faults sink.old) (K.faults sink.new) }
+{
+    let mut asker = Asker::new(rt, turns, workers, solver, gate, pass);
+    let end = serve(alloc, &mut asker, roster, source, sink);
+    (end, asker.into_pass())
 }

@@ -1,6 +1,6 @@
-use Rattle.std.proofs.Common.{◌≡◌, ◌∙◌, ◌≤◌, ℕ, List, ◌++◌, length, take, sym, subst, arith}
+use Rattle.std.proofs.Common.{◌≤◌, ℕ, List, length, take, subst, arith}
 use Rattle.std.proofs.lemmas.Result.{on_ok_weaker, on_err_weaker}
-use Rattle.outside.specs.Flow.{Takes, TakesFront}
+use Rattle.outside.specs.Flow.{Takes}
 use Rattle.command_types.specs.Text.{head_text}
 use Rattle.statements.specs.Details.{details_of}
 use Rattle.session.specs.Pending.{IsPending}

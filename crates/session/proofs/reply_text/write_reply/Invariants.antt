@@ -1,4 +1,4 @@
-use Rattle.std.proofs.Common.{◌≡◌, ◌++◌, ◌≤◌, take, length}
+use Rattle.std.proofs.Common.{◌++◌, ◌≤◌, take}
 use Rattle.command_types.specs.Text.{head_text}
 use Rattle.command_types.specs.Details.{lines_text}
 use Rattle.statements.specs.Details.{row_text, details_of}

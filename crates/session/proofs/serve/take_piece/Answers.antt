@@ -1,19 +1,19 @@
-use Rattle.std.proofs.Common.{◌≡◌, ℕ, ◌+◌, ◌<◌, length, List, ◌++◌, ◌∷◌, [], take, drop, get_or, Option, Ok, subst, ap, arith}
+use Rattle.std.proofs.Common.{ℕ, ◌+◌, List, ◌++◌, ◌∷◌, [], take, drop, get_or, Ok, subst, ap, arith}
 use Rattle.command_types.specs.Lines.{cut_of}
-use Rattle.session.specs.Serving.{sight, CutOff, Left}
+use Rattle.session.specs.Serving.{of_pass, CutOff, Left}
 use Rattle.session.proofs.ServedFacts.{cut_off_more, left_more, piece_rest}
 use Rattle.session.proofs.serve.take_piece.Goals as goal
 
 pub returns-in-Ok-Over-clause-over : goal.returns-in-Ok-Over-clause-over
 returns-in-Ok-Over-clause-over g c = λ ok start begun bytes v.
-    let P : List ℕ → Type 0 = λ bs. Left c.args.seat start begun (g.K.Sink.taken c.take_byte.new.sink) (sight g.T.Desk.figures g.T.Desk.history g.T.Desk.stopped c.take_byte.new.desk) (cut_of bs).whole in
+    let P : List ℕ → Type 0 = λ bs. Left start begun (g.K.Sink.taken c.take_byte.new.sink) (of_pass c.take_byte.new.asker.pass) (cut_of bs).whole in
     subst P (piece_rest bytes c.args.piece.now c.loop-byte.byte-index (omega arith))
-    (left_more c.args.seat start begun _ _ ((bytes ++ take c.loop-byte.byte-index c.args.piece.now) ++ get_or c.args.piece.now c.loop-byte.byte-index 0 ∷ []) (drop (c.loop-byte.byte-index + 1) c.args.piece.now)
+    (left_more start begun _ _ ((bytes ++ take c.loop-byte.byte-index c.args.piece.now) ++ get_or c.args.piece.now c.loop-byte.byte-index 0 ∷ []) (drop (c.loop-byte.byte-index + 1) c.args.piece.now)
     (c.in-Ok-Over.ensures.over (ap Ok c.in-Ok-Over.field-0-is) start begun (bytes ++ take c.loop-byte.byte-index c.args.piece.now) (c.loop-byte.invariant.served start begun bytes v)))
 
 pub returns-in-Err-clause-cut_off : goal.returns-in-Err-clause-cut_off
 returns-in-Err-clause-cut_off g c = λ start begun bytes v.
-    let P : List ℕ → Type 0 = λ bs. CutOff c.args.seat start begun (g.K.Sink.taken c.take_byte.new.sink) (sight g.T.Desk.figures g.T.Desk.history g.T.Desk.stopped c.take_byte.new.desk) (cut_of bs).whole in
+    let P : List ℕ → Type 0 = λ bs. CutOff start begun (g.K.Sink.taken c.take_byte.new.sink) (of_pass c.take_byte.new.asker.pass) (cut_of bs).whole in
     subst P (piece_rest bytes c.args.piece.now c.loop-byte.byte-index (omega arith))
-    (cut_off_more c.args.seat start begun _ _ ((bytes ++ take c.loop-byte.byte-index c.args.piece.now) ++ get_or c.args.piece.now c.loop-byte.byte-index 0 ∷ []) (drop (c.loop-byte.byte-index + 1) c.args.piece.now)
+    (cut_off_more start begun _ _ ((bytes ++ take c.loop-byte.byte-index c.args.piece.now) ++ get_or c.args.piece.now c.loop-byte.byte-index 0 ∷ []) (drop (c.loop-byte.byte-index + 1) c.args.piece.now)
     (c.in-Err.ensures.cut_off start begun (bytes ++ take c.loop-byte.byte-index c.args.piece.now) (c.loop-byte.invariant.served start begun bytes v)))

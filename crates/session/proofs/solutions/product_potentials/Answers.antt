@@ -1,4 +1,4 @@
-use Rattle.std.proofs.Common.{◌≡◌, ◌∙◌, ◌<◌, ◌++◌, ◌∷◌, [], length, sym, ap, arith}
+use Rattle.std.proofs.Common.{◌∙◌, ◌<◌, ◌++◌, ◌∷◌, [], length, sym, ap, arith}
 use Rattle.command_types.specs.Session.{draft_potential}
 use Rattle.session.specs.Kept.{kept_potentials}
 use Rattle.std.proofs.lemmas.Int.{to_z-of_z}

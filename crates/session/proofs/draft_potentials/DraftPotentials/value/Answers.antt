@@ -1,4 +1,4 @@
-use Rattle.std.proofs.Common.{◌≡◌, ◌∙◌, sym, ap, subst, unwrap_or, ℤ, pos}
+use Rattle.std.proofs.Common.{◌≡◌, ◌∙◌, sym, ap, subst, unwrap_or, pos}
 use Rattle.std.proofs.lemmas.Int.{to_z-of_z}
 use Rattle.std.specs.Map.{lookup}
 use Rattle.network_laws.specs.Solutions.{IsPotential}

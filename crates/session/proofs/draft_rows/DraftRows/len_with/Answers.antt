@@ -1,4 +1,4 @@
-use Rattle.std.proofs.Common.{◌≡◌, ◌+◌, ◌∙◌, sym, ap, is_some, true, false, arith}
+use Rattle.std.proofs.Common.{◌≡◌, ◌∙◌, sym, ap, is_some, true, false, arith}
 use Rattle.std.specs.Map.{lookup}
 use Rattle.session.specs.Drafts.{is_same_pair}
 use Rattle.session.proofs.DraftRowFacts.{length_with, length_rows}

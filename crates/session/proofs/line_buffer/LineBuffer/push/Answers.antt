@@ -1,4 +1,4 @@
-use Rattle.std.proofs.Common.{◌≡◌, ◌∙◌, ◌++◌, ◌∷◌, [], take, length, ap, sym, arith, vec_len}
+use Rattle.std.proofs.Common.{◌∙◌, ◌++◌, ◌∷◌, [], take, ap, sym, arith}
 use Rattle.session.proofs.BufferFacts.{take_room, take_full}
 use Rattle.session.proofs.line_buffer.LineBuffer.push.Goals as goal
 

@@ -1,0 +1,49 @@
+//! What no clause says of the program and of sessions: whole texts, byte for byte, and what threads see of one another.
+#![tactic(auto)]
+
+#[cfg(test)]
+mod checks;
+#[cfg(test)]
+mod cycles;
+#[cfg(test)]
+mod drafts;
+#[cfg(test)]
+mod exchanges;
+#[cfg(test)]
+mod executions;
+#[cfg(test)]
+mod failing_streams;
+#[cfg(test)]
+mod file_faults;
+#[cfg(test)]
+mod in_step;
+#[cfg(test)]
+mod lock;
+#[cfg(test)]
+mod market_files;
+#[cfg(test)]
+mod paced;
+#[cfg(test)]
+mod phase_lines;
+#[cfg(test)]
+mod phases;
+#[cfg(test)]
+mod program;
+#[cfg(test)]
+mod proposals;
+#[cfg(test)]
+mod sessions;
+#[cfg(test)]
+mod sizes;
+#[cfg(test)]
+mod solves;
+#[cfg(test)]
+mod sources;
+#[cfg(test)]
+mod trades;
+#[cfg(test)]
+mod two_sessions;
+#[cfg(test)]
+mod unsolved;
+#[cfg(test)]
+mod words;

@@ -1,0 +1,153 @@
+//! The program over streams in memory: what it is given, and what it answers.
+
+use compress_server::run;
+use outside::{MemoryFiles, MemorySink, MemorySource, Sink, Source};
+use std::alloc::{AllocError, AllocGlobal};
+use std::sync::Wait;
+use std::thread::Threads;
+
+/// Dealers A, B and C, an operator and a product.
+pub const ROSTER: &str =
+    "name,role,key\nA,dealer,KA\nB,dealer,KB\nC,dealer,KC\nOPS,operator,KO\nP,product,2031-06-30\n";
+
+/// What a run of the program left.
+#[derive(Drop)]
+pub struct Ran {
+    status: u8,
+    output: MemorySink,
+    errors: MemorySink,
+}
+
+impl Ran {
+    /// Whether it ended with this status, and wrote and told exactly this.
+    pub fn is(&self, status: u8, output: &[u8], errors: &str) -> bool {
+        self.status == status
+            && self.output.bytes() == output
+            && self.errors.bytes() == errors.as_bytes()
+    }
+
+    /// What it wrote, if it did all its work and told nothing.
+    pub fn done(&self) -> Option<&[u8]> {
+        if self.status == 0 && self.errors.bytes().is_empty() {
+            return Some(self.output.bytes());
+        }
+        None
+    }
+}
+
+/// Runs these words over these files, each by its name, and over these streams. It gives the status, and what was told
+/// on the errors.
+pub fn run_over<R: Threads + Wait + Sync + AllocGlobal, S: Source, K: Sink>(
+    rt: &R,
+    of: &[&str],
+    contents: &[(&str, &[u8])],
+    source: &mut S,
+    output: &mut K,
+) -> Result<(u8, MemorySink), AllocError> {
+    let mut words = Vec::new(rt.alloc());
+    for word in of {
+        words.push(String::from_str(rt.alloc(), word)?)?;
+    }
+    let mut files = MemoryFiles::new(rt.alloc())?;
+    for (name, bytes) in contents {
+        files.put(name, bytes)?;
+    }
+    let mut errors = MemorySink::new(rt.alloc(), 256)?;
+    let status = run(
+        rt,
+        rt.alloc(),
+        &words,
+        &mut files,
+        source,
+        output,
+        &mut errors,
+    );
+    Ok((status, errors))
+}
+
+/// Runs these words over these files and this source.
+pub fn run_files<R: Threads + Wait + Sync + AllocGlobal, S: Source>(
+    rt: &R,
+    of: &[&str],
+    contents: &[(&str, &[u8])],
+    source: &mut S,
+    mut output: MemorySink,
+) -> Result<Ran, AllocError> {
+    let (status, errors) = run_over(rt, of, contents, source, &mut output)?;
+    Ok(Ran {
+        status,
+        output,
+        errors,
+    })
+}
+
+/// Runs a script over this roster.
+pub fn script<R: Threads + Wait + Sync + AllocGlobal, S: Source>(
+    rt: &R,
+    roster: &str,
+    source: &mut S,
+    output: MemorySink,
+) -> Result<Ran, AllocError> {
+    let files: &[(&str, &[u8])] = &[("T", roster.as_bytes())];
+    run_files(rt, &["script", "T", "j"], files, source, output)
+}
+
+/// Runs a script of these lines over this roster.
+pub fn reply_to<R: Threads + Wait + Sync + AllocGlobal>(
+    rt: &R,
+    roster: &str,
+    lines: &[u8],
+) -> Result<Ran, AllocError> {
+    let mut source = MemorySource::new(rt.alloc(), lines)?;
+    let output = MemorySink::new(rt.alloc(), 65536)?;
+    script(rt, roster, &mut source, output)
+}
+
+/// Whether the session of these texts, one behind the other, is answered by those, byte for byte, and ends well.
+pub fn answers<R: Threads + Wait + Sync + AllocGlobal>(
+    rt: &R,
+    roster: &str,
+    lines: &[&str],
+    replies: &[&str],
+) -> Result<bool, AllocError> {
+    let mut input = Vec::new(rt.alloc());
+    for text in lines {
+        input.extend_from_slice(text.as_bytes())?;
+    }
+    let mut want = Vec::new(rt.alloc());
+    for text in replies {
+        want.extend_from_slice(text.as_bytes())?;
+    }
+    let ran = reply_to(rt, roster, &input)?;
+    Ok(ran.is(0, &want, ""))
+}
+
+/// Whether each of these sessions is answered so.
+pub fn all_answer<R: Threads + Wait + Sync + AllocGlobal>(
+    rt: &R,
+    roster: &str,
+    cases: &[(&str, &str)],
+) -> Result<bool, AllocError> {
+    for (lines, replies) in cases {
+        if !answers(rt, roster, &[lines], &[replies])? {
+            return Ok(false);
+        }
+    }
+    Ok(true)
+}
+
+/// A roster, the texts of a session, and the texts of its replies.
+pub type Session<'a> = (&'a str, &'a [&'a str], &'a [&'a str]);
+
+/// Whether each of these sessions is answered so.
+pub fn sessions_are_answered<R: Threads + Wait + Sync + AllocGlobal>(
+    rt: &R,
+    sessions: &[Session<'_>],
+) -> Result<bool, AllocError> {
+    for (roster, lines, replies) in sessions {
+        if !answers(rt, roster, lines, replies)? {
+            return Ok(false);
+        }
+    }
+    Ok(true)
+}

@@ -1,0 +1,6 @@
+use Rattle.std.proofs.Common.{refl}
+use Rattle.session.proofs.GrowthFacts.{unsolved}
+use Rattle.session.proofs.proposals.solve_and_post.Goals as goal
+
+pub returns-in_default : goal.returns-in_default
+returns-in_default g c = unsolved _ c.args.by.now c.args.cycle c.args.version c.args.begun_at c.args.problems.now _ refl

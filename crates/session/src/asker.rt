@@ -1,0 +1,94 @@
+//! What a session asks with.
+
+ghost use Rattle.std.specs.Prelude.{◌≡◌, ◌≤◌, IfOk};
+ghost use Rattle.command_types.specs.History.{end_of};
+ghost use Rattle.network_laws.specs.Solved.{AreSolved};
+ghost use Rattle.cycle_lock.specs.Passes.{IsPassOf, seen};
+ghost use Rattle.session.specs.Serving.{of_pass, Asks};
+
+use command_types::{Ask, Desk, Reply};
+use cycle_lock::{Pass, Turns};
+use network_laws::{Problem, Solution, Solver};
+use parallel_solver::{Gate, solve_all};
+use std::alloc::{AllocError, Global};
+use std::sync::Wait;
+use std::thread::Threads;
+
+/// A pass of a lock, which asks the desk in its turn, and the workers that solve, with no turn held.
+#[derive(Drop)]
+pub struct Asker<'a, T: Desk, R: Threads + Wait + Sync, V: Solver, G: Gate> {
+    rt: &'a R,
+    turns: &'a Turns<T>,
+    workers: u32,
+    solver: &'a V,
+    gate: &'a G,
+    pass: Pass,
+    ghost few: { (1 ≤ workers) × (workers ≤ 64) },
+    ghost own: { IsPassOf turns.now pass },
+}
+
+impl<'a, T: Desk, R: Threads + Wait + Sync, V: Solver, G: Gate> Asker<'a, T, R, V, G> {
+    /// What asks with this pass.
+    pub fn new(
+        rt: &'a R,
+        turns: &'a Turns<T>,
+        workers: u32,
+        solver: &'a V,
+        gate: &'a G,
+        pass: Pass,
+    ) -> Asker<'a, T, R, V, G>
+        requires own { IsPassOf turns.now pass }
+        requires workers { (1 ≤ workers) × (workers ≤ 64) }
+        ensures pass { result.pass ≡ pass }
+        ensures turns { result.turns.now ≡ turns.entry.now }
+    {
+        Asker {
+            rt,
+            turns,
+            workers,
+            solver,
+            gate,
+            pass,
+        }
+    }
+
+    /// The pass again.
+    pub fn into_pass(self) -> Pass
+        ensures pass { result ≡ self.entry.pass }
+        ensures own { IsPassOf self.entry.turns.now result }
+    {
+        self.pass
+    }
+
+    /// Asks the desk. What others ask meanwhile is seen too.
+    pub fn ask(&mut self, ask: Ask) -> Reply
+        ensures { Asks (of_pass self.old.pass) (of_pass self.new.pass) ask result }
+    {
+        self.turns.call(self.rt, &mut self.pass, ask)
+    }
+
+    /// The length of the history that the pass has seen.
+    pub fn length(&self) -> u64
+        ensures { result ≡ end_of (seen self.now.pass) }
+    {
+        self.pass.position()
+    }
+
+    /// A certified solution for each problem, in order. The only error is want of memory.
+    pub fn solve_all(
+        &self,
+        alloc: Global,
+        problems: &[Problem],
+    ) -> Result<Vec<Solution>, AllocError>
+        ensures { IfOk result (λ solutions. AreSolved problems.now solutions.items) }
+    {
+        solve_all(
+            self.rt,
+            alloc,
+            self.workers,
+            problems,
+            self.solver,
+            self.gate,
+        )
+    }
+}

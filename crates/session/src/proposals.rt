@@ -1,0 +1,99 @@
+//! How a PROPOSE is replied to: by a BEGIN, by the problems of that version, and by a POST of their solutions.
+
+ghost use Rattle.std.specs.Prelude.{◌≡◌};
+ghost use Rattle.session.specs.Serving.{of_pass};
+ghost use Rattle.session.specs.Proposing.{begun_version, has_problems, Proposes, Fetches, Posts};
+
+use crate::asker::Asker;
+use command_types::{Answer, Ask, Desk, Listed, Mode, Refusal, Reply, What};
+use network_laws::{Problem, Solver};
+use parallel_solver::Gate;
+use std::alloc::Global;
+use std::sync::Wait;
+use std::thread::Threads;
+use units_core::Name;
+
+// The version that began.
+fn begun_version(answer: &Answer) -> Option<u64>
+    ensures { result ≡ begun_version answer.now }
+{
+    match answer {
+        Answer::Begun { version, .. } => Some(*version),
+        _ => None,
+    }
+}
+
+fn has_problems(answer: &Answer) -> bool
+    ensures { result ≡ has_problems answer.now }
+{
+    matches!(answer, Answer::Problems(_))
+}
+
+// Posts a solution of each problem. Where there is no memory for them, the reply is that, at the position at which the
+// version began.
+fn solve_and_post<T: Desk, R: Threads + Wait + Sync, V: Solver, G: Gate>(
+    alloc: Global,
+    asker: &mut Asker<'_, T, R, V, G>,
+    by: &Option<Name>,
+    cycle: u64,
+    version: u64,
+    problems: &[Problem],
+    begun_at: u64,
+) -> Reply
+    ensures { Posts (of_pass asker.old.pass) (of_pass asker.new.pass) by.now cycle version begun_at problems.now result }
+{
+    let Ok(solutions) = asker.solve_all(alloc, problems) else {
+        return Reply {
+            at: begun_at,
+            answer: Answer::No(Refusal::Memory),
+        };
+    };
+    let solutions = Listed::new(solutions);
+    let what = What::Post {
+        cycle,
+        version,
+        solutions,
+    };
+    asker.ask(Ask { by: *by, what })
+}
+
+// Asks for the problems of the version that was begun, and goes on with them.
+fn fetch<T: Desk, R: Threads + Wait + Sync, V: Solver, G: Gate>(
+    alloc: Global,
+    asker: &mut Asker<'_, T, R, V, G>,
+    by: &Option<Name>,
+    cycle: u64,
+    version: u64,
+    begun_at: u64,
+) -> Reply
+    ensures { Fetches (of_pass asker.old.pass) (of_pass asker.new.pass) by.now cycle version begun_at result }
+{
+    let what = What::Fetch { cycle, version };
+    let reply = asker.ask(Ask { by: *by, what });
+    if !has_problems(&reply.answer) {
+        return reply;
+    }
+    let Answer::Problems(problems) = &reply.answer else {
+        unreachable!()
+    };
+    solve_and_post(alloc, asker, by, cycle, version, problems.rows(), begun_at)
+}
+
+/// Begins a version, solves its problems, with no turn held, and posts the solutions. The reply is the first refusal on
+/// the way, or that to the POST.
+pub fn propose<T: Desk, R: Threads + Wait + Sync, V: Solver, G: Gate>(
+    alloc: Global,
+    asker: &mut Asker<'_, T, R, V, G>,
+    by: &Option<Name>,
+    cycle: u64,
+    mode: Mode,
+) -> Reply
+    ensures { Proposes (of_pass asker.old.pass) (of_pass asker.new.pass) by.now cycle mode result }
+{
+    let what = What::Begin { cycle, mode };
+    let reply = asker.ask(Ask { by: *by, what });
+    match begun_version(&reply.answer) {
+        Some(version) => fetch(alloc, asker, by, cycle, version, reply.at),
+        None => reply,
+    }
+}
