@@ -1,11 +1,12 @@
 //! What lies outside the program: where its input comes from, where its output goes, the files that it reads by name,
-//! and the disk that keeps its journal.
+//! the disk that keeps its journal, and the gate that its workers pass.
 #![tactic(auto)]
 
 pub mod disk;
 pub mod failed;
 pub mod file_disk;
 pub mod files;
+pub mod gate;
 pub mod memory_disk;
 pub mod memory_files;
 pub mod memory_sink;
@@ -20,6 +21,7 @@ pub use disk::Disk;
 pub use failed::Failed;
 pub use file_disk::FileDisk;
 pub use files::Files;
+pub use gate::{Gate, OpenGate};
 pub use memory_disk::MemoryDisk;
 pub use memory_files::MemoryFiles;
 pub use memory_sink::MemorySink;

@@ -7,10 +7,10 @@ ghost use Rattle.network_laws.specs.Solved.{AreSolved};
 ghost use Rattle.parallel_solver.specs.Places.{SolvesAt};
 ghost use Rattle.parallel_solver.specs.Jobs.{IsRight, MayWork, HasWorked, AreRight};
 
-use crate::gate::Gate;
 use crate::job::{Done, Job};
 use claim_counter::{Counter, Worker};
 use network_laws::{Problem, Solution, Solver};
+use outside::Gate;
 use std::alloc::{AllocError, Global};
 use std::thread;
 use std::thread::Threads;

@@ -1,8 +1,8 @@
-//! What a worker passes before it solves a problem.
+//! Gates, which workers pass one by one.
 
-/// A gate that may hold a worker back.
+/// A gate that may hold a worker back before it works on a piece.
 pub trait Gate: Sync {
-    /// Passes the gate with the number of a problem.
+    /// Passes the gate with the number of the piece. This may wait.
     fn enter(&self, piece: u64);
 }
 
