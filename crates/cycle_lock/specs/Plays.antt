@@ -47,6 +47,15 @@ module _ {T : Type 0} where
   abbrev pub noted : List Entry → Bool → Sat T → Sat T → Type 0
   noted log stop m w = (w.0.stage ≡ HasTurn) × (w.0.known ≡ log) × (w.0.halted ≡ stop) × (w.0.account ≡ record m.0.account { seen = log; stop = stop }) × (w.1 ≡ m.1)
 
+  -- the history of the desk that lies in the slot, and its stop
+  abbrev pub log_in : (T → History) → List (ℕ × Option T) → List Entry
+  log_in history ((k, Some d) ∷ slots) = (history d).entries
+  log_in history slots = []
+
+  abbrev pub stop_in : (T → Bool) → List (ℕ × Option T) → Bool
+  stop_in stopped ((k, Some d) ∷ slots) = stopped d
+  stop_in stopped slots = false
+
   -- the desk has the history that the seat knows, with one entry of its number if it grew
   pub record Becomes (history : T → History) (stopped : T → Bool) (v : View) (grew : Bool) (d : T) : Type 0 where
     pub live : v.account.spent ≡ false

@@ -43,13 +43,17 @@ impl<T: Desk> Turns<T> {
     {
         let mut seat: SeatOf<T> = mem::replace(&mut pass.badge, Badge::blank()).into_seat();
         self.enter(rt, &mut seat);
-        let mut desk = self.take_out(&mut seat);
+        let Some(desk) = seat.slot_mut(&self.table.shared, 0) else {
+            unreachable!()
+        };
         let before = desk.length();
         let reply = desk.ask(pass.number, ask);
-        self.note::<Brand>(&mut seat, &desk, reply.at > before);
-        self.put_in(&mut seat, desk);
-        self.table.shared.fetch_add::<PassOn>(&mut seat, 2, 1);
-        self.table.shared.wake_all(2);
+        self.note::<Brand>(&mut seat, reply.at > before);
+        let ticket = self.table.shared.fetch_add::<PassOn>(&mut seat, 2, 1);
+        // Who draws a ticket after this look finds the turn passed on, and needs no waking.
+        if self.table.shared.peek(1) != ticket.wrapping_add(1) {
+            self.table.shared.wake_all(2);
+        }
         pass.badge = seat.into_badge();
         pass.at = reply.at;
         reply

@@ -46,27 +46,13 @@ impl<T: Desk> Turns<T> {
         }
     }
 
-    // The desk goes into the slot.
-    pub(super) fn put_in(&self, seat: &mut SeatOf<T>, desk: T)
-        requires own { seat.old.table_id ≡ self.now.table.shared.table_id }
-        requires empty { seat.old.me.1 ≡ (0, None) ∷ [] }
-        ensures own { (seat.new.table_id ≡ seat.old.table_id) × (seat.new.id ≡ seat.old.id) }
-        ensures seat { seat.new.me ≡ (seat.old.me.0, (0, Some desk) ∷ []) }
-    {
-        match self.table.shared.exchange(seat, 0, Some(desk)) {
-            None => {}
-            Some(_) => unreachable!(),
-        }
-    }
-
-    // The history's length follows the desk, and what the desk has become is seen.
-    pub(super) fn note<M: Outcome>(&self, seat: &mut SeatOf<T>, desk: &T, grew: bool)
+    // The history's length follows the desk in the slot, and what the desk has become is seen.
+    pub(super) fn note<M: Outcome>(&self, seat: &mut SeatOf<T>, grew: bool)
         requires own { seat.old.table_id ≡ self.now.table.shared.table_id }
         requires turn { seat.old.me.0.stage ≡ HasTurn }
-        requires outcome { (M.log ≡ (T.history desk.now).entries) × (M.stop ≡ T.stopped desk.now) }
-        requires desk { Becomes T.history T.stopped seat.old.me.0 grew desk.now }
+        requires desk { (d : T) × (seat.old.me.1 ≡ (0, Some d) ∷ []) × (M.log ≡ (T.history d).entries) × (M.stop ≡ T.stopped d) × Becomes T.history T.stopped seat.old.me.0 grew d }
         ensures own { (seat.new.table_id ≡ seat.old.table_id) × (seat.new.id ≡ seat.old.id) }
-        ensures noted { noted (T.history desk.now).entries (T.stopped desk.now) seat.old.me seat.new.me }
+        ensures noted { noted M.log M.stop seat.old.me seat.new.me }
     {
         if grew {
             self.table.shared.fetch_add::<Note<M>>(seat, 0, 1);
