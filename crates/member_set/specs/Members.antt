@@ -1,0 +1,16 @@
+-- Which members a set has.
+use Rattle.std.specs.Prelude.{ℕ, ◌/◌, ◌%◌, ◌==◌, ◌&&◌, nat_lt, Bool, List, [], slice_index}
+use Rattle.std.specs.Int.{bit_at}
+use Rattle.member_set.specs.declared.set.MemberSet.{MemberSet}
+
+-- whether the words have the member
+abbrev pub has_bit : List ℕ → ℕ → Bool
+has_bit words m = nat_lt m 256 && (bit_at (slice_index words (m / 64)) (m % 64) == 1)
+
+-- whether the set has the member
+unfoldable pub has : MemberSet → ℕ → Bool
+has set m = has_bit set.words m
+
+-- what a reader of a list of sets takes for the sets behind its end
+abbrev pub no_members : MemberSet
+no_members = record { words = [] }
