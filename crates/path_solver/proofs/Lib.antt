@@ -10,3 +10,6 @@ pub mod Layered
 pub mod TakenBack
 pub mod Phased
 pub mod Certifying
+pub mod Noted
+pub mod NotedOne
+pub mod Near

@@ -6,11 +6,9 @@ use Rattle.std.proofs.lemmas.List.Sums.{sum_by-set}
 use Rattle.residual_graph.specs.declared.flow.Flow.{Flow}
 use Rattle.residual_graph.specs.Residual.{ResidualData}
 use Rattle.residual_graph.specs.Arcs.{arc_count, pair, is_forward, flow_at, room, room_in, head, head_in, tail, tail_in}
-use Rattle.path_solver.specs.declared.exits.Exit.{Exit}
 use Rattle.path_solver.specs.Prices.{IsTight, twin_room, IsTwinOpen}
-use Rattle.path_solver.specs.Exits.{AreExits, exits_at, exit_in}
 use Rattle.path_solver.specs.Levels.{IsReached, LeadsDown, IsSearch, AreUpTo, is_unreached}
-use Rattle.path_solver.specs.Growth.{IsGrown, IsEntered, FindsNew, first_to_send}
+use Rattle.path_solver.specs.Growth.{IsGrown, FindsNew, first_to_send}
 
 -- the other arc of a pair
 pub record Twin (flows : List Flow) (a : ℕ) : Type 0 where
@@ -56,22 +54,6 @@ twin_of flows a l =
     (λ (e : is_forward a ≡ false). let odd = eqb-false (a % 2) 0 e in
     make_twin flows a (a - 1) (omega (arith, odd)) (omega (arith, odd)) (eq-eqb ((a - 1) % 2) 0 (omega (arith, odd)) ∙ sym (ap not e)))
     (cases_Bool (is_forward a))
-
--- an open arc here is the twin of an exit, whose head was tried
-pub entered : (r : ResidualData) (p levels : List ℕ) (exits : List (List Exit)) (here : ℕ) (own : List Exit) → AreExits r exits → own ≡ exits_at exits here → ((x : ℕ) → x < length own → IsTwinOpen r.flows p (exit_in own x).arc → IsReached levels (exit_in own x).head) → IsEntered r.flows p levels here
-entered r p levels exits here own are e tried a l is_open at_here =
-    let t = twin_of r.flows a l in
-    let has = are.whole t.t t.arc in
-    let at_own : exits_at exits (tail r.flows t.t) ≡ own = ap (exits_at exits) (t.starts ∙ at_here) ∙ sym e in
-    let x = has.0 in
-    let in_exits : has.0 < length (exits_at exits here) = subst (λ v. has.0 < length (exits_at exits v)) (t.starts ∙ at_here) has.1 in
-    let in_own : has.0 < length own = subst (λ (xs : List Exit). has.0 < length xs) at_own has.1 in
-    let at_arc : (exit_in own has.0).arc ≡ t.t = ap (λ xs. (exit_in xs x).arc) (sym at_own) ∙ has.2 in
-    let exit = are.own here x in_exits in
-    let at_head : (exit_in own has.0).head ≡ tail r.flows a =
-    ap (λ xs. (exit_in xs x).head) e ∙ sym exit.head ∙ ap (λ xs. head r.flows (exit_in xs x).arc) (sym e) ∙ ap (head r.flows) at_arc ∙ t.ends in
-    let twin_open : IsTwinOpen r.flows p (exit_in own has.0).arc = subst (IsTwinOpen r.flows p) (sym at_arc) (omega (arith, t.back, is_open.0), subst (λ k. IsTight p (flow_at r.flows k)) (sym t.same_pair) is_open.1) in
-    subst (IsReached levels) at_head (tried x in_own twin_open)
 
 -- one more member is reached
 module _ (r : ResidualData) (p lack levels queue : List ℕ) (here from a level : ℕ) (h : IsSearch r p lack levels queue) (small : AreUpTo 257 levels) (in_here : here < r.members) (in_from : from < r.members) (reached : IsReached levels here) (new : get_or levels from 0 ≡ 65535) (in_arcs : a < arc_count r.flows) (starts : tail r.flows a ≡ here) (ends : head r.flows a ≡ from) (is_open : IsTwinOpen r.flows p a) (next : level ≡ get_or levels here 0 + 1) where

@@ -5,3 +5,5 @@ pub mod Levels
 pub mod Growth
 pub mod Paths
 pub mod Phases
+pub mod Entries
+pub mod Groups

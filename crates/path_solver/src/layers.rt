@@ -1,15 +1,15 @@
 //! Breadth first from the members that have to receive, back along open arcs.
 
-ghost use Rattle.std.specs.Prelude.{◌≡◌, ◌↔◌, ℕ, ◌+◌, ◌<◌, length, slice_index, OnOk, IfOk, IfSome, IsSome, IsTrue};
-ghost use Rattle.residual_graph.specs.Arcs.{arc_count};
-ghost use Rattle.path_solver.specs.Exits.{AreExits};
-ghost use Rattle.path_solver.specs.Prices.{IsTwinOpen};
+ghost use Rattle.std.specs.Prelude.{◌≡◌, ℕ, ◌+◌, ◌<◌, ◌≤◌, true, false, length, slice_index, OnOk, IfOk, IfSome, IsSome, IsTrue};
+ghost use Rattle.member_set.specs.Members.{has};
+ghost use Rattle.path_solver.specs.Entries.{AreEntries, AreOpenTo, AreFree, is_open_to};
 ghost use Rattle.path_solver.specs.Rests.{AreApart};
 ghost use Rattle.path_solver.specs.Levels.{IsReached, IsSearch, IsLayered, AreUpTo};
-ghost use Rattle.path_solver.specs.Growth.{IsGrown, IsEntered, FindsNew, first_to_send};
+ghost use Rattle.path_solver.specs.Growth.{IsGrown, FindsNew, first_to_send};
 
-use crate::exits::{Exit, Exits};
-use crate::prices::can_enter;
+use crate::entries::Entry;
+use crate::groups::sort_by_price;
+use member_set::MemberSet;
 use residual_graph::Residual;
 use std::alloc::AllocError;
 
@@ -21,14 +21,17 @@ pub const UNREACHED: u16 = u16::MAX;
 /// behind its level may stay unreached.
 pub fn layer(
     residual: &Residual,
-    exits: &Exits,
+    entries: &[Entry],
     prices: &[u16],
     surplus: &[u64],
     lack: &[u64],
+    groups: &mut [MemberSet],
     levels: &mut [u16],
     queue: &mut Vec<u16>,
 ) -> Result<Option<u16>, AllocError>
-    requires exits { AreExits residual.now exits.now }
+    requires entries { AreEntries residual.now entries.now }
+    requires low { (v : ℕ) → slice_index prices.now v ≤ residual.now.members }
+    requires groups { length groups.old ≡ residual.now.members + 3 }
     requires prices { residual.now.members ≡ length prices.now }
     requires surplus { residual.now.members ≡ length surplus.now }
     requires lack { residual.now.members ≡ length lack.now }
@@ -37,7 +40,9 @@ pub fn layer(
     ensures { IfOk result (IsLayered residual.now.flows prices.now surplus.now lack.now levels.new) }
 {
     let _members = residual.members();
+    sort_by_price(prices, groups);
     start(residual, prices, lack, levels, queue)?;
+    let mut free = free_of(levels);
     let mut found = None;
     let mut done = 0;
     while done < queue.len() {
@@ -45,7 +50,9 @@ pub fn layer(
         if is_behind(levels, found, here) {
             break;
         }
-        let nearest = enter(residual, exits, prices, surplus, lack, here, levels, queue)?;
+        let near = open_to(entries, groups, prices[here as usize], here).and(&free);
+        let nearest = enter(residual, prices, surplus, lack, here, near, levels, queue)?;
+        free = free.without(&near);
         found = found.or(nearest);
         done += 1;
     }
@@ -91,50 +98,68 @@ fn start(
     Ok(())
 }
 
-/// Reaches the members from which an open arc leads here, and tells the first of them that has to send.
+/// The members that are not reached.
+fn free_of(levels: &[u16]) -> MemberSet
+    requires { length levels.now ≤ 256 }
+    ensures { AreFree levels.now result }
+{
+    let mut free = MemberSet::new();
+    for member in 0..levels.len() {
+        if levels[member] == UNREACHED {
+            free.put(member as u16);
+        }
+    }
+    free
+}
+
+/// The members from which an open arc leads here.
+fn open_to(entries: &[Entry], groups: &[MemberSet], price: u16, here: u16) -> MemberSet
+    requires here { here < length entries.now }
+    requires price { price + 3 ≤ length groups.now }
+    ensures { (u : ℕ) → has result u ≡ is_open_to entries.now groups.now price here u }
+{
+    let entry = entries[here as usize];
+    let sellers = entry.sellers.and(&groups[price as usize + 2]);
+    let buyers = entry.buyers.and(&groups[price as usize]);
+    sellers.or(&buyers)
+}
+
+/// Reaches members that were not reached, from each of which an open arc leads here, and tells the lowest
+/// of them that has to send.
 fn enter(
     residual: &Residual,
-    exits: &Exits,
     prices: &[u16],
     surplus: &[u64],
     lack: &[u64],
     here: u16,
+    near: MemberSet,
     levels: &mut [u16],
     queue: &mut Vec<u16>,
 ) -> Result<Option<u16>, AllocError>
-    requires exits { AreExits residual.now exits.now }
     requires prices { residual.now.members ≡ length prices.now }
     requires surplus { residual.now.members ≡ length surplus.now }
     requires here { here < residual.now.members }
     requires reached { IsReached levels.old here }
     requires search { IsSearch residual.now prices.now lack.now levels.old queue.old.items }
     requires small { AreUpTo 256 levels.old }
+    requires near { AreOpenTo residual.now prices.now levels.old here near }
     ensures search { OnOk result (IsSearch residual.now prices.now lack.now levels.new queue.new.items) }
     ensures most { OnOk result ((most : ℕ) → AreUpTo most levels.old → AreUpTo (most + 1) levels.new) }
     ensures grown { OnOk result (IsGrown levels.old levels.new queue.old.items queue.new.items) }
-    ensures entered { OnOk result (IsEntered residual.now.flows prices.now levels.new here) }
+    ensures reached { OnOk result ((u : ℕ) → has near u ≡ true → IsReached levels.new u) }
+    ensures others { OnOk result ((u : ℕ) → has near u ≡ false → slice_index levels.new u ≡ slice_index levels.old u) }
     ensures found { IfOk result (FindsNew surplus.now levels.old levels.new) }
 {
     let level = levels[here as usize] + 1;
     let mut found = None;
-    for exit in exits.leaving(here) {
-        if is_new(residual, prices, levels, *exit) {
-            levels[exit.head as usize] = level;
-            queue.push(exit.head)?;
-            found = first_to_send(found, exit.head, surplus);
-        }
+    let mut left = near;
+    while let Some(member) = left.lowest() {
+        left.drop_member(member);
+        levels[member as usize] = level;
+        queue.push(member)?;
+        found = first_to_send(found, member, surplus);
     }
     Ok(found)
-}
-
-/// Whether an exit's head is not reached, and its twin is open.
-fn is_new(residual: &Residual, prices: &[u16], levels: &[u16], exit: Exit) -> bool
-    requires arc { exit.arc < arc_count residual.now.flows }
-    requires prices { residual.now.members ≡ length prices.now }
-    requires head { exit.head < length levels.now }
-    ensures { IsTrue result ↔ ((slice_index levels.now exit.head ≡ 65535) × IsTwinOpen residual.now.flows prices.now exit.arc) }
-{
-    levels[exit.head as usize] == UNREACHED && can_enter(residual, prices, exit.arc)
 }
 
 /// The member that was found, else this one, where it has to send.

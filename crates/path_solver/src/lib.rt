@@ -7,8 +7,10 @@
 //! less than the price that it bridges, and in the end the prices are the potentials of a certificate.
 #![tactic(auto)]
 
+mod entries;
 mod exit_lists;
 mod exits;
+mod groups;
 mod layers;
 mod lowest;
 mod paths;

@@ -2,7 +2,7 @@
 
 ghost use Rattle.std.specs.Prelude.{◌≡◌, ◌↔◌, ℕ, ◌<◌, length, slice_index, IsTrue};
 ghost use Rattle.residual_graph.specs.Arcs.{arc_count};
-ghost use Rattle.path_solver.specs.Prices.{IsTight, IsOpen, IsTwinOpen};
+ghost use Rattle.path_solver.specs.Prices.{IsTight, IsOpen};
 ghost use Rattle.path_solver.specs.Phases.{raised_price};
 
 use crate::layers::UNREACHED;
@@ -26,17 +26,6 @@ pub fn can_leave(residual: &Residual, prices: &[u16], arc: u32) -> bool
 {
     let flow = residual.flows()[(arc / 2) as usize];
     let room = if arc % 2 == 0 { flow.room } else { flow.back };
-    room > 0 && is_tight(flow, prices)
-}
-
-/// Whether an arc's twin has room and is tight.
-pub fn can_enter(residual: &Residual, prices: &[u16], arc: u32) -> bool
-    requires arc { arc < arc_count residual.now.flows }
-    requires prices { residual.now.members ≡ length prices.now }
-    ensures { IsTrue result ↔ IsTwinOpen residual.now.flows prices.now arc }
-{
-    let flow = residual.flows()[(arc / 2) as usize];
-    let room = if arc % 2 == 0 { flow.back } else { flow.room };
     room > 0 && is_tight(flow, prices)
 }
 

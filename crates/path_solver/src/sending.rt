@@ -2,10 +2,12 @@
 
 ghost use Rattle.std.specs.Prelude.{◌≡◌, ℕ, true, ◌<◌, length, slice_index, sum, IfOk, OnOk, IsTrue};
 ghost use Rattle.path_solver.specs.Exits.{AreExits};
+ghost use Rattle.path_solver.specs.Entries.{AreEntries};
 ghost use Rattle.path_solver.specs.Levels.{IsReached, AreLevels, IsSource};
 ghost use Rattle.path_solver.specs.Paths.{IsFresh};
 ghost use Rattle.path_solver.specs.Rests.{IsSentAlong};
 
+use crate::entries::Entry;
 use crate::exits::Exits;
 use crate::paths::{least_room, push_all};
 use crate::walk::walk;
@@ -16,6 +18,7 @@ use std::alloc::AllocError;
 pub fn send_phase(
     residual: &mut Residual,
     exits: &Exits,
+    entries: &mut [Entry],
     prices: &[u16],
     levels: &[u16],
     surplus: &mut [u64],
@@ -25,6 +28,7 @@ pub fn send_phase(
     source: u16,
 ) -> Result<(), AllocError>
     requires exits { AreExits residual.old exits.now }
+    requires entries { AreEntries residual.old entries.old }
     requires prices { residual.old.members ≡ length prices.now }
     requires levels { residual.old.members ≡ length levels.now }
     requires surplus { residual.old.members ≡ length surplus.old }
@@ -32,17 +36,18 @@ pub fn send_phase(
     requires current { residual.old.members ≡ length current.old }
     requires source { IsSource surplus.old levels.now source }
     requires down { AreLevels residual.old.flows prices.now lack.old levels.now }
+    ensures entries { OnOk result (AreEntries residual.new entries.new) }
     ensures along { OnOk result (IsSentAlong prices.now residual.old residual.new surplus.old lack.old surplus.new lack.new) }
     ensures sent { OnOk result (sum surplus.new < sum surplus.old) }
 {
     reset(current);
     send_once(
-        residual, exits, prices, levels, surplus, lack, current, path, source,
+        residual, exits, entries, prices, levels, surplus, lack, current, path, source,
     )?;
     for member in 0..residual.members() {
         if levels[member as usize] == levels[source as usize] {
             send_all(
-                residual, exits, prices, levels, surplus, lack, current, path, member,
+                residual, exits, entries, prices, levels, surplus, lack, current, path, member,
             )?;
         }
     }
@@ -62,6 +67,7 @@ fn reset(numbers: &mut [usize])
 fn send_once(
     residual: &mut Residual,
     exits: &Exits,
+    entries: &mut [Entry],
     prices: &[u16],
     levels: &[u16],
     surplus: &mut [u64],
@@ -71,12 +77,14 @@ fn send_once(
     from: u16,
 ) -> Result<bool, AllocError>
     requires exits { AreExits residual.old exits.now }
+    requires entries { AreEntries residual.old entries.old }
     requires prices { residual.old.members ≡ length prices.now }
     requires levels { residual.old.members ≡ length levels.now }
     requires surplus { residual.old.members ≡ length surplus.old }
     requires lack { residual.old.members ≡ length lack.old }
     requires current { residual.old.members ≡ length current.old }
     requires from { from < residual.old.members }
+    ensures entries { OnOk result (AreEntries residual.new entries.new) }
     ensures along { OnOk result (IsSentAlong prices.now residual.old residual.new surplus.old lack.old surplus.new lack.new) }
     ensures sent { IfOk result (λ sent. IsTrue sent → sum surplus.new < sum surplus.old) }
     ensures fresh { AreLevels residual.old.flows prices.now lack.old levels.now → IsReached levels.now from → IsFresh levels.now current.old (slice_index levels.now from) → 0 < slice_index surplus.old from → IfOk result (λ sent. sent ≡ true) }
@@ -90,7 +98,7 @@ fn send_once(
     };
     let most = surplus[from as usize].min(lack[end as usize]);
     let amount = least_room(residual, path).min(most);
-    push_all(residual, path, amount);
+    push_all(residual, entries, path, amount);
     surplus[from as usize] -= amount;
     lack[end as usize] -= amount;
     Ok(true)
@@ -100,6 +108,7 @@ fn send_once(
 fn send_all(
     residual: &mut Residual,
     exits: &Exits,
+    entries: &mut [Entry],
     prices: &[u16],
     levels: &[u16],
     surplus: &mut [u64],
@@ -109,16 +118,18 @@ fn send_all(
     from: u16,
 ) -> Result<(), AllocError>
     requires exits { AreExits residual.old exits.now }
+    requires entries { AreEntries residual.old entries.old }
     requires prices { residual.old.members ≡ length prices.now }
     requires levels { residual.old.members ≡ length levels.now }
     requires surplus { residual.old.members ≡ length surplus.old }
     requires lack { residual.old.members ≡ length lack.old }
     requires current { residual.old.members ≡ length current.old }
     requires from { from < residual.old.members }
+    ensures entries { OnOk result (AreEntries residual.new entries.new) }
     ensures along { OnOk result (IsSentAlong prices.now residual.old residual.new surplus.old lack.old surplus.new lack.new) }
 {
     'paths: while send_once(
-        residual, exits, prices, levels, surplus, lack, current, path, from,
+        residual, exits, entries, prices, levels, surplus, lack, current, path, from,
     )? {}
     Ok(())
 }

@@ -4,10 +4,12 @@ ghost use Rattle.std.specs.Prelude.{◌≡◌, ℕ, ◌<◌, length, slice_index
 ghost use Rattle.path_solver.specs.Rests.{IsFeasible, AreApart};
 ghost use Rattle.path_solver.specs.Phases.{IsSettled};
 
+use crate::entries::entries_of;
 use crate::exits::Exits;
 use crate::layers::{UNREACHED, layer};
 use crate::prices::raise;
 use crate::sending::send_phase;
+use member_set::MemberSet;
 use residual_graph::Residual;
 use std::alloc::{AllocError, Global};
 
@@ -51,6 +53,8 @@ pub fn settle(
 {
     let members = residual.members();
     let exits = Exits::of(alloc, residual)?;
+    let mut entries = entries_of(alloc, residual)?;
+    let mut groups = all_of(alloc, members + 3, MemberSet::new())?;
     let mut prices = all_of(alloc, members, 0u16)?;
     let mut levels = all_of(alloc, members, UNREACHED)?;
     let mut current = all_of(alloc, members, 0usize)?;
@@ -60,10 +64,11 @@ pub fn settle(
     'phases: while is_left(surplus) {
         match layer(
             residual,
-            &exits,
+            &entries,
             &prices,
             surplus,
             lack,
+            &mut groups,
             &mut levels,
             &mut queue,
         )? {
@@ -75,6 +80,7 @@ pub fn settle(
                 send_phase(
                     residual,
                     &exits,
+                    &mut entries,
                     &prices,
                     &levels,
                     surplus,

@@ -6,6 +6,9 @@ use Rattle.residual_graph.specs.Residual.{ResidualData}
 use Rattle.residual_graph.specs.Arcs.{arc_count, room, pair, is_forward, flow_at, moved, pushed}
 use Rattle.residual_graph.proofs.Kept.{pair_below}
 use Rattle.residual_graph.proofs.PushSteps.{room_kept}
+use Rattle.path_solver.specs.Entries.{AreEntriesTo, IsNoted}
+use Rattle.path_solver.proofs.Same.{pushed_same, flow_at_other}
+use Rattle.path_solver.proofs.Noted.{IsNext, noted_more}
 use Rattle.path_solver.proofs.paths.push_all.Goals as goal
 
 pub loop-arc-preserved : goal.loop-arc-preserved
@@ -18,7 +21,27 @@ loop-arc-preserved c =
     let a = get_or c.args.arcs.now c.loop-arc.arc-index 0 in
     let now : c.push.new.self.flows ≡ pushed c.args.amount c.loop-arc.residual.flows (get_or c.args.arcs.now c.loop-arc.arc-index 0) = ap (λ (r : ResidualData). r.flows) c.push.ensures in
     let l : get_or c.args.arcs.now c.loop-arc.arc-index 0 < arc_count c.loop-arc.residual.flows = omega (arith, c.requires.arc c.loop-arc.arc-index 0 c.loop-arc-test.true, inv.count) in
+    let in_pairs : pair (get_or c.args.arcs.now c.loop-arc.arc-index 0) < length c.loop-arc.residual.flows = pair_below a (length flows) l in
+    let room_a : c.args.amount ≤ room c.loop-arc.residual.flows (get_or c.args.arcs.now c.loop-arc.arc-index 0) = inv.roomy m 0 (omega arith) c.loop-arc-test.true in
+    let same = pushed_same x flows a in_pairs room_a in
+    let long : length c.push.new.self.flows ≡ length c.loop-arc.residual.flows = ap length now ∙ length-set flows (pair a) (moved x (is_forward a) (flow_at flows (pair a))) in
+    let next : IsNext (length c.loop-arc.residual.flows) (length c.loop-arc.residual.flows) (pair (get_or c.args.arcs.now c.loop-arc.arc-index 0)) c.loop-arc.residual c.push.new.self = record {
+      members = ap (λ (r : ResidualData). r.members) c.push.ensures;
+      within = omega (arith, in_pairs, long);
+      pairs = long;
+      seller = λ j lj. ap (λ (fs : List Flow). (flow_at fs j).seller) now ∙ (same.each j lj).seller;
+      buyer = λ j lj. ap (λ (fs : List Flow). (flow_at fs j).buyer) now ∙ (same.each j lj).buyer;
+      others = λ j ne. ap (λ (fs : List Flow). flow_at fs j) now ∙ flow_at_other x flows a j ne;
+      fewer = omega arith;
+      last = in_pairs;
+      rest = λ j lj ne. lj;
+      all = omega (arith, long);
+    } in
+    let noted : IsNoted (flow_at c.push.new.self.flows (pair (get_or c.args.arcs.now c.loop-arc.arc-index 0))) c.loop-arc.entries c.note.new.entries =
+    subst (λ (fs : List Flow). IsNoted (flow_at fs (pair (get_or c.args.arcs.now c.loop-arc.arc-index 0))) c.loop-arc.entries c.note.new.entries) c.flows.ensures.value c.note.ensures in
+    let more = noted_more (length flows) (length flows) (pair a) c.loop-arc.residual c.push.new.self c.loop-arc.entries c.note.new.entries c.flows.ensures.residual next inv.entries noted in
     record {
+      entries = subst (λ n. AreEntriesTo n c.push.new.self c.note.new.entries) (sym long) more;
       members = ap (λ (r : ResidualData). r.members) c.push.ensures ∙ inv.members;
       flows = now ∙ ap (λ (fs : List Flow). pushed x fs a) inv.flows ∙ sym (fold_more (pushed x) c.args.residual.now.flows arcs m 0 c.loop-arc-test.true);
       count = ap length now ∙ length-set flows (pair a) (moved x (is_forward a) (flow_at flows (pair a))) ∙ inv.count;
