@@ -1,2 +1,3 @@
 pub mod PairsByRows
 pub mod Totals
+pub mod CursorFacts
