@@ -1,0 +1,30 @@
+"""Running the tools and the program that was built, for the tests."""
+
+import os
+import subprocess
+import unittest
+from pathlib import Path
+from typing import NamedTuple, Sequence
+
+ROOT = Path(__file__).resolve().parents[2]
+TOOLS = ROOT / "tools"
+EXAMPLES = ROOT / "examples"
+
+
+class Ran(NamedTuple):
+    status: int
+    output: bytes
+    errors: bytes
+
+
+def run(words: Sequence[str | bytes | Path], input: bytes = b"", folder: Path | None = None) -> Ran:
+    done = subprocess.run(words, input=input, capture_output=True, cwd=folder, timeout=120)
+    return Ran(done.returncode, done.stdout, done.stderr)
+
+
+def program() -> Path:
+    """The program that was built in this clone, or the one that COMPRESS_CLI names; where it is not there, skips."""
+    path = Path(os.environ.get("COMPRESS_CLI") or ROOT / "crates/compress_cli/out/compress_cli")
+    if not os.access(path, os.X_OK):
+        raise unittest.SkipTest(f"no program at {path}")
+    return path
