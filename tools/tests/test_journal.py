@@ -1,0 +1,230 @@
+"""The journal inspector: by the worked bytes of docs/FORMATS.md, records spelled by hand, the program's journals."""
+
+import tempfile
+import unittest
+from pathlib import Path
+
+from running import EXAMPLES, TOOLS, Ran, program, run
+
+INSPECTOR = TOOLS / "journal"
+HEADER = "4f54434a524e4c31"
+TRADE = "00000000 0141 01 0141 0142 0150 0a00000000000000 ea070302"
+AFFIRM = "00000000 0142 02 0100000000000000"
+ONE = bytes.fromhex(f"{HEADER} 01 19000000 {TRADE} 00")
+FIRST = b"8 record 1, 25 bytes: seat 0, A: TRADE A B P 10 2026-03-02\n"
+SHORT = Ran(0, b"no records: fewer than ten bytes; end 9\n", b"")
+WHOLE = Ran(0, FIRST + b"38 closed gate, 1 records in front of it; end 39\n", b"")
+
+
+def frame(record: str) -> bytes:
+    """An open gate, the record's length, and the record."""
+    content = bytes.fromhex(record)
+    return b"\x01" + len(content).to_bytes(4, "little") + content
+
+
+def number(value: int) -> str:
+    return value.to_bytes(8, "little").hex()
+
+
+WORDS: list[tuple[str, str]] = [
+    (TRADE, "seat 0, A: TRADE A B P 10 2026-03-02"),
+    (AFFIRM, "seat 0, B: AFFIRM 1"),
+    ("01020000 0141 03" + number(7), "seat 513, A: END 7"),
+    ("ffffffff 0141 04" + number(2**64 - 1), "seat 4294967295, A: HOLD 18446744073709551615"),
+    ("00000000 0141 05" + number(0), "seat 0, A: FREE 0"),
+    ("00000000 0141 06 0142 0150 00" + number(5) + "00", "seat 0, A: TOL B P out 5 -"),
+    (
+        "00000000 0141 06 0142 0150 01" + number(0) + "01" + number(10**18),
+        "seat 0, A: TOL B P in 0 1000000000000000000",
+    ),
+    ("00000000 034f5053 07 0f270c1f", "seat 0, OPS: FREEZE 9999-12-31"),
+    ("00000000 034f5053 07 0000021d", "seat 0, OPS: FREEZE 0000-02-29"),
+    ("00000000 034f5053 08" + number(1) + "00", "seat 0, OPS: BEGIN 1 conservative"),
+    ("00000000 034f5053 08" + number(2) + "01", "seat 0, OPS: BEGIN 2 hybrid"),
+    ("00000000 034f5053 09" + number(1) + number(2) + "0000", "seat 0, OPS: POST 1 2"),
+    (
+        "00000000 034f5053 09"
+        + number(1)
+        + number(1)
+        + "0100 0200 01000000 0000 0100"
+        + number(5)
+        + "01000000 c0bdf0ff",
+        "seat 0, OPS: POST 1 1\n  solution 0: 2 members, 1 rows\n    row 0 1 5\n    potentials 1 -1000000",
+    ),
+    ("00000000 0141 0a" + number(1) + number(3), "seat 0, A: ACCEPT 1 3"),
+    ("00000000 0141 0b" + number(1) + number(3), "seat 0, A: DECLINE 1 3"),
+    ("00000000 034f5053 0c" + number(1), "seat 0, OPS: CANCEL 1"),
+    ("00000000 10" + b"ABCDEFGHIJKLMNO-".hex() + "0c" + number(1), "seat 0, ABCDEFGHIJKLMNO-: CANCEL 1"),
+]
+
+POST = "00000000 034f5053 09" + number(1) + number(1)
+BAD: list[tuple[str, int]] = [
+    ("", 0),
+    ("000000", 0),
+    ("00000000", 4),
+    ("00000000 00 02" + number(1), 4),
+    ("00000000 0242", 4),
+    ("00000000 0162 02" + number(1), 4),
+    ("00000000 11" + b"ABCDEFGHIJKLMNO-Q".hex() + "02" + number(1), 4),
+    ("00000000 0142", 6),
+    ("00000000 0142 00" + number(1), 6),
+    ("00000000 0142 0d" + number(1), 6),
+    ("00000000 0142 02 01000000000000", 7),
+    (AFFIRM + "00", 15),
+    ("00000000 0141 01 0141 0142 0150 0000000000000000 ea070302", 13),
+    ("00000000 0141 01 0141 0142 0150" + number(10**18 + 1) + "ea070302", 13),
+    ("00000000 0141 01 0141 0142 0150 0a00000000000000 ea07021d", 21),
+    ("00000000 0141 01 0141 0142 0150 0a00000000000000 10270101", 21),
+    ("00000000 0141 01 0141 0142 0150 0a00000000000000 ea0703", 21),
+    ("00000000 0141 06 0142 0150 02" + number(5) + "00", 11),
+    ("00000000 0141 06 0142 0150 00" + number(10**18 + 1) + "00", 12),
+    ("00000000 0141 06 0142 0150 00" + number(5) + "02", 20),
+    ("00000000 0141 06 0142 0150 00" + number(5) + "01 0000", 21),
+    ("00000000 034f5053 08" + number(1) + "02", 17),
+    (POST + "4100", 25),
+    (POST + "0100 0101 00000000", 27),
+    (POST + "0100 0200 0000", 29),
+    (POST + "0100 0200 01000000 0000 0200" + number(1), 33),
+    (POST + "0100 0200 01000000 0100 0100" + number(1), 33),
+    (POST + "0100 0200 01000000 0000 0100" + number(0), 33),
+    (POST + "0100 0200 02000000 0100 0000" + number(1) + "0000 0100" + number(1), 45),
+    (POST + "0100 0200 02000000 0000 0100" + number(10**18) + "0100 0000" + number(1), 45),
+    (POST + "0100 0100 00000000 41420f00", 33),
+    (POST + "0100 0100 00000000 bfbdf0ff", 33),
+    (POST + "0100 0200 00000000 00000000 000000", 37),
+]
+"""Records that spell no change, with the first byte of the first field that breaks the rules."""
+
+
+class Inspected(unittest.TestCase):
+    def setUp(self) -> None:
+        folder = tempfile.TemporaryDirectory()
+        self.addCleanup(folder.cleanup)
+        self.file = Path(folder.name) / "journal"
+
+    def inspect(self, content: bytes) -> Ran:
+        self.file.write_bytes(content)
+        return run([INSPECTOR, self.file])
+
+    def assert_damaged(self, content: bytes, at: int, printed: bytes, says: bytes) -> None:
+        ran = self.inspect(content)
+        self.assertEqual((ran.status, ran.output), (7, printed))
+        self.assertEqual(ran.errors.split(b": ")[0], b"damaged at %d" % at)
+        self.assertIn(says, ran.errors)
+
+    def test_the_worked_bytes(self) -> None:
+        self.assertEqual(self.inspect(ONE), WHOLE)
+        self.assertEqual(self.inspect(ONE + b"anything"), WHOLE)
+        self.assertEqual(self.inspect(bytes.fromhex("4f54434a524e4c3100")), SHORT)
+
+    def test_each_cut(self) -> None:
+        for size in range(39):
+            with self.subTest(size=size):
+                if size < 10:
+                    self.assertEqual(self.inspect(ONE[:size]), SHORT)
+                elif size < 13:
+                    self.assert_damaged(ONE[:size], 8, b"", b"length of its record passes the file's end")
+                elif size < 38:
+                    self.assert_damaged(ONE[:size], 8, b"", b"record of 25 bytes passes the file's end")
+                else:
+                    self.assert_damaged(ONE[:size], 38, FIRST, b"a gate is due, and the file ends")
+
+    def test_other_bytes(self) -> None:
+        for at in range(8):
+            with self.subTest(at=at):
+                self.assert_damaged(ONE[:at] + b"\x00" + ONE[at + 1 :], 0, b"", b"begin with OTCJRNL1")
+        for gate in (0, 2, 255):
+            changed = ONE[:8] + bytes([gate]) + ONE[9:]
+            self.assertEqual(self.inspect(changed), Ran(0, b"8 closed gate, 0 records in front of it; end 9\n", b""))
+            self.assertEqual(self.inspect(ONE[:38] + bytes([gate])), WHOLE)
+        self.assert_damaged(ONE[:38] + b"\x01", 38, FIRST, b"length")
+        self.assert_damaged(ONE[:9] + b"\x1b" + ONE[10:], 8, b"", b"record of 27 bytes passes")
+        self.assert_damaged(ONE[:9] + b"\xff\xff\xff\xff" + ONE[13:], 8, b"", b"at or past 268435456")
+        self.assert_damaged(ONE[:9] + b"\xf2\xff\xff\x0f" + ONE[13:], 8, b"", b"passes the file's end")
+        self.assert_damaged(ONE[:9] + b"\xf3\xff\xff\x0f" + ONE[13:], 8, b"", b"at or past 268435456")
+
+    def test_damage_by_the_walk_comes_first(self) -> None:
+        longer = ONE[:9] + b"\x1a" + ONE[10:]
+        ran = self.inspect(longer)
+        self.assertEqual((ran.status, ran.errors), (7, b"damaged at 39: a gate is due, and the file ends\n"))
+        self.assertEqual(
+            ran.output, b"8 record 1, 26 bytes: spells no change at offset 38, something behind the last field\n"
+        )
+
+    def test_each_kind_of_change(self) -> None:
+        content = bytes.fromhex(HEADER) + b"".join(frame(record) for record, _ in WORDS) + b"\0"
+        at, due = 8, ""
+        for count, (record, words) in enumerate(WORDS, 1):
+            size = len(bytes.fromhex(record))
+            due += f"{at} record {count}, {size} bytes: {words}\n"
+            at += 5 + size
+        due += f"{at} closed gate, {len(WORDS)} records in front of it; end {at + 1}\n"
+        self.assertEqual(self.inspect(content), Ran(0, due.encode(), b""))
+
+    def test_records_that_spell_no_change(self) -> None:
+        for record, at in BAD:
+            with self.subTest(record=record):
+                content = ONE[:-1] + frame(record) + b"\0"
+                ran = self.inspect(content)
+                self.assertEqual((ran.status, ran.errors), (7, b"damaged at 38: its record spells no change\n"))
+                size = len(bytes.fromhex(record))
+                second = f"38 record 2, {size} bytes: spells no change at offset {43 + at}, ".encode()
+                self.assertTrue(ran.output.startswith(FIRST + second), ran.output)
+
+    def test_the_file_stays(self) -> None:
+        self.file.write_bytes(ONE)
+        self.file.chmod(0o444)
+        before = self.file.stat()
+        run([INSPECTOR, self.file])
+        after = self.file.stat()
+        self.assertEqual((before.st_mtime_ns, before.st_size), (after.st_mtime_ns, after.st_size))
+        self.assertEqual(self.file.read_bytes(), ONE)
+        self.assertEqual([path.name for path in self.file.parent.iterdir()], ["journal"])
+
+    def test_words_and_files(self) -> None:
+        self.assertEqual(run([INSPECTOR]), Ran(2, b"", b"bad words\n"))
+        self.assertEqual(run([INSPECTOR, "-x"]), Ran(2, b"", b"bad words\n"))
+        self.assertEqual(run([INSPECTOR, "a", "b"]), Ran(2, b"", b"bad words\n"))
+        self.assertEqual(run([INSPECTOR, self.file]), Ran(11, b"", b"file fault\n"))
+        self.assertEqual(run([INSPECTOR, self.file.parent]), Ran(11, b"", b"file fault\n"))
+        self.file.write_bytes(ONE)
+        for output in ("> /dev/full", ">&-"):
+            ran = run(["sh", "-c", f'exec "$0" "$1" {output}', INSPECTOR, self.file])
+            self.assertEqual(ran, Ran(5, b"", b"sink fault\n"))
+
+
+def changes_of(session: bytes, replies: bytes) -> list[str]:
+    """The changes that a session made, by its replies: a line is one where its position is above the one before."""
+    heads = [line for line in replies.decode().splitlines() if line.startswith(("ok ", "no "))]
+    made, before = [], 0
+    for line, head in zip(session.decode().splitlines(), heads):
+        position = int(head.split(" ")[1])
+        if position > before:
+            verb, *words = line.split(" ")
+            proposed = (
+                [f"BEGIN {words[0]} {words[1]}", "POST " + " ".join(head.split(" ")[3:5])] if verb == "PROPOSE" else []
+            )
+            made += proposed or [line]
+        before = position
+    return made
+
+
+class OfTheProgram(unittest.TestCase):
+    def test_the_journals_of_the_example_sessions(self) -> None:
+        built = program()
+        for session in sorted(EXAMPLES.glob("*.session")):
+            with self.subTest(session=session.name), tempfile.TemporaryDirectory() as folder:
+                file = Path(folder) / "journal"
+                lines = session.read_bytes()
+                ran = run([built, "script", EXAMPLES / "roster.csv", file], input=lines)
+                self.assertEqual(ran.status, 0)
+                if not file.exists():
+                    self.skipTest("the program writes no journal")
+                inspected = run([INSPECTOR, file])
+                self.assertEqual((inspected.status, inspected.errors), (0, b""))
+                told = [line for line in inspected.output.decode().splitlines() if " record " in line]
+                self.assertEqual([line.split(": ", 2)[2] for line in told], changes_of(lines, ran.output))
+
+
+if __name__ == "__main__":
+    unittest.main()
