@@ -56,6 +56,8 @@ def run(main: Callable[[list[str]], int]) -> NoReturn:
             raise Stop(5, "sink fault")
         if isinstance(sys.stdout, io.TextIOWrapper):
             sys.stdout.reconfigure(encoding="utf-8", errors="backslashreplace")
+        if isinstance(sys.stdin, io.TextIOWrapper):
+            sys.stdin.reconfigure(encoding="utf-8", errors="surrogateescape")
         status = main(sys.argv[1:])
         sys.stdout.flush()
     except Stop as stop:
@@ -68,6 +70,8 @@ def run(main: Callable[[list[str]], int]) -> NoReturn:
     except MemoryError:
         status = 9
         tell("memory")
+    except KeyboardInterrupt:
+        status = 130
     os._exit(status)
 
 

@@ -1,0 +1,292 @@
+"""Replies as values, by docs/PROTOCOL.md: an answer for each head line, and a refusal as an exception.
+
+Every answer begins with its position, the history's length after the command. Amounts are whole numbers, days texts.
+"""
+
+from typing import Any, NamedTuple
+
+
+class BadReply(Exception):
+    """What came is no reply."""
+
+
+class Refused(Exception):
+    """The command was refused: at this position, with this number and name, and with a value or the empty text."""
+
+    def __init__(self, position: int, number: int, name: str, value: str) -> None:
+        super().__init__(f"{number} {name} {value}".rstrip())
+        self.position = position
+        self.number = number
+        self.name = name
+        self.value = value
+
+
+class TradeRow(NamedTuple):
+    """A trade of a statement."""
+
+    trade: int
+    seller: str
+    buyer: str
+    product: str
+    amount: int
+    day: str
+    state: str
+    is_held: bool
+
+
+class LimitRow(NamedTuple):
+    """What a pair may come to; `upper` is None without a most."""
+
+    seller: str
+    buyer: str
+    lower: int
+    now: int
+    upper: int | None
+
+
+class EndStep(NamedTuple):
+    """A step of a plan: the trade ends."""
+
+    trade: int
+
+
+class CutStep(NamedTuple):
+    """A step of a plan: the trade's amount falls."""
+
+    trade: int
+    before: int
+    after: int
+
+
+class NewStep(NamedTuple):
+    """A step of a plan: a new trade."""
+
+    seller: str
+    buyer: str
+    product: str
+    amount: int
+
+
+class Hello(NamedTuple):
+    position: int
+    name: str
+
+
+class Traded(NamedTuple):
+    position: int
+    trade: int
+
+
+class Live(NamedTuple):
+    position: int
+    trade: int
+
+
+class Ending(NamedTuple):
+    """The trade has the speaker's mark, and ends with the other party's."""
+
+    position: int
+    trade: int
+
+
+class Ended(NamedTuple):
+    position: int
+    trade: int
+
+
+class Held(NamedTuple):
+    position: int
+    trade: int
+
+
+class Freed(NamedTuple):
+    position: int
+    trade: int
+
+
+class Tolerance(NamedTuple):
+    position: int
+
+
+class Nets(NamedTuple):
+    """What the member owes, what it is owed, and the first less the second."""
+
+    position: int
+    out: int
+    into: int
+    net: int
+
+
+class Market(NamedTuple):
+    position: int
+    gross: int
+    floor: int
+    excess: int
+    bilateral: int
+
+
+class Statement(NamedTuple):
+    position: int
+    rows: list[TradeRow]
+
+
+class Frozen(NamedTuple):
+    position: int
+    cycle: int
+    trades: int
+
+
+class Begun(NamedTuple):
+    position: int
+    cycle: int
+    version: int
+
+
+class Limits(NamedTuple):
+    position: int
+    rows: list[LimitRow]
+
+
+class Noted(NamedTuple):
+    position: int
+    size: int
+
+
+class Proposed(NamedTuple):
+    """The gross before and after, over all products."""
+
+    position: int
+    cycle: int
+    version: int
+    before: int
+    after: int
+
+
+class Nothing(NamedTuple):
+    """The posting touches nobody, and the cycle is over."""
+
+    position: int
+    cycle: int
+    version: int
+
+
+class Plan(NamedTuple):
+    position: int
+    cycle: int
+    version: int
+    rows: list[EndStep | CutStep | NewStep]
+
+
+class Accepted(NamedTuple):
+    """How many touched members have not accepted yet."""
+
+    position: int
+    cycle: int
+    version: int
+    left: int
+
+
+class Executed(NamedTuple):
+    """How many trades the plan ended, cut and made."""
+
+    position: int
+    cycle: int
+    version: int
+    ended: int
+    cut: int
+    made: int
+
+
+class Declined(NamedTuple):
+    position: int
+    cycle: int
+    version: int
+
+
+class Cancelled(NamedTuple):
+    position: int
+    cycle: int
+
+
+class Bye(NamedTuple):
+    position: int
+
+
+HEADS: dict[str, Any] = {
+    "hello": Hello,
+    "trade": Traded,
+    "live": Live,
+    "ending": Ending,
+    "ended": Ended,
+    "held": Held,
+    "freed": Freed,
+    "tol": Tolerance,
+    "nets": Nets,
+    "market": Market,
+    "statement": Statement,
+    "frozen": Frozen,
+    "begun": Begun,
+    "limits": Limits,
+    "noted": Noted,
+    "proposed": Proposed,
+    "nothing": Nothing,
+    "plan": Plan,
+    "accepted": Accepted,
+    "executed": Executed,
+    "declined": Declined,
+    "cancelled": Cancelled,
+    "bye": Bye,
+}
+"""The answer of each head line's word."""
+
+DETAILS: dict[str, Any] = {"trade": TradeRow, "limit": LimitRow, "end": EndStep, "cut": CutStep, "new": NewStep}
+"""The row of each detail line's word."""
+
+
+def value_of(kind: Any, word: str) -> Any:
+    """What a word is, as a field of this kind."""
+    if kind is str:
+        return word
+    if kind is bool:
+        return word == "held"
+    if kind == int | None and word == "-":
+        return None
+    return int(word)
+
+
+def count_of(head: str) -> int:
+    """How many detail lines follow a head line."""
+    words = head.split(" ")
+    if words[0] != "ok" or words[2:3] not in (["statement"], ["limits"], ["plan"]):
+        return 0
+    try:
+        return int(words[-1])
+    except ValueError:
+        raise BadReply(head) from None
+
+
+def row_of(line: str) -> Any:
+    verb, *words = line.split(" ")
+    kind = DETAILS[verb]
+    return kind(*(value_of(field, word) for field, word in zip(kind.__annotations__.values(), words, strict=True)))
+
+
+def answer_of(head: str, details: list[str]) -> Any:
+    """The answer that a reply tells; raises Refused for a refusal, and BadReply for what is no reply."""
+    try:
+        result, position, *words = head.split(" ")
+        if result == "no":
+            raise Refused(int(position), int(words[0]), words[1], " ".join(words[2:]))
+        kind = HEADS[words[0]]
+        fields = list(kind.__annotations__.items())
+        if fields[-1][0] == "rows":
+            words = words[:-1]
+            rows = [[row_of(line) for line in details]]
+        else:
+            rows = []
+        values = [value_of(field, word) for (_, field), word in zip(fields, [position, *words[1:]])]
+        if result != "ok" or len(words) != len(values):
+            raise BadReply(head)
+        return kind(*values, *rows)
+    except (ValueError, KeyError, IndexError, TypeError):
+        raise BadReply(head) from None

@@ -1,0 +1,185 @@
+"""A session from Python: a method for each command, answers as values, refusals as exceptions.
+
+    with Session.script("compress_cli", "roster.csv", "journal") as session:
+        session.hello("A", "KA")
+        trade = session.trade("A", "B", "P", 10, "2026-03-02").trade
+        print(session.nets("P").net)
+
+A session talks over a link, which sends lines and gives lines; a ScriptLink drives a `script` process.
+"""
+
+import subprocess
+from pathlib import Path
+from typing import Any, Protocol
+
+from . import replies
+
+
+class LinkClosed(Exception):
+    """The other side has ended: its status, and what it wrote to its errors."""
+
+    def __init__(self, status: int, errors: str) -> None:
+        super().__init__(f"the session has ended with status {status}: {errors}".rstrip(": "))
+        self.status = status
+        self.errors = errors
+
+
+class Link(Protocol):
+    """What sends lines and gives lines, both with their line feed; an empty line given means the end."""
+
+    def send(self, line: bytes) -> None:
+        ...
+
+    def give(self) -> bytes:
+        ...
+
+    def close(self) -> tuple[int, str]:
+        ...
+
+
+class ScriptLink:
+    """A link to a `script` process, which is started with it."""
+
+    def __init__(self, program: str | Path, roster: str | Path, journal: str | Path) -> None:
+        self.process = subprocess.Popen(
+            [program, "script", roster, journal],
+            stdin=subprocess.PIPE,
+            stdout=subprocess.PIPE,
+            stderr=subprocess.PIPE,
+            process_group=0,
+        )
+
+    def send(self, line: bytes) -> None:
+        assert self.process.stdin is not None
+        try:
+            self.process.stdin.write(line)
+            self.process.stdin.flush()
+        except OSError:
+            pass  # the end is told where the reply is missing
+
+    def give(self) -> bytes:
+        assert self.process.stdout is not None
+        return self.process.stdout.readline()
+
+    def close(self) -> tuple[int, str]:
+        """Ends the input, and gives the process's status and what it wrote to its errors."""
+        try:
+            _, errors = self.process.communicate()
+        except (OSError, ValueError):
+            errors = b""
+        return self.process.wait(), errors.decode(errors="replace").strip()
+
+
+class Session:
+    """A session over a link. Commands raise Refused where they are refused, and LinkClosed where the link has ended."""
+
+    def __init__(self, link: Link) -> None:
+        self.link = link
+        self.end_of_link: tuple[int, str] | None = None
+
+    @classmethod
+    def script(cls, program: str | Path, roster: str | Path, journal: str | Path) -> "Session":
+        """A session with a `script` process of its own."""
+        return cls(ScriptLink(program, roster, journal))
+
+    def __enter__(self) -> "Session":
+        return self
+
+    def __exit__(self, *_: object) -> None:
+        self.close()
+
+    def close(self) -> tuple[int, str]:
+        """Ends the session; the status of the other side, and what it wrote to its errors."""
+        if self.end_of_link is None:
+            self.end_of_link = self.link.close()
+        return self.end_of_link
+
+    def ask_raw(self, line: str) -> list[bytes]:
+        """The lines of the reply to a line."""
+        if "\n" in line:
+            raise ValueError("a line has no line feed in it")
+        self.link.send(line.encode(errors="surrogateescape") + b"\n")
+        head = self.given()
+        return [head, *(self.given() for _ in range(replies.count_of(head.decode(errors="replace").rstrip("\n"))))]
+
+    def given(self) -> bytes:
+        line = self.link.give()
+        if not line.endswith(b"\n"):
+            raise LinkClosed(*self.close())
+        return line
+
+    def ask(self, line: str) -> Any:
+        """The answer to a line."""
+        head, *details = (line.decode(errors="replace")[:-1] for line in self.ask_raw(line))
+        return replies.answer_of(head, details)
+
+    def command(self, *words: object) -> Any:
+        """The answer to a command of these words, none of which is empty or has a space or a line's end."""
+        texts = [str(word) for word in words]
+        if any(not text or any(letter in text for letter in " \r\n") for text in texts):
+            raise ValueError("a word is empty, or has a space or a line's end")
+        return self.ask(" ".join(texts))
+
+    def hello(self, name: str, key: str) -> replies.Hello:
+        return self.command("HELLO", name, key)
+
+    def trade(self, seller: str, buyer: str, product: str, amount: int, day: object) -> replies.Traded:
+        return self.command("TRADE", seller, buyer, product, amount, day)
+
+    def affirm(self, trade: int) -> replies.Live:
+        return self.command("AFFIRM", trade)
+
+    def end(self, trade: int) -> replies.Ending | replies.Ended:
+        return self.command("END", trade)
+
+    def hold(self, trade: int) -> replies.Held:
+        return self.command("HOLD", trade)
+
+    def free(self, trade: int) -> replies.Freed:
+        return self.command("FREE", trade)
+
+    def tol(self, other: str, product: str, side: str, floor: int, ceiling: int | None = None) -> replies.Tolerance:
+        return self.command("TOL", other, product, side, floor, "-" if ceiling is None else ceiling)
+
+    def nets(self, product: str) -> replies.Nets | replies.Market:
+        """A member's own position, or, for the operator, the product's figures."""
+        return self.command("NETS", product)
+
+    def statement(self) -> replies.Statement:
+        return self.command("STATEMENT")
+
+    def freeze(self, day: object) -> replies.Frozen:
+        return self.command("FREEZE", day)
+
+    def begin(self, cycle: int, mode: str) -> replies.Begun:
+        return self.command("BEGIN", cycle, mode)
+
+    def limits(self, product: str) -> replies.Limits:
+        return self.command("LIMITS", product)
+
+    def row(self, product: str, seller: str, buyer: str, amount: int) -> replies.Noted:
+        return self.command("ROW", product, seller, buyer, amount)
+
+    def pot(self, product: str, member: str, value: int) -> replies.Noted:
+        return self.command("POT", product, member, value)
+
+    def post(self, cycle: int, version: int) -> replies.Proposed | replies.Nothing:
+        return self.command("POST", cycle, version)
+
+    def propose(self, cycle: int, mode: str) -> replies.Proposed | replies.Nothing:
+        return self.command("PROPOSE", cycle, mode)
+
+    def plan(self, cycle: int) -> replies.Plan:
+        return self.command("PLAN", cycle)
+
+    def accept(self, cycle: int, version: int) -> replies.Accepted | replies.Executed:
+        return self.command("ACCEPT", cycle, version)
+
+    def decline(self, cycle: int, version: int) -> replies.Declined:
+        return self.command("DECLINE", cycle, version)
+
+    def cancel(self, cycle: int) -> replies.Cancelled:
+        return self.command("CANCEL", cycle)
+
+    def bye(self) -> replies.Bye:
+        return self.command("BYE")

@@ -1,0 +1,246 @@
+"""The interactive shell of tools/client: lines in, replies in columns."""
+
+import csv
+import io
+import os
+import sys
+from pathlib import Path
+from typing import Any, Iterable
+
+from . import replies
+from .ending import Stop
+from .session import LinkClosed, Session
+
+COMMANDS: dict[str, str] = {
+    "HELLO": "NAME KEY",
+    "TRADE": "SELLER BUYER PRODUCT AMOUNT DAY",
+    "AFFIRM": "TRADE",
+    "END": "TRADE",
+    "HOLD": "TRADE",
+    "FREE": "TRADE",
+    "TOL": "OTHER PRODUCT SIDE FLOOR CEILING",
+    "NETS": "PRODUCT",
+    "STATEMENT": "",
+    "FREEZE": "DAY",
+    "BEGIN": "CYCLE MODE",
+    "LIMITS": "PRODUCT",
+    "ROW": "PRODUCT SELLER BUYER AMOUNT",
+    "POT": "PRODUCT MEMBER VALUE",
+    "POST": "CYCLE VERSION",
+    "PROPOSE": "CYCLE MODE",
+    "PLAN": "CYCLE",
+    "ACCEPT": "CYCLE VERSION",
+    "DECLINE": "CYCLE VERSION",
+    "CANCEL": "CYCLE",
+    "BYE": "",
+}
+"""The words of each command."""
+
+OWN = {"help": "what can be typed", "quit": "end the session"}
+"""Words of the shell itself, which are not sent."""
+
+
+class Names:
+    """The names of a roster file, to complete words with; of a file that is none there are fewer."""
+
+    def __init__(self, roster: bytes) -> None:
+        self.members: list[str] = []
+        self.products: list[str] = []
+        self.speakers: list[str] = []
+        try:
+            for fields in csv.reader(io.StringIO(roster.decode("latin-1"), newline="")):
+                if len(fields) == 3 and fields[1] in ("dealer", "customer", "operator", "product"):
+                    self.add(fields[0], fields[1])
+        except csv.Error:
+            pass  # the program tells what is wrong with it
+        self.speakers += self.members
+
+    def add(self, name: str, role: str) -> None:
+        {"product": self.products, "operator": self.speakers}.get(role, self.members).append(name)
+
+    def of_word(self, word: str) -> list[str]:
+        """What can stand for a word of a command."""
+        choices = {"SIDE": ["out", "in"], "MODE": ["conservative", "hybrid"], "CEILING": ["-"], "NAME": self.speakers}
+        choices |= {"PRODUCT": self.products} | {word: self.members for word in ("SELLER", "BUYER", "OTHER", "MEMBER")}
+        return choices.get(word, [])
+
+
+def completions(names: Names, before: str, text: str) -> list[str]:
+    """How a word that begins with this text can go on, behind what stands before it in the line."""
+    words = before.split(" ")[:-1]
+    if not words:
+        choices = [*COMMANDS, *OWN]
+        return [word + " " for word in choices if word.startswith(text) or (text and word.startswith(text.upper()))]
+    forms = COMMANDS.get(words[0], "").split(" ")
+    if words == ["help"]:
+        return [word for word in COMMANDS if word.startswith(text)]
+    choices = names.of_word(forms[len(words) - 1]) if len(words) <= len(forms) else []
+    return [word + " " for word in choices if word.startswith(text)]
+
+
+def columns(rows: list[list[str]]) -> Iterable[str]:
+    """The rows as lines, whose words stand under one another; words that are all numbers stand to the right."""
+    widths = [max(map(len, column)) for column in zip(*rows)]
+    is_right = [all(word.lstrip("-").isdigit() or word == "-" for word in column[1:]) for column in zip(*rows)]
+    for row in rows:
+        cells = (word.rjust(width) if right else word.ljust(width) for word, width, right in zip(row, widths, is_right))
+        yield "  ".join(cells).rstrip()
+
+
+def cell(value: object) -> str:
+    if isinstance(value, bool):
+        return "held" if value else "-"
+    return "-" if value is None else str(value)
+
+
+def table(row: Any) -> list[list[str]]:
+    """The names and the values of a row's fields."""
+    return [[name.upper().removeprefix("IS_") for name in row._fields], [cell(value) for value in row]]
+
+
+def step_row(step: Any) -> list[str]:
+    """A step of a plan as a row: what happens, the trade, the pair and product, and the amounts before and after."""
+    if isinstance(step, replies.EndStep):
+        return ["end", str(step.trade), "-", "-", "-", "-", "-"]
+    if isinstance(step, replies.CutStep):
+        return ["cut", str(step.trade), "-", "-", "-", str(step.before), str(step.after)]
+    return ["new", "-", step.seller, step.buyer, step.product, "-", str(step.amount)]
+
+
+def shown(answer: Any) -> Iterable[str]:
+    """An answer in columns: its name with its fields, and its rows."""
+    fields = [(name, value) for name, value in zip(answer._fields, answer) if name not in ("position", "rows")]
+    words = [f"{name.upper()} {cell(value)}" for name, value in fields]
+    if hasattr(answer, "rows"):
+        words.append(f"{len(answer.rows)} rows")
+    yield "  ".join([f"[{answer.position}]", type(answer).__name__.lower(), *words])
+    if isinstance(answer, replies.Plan) and answer.rows:
+        head = ["STEP", "TRADE", "SELLER", "BUYER", "PRODUCT", "BEFORE", "AFTER"]
+        yield from columns([head, *map(step_row, answer.rows)])
+    elif hasattr(answer, "rows") and answer.rows:
+        yield from columns([table(answer.rows[0])[0], *(table(row)[1] for row in answer.rows)])
+
+
+def help_lines(words: list[str]) -> Iterable[str]:
+    chosen = [word for word in words if word in COMMANDS] or [*COMMANDS]
+    yield from (f"{word} {COMMANDS[word]}".rstrip() for word in chosen)
+    if len(chosen) > 1:
+        yield from (f"{word}: {meaning}" for word, meaning in OWN.items())
+
+
+class Prompt:
+    """Lines from a terminal, with history and completion, or from any other input."""
+
+    def __init__(self, names: Names) -> None:
+        self.is_terminal = sys.stdin is not None and sys.stdin.isatty() and sys.stdout.isatty()
+        self.speaker = ""
+        self.history: Path | None = None
+        if self.is_terminal:
+            self.prepare(names)
+
+    def prepare(self, names: Names) -> None:
+        try:
+            import readline
+        except ImportError:
+            return
+        readline.set_completer_delims(" ")
+        readline.parse_and_bind("tab: complete")
+
+        def complete(text: str, state: int) -> str | None:
+            found = completions(names, readline.get_line_buffer()[: readline.get_begidx()], text)
+            return found[state] if state < len(found) else None
+
+        readline.set_completer(complete)
+        readline.set_auto_history(False)
+        folder = os.environ.get("XDG_STATE_HOME") or os.path.expanduser("~/.local/state")
+        self.history = Path(folder) / "delkwoan_history"
+        try:
+            readline.read_history_file(self.history)
+        except OSError:
+            pass
+
+    def remember(self, line: str) -> None:
+        """Puts a line into the history, but none with a key in it."""
+        if self.history is None or not line or line.upper().startswith("HELLO"):
+            return
+        import readline
+
+        readline.add_history(line)
+        try:
+            self.history.parent.mkdir(parents=True, exist_ok=True)
+            readline.write_history_file(self.history)
+        except OSError:
+            pass
+
+    def lines(self) -> Iterable[str]:
+        """The lines that are typed, to the end of the input."""
+        while True:
+            try:
+                if self.is_terminal:
+                    line = input(f"{self.speaker}> ")
+                    self.remember(line)
+                else:
+                    line = sys.stdin.readline() if sys.stdin is not None else ""
+                    if not line:
+                        return
+            except EOFError:
+                print()
+                return
+            except KeyboardInterrupt:
+                print()
+                continue
+            yield line.rstrip("\r\n")
+
+
+class Shell:
+    """A session with a person or a script: prints the reply to each line."""
+
+    def __init__(self, session: Session, prompt: Prompt, is_raw: bool) -> None:
+        self.session = session
+        self.prompt = prompt
+        self.is_raw = is_raw
+        self.refused = 0
+        self.has_colour = (
+            prompt.is_terminal and "NO_COLOR" not in os.environ and os.environ.get("TERM", "dumb") != "dumb"
+        )
+
+    def run(self) -> int:
+        """Takes lines to the input's end, to `quit` or to an accepted BYE; the status for the shell's end."""
+        for line in self.prompt.lines():
+            word, *words = line.split(" ")
+            if word == "quit":
+                break
+            if word == "help":
+                print("\n".join(help_lines(words)))
+            elif not self.take(line):
+                break
+            sys.stdout.flush()
+        status, errors = self.session.close()
+        if status != 0:
+            raise Stop(status, errors or f"the program ended with status {status}")
+        return 1 if self.refused and not self.prompt.is_terminal else 0
+
+    def take(self, line: str) -> bool:
+        """Sends a line and prints its reply; whether the session goes on."""
+        try:
+            if self.is_raw:
+                return self.take_raw(line)
+            answer = self.session.ask(line)
+        except replies.Refused as refusal:
+            self.refused += 1
+            text = f"[{refusal.position}]  refused: {refusal.name} {refusal.value}".rstrip() + f" ({refusal.number})"
+            print(f"\033[31m{text}\033[0m" if self.has_colour else text)
+            return True
+        except LinkClosed:
+            return False
+        print("\n".join(shown(answer)))
+        if isinstance(answer, replies.Hello):
+            self.prompt.speaker = answer.name
+        return not isinstance(answer, replies.Bye)
+
+    def take_raw(self, line: str) -> bool:
+        reply = self.session.ask_raw(line)
+        self.refused += reply[0].startswith(b"no ")
+        sys.stdout.flush()
+        sys.stdout.buffer.write(b"".join(reply))
+        return reply[0].split(b" ")[2:] != [b"bye\n"]
