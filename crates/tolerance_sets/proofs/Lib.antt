@@ -2,3 +2,4 @@ pub mod Walk
 pub mod PairRows
 pub mod PairLimits
 pub mod SettingOrder
+pub mod Passed

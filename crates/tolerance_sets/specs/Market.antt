@@ -1,9 +1,10 @@
 -- What the limits of a product follow from, as the walk over the pairs has it.
-use Rattle.std.specs.Prelude.{ℕ, List, length}
+use Rattle.std.specs.Prelude.{◌≡◌, ℕ, ◌+◌, ◌*◌, ◌<◌, ◌≤◌, false, List, [], length}
 use Rattle.network_laws.specs.declared.rows.LimitRow.{LimitRow}
-use Rattle.network_laws.specs.Networks.{IsRising}
-use Rattle.command_types.specs.Tolerances.{pair_limit}
+use Rattle.network_laws.specs.Networks.{IsRising, IsCursor}
+use Rattle.command_types.specs.Tolerances.{may_grow, pair_limit}
 use Rattle.tolerance_sets.specs.declared.limits.Market.{Market}
+use Rattle.tolerance_sets.specs.declared.pair_cursor.PairCursor.{PairCursor}
 use Rattle.tolerance_sets.specs.Settings.{AreSettings}
 
 -- settings and rows are in order
@@ -19,3 +20,16 @@ market_limit market seller buyer =
     (record { members = length market.members.now; rows = market.network.now })
     (record { members = length market.members.now; rows = market.held.now })
     seller buyer
+
+-- no pair of the seller with a buyer from one on and below another has a row
+abbrev pub HaveNone : Market → ℕ → ℕ → ℕ → Type 0
+HaveNone market seller from to = (buyer : ℕ) → from ≤ buyer → buyer < to → market_limit market seller buyer ≡ []
+
+-- the cursors are those of the pair, and no pair between it and the growing one may grow
+pub record IsAtPair (market : Market) (at : PairCursor) : Type 0 where
+  pub end : at.buyer ≤ length market.members.now
+  pub row_end : at.row_at ≤ length market.network.now
+  pub row : IsCursor market.network.now at.row_at (at.seller * 65536 + at.buyer)
+  pub held_end : at.held_at ≤ length market.held.now
+  pub held : IsCursor market.held.now at.held_at (at.seller * 65536 + at.buyer)
+  pub growing : (buyer : ℕ) → at.buyer ≤ buyer → buyer < at.growing → may_grow market.mode market.members.now at.seller buyer ≡ false

@@ -1,5 +1,4 @@
-//! The limits of a product, pair by pair in their order. Cursors walk the rows of both networks beside the pairs; a
-//! member's setting is looked up only for a pair that may have a row.
+//! The limits of a product, pair by pair in their order. Only pairs that may have a row are gone to.
 
 ghost use Rattle.std.specs.Prelude.{◌≡◌, ◌<◌, ◌≤◌, ◌++◌, length, min, max, slice_get, IfOk, OnOk};
 ghost use Rattle.std.specs.Option.{option_to_list};
@@ -7,11 +6,12 @@ ghost use Rattle.network_laws.specs.Networks.{IsRising};
 ghost use Rattle.command_types.specs.Books.{listed_below, listed_pairs};
 ghost use Rattle.command_types.specs.Tolerances.{smaller_of, pair_floor, pair_ceiling, is_dealer_row, may_grow, pair_upper, pair_lower, limit_row};
 ghost use Rattle.tolerance_sets.specs.Settings.{AreSettings};
-ghost use Rattle.tolerance_sets.specs.Market.{IsMarket, market_limit};
+ghost use Rattle.tolerance_sets.specs.Market.{IsMarket, IsAtPair, HaveNone, market_limit};
 
+use crate::pair_cursor::PairCursor;
 use crate::settings::levels_of;
 use command_types::{Level, MemberRow, Mode, Role, Side, ToleranceRow};
-use network_laws::{LimitRow, Row, amount_at, first_row, next_row};
+use network_laws::{LimitRow, Row, amount_at};
 use std::alloc::{AllocError, Global};
 use units_core::{MemberNo, ProductNo};
 
@@ -28,7 +28,8 @@ pub(super) struct Market<'a> {
     pub held: &'a [Row],
 }
 
-fn is_dealer(members: &[MemberRow], place: u16) -> bool
+/// Whether a place is a dealer's.
+pub(super) fn is_dealer(members: &[MemberRow], place: u16) -> bool
     ensures { result ≡ is_dealer_row (slice_get members.now place) }
 {
     match members.get(place as usize) {
@@ -37,8 +38,8 @@ fn is_dealer(members: &[MemberRow], place: u16) -> bool
     }
 }
 
-// Whether a pair may come to more than its amount.
-fn may_grow(mode: Mode, members: &[MemberRow], seller: u16, buyer: u16) -> bool
+/// Whether a pair may come to more than its amount.
+pub(super) fn may_grow(mode: Mode, members: &[MemberRow], seller: u16, buyer: u16) -> bool
     ensures { result ≡ may_grow mode members.now seller buyer }
 {
     mode == Mode::Hybrid
@@ -114,6 +115,29 @@ fn pair_limit(
     })
 }
 
+// Adds the row of a pair, if it has one.
+fn add_pair(rows: &mut Vec<LimitRow>, market: &Market, pair: PairCursor) -> Result<(), AllocError>
+    requires market { IsMarket market.now }
+    requires pair { IsAtPair market.now pair }
+    ensures { OnOk result (rows.new.items ≡ rows.old.items ++ market_limit market.now pair.seller pair.buyer) }
+{
+    let seller = pair.seller;
+    let buyer = pair.buyer;
+    let limit = pair_limit(
+        market.settings,
+        market.product,
+        seller,
+        buyer,
+        amount_at(market.network, pair.row_at, seller, buyer),
+        amount_at(market.held, pair.held_at, seller, buyer),
+        may_grow(market.mode, market.members, seller, buyer),
+    );
+    if let Some(limit) = limit {
+        rows.push(limit)?;
+    }
+    Ok(())
+}
+
 // Adds the rows of what a seller may sell.
 fn add_seller(
     rows: &mut Vec<LimitRow>,
@@ -122,28 +146,14 @@ fn add_seller(
     members: u16,
 ) -> Result<(), AllocError>
     requires market { IsMarket market.now }
+    requires few { length market.now.members.now ≤ 256 }
+    requires members { members ≡ length market.now.members.now }
     ensures { OnOk result (rows.new.items ≡ rows.old.items ++ listed_below members (market_limit market.now seller)) }
 {
-    let mut row_at = first_row(market.network, seller, 0);
-    let mut held_at = first_row(market.held, seller, 0);
-    for buyer in 0..members {
-        let amount = amount_at(market.network, row_at, seller, buyer);
-        let held = amount_at(market.held, held_at, seller, buyer);
-        let grows = may_grow(market.mode, market.members, seller, buyer);
-        let limit = pair_limit(
-            market.settings,
-            market.product,
-            seller,
-            buyer,
-            amount,
-            held,
-            grows,
-        );
-        if let Some(limit) = limit {
-            rows.push(limit)?;
-        }
-        row_at = next_row(market.network, row_at, seller, buyer);
-        held_at = next_row(market.held, held_at, seller, buyer);
+    let mut pair = PairCursor::first(market, seller);
+    while pair.buyer < members {
+        add_pair(rows, market, pair)?;
+        pair = pair.next(market);
     }
     Ok(())
 }

@@ -1,21 +1,24 @@
-use Rattle.std.proofs.Common.{◌≡◌, ◌++◌, ap, ◌∙◌}
-use Rattle.std.specs.Option.{option_to_list}
-use Rattle.tolerance_sets.specs.Market.{market_limit}
-use Rattle.tolerance_sets.proofs.Walk.{one_more, found_pair, added_some, added_none}
+use Rattle.std.proofs.Common.{◌+◌, ◌++◌, ap, ◌∙◌, subst}
+use Rattle.tolerance_sets.specs.Market.{HaveNone, market_limit}
+use Rattle.tolerance_sets.proofs.Passed.{up_to_first, up_to_next}
 use Rattle.tolerance_sets.proofs.limits.add_seller.Goals as goal
-use Rattle.tolerance_sets.proofs.limits.add_seller.Goals.{in-Some+in_ok-push, in_default}
 
-pub loop-buyer-preserved : goal.loop-buyer-preserved
-loop-buyer-preserved c =
+pub loop-pair-init : goal.loop-pair-init
+loop-pair-init c = record {
+  rows = up_to_first c.args.rows.now.items c.args.market.now c.args.seller c.first-pair.result.buyer c.first-pair.ensures.passed;
+  pair = c.first-pair.ensures.pair;
+  seller = c.first-pair.ensures.seller;
+}
+
+pub loop-pair-preserved : goal.loop-pair-preserved
+loop-pair-preserved c =
     let market = c.args.market.now in
-    let i = c.args.seller in
-    let j = c.loop-buyer.buyer in
-    let limit = c.pair_limit-limit.result in
-    let before = c.loop-buyer.rows.items in
-    let after = c.match-limit.rows.items in
-    let found = found_pair market i j c.amount_at-amount.result c.amount_at-held.result c.may_grow-grows.result limit c.amount_at-amount.ensures c.amount_at-held.ensures c.may_grow-grows.ensures c.pair_limit-limit.ensures in
-    let added : after ≡ before ++ option_to_list limit = elim c.match-limit.branch [
-      | in-Some+in_ok-push w ↦ added_some before after limit w.in-Some.limit w.in-Some.is (ap (λ v. v.items) w.rows-is ∙ w.in_ok-push.ensures.items)
-      | in_default w ↦ added_none before after limit w.in_default.is (ap (λ v. v.items) w.rows-is)
-    ] in
-    (one_more j (market_limit market i) c.args.rows.now.items before after (option_to_list limit) c.loop-buyer.invariant.0 added found, c.next_row-row_at.ensures.end, c.next_row-row_at.ensures.cursor, c.next_row-held_at.ensures.end, c.next_row-held_at.ensures.cursor)
+    let pair = c.loop-pair.pair in
+    let seller = c.loop-pair.invariant.seller in
+    let before = c.loop-pair.rows.items in
+    let next = c.next-pair.result.buyer in
+    record {
+      rows = up_to_next c.args.rows.now.items before c.add_pair.new.rows.items market c.args.seller pair.buyer next c.loop-pair.invariant.rows (c.in_ok-add_pair.ensures ∙ ap (λ i. before ++ market_limit market i pair.buyer) seller) c.next-pair.ensures.behind (subst (λ i. HaveNone market i (pair.buyer + 1) next) seller c.next-pair.ensures.passed);
+      pair = c.next-pair.ensures.pair;
+      seller = c.next-pair.ensures.seller ∙ seller;
+    }
