@@ -1,5 +1,5 @@
 -- Each step at the counter of claims keeps its rule.
-use Rattle.std.proofs.Common.{◌≡◌, ◌≢◌, ◌⊎◌, ℕ, zero, suc, ◌+◌, ◌-◌, ◌^◌, ◌%◌, ◌==◌, ◌<◌, ◌≤◌, nat_lt, Bool, true, false, List, [], ◌∷◌, ◌++◌, length, set, get_or, sym, refl, ap, ◌∙◌, subst, inl, inr, ⊎_elim, arith, length-set}
+use Rattle.std.proofs.Common.{◌≡◌, ◌≢◌, ◌⊎◌, ℕ, zero, suc, ◌+◌, ◌-◌, ◌^◌, ◌%◌, ◌==◌, ◌<◌, ◌≤◌, nat_lt, Bool, true, false, List, [], ◌∷◌, ◌++◌, length, set, get_or, sym, refl, ap, ◌∙◌, subst, inl, inr, ⊎_elim, arith, length-set, length-append}
 use Rattle.std.proofs.lemmas.Bool.{ne_eqb, eq-eqb}
 use Rattle.std.proofs.lemmas.Bool.Decides.{nat_tests}
 use mathlib.Core.Option.{some, some-injective, some-ne-none}
@@ -9,9 +9,9 @@ use lib.ListN.{get_elem?}
 use Rattle.atomic_table.proofs.Lists.{at_set, at_snoc}
 use Rattle.atomic_table.specs.Table.{State, Me, Allows, Splits, Joins, opening, keeps, stepped}
 use Rattle.claim_counter.specs.declared.rule.Claims.{Claims}
-use Rattle.claim_counter.specs.Claims.{one_if, times, total, room_of, parts_of, claims, Kept, newcomer, nobody, room_after, with_claim, rest_of, worker, both, claimed, known}
+use Rattle.claim_counter.specs.Claims.{one_if, times, total, room_of, parts_of, claims, count_of, Kept, newcomer, nobody, room_after, with_claim, rest_of, worker, both, claimed, known}
 
-times-append : (x : ℕ) (xs ys : List ℕ) → times x (xs ++ ys) ≡ times x xs + times x ys
+pub times-append : (x : ℕ) (xs ys : List ℕ) → times x (xs ++ ys) ≡ times x xs + times x ys
 times-append x [] ys = omega arith
 times-append x (y ∷ xs) ys = let s = times-append x xs ys in omega arith
 
@@ -67,6 +67,7 @@ pub opens : (pieces : ℕ) → Kept pieces (opening (0 ∷ []) [] (newcomer piec
 opens pieces = record {
   word = 0;
   words = refl;
+  count = refl;
   once = λ n. let never : nat_lt n 0 ≡ false = grind (arith, nat_tests) in ap one_if (sym never);
   rooms = omega arith;
   few = omega arith;
@@ -97,6 +98,7 @@ may_claim pieces slots id me some_room some_parts short s k long at small =
       record {
         word = n + 1;
         words = ap (λ ws. set ws 0 ((n + 1) % 2 ^ 64)) k.words ∙ ap (λ x. x ∷ []) up;
+        count = let o = k.count in let t = total_set count_of s.views id v w at in omega arith;
         once = λ m. let o = k.once m in let t = total_set (claims m) s.views id v w at in let b = next_below m n in let e = ap (λ x. one_if (nat_lt m x)) is in omega arith;
         rooms = after.most;
         few = after.few;
@@ -104,7 +106,7 @@ may_claim pieces slots id me some_room some_parts short s k long at small =
         idle = each_may (λ u. u.parts ≡ 0 → u.taken ≡ []) s.views id w (λ none. absurd (omega arith)) k.idle;
         same = each_may (λ u. 0 < u.parts → u.pieces ≡ pieces) s.views id w (λ some. mine) k.same;
       },
-      (refl, refl),
+      (refl, refl, (let o = k.count in let t = total_at count_of s.views id v at in omega arith)),
     )
 
 pub may_split : (pieces id : ℕ) (v : Claims) → 1 < v.parts → 0 < v.room → Splits (Kept pieces) id v (rest_of v) (worker v)
@@ -116,6 +118,7 @@ may_split pieces id v some_parts some_room s k at =
     record {
       word = k.word;
       words = k.words;
+      count = let o = k.count in let t = total_set count_of s.views id v l at in let u = total_snoc count_of vs r in omega arith;
       once = λ m. let o = k.once m in let t = total_set (claims m) s.views id v l at in let u = total_snoc (claims m) vs r in omega arith;
       rooms = let o = k.rooms in let t = total_set room_of s.views id v l at in let u = total_snoc room_of vs r in omega arith;
       few = let o = k.few in let t = total_set room_of s.views id v l at in let u = total_snoc room_of vs r in omega arith;
@@ -133,6 +136,7 @@ may_join pieces id other v w some_parts s k at apart there' =
     record {
       word = k.word;
       words = k.words;
+      count = let o = k.count in let t = total_set count_of s.views id v h at in let u = total_set count_of vs other w nobody there' in omega (arith, length-append v.taken w.taken);
       once = λ m. let o = k.once m in let t = total_set (claims m) s.views id v h at in let u = total_set (claims m) vs other w nobody there' in let a = times-append m v.taken w.taken in omega arith;
       rooms = let o = k.rooms in let t = total_set room_of s.views id v h at in let u = total_set room_of vs other w nobody there' in omega arith;
       few = let o = k.few in let t = total_set room_of s.views id v h at in let u = total_set room_of vs other w nobody there' in omega arith;
@@ -166,6 +170,7 @@ may_know pieces slots id me s k long at small =
       record {
         word = k.word;
         words = ap (λ ws. set ws 0 n) k.words ∙ ap (λ x. x ∷ []) is;
+        count = let o = k.count in let t = total_set count_of s.views id v v at in omega arith;
         once = λ m. let o = k.once m in let t = total_set (claims m) s.views id v v at in omega arith;
         rooms = let o = k.rooms in let t = total_set room_of s.views id v v at in omega arith;
         few = let o = k.few in let t = total_set room_of s.views id v v at in omega arith;

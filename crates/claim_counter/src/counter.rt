@@ -1,6 +1,6 @@
 //! The counter, and the workers that claim from it.
 
-ghost use Rattle.std.specs.Prelude.{◌≡◌, ℕ, ◌+◌, ◌^◌, ◌<◌, nat_lt, [], ◌∷◌, ◌++◌, IfOk};
+ghost use Rattle.std.specs.Prelude.{◌≡◌, ℕ, ◌+◌, ◌^◌, ◌<◌, ◌≤◌, nat_lt, [], ◌∷◌, ◌++◌, length, IfOk};
 ghost use Rattle.claim_counter.specs.Claims.{newcomer, with_claim, rest_of, worker, both, times, one_if};
 ghost use Rattle.claim_counter.specs.Workers.{IsWorkerOf, view_of};
 
@@ -10,7 +10,7 @@ use atomic_table::Table;
 use std::alloc::{AllocError, Global};
 
 impl Counter {
-    /// A counter for so many pieces, and its first worker.
+    /// A counter for so many pieces, and its first worker. It can split off 64 others.
     pub fn new(alloc: Global, pieces: u64) -> Result<(Counter, Worker), AllocError>
         requires { pieces + 64 < 2 ^ 64 }
         ensures { IfOk result (λ r. IsWorkerOf r.0 r.1 × (view_of r.1 ≡ newcomer pieces)) }
@@ -19,12 +19,13 @@ impl Counter {
         Ok((Counter { table }, Worker { seat }))
     }
 
-    /// Claims the next number.
+    /// Claims the next number. It is no less than how many numbers the worker had claimed.
     pub fn claim(&self, by: &mut Worker) -> u64
         requires own { IsWorkerOf self.now by.old }
         requires room { (0 < (view_of by.old).room) × (0 < (view_of by.old).parts) }
         ensures own { IsWorkerOf self.now by.new }
         ensures claimed { view_of by.new ≡ with_claim result (view_of by.old) }
+        ensures later { length (view_of by.old).taken ≤ result }
     {
         self.table.shared.fetch_add::<Claim>(&mut by.seat, 0, 1)
     }
@@ -58,7 +59,7 @@ impl Counter {
     pub fn claimed(&self, by: &mut Worker) -> u64
         requires { IsWorkerOf self.now by.old }
         ensures own { IsWorkerOf self.now by.new × (view_of by.new ≡ view_of by.old) }
-        ensures all { (view_of by.old).parts ≡ 64 → (k : ℕ) → times k (view_of by.old).taken ≡ one_if (nat_lt k result) }
+        ensures all { (view_of by.old).parts ≡ 65 → (k : ℕ) → times k (view_of by.old).taken ≡ one_if (nat_lt k result) }
     {
         self.table.shared.load::<Know>(&mut by.seat, 0)
     }
