@@ -1,11 +1,12 @@
 -- What was found at the places of a list.
 use Rattle.std.proofs.Common.{◌≡◌, ℕ, ◌<◌, ◌+◌, ◌≤◌, List, [], ◌∷◌, ◌++◌, length, take, get_or, slice_get, Option, Some, None, inl, inr, ◌⊎◌, sym, subst, ap, ◌∙◌, arith, refl}
-use Rattle.std.proofs.lemmas.List.{length-append, take-append-le, take_all}
+use Rattle.std.proofs.lemmas.List.{length-append}
 use Rattle.std.proofs.lemmas.Option.{slice_get_cases}
 use Rattle.network_laws.specs.Solutions.{ProblemData, SolutionData}
 use Rattle.network_laws.specs.Solved.{AreSolved}
 use Rattle.network_laws.proofs.SolvedFacts.{solved_step}
 use Rattle.parallel_solver.specs.Places.{SolvesAt}
+use Rattle.parallel_solver.specs.Jobs.{AreFound}
 
 -- the place behind a list has what follows
 pub behind : {T : Type 0} (xs ys : List T) (y : T) → slice_get (xs ++ y ∷ ys) (length xs) ≡ Some y
@@ -28,10 +29,13 @@ collected_step problems found yielded rest solutions solutions' slot solution ea
     subst P (sym (length-append yielded (slot ∷ [])))
     (stepped k problems solutions solutions' solution within (solved k solution at) more before (slice_get_cases problems k).1)
 
--- what lies at a place of a list that begins a longer one
-pub found_at : {T : Type 0} (n : ℕ) (new rest : List T) (place : ℕ) (x : T) → length new ≡ n → slice_get (take n (new ++ rest)) place ≡ Some x → slice_get new place ≡ Some x
-found_at {T = T} n new rest place x size at =
-    let le : n ≤ length new = omega arith in
-    let ge : length new ≤ n = omega arith in
-    let P : List T → Type 0 = λ xs. slice_get xs place ≡ Some x in
-    subst P (take-append-le n new rest le ∙ take_all n new ge) at
+some_none : (s : SolutionData) → Some None ≡ Some (Some s) → ⊥
+some_none s e = let f : None ≡ Some s = cc in absurd (let g = f in cc)
+
+-- where each place was found, none is without a solution
+pub never_missing : (problems : List ProblemData) (found yielded rest : List (Option SolutionData)) (slot : Option SolutionData) → length found ≡ length problems → AreFound problems found → yielded ++ slot ∷ rest ≡ found → slot ≡ None → ⊥
+never_missing problems found yielded rest slot size all order none =
+    let within : length yielded < length problems = let e = ap length order in omega (arith, length-append yielded (slot ∷ rest)) in
+    let here = all (length yielded) within in
+    let at : slice_get found (length yielded) ≡ Some slot = ap (λ xs. slice_get xs (length yielded)) (sym order) ∙ behind yielded rest slot in
+    some_none here.0 (ap Some (sym none) ∙ (sym at ∙ here.1))

@@ -15,4 +15,6 @@ pub struct Done {
 pub struct Job {
     pub worker: Worker,
     pub done: Vec<Done>,
+    /// It has claimed until no problem was left. Where it has not, there was no memory.
+    pub finished: bool,
 }

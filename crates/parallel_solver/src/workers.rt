@@ -1,11 +1,11 @@
 //! The workers, and the problems that each of them solves.
 
-ghost use Rattle.std.specs.Prelude.{◌≡◌, ℕ, ◌≤◌, ◌<◌, All, IfOk, IfSome, length};
+ghost use Rattle.std.specs.Prelude.{◌≡◌, ℕ, ◌+◌, ◌≤◌, ◌<◌, [], ◌∷◌, All, IfOk, OnOk, length, vec_len};
 ghost use Rattle.claim_counter.specs.Claims.{newcomer};
 ghost use Rattle.claim_counter.specs.Workers.{IsWorkerOf, view_of};
 ghost use Rattle.network_laws.specs.Solved.{AreSolved};
 ghost use Rattle.parallel_solver.specs.Places.{SolvesAt};
-ghost use Rattle.parallel_solver.specs.Jobs.{IsRight, MayWork, HasWorked, AreRight};
+ghost use Rattle.parallel_solver.specs.Jobs.{IsRight, MayWork, HasWorked, AreRight, FindsToo, AreFound};
 
 use crate::job::{Done, Job};
 use claim_counter::{Counter, Worker};
@@ -15,23 +15,21 @@ use std::alloc::{AllocError, Global};
 use std::thread;
 use std::thread::Threads;
 
-// Solves the problem of a place. There may be no memory for that.
+// Solves the problem of a place.
 fn solve_one<V: Solver, G: Gate>(
     problems: &[Problem],
     solver: &V,
     gate: &G,
     place: usize,
-) -> Option<Solution>
+) -> Result<Solution, AllocError>
     requires { place < length problems.now }
-    ensures { IfSome result (SolvesAt problems.now place) }
+    ensures { IfOk result (SolvesAt problems.now place) }
 {
     gate.enter(place as u64);
     let problem = &problems[place];
-    let Ok(solution) = solver.solve(problem.limits(), problem.network()) else {
-        return None;
-    };
+    let solution = solver.solve(problem.limits(), problem.network())?;
     let _potentials = solution.potentials();
-    Some(solution)
+    Ok(solution)
 }
 
 // A place for a solution of each problem.
@@ -45,20 +43,19 @@ fn places(alloc: Global, problems: &[Problem]) -> Result<Vec<Option<Solution>>, 
     Ok(found)
 }
 
-// The solutions that were found, if there is one for each problem.
+// The solutions that were found, one for each problem.
 fn collected(
     alloc: Global,
     problems: &[Problem],
     found: Vec<Option<Solution>>,
 ) -> Result<Vec<Solution>, AllocError>
-    requires { AreRight problems.now found.items }
+    requires right { AreRight problems.now found.items }
+    requires all { AreFound problems.now found.items }
     ensures { IfOk result (λ solutions. AreSolved problems.now solutions.items) }
 {
     let mut solutions = Vec::new(alloc);
     for slot in found {
-        let Some(solution) = slot else {
-            return Err(AllocError);
-        };
+        let Some(solution) = slot else { unreachable!() };
         solutions.push(solution)?;
     }
     Ok(solutions)
@@ -73,14 +70,15 @@ fn work<V: Solver, G: Gate>(
     job: &mut Job,
 )
     requires { MayWork table.now problems.now job.old }
-    ensures { HasWorked problems.now job.new }
+    ensures { HasWorked table.now problems.now job.new }
 {
-    for _ in 0..problems.len() {
+    loop {
         let place = table.claim(&mut job.worker) as usize;
         if place >= problems.len() {
+            job.finished = true;
             return;
         }
-        let Some(solution) = solve_one(problems, solver, gate, place) else {
+        let Ok(solution) = solve_one(problems, solver, gate, place) else {
             return;
         };
         if job.done.push(Done { place, solution }).is_err() {
@@ -89,32 +87,30 @@ fn work<V: Solver, G: Gate>(
     }
 }
 
-// So many jobs.
+// So many jobs, whose workers are split off from the first.
 fn jobs(
     alloc: Global,
     table: &Counter,
     problems: &[Problem],
-    first: Worker,
+    first: &mut Worker,
     count: u32,
 ) -> Result<Vec<Job>, AllocError>
-    requires own { IsWorkerOf table.now first }
-    requires count { (1 ≤ count) × (count ≤ 64) }
-    requires first { view_of first ≡ newcomer (length problems.now) }
-    ensures { IfOk result (λ jobs. All (MayWork table.now problems.now) jobs.items) }
+    requires own { IsWorkerOf table.now first.old }
+    requires count { count ≤ 64 }
+    requires first { view_of first.old ≡ newcomer (length problems.now) }
+    ensures jobs { IfOk result (λ jobs. (vec_len jobs ≡ count) × All (MayWork table.now problems.now) jobs.items) }
+    ensures own { OnOk result (IsWorkerOf table.now first.new) }
+    ensures parts { OnOk result ((view_of first.new).parts + count ≡ 65) }
+    ensures none { OnOk result ((view_of first.new).taken ≡ []) }
 {
-    let mut worker = first;
     let mut jobs = Vec::new(alloc);
-    for _ in 1..count {
-        let other = table.split(&mut worker);
+    for _ in 0..count {
         jobs.push(Job {
-            worker: other,
+            worker: table.split(first),
             done: Vec::new(alloc),
+            finished: false,
         })?;
     }
-    jobs.push(Job {
-        worker,
-        done: Vec::new(alloc),
-    })?;
     Ok(jobs)
 }
 
@@ -122,33 +118,57 @@ fn jobs(
 fn put(problems: &[Problem], found: &mut [Option<Solution>], done: Done)
     requires right { IsRight problems.now done }
     requires found { AreRight problems.now found.old }
-    ensures { AreRight problems.now found.new }
+    ensures right { AreRight problems.now found.new }
+    ensures found { FindsToo found.old (done ∷ []) found.new }
 {
     let Done { place, solution } = done;
     found[place] = Some(solution);
 }
 
-// Puts the solutions of a job into their places.
-fn put_job(problems: &[Problem], found: &mut [Option<Solution>], job: Job)
-    requires right { HasWorked problems.now job }
+// Puts solutions into their places.
+fn put_all(problems: &[Problem], found: &mut [Option<Solution>], mut done: Vec<Done>)
+    requires right { All (IsRight problems.now) done.items }
     requires found { AreRight problems.now found.old }
-    ensures { AreRight problems.now found.new }
+    ensures right { AreRight problems.now found.new }
+    ensures found { FindsToo found.old done.items found.new }
 {
-    let mut done = job.done;
     while let Some(one) = done.pop() {
         put(problems, found, one);
     }
 }
 
-// Puts the solutions of all jobs into their places.
-fn put_jobs(problems: &[Problem], found: &mut [Option<Solution>], mut jobs: Vec<Job>)
-    requires right { All (HasWorked problems.now) jobs.items }
+// Puts the solutions of all jobs into their places. Where all workers have finished, the claims that the first has taken
+// in tell that each problem was claimed, and so solved: a place is left only where there was no memory.
+fn put_jobs(
+    table: &Counter,
+    problems: &[Problem],
+    first: &mut Worker,
+    found: &mut [Option<Solution>],
+    mut jobs: Vec<Job>,
+) -> Result<(), AllocError>
+    requires own { IsWorkerOf table.now first.old }
+    requires parts { (view_of first.old).parts + vec_len jobs ≡ 65 }
+    requires none { (view_of first.old).taken ≡ [] }
+    requires count { (1 ≤ vec_len jobs) × (vec_len jobs ≤ 64) }
+    requires jobs { All (HasWorked table.now problems.now) jobs.items }
     requires found { AreRight problems.now found.old }
-    ensures { AreRight problems.now found.new }
+    ensures right { OnOk result (AreRight problems.now found.new) }
+    ensures found { OnOk result (AreFound problems.now found.new) }
 {
     while let Some(job) = jobs.pop() {
-        put_job(problems, found, job);
+        let Job {
+            worker,
+            done,
+            finished,
+        } = job;
+        if !finished {
+            return Err(AllocError);
+        }
+        table.join(first, worker);
+        put_all(problems, found, done);
     }
+    table.claimed(first);
+    Ok(())
 }
 
 // The workers work, beside one another.
@@ -161,7 +181,7 @@ fn work_all<R: Threads + Sync, V: Solver, G: Gate>(
     jobs: &mut [Job],
 )
     requires { All (MayWork table.now problems.now) jobs.old }
-    ensures { All (HasWorked problems.now) jobs.new }
+    ensures { All (HasWorked table.now problems.now) jobs.new }
 {
     thread::for_each_mut(
         rt,
@@ -169,7 +189,7 @@ fn work_all<R: Threads + Sync, V: Solver, G: Gate>(
         64,
         &|_, job: &mut Job|
             requires { MayWork table.now problems.now job.old }
-            ensures { HasWorked problems.entry.now job.new }
+            ensures { HasWorked table.entry.now problems.entry.now job.new }
         { work(table, problems, solver, gate, job) },
     );
 }
@@ -188,9 +208,9 @@ pub fn solve_all<R: Threads + Sync, V: Solver, G: Gate>(
     ensures { IfOk result (λ solutions. AreSolved problems.now solutions.items) }
 {
     let mut found = places(alloc, problems)?;
-    let (table, first) = Counter::new(alloc, problems.len() as u64)?;
-    let mut jobs = jobs(alloc, &table, problems, first, workers)?;
+    let (table, mut first) = Counter::new(alloc, problems.len() as u64)?;
+    let mut jobs = jobs(alloc, &table, problems, &mut first, workers)?;
     work_all(rt, &table, problems, solver, gate, &mut jobs);
-    put_jobs(problems, &mut found, jobs);
+    put_jobs(&table, problems, &mut first, &mut found, jobs)?;
     collected(alloc, problems, found)
 }

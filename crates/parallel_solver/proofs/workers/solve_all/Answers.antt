@@ -1,13 +1,12 @@
-use Rattle.std.proofs.Common.{◌≡◌, length, drop, subst, sym, arith, List}
-use Rattle.std.specs.Prelude.{All}
-use Rattle.parallel_solver.specs.declared.job.Job.{Job}
-use Rattle.parallel_solver.specs.Jobs.{HasWorked}
+use Rattle.std.proofs.Common.{◌≡◌, List, Option, length, drop, subst, sym, arith}
+use Rattle.network_laws.specs.Solutions.{SolutionData}
+use Rattle.parallel_solver.specs.Jobs.{AreFound}
 use Rattle.parallel_solver.proofs.Rights.{whole_front}
 use Rattle.parallel_solver.proofs.workers.solve_all.Goals as goal
 
-pub put_jobs-requires-clause-right : goal.put_jobs-requires-clause-right
-put_jobs-requires-clause-right g c =
-    let P : List Job → Type 0 = λ l. All (HasWorked c.args.problems.now) l in
-    let new = c.work_all.new.jobs in
-    let size : length new ≡ c.in_ok-jobs.jobs.len = omega (arith, c.work_all.auto.jobs, c.deref_mut.ensures.len) in
-    subst P (sym (whole_front c.in_ok-jobs.jobs.len new (drop (length new) c.in_ok-jobs.jobs.items) size)) c.work_all.ensures
+pub collected-requires-clause-all : goal.collected-requires-clause-all
+collected-requires-clause-all g c =
+    let P : List (Option SolutionData) → Type 0 = λ l. AreFound c.args.problems.now l in
+    let new = c.put_jobs.new.found in
+    let size : length new ≡ c.in_ok-found.found.len = omega (arith, c.put_jobs.auto.found, c.deref_mut-2.ensures.len) in
+    subst P (sym (whole_front c.in_ok-found.found.len new (drop (length new) c.in_ok-found.found.items) size)) c.in_ok-put_jobs.ensures.found

@@ -1,5 +1,10 @@
+use Rattle.std.proofs.Common.{◌-◌, length}
+use Rattle.claim_counter.specs.Workers.{view_of}
 use Rattle.parallel_solver.specs.Jobs.{MayWork}
 use Rattle.parallel_solver.proofs.workers.work.Given as goal
 
-abbrev pub invariant-loop : goal.invariant-loop
-invariant-loop g l = MayWork l.table l.problems l.job
+abbrev pub invariant-loop-job : goal.invariant-loop-job
+invariant-loop-job g l = MayWork l.table l.problems l.job
+
+abbrev pub decreases-loop-job : goal.decreases-loop-job
+decreases-loop-job g l = length l.problems - length (view_of l.job.worker).taken

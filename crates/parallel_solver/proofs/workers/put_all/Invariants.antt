@@ -1,10 +1,11 @@
 use Rattle.std.proofs.Common.{vec_len}
 use Rattle.std.specs.Prelude.{All}
 use Rattle.parallel_solver.specs.Jobs.{IsRight, AreRight}
-use Rattle.parallel_solver.proofs.workers.put_job.Given as goal
+use Rattle.parallel_solver.proofs.Rights.{Left}
+use Rattle.parallel_solver.proofs.workers.put_all.Given as goal
 
 abbrev pub invariant-loop-one : goal.invariant-loop-one
-invariant-loop-one l = AreRight l.problems l.found × All (IsRight l.problems) l.done.items
+invariant-loop-one l = AreRight l.problems l.found × All (IsRight l.problems) l.done.items × Left l.initial.found l.fn.done.items l.found l.done.items
 
 abbrev pub decreases-loop-one : goal.decreases-loop-one
 decreases-loop-one l = vec_len l.done
