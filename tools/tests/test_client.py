@@ -189,7 +189,8 @@ class Sessions(InFolder):
         super().setUp()
         before = dict(os.environ)
         os.environ.update(environment("ring-cycle"))
-        self.addCleanup(lambda: (os.environ.clear(), os.environ.update(before)))
+        self.addCleanup(os.environ.update, before)
+        self.addCleanup(os.environ.clear)
 
     def test_a_whole_cycle_with_the_stand_in(self) -> None:
         with Session.script(FAKE, ROSTER, self.journal) as session:
@@ -275,7 +276,15 @@ class Shells(InFolder):
         self.assertEqual(ran.status, 70)
 
     def test_words_and_files(self) -> None:
-        for words in ([], [ROSTER], [ROSTER, "j", "k"], ["--what", ROSTER, "j"], [ROSTER, "-j"], ["--program"]):
+        cases: list[list[str | Path]] = [
+            [],
+            [ROSTER],
+            [ROSTER, "j", "k"],
+            ["--what", ROSTER, "j"],
+            [ROSTER, "-j"],
+            ["--program"],
+        ]
+        for words in cases:
             with self.subTest(words=words):
                 self.assertEqual(self.client(*words), Ran(2, b"", b"bad words\n"))
         self.assertEqual(self.client("none", "j"), Ran(11, b"", b"file fault\n"))

@@ -1,0 +1,157 @@
+"""The compression report: its figures by hand and beside the program's, and the page itself."""
+
+import csv
+import io
+import re
+import subprocess
+import sys
+import tempfile
+import unittest
+from pathlib import Path
+
+from markets import market
+from running import EXAMPLES, TOOLS, Ran, program, run
+
+sys.path.insert(0, str(TOOLS))
+
+from delkwoan.figures import Member, Share, Sums, compression_of, rows_of
+
+REPORT = TOOLS / "report"
+ROSTER, TRADES, PROPOSAL = HUB = [
+    str(EXAMPLES / f"hub-{name}") for name in ("roster.csv", "trades.csv", "proposal.txt")
+]
+
+
+def needs_packages() -> None:
+    """Skips where the report's Python lacks what Debian's packages give."""
+    python = REPORT.read_text().splitlines()[0].removeprefix("#!")
+    try:
+        found = subprocess.run([python, "-c", "import matplotlib, jinja2"], capture_output=True).returncode == 0
+    except OSError:
+        found = False
+    if not found:
+        raise unittest.SkipTest("no python3-matplotlib or python3-jinja2")
+
+
+class InFolder(unittest.TestCase):
+    def setUp(self) -> None:
+        folder = tempfile.TemporaryDirectory()
+        self.addCleanup(folder.cleanup)
+        self.folder = Path(folder.name)
+
+
+class Figures(InFolder):
+    def test_the_hub_by_hand(self) -> None:
+        """E stands between A, D and B, C: its four lines fall away, the others keep one of 5 each."""
+        compression = compression_of(ROSTER, TRADES, PROPOSAL)
+        (product,) = compression.products
+        self.assertEqual(product.before, Sums(gross=20, floor=10, excess=10, bilateral=20, lines=4))
+        self.assertEqual(product.after, Sums(gross=10, floor=10, excess=0, bilateral=10, lines=2))
+        others = [Member(name, "dealer", Share(5, 1, 1), Share(5, 1, 1), 1, 1) for name in "ABCD"]
+        hub = Member("E", "dealer", Share(20, 4, 4), Share(0, 0, 0), 1, 1)
+        self.assertEqual(compression.members, [*others, hub])
+        self.assertEqual([member.reduction for member in compression.members], [0.0, 0.0, 0.0, 0.0, 1.0])
+        self.assertEqual(len(rows_of(compression)), 5 + 5 * 4)
+
+    def test_a_net_that_does_not_stay(self) -> None:
+        proposal = self.folder / "proposal"
+        proposal.write_bytes(Path(HUB[2]).read_bytes().replace(b"row A B 5", b"row A B 6"))
+        compression = compression_of(ROSTER, TRADES, str(proposal))
+        self.assertEqual([member.nets_kept for member in compression.members], [0, 0, 1, 1, 1])
+
+    def test_the_programs_figures(self) -> None:
+        """GROSS, LEAST, M and BILATERAL of what the program solves are the report's."""
+        built = program()
+        for number in range(20):
+            with self.subTest(market=number):
+                made = market(number)
+                names = [self.folder / name for name in ("roster", "trades", "proposal")]
+                names[0].write_bytes(made.roster)
+                names[1].write_bytes(made.trades)
+                solved = run([built, "solve", *names[:2], made.mode])
+                names[2].write_bytes(solved.output)
+                told = [
+                    line.split(" ")[1:] for line in solved.output.decode().splitlines() if line.startswith("product")
+                ]
+                compression = compression_of(str(names[0]), str(names[1]), str(names[2]))
+                own = [
+                    [p.name, *map(str, (p.before.gross, p.after.gross, p.before.floor, p.before.bilateral))]
+                    for p in compression.products
+                ]
+                self.assertEqual(own, told)
+                self.assertTrue(all(member.nets_kept == member.nets for member in compression.members))
+                self.assertEqual(
+                    [p.after.floor for p in compression.products], [p.before.floor for p in compression.products]
+                )
+
+
+class Pages(InFolder):
+    def setUp(self) -> None:
+        super().setUp()
+        needs_packages()
+        self.output = str(self.folder / "out")
+
+    def test_the_page_and_the_figures(self) -> None:
+        ran = run([REPORT, *HUB, self.output])
+        told = f"{self.output}.html and {self.output}.csv: gross 20 before, 10 after\n"
+        self.assertEqual(ran, Ran(0, told.encode(), b""))
+        page = Path(self.output + ".html").read_text()
+        self.assertEqual(re.findall(r'(?:src|href)="(?!data:image/svg\+xml;base64,)', page), [])
+        self.assertEqual(re.findall(r"<script|<link|@import|url\(", page), [])
+        self.assertEqual(page.count("<img alt="), 4)
+        self.assertIn("50.0 %", page)
+        self.assertIn("5 of 5", page)
+        rows = list(csv.reader(io.StringIO(Path(self.output + ".csv").read_text())))
+        self.assertEqual(
+            rows[:3],
+            [
+                ["of", "name", "figure", "before", "after"],
+                ["product", "P", "gross", "20", "10"],
+                ["product", "P", "floor", "10", "10"],
+            ],
+        )
+        self.assertEqual(rows[1:], [list(map(str, row)) for row in rows_of(compression_of(ROSTER, TRADES, PROPOSAL))])
+
+    def test_it_is_the_same_each_time(self) -> None:
+        pages = []
+        for _ in range(2):
+            run([REPORT, "--product", "P", *HUB, self.output])
+            pages.append(Path(self.output + ".html").read_bytes())
+        self.assertEqual(*pages)
+
+    def test_markets_without_anything(self) -> None:
+        (self.folder / "roster").write_bytes(b"name,role,key\n")
+        (self.folder / "trades").write_bytes(b"seller,buyer,product,amount\n")
+        (self.folder / "proposal").write_bytes(b"end 0\n")
+        names = [self.folder / name for name in ("roster", "trades", "proposal")]
+        self.assertEqual(run([REPORT, *names, self.output]).status, 0)
+        (self.folder / "roster").write_bytes(b"name,role,key\nA,dealer,K\nP,product,2031-06-30\n")
+        (self.folder / "proposal").write_bytes(b"product P 0 0 0 0\npot A 0\nbound 0\nend 1\n")
+        self.assertEqual(run([REPORT, *names, self.output]).status, 0)
+
+    def test_words_and_files(self) -> None:
+        cases: list[list[str]] = [
+            [],
+            HUB,
+            [*HUB, "x", "y"],
+            [*HUB, "-x"],
+            ["--product", *HUB, "x"],
+            ["--what", "P", *HUB, "x"],
+        ]
+        for words in cases:
+            with self.subTest(words=words):
+                self.assertEqual(run([REPORT, *words]), Ran(2, b"", b"bad words\n"))
+        self.assertEqual(run([REPORT, "--product", "Q", *HUB, self.output]), Ran(2, b"", b"no such product: Q\n"))
+        self.assertEqual(run([REPORT, "none", *HUB[1:], self.output]), Ran(11, b"", b"file fault\n"))
+        self.assertEqual(run([REPORT, *HUB, self.folder / "none/out"]), Ran(11, b"", b"file fault\n"))
+        ran = run([REPORT, HUB[1], *HUB[1:], self.output])
+        self.assertEqual(ran, Ran(3, b"", b"roster row 1: columns\n"))
+        self.assertEqual(list(self.folder.iterdir()), [])
+
+    def test_an_output_that_fails(self) -> None:
+        ran = run(["sh", "-c", 'exec "$0" "$@" > /dev/full', REPORT, *HUB, self.output])
+        self.assertEqual(ran, Ran(5, b"", b"sink fault\n"))
+
+
+if __name__ == "__main__":
+    unittest.main()
