@@ -1,5 +1,6 @@
 pub mod Between
 pub mod Walked
+pub mod PairFacts
 pub mod Bounded
 pub mod PieceFacts
 pub mod ReadFacts

@@ -1,18 +1,56 @@
 -- Where the walk over the rows of limits and of a network stands, and what it finds at a pair.
-use Rattle.std.specs.Prelude.{ℕ, ◌+◌, ◌*◌, ◌≤◌, List, length, Option, ℤ}
+use Rattle.std.specs.Prelude.{◌≡◌, ℕ, ◌+◌, ◌*◌, ◌/◌, ◌%◌, ◌<◌, ◌≤◌, List, length, Option, Some, None, ℤ}
 use Rattle.network_laws.specs.declared.rows.Row.{Row}
 use Rattle.network_laws.specs.declared.rows.LimitRow.{LimitRow}
 use Rattle.network_laws.specs.declared.clash.Clash.{Clash}
-use Rattle.network_laws.specs.Networks.{amount_in, IsCursor}
-use Rattle.network_laws.specs.Limits.{lower_in, upper_in, reduced, IsLimitCursor}
+use Rattle.network_laws.specs.Networks.{amount_in, place, IsCursor, AreRows}
+use Rattle.network_laws.specs.Limits.{lower_in, upper_in, reduced, limit_place, IsLimitCursor, AreLimitRows}
 use Rattle.network_laws.specs.Clash.{bounds_clash, price_clash}
+use Rattle.dual_certificate.specs.declared.pair_cursor.Pairs.{Pairs}
+use Rattle.dual_certificate.specs.declared.pair_cursor.PairCursor.{PairCursor}
 
--- both cursors are those of a pair
-pub record AreAtPair (limits : List LimitRow) (rows : List Row) (limit_at row_at i j : ℕ) : Type 0 where
-  pub limit_end : limit_at ≤ length limits
-  pub limit_cursor : IsLimitCursor limits limit_at (i * 65536 + j)
-  pub row_end : row_at ≤ length rows
-  pub row_cursor : IsCursor rows row_at (i * 65536 + j)
+-- rows of limits and of a network between the same members
+pub record ArePairs (pairs : Pairs) : Type 0 where
+  pub few : pairs.members ≤ 256
+  pub limits : AreLimitRows pairs.members pairs.limits.now
+  pub rows : AreRows pairs.members pairs.rows.now
+
+-- the place behind all pairs
+abbrev pub no_pair : ℕ
+no_pair = 4294967295
+
+-- the place of a row, or that behind all pairs
+abbrev pub limit_or_end : Option LimitRow → ℕ
+limit_or_end None = no_pair
+limit_or_end (Some row) = limit_place row
+
+abbrev pub row_or_end : Option Row → ℕ
+row_or_end None = no_pair
+row_or_end (Some row) = place row
+
+-- both cursors are those of a place
+pub record AreAtPlace (pairs : Pairs) (at : PairCursor) : Type 0 where
+  pub limit_end : at.limit_at ≤ length pairs.limits.now
+  pub limit : IsLimitCursor pairs.limits.now at.limit_at at.place
+  pub row_end : at.row_at ≤ length pairs.rows.now
+  pub row : IsCursor pairs.rows.now at.row_at at.place
+
+-- which is that of a pair of members, if it is not behind all pairs
+pub record IsAtPair (pairs : Pairs) (at : PairCursor) : Type 0 where
+  pub cursors : AreAtPlace pairs at
+  pub end : at.place ≤ no_pair
+  pub seller : at.place < no_pair → at.place / 65536 < pairs.members
+  pub buyer : at.place < no_pair → at.place % 65536 < pairs.members
+
+-- a pair has no amount, and may come to nothing else
+pub record HasNoRow (pairs : Pairs) (i j : ℕ) : Type 0 where
+  pub amount : amount_in pairs.rows.now i j ≡ 0
+  pub lower : lower_in pairs.limits.now i j ≡ 0
+  pub upper : upper_in pairs.limits.now i j ≡ Some 0
+
+-- no pair at a place from one on and below another has a row
+abbrev pub HaveNoRow : Pairs → ℕ → ℕ → Type 0
+HaveNoRow pairs from to = (i j : ℕ) → from ≤ i * 65536 + j → i * 65536 + j < to → HasNoRow pairs i j
 
 -- a pair whose amount is out of its bounds
 abbrev pub rows_bounds_clash : List LimitRow → List Row → ℕ → ℕ → Option Clash

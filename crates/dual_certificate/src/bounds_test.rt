@@ -1,51 +1,25 @@
 //! Whether each pair's amount is within its bounds.
 
-ghost use Rattle.std.specs.Prelude.{◌≡◌, ◌<◌, ◌≤◌, ◌+◌, ◌*◌, length};
-ghost use Rattle.network_laws.specs.Networks.{IsRising};
-ghost use Rattle.network_laws.specs.Limits.{IsRisingLimits};
-ghost use Rattle.network_laws.specs.Clash.{bounds_clash, first_below, first_pair};
-ghost use Rattle.dual_certificate.specs.Walks.{rows_bounds_clash};
+ghost use Rattle.std.specs.Prelude.{◌≡◌};
+ghost use Rattle.network_laws.specs.Clash.{bounds_clash, first_pair};
+ghost use Rattle.dual_certificate.specs.Walks.{ArePairs, rows_bounds_clash};
 
-use network_laws::{
-    Bounds, Clash, LimitRow, Row, amount_at, bounds_at, first_limit, first_row, next_limit,
-    next_row,
-};
+use crate::pair_cursor::{PairCursor, Pairs};
+use network_laws::{Bounds, Clash};
 
 /// The first pair whose amount is out of its bounds.
-pub fn first_bounds_clash(limits: &[LimitRow], rows: &[Row], members: u16) -> Option<Clash>
-    requires limits { IsRisingLimits limits.now }
-    requires rows { IsRising rows.now }
-    ensures { result ≡ first_pair members (rows_bounds_clash limits.now rows.now) }
+pub(super) fn first_bounds_clash(pairs: &Pairs) -> Option<Clash>
+    requires pairs { ArePairs pairs.now }
+    ensures { result ≡ first_pair pairs.now.members (rows_bounds_clash pairs.now.limits.now pairs.now.rows.now) }
 {
-    for seller in 0..members {
-        if let Some(clash) = seller_bounds_clash(limits, rows, seller, members) {
+    let mut pair = PairCursor::first(pairs);
+    while pair.is_pair() {
+        let amount = pair.amount(pairs);
+        let bounds = pair.bounds(pairs);
+        if let Some(clash) = clash_with_bounds(pair.seller(), pair.buyer(), amount, bounds) {
             return Some(clash);
         }
-    }
-    None
-}
-
-/// The first buyer whose amount from the seller is out of its bounds.
-fn seller_bounds_clash(
-    limits: &[LimitRow],
-    rows: &[Row],
-    seller: u16,
-    members: u16,
-) -> Option<Clash>
-    requires limits { IsRisingLimits limits.now }
-    requires rows { IsRising rows.now }
-    ensures { result ≡ first_below members (rows_bounds_clash limits.now rows.now seller) }
-{
-    let mut limit_at = first_limit(limits, seller, 0);
-    let mut row_at = first_row(rows, seller, 0);
-    for buyer in 0..members {
-        let bounds = bounds_at(limits, limit_at, seller, buyer);
-        let amount = amount_at(rows, row_at, seller, buyer);
-        if let Some(clash) = clash_with_bounds(seller, buyer, amount, bounds) {
-            return Some(clash);
-        }
-        limit_at = next_limit(limits, limit_at, seller, buyer);
-        row_at = next_row(rows, row_at, seller, buyer);
+        pair = pair.next(pairs);
     }
     None
 }

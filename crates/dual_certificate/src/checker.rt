@@ -6,6 +6,7 @@ ghost use Rattle.network_laws.specs.Clash.{first_clash};
 
 use crate::bounds_test::first_bounds_clash;
 use crate::net_test::first_net_clash;
+use crate::pair_cursor::Pairs;
 use crate::price_test::first_price_clash;
 use network_laws::{Clash, Limits, Network};
 
@@ -25,11 +26,16 @@ pub fn check(limits: &Limits, old: &Network, new: &Network, potentials: &[i32]) 
     let limit_rows = limits.rows();
     let rows = new.rows();
     let members = old.members();
-    if let Some(clash) = first_bounds_clash(limit_rows, rows, members) {
+    let pairs = Pairs {
+        members,
+        limits: limit_rows,
+        rows,
+    };
+    if let Some(clash) = first_bounds_clash(&pairs) {
         return Some(clash);
     }
     if let Some(clash) = first_net_clash(old, new) {
         return Some(clash);
     }
-    first_price_clash(limit_rows, rows, potentials, members)
+    first_price_clash(&pairs, potentials)
 }

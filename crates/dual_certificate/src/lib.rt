@@ -2,8 +2,8 @@
 //! proposal, which has such networks with their potentials.
 //!
 //! The test and the bound go by the duality of minimum-cost flow (Ahuja, Magnanti and Orlin, *Network Flows*), take
-//! no memory, and walk the rows of limits and network in step: their time is linear in the square of
-//! the number of members.
+//! no memory. The test walks the rows of limits and network in step: its time is linear in the number of rows. The
+//! bound's is linear in the square of the number of members.
 #![tactic(auto)]
 
 mod bounds_test;
@@ -13,6 +13,7 @@ mod dual;
 mod laws;
 mod member_search;
 mod net_test;
+mod pair_cursor;
 mod pieces;
 mod price_test;
 mod proposal_draft;

@@ -1,8 +1,13 @@
-use Rattle.std.proofs.Common.{◌≡◌, None}
-use Rattle.network_laws.specs.Clash.{first_below}
-use Rattle.dual_certificate.specs.Walks.{rows_price_clash}
+use Rattle.std.proofs.Common.{◌-◌}
+use Rattle.dual_certificate.specs.Walks.{IsAtPair, no_pair, rows_price_clash}
+use Rattle.dual_certificate.proofs.PairFacts.{FindsNone}
 use Rattle.dual_certificate.proofs.price_test.first_price_clash.Given as goal
 
-abbrev pub invariant-loop-seller : goal.invariant-loop-seller
-invariant-loop-seller l =
-    first_below l.seller (λ i. first_below l.members (rows_price_clash l.limits l.rows l.potentials i)) ≡ None
+abbrev pub invariant-loop-pair : goal.invariant-loop-pair
+invariant-loop-pair l = record {
+  pair : IsAtPair l.pairs l.pair;
+  none : FindsNone l.pairs.members (rows_price_clash l.pairs.limits.now l.pairs.rows.now l.potentials) l.pair.place;
+}
+
+abbrev pub decreases-loop-pair : goal.decreases-loop-pair
+decreases-loop-pair l = no_pair - l.pair.place

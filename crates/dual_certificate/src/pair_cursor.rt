@@ -1,0 +1,139 @@
+//! The pairs that have a row in the limits or in the network, one after another: two cursors walk both lists in step.
+//! A pair without a row has the amount 0 and may come to nothing else, so nothing can be wrong with it.
+
+ghost use Rattle.std.specs.Prelude.{◌≡◌, ◌↔◌, ◌+◌, ◌*◌, ◌/◌, ◌%◌, ◌<◌, ◌≤◌, length, slice_get, IsTrue};
+ghost use Rattle.network_laws.specs.Networks.{amount_in, place};
+ghost use Rattle.network_laws.specs.Limits.{lower_in, upper_in, limit_place};
+ghost use Rattle.dual_certificate.specs.Walks.{ArePairs, AreAtPlace, IsAtPair, HaveNoRow, no_pair, limit_or_end, row_or_end};
+
+use network_laws::{Bounds, LimitRow, Row, amount_at, bounds_at, next_limit, next_row};
+
+/// Behind all pairs.
+const NO_PAIR: u32 = u32::MAX;
+
+/// The rows of limits and of a network over the same members.
+#[derive(Clone, Copy)]
+pub(super) struct Pairs<'a> {
+    pub members: u16,
+    pub limits: &'a [LimitRow],
+    pub rows: &'a [Row],
+}
+
+/// A pair with the cursors of its rows.
+#[derive(Clone, Copy)]
+pub(super) struct PairCursor {
+    pub limit_at: usize,
+    pub row_at: usize,
+    /// The pair's place in the order by seller and buyer, or that behind all pairs.
+    pub place: u32,
+}
+
+impl PairCursor {
+    /// At the first pair with a row.
+    pub(super) fn first(pairs: &Pairs) -> PairCursor
+        requires pairs { ArePairs pairs.now }
+        ensures pair { IsAtPair pairs.now result }
+        ensures passed { HaveNoRow pairs.now 0 result.place }
+    {
+        let start = PairCursor {
+            limit_at: 0,
+            row_at: 0,
+            place: 0,
+        };
+        start.found(pairs)
+    }
+
+    /// At the next pair with a row.
+    pub(super) fn next(self, pairs: &Pairs) -> PairCursor
+        requires pairs { ArePairs pairs.now }
+        requires pair { IsAtPair pairs.now self }
+        requires within { self.place < no_pair }
+        ensures pair { IsAtPair pairs.now result }
+        ensures behind { self.place < result.place }
+        ensures passed { HaveNoRow pairs.now (self.place + 1) result.place }
+    {
+        let after = PairCursor {
+            limit_at: next_limit(pairs.limits, self.limit_at, self.seller(), self.buyer()),
+            row_at: next_row(pairs.rows, self.row_at, self.seller(), self.buyer()),
+            place: self.place + 1,
+        };
+        after.found(pairs)
+    }
+
+    // At the first pair with a row from this place on.
+    fn found(self, pairs: &Pairs) -> PairCursor
+        requires pairs { ArePairs pairs.now }
+        requires at { AreAtPlace pairs.now self }
+        requires within { self.place ≤ no_pair }
+        ensures pair { IsAtPair pairs.now result }
+        ensures behind { self.place ≤ result.place }
+        ensures passed { HaveNoRow pairs.now self.place result.place }
+    {
+        let limit = limit_from(pairs.limits, self.limit_at);
+        let row = row_from(pairs.rows, self.row_at);
+        PairCursor {
+            place: limit.min(row),
+            ..self
+        }
+    }
+
+    /// Whether a pair is left.
+    pub(super) fn is_pair(self) -> bool
+        ensures { IsTrue result ↔ (self.place < no_pair) }
+    {
+        self.place < NO_PAIR
+    }
+
+    /// The pair's seller.
+    pub(super) fn seller(self) -> u16
+        ensures { result ≡ self.place / 65536 }
+    {
+        (self.place / 65536) as u16
+    }
+
+    /// The pair's buyer.
+    pub(super) fn buyer(self) -> u16
+        ensures { result ≡ self.place % 65536 }
+    {
+        (self.place % 65536) as u16
+    }
+
+    /// The pair's amount in the network.
+    pub(super) fn amount(self, pairs: &Pairs) -> u64
+        requires pairs { ArePairs pairs.now }
+        requires pair { IsAtPair pairs.now self }
+        ensures { result ≡ amount_in pairs.now.rows.now (self.place / 65536) (self.place % 65536) }
+    {
+        amount_at(pairs.rows, self.row_at, self.seller(), self.buyer())
+    }
+
+    /// The pair's bounds.
+    pub(super) fn bounds(self, pairs: &Pairs) -> Bounds
+        requires pairs { ArePairs pairs.now }
+        requires pair { IsAtPair pairs.now self }
+        ensures lower { result.lower ≡ lower_in pairs.now.limits.now (self.place / 65536) (self.place % 65536) }
+        ensures upper { result.upper ≡ upper_in pairs.now.limits.now (self.place / 65536) (self.place % 65536) }
+    {
+        bounds_at(pairs.limits, self.limit_at, self.seller(), self.buyer())
+    }
+}
+
+// The place of a row of limits, or that behind all pairs.
+fn limit_from(limits: &[LimitRow], at: usize) -> u32
+    ensures { result ≡ limit_or_end (slice_get limits.now at) }
+{
+    match limits.get(at) {
+        Some(row) => row.seller as u32 * 65536 + row.buyer as u32,
+        None => NO_PAIR,
+    }
+}
+
+// The place of a row of a network, or that behind all pairs.
+fn row_from(rows: &[Row], at: usize) -> u32
+    ensures { result ≡ row_or_end (slice_get rows.now at) }
+{
+    match rows.get(at) {
+        Some(row) => row.seller as u32 * 65536 + row.buyer as u32,
+        None => NO_PAIR,
+    }
+}
