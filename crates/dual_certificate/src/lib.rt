@@ -1,8 +1,8 @@
 //! The certificate of a network of least gross: whether potentials certify it, and the dual bound; and the text of a
 //! proposal, which has such networks with their potentials.
 //!
-//! The test and the bound go by the duality of minimum-cost flow (Ahuja, Magnanti and Orlin, *Network Flows*), take
-//! no memory. The test walks the rows of limits and network in step: its time is linear in the number of rows. The
+//! The test and the bound go by the duality of minimum-cost flow (Ahuja, Magnanti and Orlin, *Network Flows*), and
+//! take no memory. The test walks the rows of limits and network in step: its time is linear in the number of rows. The
 //! bound's is linear in the square of the number of members.
 #![tactic(auto)]
 
