@@ -39,24 +39,26 @@ pub fn note(entries: &mut [Entry], flow: Flow)
     requires buyer { flow.buyer < length entries.old }
     ensures { IsNoted flow entries.old entries.new }
 {
-    let (seller, buyer) = (flow.seller as usize, flow.buyer as usize);
-    let sellers = with_member(entries[buyer].sellers, flow.seller, flow.room > 0);
-    let buyers = entries[buyer].buyers;
-    entries[buyer] = Entry { sellers, buyers };
-    let buyers = with_member(entries[seller].buyers, flow.buyer, flow.back > 0);
-    let sellers = entries[seller].sellers;
-    entries[seller] = Entry { sellers, buyers };
+    keep_member(
+        &mut entries[flow.buyer as usize].sellers,
+        flow.seller,
+        flow.room > 0,
+    );
+    keep_member(
+        &mut entries[flow.seller as usize].buyers,
+        flow.buyer,
+        flow.back > 0,
+    );
 }
 
-/// A set with a member, or without it.
-fn with_member(mut set: MemberSet, member: u16, there: bool) -> MemberSet
+/// Has a set have a member, or not.
+fn keep_member(set: &mut MemberSet, member: u16, there: bool)
     requires { member < 256 }
-    ensures { (m : ℕ) → has result m ≡ (if m == member then there else has set m) }
+    ensures { (m : ℕ) → has set.new m ≡ (if m == member then there else has set.old m) }
 {
     if there {
         set.put(member);
-        return set;
+    } else {
+        set.drop_member(member);
     }
-    set.drop_member(member);
-    set
 }

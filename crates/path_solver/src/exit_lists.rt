@@ -13,8 +13,9 @@ pub fn exit_counts(alloc: Global, residual: &Residual) -> Result<Vec<u32>, Alloc
     ensures { IfOk result (λ counts. length counts.items ≡ residual.now.members) }
 {
     let mut counts = all_of(alloc, residual.members(), 0u32)?;
-    for arc in 0..residual.arcs() {
-        counts[residual.tail(arc) as usize] += 1;
+    for flow in residual.flows() {
+        counts[flow.seller as usize] = counts[flow.seller as usize].saturating_add(1);
+        counts[flow.buyer as usize] = counts[flow.buyer as usize].saturating_add(1);
     }
     Ok(counts)
 }

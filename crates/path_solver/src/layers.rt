@@ -3,12 +3,12 @@
 ghost use Rattle.std.specs.Prelude.{◌≡◌, ℕ, ◌+◌, ◌<◌, ◌≤◌, true, false, length, slice_index, OnOk, IfOk, IfSome, IsSome, IsTrue};
 ghost use Rattle.member_set.specs.Members.{has};
 ghost use Rattle.path_solver.specs.Entries.{AreEntries, AreOpenTo, AreFree, is_open_to};
+ghost use Rattle.path_solver.specs.Groups.{AreGroups};
 ghost use Rattle.path_solver.specs.Rests.{AreApart};
 ghost use Rattle.path_solver.specs.Levels.{IsReached, IsSearch, IsLayered, AreUpTo};
 ghost use Rattle.path_solver.specs.Growth.{IsGrown, FindsNew, first_to_send};
 
 use crate::entries::Entry;
-use crate::groups::sort_by_price;
 use member_set::MemberSet;
 use residual_graph::Residual;
 use std::alloc::AllocError;
@@ -25,13 +25,14 @@ pub fn layer(
     prices: &[u16],
     surplus: &[u64],
     lack: &[u64],
-    groups: &mut [MemberSet],
+    groups: &[MemberSet],
     levels: &mut [u16],
     queue: &mut Vec<u16>,
 ) -> Result<Option<u16>, AllocError>
     requires entries { AreEntries residual.now entries.now }
     requires low { (v : ℕ) → slice_index prices.now v ≤ residual.now.members }
-    requires groups { length groups.old ≡ residual.now.members + 3 }
+    requires groups { length groups.now ≡ residual.now.members + 3 }
+    requires sorted { AreGroups prices.now groups.now }
     requires prices { residual.now.members ≡ length prices.now }
     requires surplus { residual.now.members ≡ length surplus.now }
     requires lack { residual.now.members ≡ length lack.now }
@@ -40,7 +41,6 @@ pub fn layer(
     ensures { IfOk result (IsLayered residual.now.flows prices.now surplus.now lack.now levels.new) }
 {
     let _members = residual.members();
-    sort_by_price(prices, groups);
     start(residual, prices, lack, levels, queue)?;
     let mut free = free_of(levels);
     let mut found = None;

@@ -1,11 +1,14 @@
 //! Prices of members, and which arcs are open.
 
-ghost use Rattle.std.specs.Prelude.{◌≡◌, ◌↔◌, ℕ, ◌<◌, length, slice_index, IsTrue};
+ghost use Rattle.std.specs.Prelude.{◌≡◌, ◌↔◌, ℕ, ◌+◌, ◌<◌, ◌≤◌, length, slice_index, IsTrue};
 ghost use Rattle.residual_graph.specs.Arcs.{arc_count};
 ghost use Rattle.path_solver.specs.Prices.{IsTight, IsOpen};
+ghost use Rattle.path_solver.specs.Groups.{AreGroups};
 ghost use Rattle.path_solver.specs.Phases.{raised_price};
 
+use crate::groups::move_up;
 use crate::layers::UNREACHED;
+use member_set::MemberSet;
 use residual_graph::{Flow, Residual};
 
 /// Whether the seller's price is that of the buyer and the cost of a unit, so that a unit moves either way
@@ -29,15 +32,19 @@ pub fn can_leave(residual: &Residual, prices: &[u16], arc: u32) -> bool
     room > 0 && is_tight(flow, prices)
 }
 
-/// Raises by 1 the prices of the members that are not reached.
-pub fn raise(prices: &mut [u16], levels: &[u16])
+/// Raises by 1 the prices of the members that are not reached, each of which moves to the next group.
+pub fn raise(prices: &mut [u16], groups: &mut [MemberSet], levels: &[u16])
+    requires few { length prices.old ≤ 256 }
     requires same_length { length levels.now ≡ length prices.old }
-    requires room { (v : ℕ) → slice_index prices.old v < 65535 }
-    ensures { (v : ℕ) → v < length prices.old → slice_index prices.new v ≡ raised_price levels.now prices.old v }
+    requires low { (v : ℕ) → slice_index prices.old v < 65535 }
+    requires room { (v : ℕ) → slice_index prices.old v + 3 ≤ length groups.old }
+    requires sorted { AreGroups prices.old groups.old }
+    ensures raised { (v : ℕ) → v < length prices.old → slice_index prices.new v ≡ raised_price levels.now prices.old v }
+    ensures sorted { AreGroups prices.new groups.new }
 {
     for member in 0..prices.len() {
         if levels[member] == UNREACHED {
-            prices[member] += 1;
+            move_up(prices, groups, member as u16);
         }
     }
 }

@@ -6,6 +6,7 @@ ghost use Rattle.path_solver.specs.Phases.{IsSettled};
 
 use crate::entries::entries_of;
 use crate::exits::Exits;
+use crate::groups::sort_by_price;
 use crate::layers::{UNREACHED, layer};
 use crate::prices::raise;
 use crate::sending::send_phase;
@@ -56,6 +57,7 @@ pub fn settle(
     let mut entries = entries_of(alloc, residual)?;
     let mut groups = all_of(alloc, members + 3, MemberSet::new())?;
     let mut prices = all_of(alloc, members, 0u16)?;
+    sort_by_price(&prices, &mut groups);
     let mut levels = all_of(alloc, members, UNREACHED)?;
     let mut current = all_of(alloc, members, 0usize)?;
     let mut queue = Vec::new(alloc);
@@ -68,12 +70,12 @@ pub fn settle(
             &prices,
             surplus,
             lack,
-            &mut groups,
+            &groups,
             &mut levels,
             &mut queue,
         )? {
             None => {
-                raise(&mut prices, &levels);
+                raise(&mut prices, &mut groups, &levels);
                 top += 1;
             }
             Some(source) => {

@@ -34,7 +34,9 @@ impl Solver for PathSolver {
     }
 }
 
-/// A certified network and its potentials, and the old network itself where its gross is least.
+/// A certified network and its potentials, and the old network itself where its gross is least. It is not
+/// inlined, so that a profile tells what solving costs.
+#[inline(never)]
 fn solution_of(alloc: Global, limits: &Limits, network: &Network) -> Result<Solution, AllocError>
     requires same_members { limits.now.members ≡ network.now.members }
     requires within { IsWithinLimits limits.now network.now }

@@ -4,4 +4,4 @@ use Rattle.path_solver.proofs.entries.note.Goals as goal
 
 pub returns : goal.returns
 returns c =
-    noted_one c.args.flow c.args.entries.now _ _ c.requires.buyer c.requires.seller refl c.with_member-sellers.ensures refl c.with_member-buyers.ensures
+    noted_one c.args.flow c.args.entries.now _ _ c.requires.buyer c.requires.seller refl c.keep_member.ensures refl c.keep_member-2.ensures

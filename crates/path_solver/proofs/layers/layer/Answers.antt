@@ -12,8 +12,8 @@ enter-requires-clause-near c =
     let within : c.loop-done.done < length c.loop-done.queue.items = omega (arith, c.loop-done-test.true, c.len.ensures) in
     let here : c.index-here.result.now ≡ get_or c.loop-done.queue.items c.loop-done.done 0 = get_or_read c.loop-done.queue.items done c.index-here.result.now within c.index-here.ensures 0 in
     let in_here : c.index-here.result.now < c.args.residual.now.members = omega (arith, here, (inv.search.queued done within).0) in
-    let long : get_or c.args.prices.now c.index-here.result.now 0 + 2 < length c.sort_by_price.new.groups = omega (arith, c.requires.low c.index-here.result.now, c.requires.groups, c.sort_by_price.auto.groups) in
-    near_members c.args.residual.now c.args.prices.now c.args.entries.now c.sort_by_price.new.groups c.index-here.result.now c.members-members.ensures.residual c.requires.entries c.sort_by_price.ensures in_here c.requires.prices long c.loop-done.levels c.loop-done.free c.and-near.result c.open_to.result inv.search.one_each inv.free c.open_to.ensures c.and-near.ensures
+    let long : get_or c.args.prices.now c.index-here.result.now 0 + 2 < length c.args.groups.now = omega (arith, c.requires.low c.index-here.result.now, c.requires.groups) in
+    near_members c.args.residual.now c.args.prices.now c.args.entries.now c.args.groups.now c.index-here.result.now c.members-members.ensures.residual c.requires.entries c.requires.sorted in_here c.requires.prices long c.loop-done.levels c.loop-done.free c.and-near.result c.open_to.result inv.search.one_each inv.free c.open_to.ensures c.and-near.ensures
 
 pub loop-done-preserved : goal.loop-done-preserved
 loop-done-preserved c =
@@ -22,10 +22,10 @@ loop-done-preserved c =
     let within : c.loop-done.done < length c.loop-done.queue.items = omega (arith, c.loop-done-test.true, c.len.ensures) in
     let here : c.index-here.result.now ≡ get_or c.loop-done.queue.items c.loop-done.done 0 = get_or_read c.loop-done.queue.items done c.index-here.result.now within c.index-here.ensures 0 in
     let in_here : c.index-here.result.now < c.args.residual.now.members = omega (arith, here, (inv.search.queued done within).0) in
-    let long : get_or c.args.prices.now c.index-here.result.now 0 + 2 < length c.sort_by_price.new.groups = omega (arith, c.requires.low c.index-here.result.now, c.requires.groups, c.sort_by_price.auto.groups) in
+    let long : get_or c.args.prices.now c.index-here.result.now 0 + 2 < length c.args.groups.now = omega (arith, c.requires.low c.index-here.result.now, c.requires.groups) in
     let more = c.in_ok-nearest.ensures in
     let entered : IsEntered c.args.residual.now.flows c.args.prices.now c.enter.new.levels c.index-here.result.now =
-    near_entered c.args.residual.now c.args.prices.now c.args.entries.now c.sort_by_price.new.groups c.index-here.result.now c.members-members.ensures.residual c.requires.entries c.sort_by_price.ensures in_here c.requires.prices long c.loop-done.levels c.loop-done.free c.and-near.result c.open_to.result inv.search.one_each inv.free c.open_to.ensures c.and-near.ensures c.enter.new.levels more.reached more.others in
+    near_entered c.args.residual.now c.args.prices.now c.args.entries.now c.args.groups.now c.index-here.result.now c.members-members.ensures.residual c.requires.entries c.requires.sorted in_here c.requires.prices long c.loop-done.levels c.loop-done.free c.and-near.result c.open_to.result inv.search.one_each inv.free c.open_to.ensures c.and-near.ensures c.enter.new.levels more.reached more.others in
     let last : IsEntered c.args.residual.now.flows c.args.prices.now c.enter.new.levels (get_or c.loop-done.queue.items c.loop-done.done 0) = subst (IsEntered c.args.residual.now.flows c.args.prices.now c.enter.new.levels) here entered in
     record {
       search = more.search;

@@ -1,6 +1,7 @@
 use Rattle.std.proofs.Common.{◌≡◌, ℕ, ◌+◌, ◌<◌, List, length, get_or, sym, ap, ◌∙◌, subst, arith}
 use Rattle.std.proofs.lemmas.List.{with_items_is}
 use Rattle.path_solver.specs.Entries.{AreEntries}
+use Rattle.path_solver.specs.Groups.{AreGroups}
 use Rattle.path_solver.specs.Levels.{AreCut}
 use Rattle.path_solver.specs.Rests.{IsSentAlong}
 use Rattle.path_solver.specs.Phases.{IsPhase, raised_price}
@@ -9,12 +10,27 @@ use Rattle.path_solver.proofs.Phased.{settled, raised_phase, phase_sent}
 use Rattle.path_solver.proofs.settle.settle.Goals as goal
 
 pub layer-requires-clause-entries : goal.layer-requires-clause-entries
-layer-requires-clause-entries c = subst (AreEntries c.phases.residual) (sym c.deref.ensures.value) c.phases.invariant.entries
+layer-requires-clause-entries c = subst (AreEntries c.phases.residual) (sym c.deref-in-phases.ensures.value) c.phases.invariant.entries
+
+pub layer-requires-clause-sorted : goal.layer-requires-clause-sorted
+layer-requires-clause-sorted c =
+    subst (λ (xs : List ℕ). AreGroups xs c.deref-in-phases-3.result.now) (sym c.deref-in-phases-2.ensures.value)
+    (subst (AreGroups c.phases.prices.items) (sym c.deref-in-phases-3.ensures.value) c.phases.invariant.sorted)
+
+pub raise-requires-clause-sorted : goal.raise-requires-clause-sorted
+raise-requires-clause-sorted c =
+    subst (λ (xs : List ℕ). AreGroups xs c.deref_mut-in-None-2.result.now) (sym c.deref_mut-in-None.ensures.value)
+    (subst (AreGroups c.phases.prices.items) (sym c.deref_mut-in-None-2.ensures.value) c.phases.invariant.sorted)
+
+pub raise-requires-clause-room : goal.raise-requires-clause-room
+raise-requires-clause-room c v =
+    let inv = c.phases.invariant in
+    omega (arith, ap (λ (xs : List ℕ). get_or xs v 0) c.deref_mut-in-None.ensures.value, ap length c.deref_mut-in-None-2.ensures.value, inv.groups, inv.phase.rated.most v, inv.phase.few)
 
 pub layer-requires-clause-low : goal.layer-requires-clause-low
 layer-requires-clause-low c v =
     let inv = c.phases.invariant in
-    omega (arith, ap (λ (xs : List ℕ). get_or xs v 0) c.deref-in-phases.ensures.value, inv.phase.rated.most v, inv.phase.few, inv.phase.members)
+    omega (arith, ap (λ (xs : List ℕ). get_or xs v 0) c.deref-in-phases-2.ensures.value, inv.phase.rated.most v, inv.phase.few, inv.phase.members)
 
 pub send_phase-requires-clause-entries : goal.send_phase-requires-clause-entries
 send_phase-requires-clause-entries c = subst (AreEntries c.phases.residual) (sym c.deref_mut-in-Some.ensures.value) c.phases.invariant.entries
@@ -31,7 +47,7 @@ phases-preserved-in-None c =
     let p = c.phases.prices.items in
     let p' = c.raise.new.prices in
     let found = c.layer.new.levels in
-    let at_p : c.deref-in-phases.result.now ≡ c.phases.prices.items = c.deref-in-phases.ensures.value in
+    let at_p : c.deref-in-phases-2.result.now ≡ c.phases.prices.items = c.deref-in-phases-2.ensures.value in
     let len_found : length c.layer.new.levels ≡ c.args.residual.now.members = c.layer.auto.levels ∙ ap length c.deref_mut-in-phases.ensures.value ∙ inv.levels in
     let len_new : length c.raise.new.prices ≡ length c.phases.prices.items = c.raise.auto.prices ∙ ap length c.deref_mut-in-None.ensures.value in
     let levels = with_items_is c.phases.levels c.layer.new.levels (c.layer.auto.levels ∙ c.deref_mut-in-phases.ensures.len) in
@@ -40,13 +56,14 @@ phases-preserved-in-None c =
     let cut : AreCut c.phases.residual.flows c.phases.prices.items c.phases.surplus c.phases.lack c.layer.new.levels =
     subst (λ (xs : List ℕ). AreCut c.phases.residual.flows xs c.phases.surplus c.phases.lack c.layer.new.levels) at_p (rw c.in-None.is at c.in_ok-layer.ensures) in
     let raised : (v : ℕ) → v < length c.phases.prices.items → get_or c.raise.new.prices v 0 ≡ raised_price c.layer.new.levels c.phases.prices.items v =
-    λ v l. c.raise.ensures v (omega (arith, l, ap length c.deref_mut-in-None.ensures.value)) ∙ ap (λ ls. raised_price ls c.deref_mut-in-None.result.now v) at_levels ∙ ap (λ ps. raised_price c.layer.new.levels ps v) c.deref_mut-in-None.ensures.value in
+    λ v l. c.raise.ensures.raised v (omega (arith, l, ap length c.deref_mut-in-None.ensures.value)) ∙ ap (λ ls. raised_price ls c.deref_mut-in-None.result.now v) at_levels ∙ ap (λ ps. raised_price c.layer.new.levels ps v) c.deref_mut-in-None.ensures.value in
     let source = c.is_left.ensures.some c.phases-test.true in
     let all = raised_phase old r c.args.surplus.now c.args.lack.now c.phases.surplus c.phases.lack p p' found c.phases.top source.0 c.members-members.ensures.residual c.requires.feasible inv.prices len_new len_found (c.phases.auto.surplus ∙ sym c.requires.surplus) source.1 inv.phase cut raised in
-    let groups = with_items_is c.phases.groups c.layer.new.groups (c.layer.auto.groups ∙ c.deref_mut.ensures.len) in
+    let groups = with_items_is c.phases.groups c.raise.new.groups (c.raise.auto.groups ∙ c.deref_mut-in-None-2.ensures.len) in
     record {
       entries = inv.entries;
-      groups = ap length groups ∙ c.layer.auto.groups ∙ ap length c.deref_mut.ensures.value ∙ inv.groups;
+      groups = ap length groups ∙ c.raise.auto.groups ∙ ap length c.deref_mut-in-None-2.ensures.value ∙ inv.groups;
+      sorted = rw (prices, groups) c.raise.ensures.sorted;
       phase = subst (λ (xs : List ℕ). IsPhase c.args.residual.now c.phases.residual c.args.surplus.now c.args.lack.now c.phases.surplus c.phases.lack xs (c.phases.top + 1)) (sym prices) all.1;
       prices = ap length prices ∙ len_new ∙ inv.prices;
       levels = ap length levels ∙ len_found;
@@ -60,11 +77,11 @@ phases-preserved c =
     let current = with_items_is c.phases.current c.send_phase.new.current (c.send_phase.auto.current ∙ c.deref_mut-in-Some-2.ensures.len) in
     let sent : IsSentAlong c.phases.prices.items c.phases.residual c.send_phase.new.residual c.phases.surplus c.phases.lack c.send_phase.new.surplus c.send_phase.new.lack =
     subst (λ (xs : List ℕ). IsSentAlong xs c.phases.residual c.send_phase.new.residual c.phases.surplus c.phases.lack c.send_phase.new.surplus c.send_phase.new.lack) c.deref-in-Some.ensures.value c.in_ok-send_phase-in-Some.ensures.along in
-    let groups = with_items_is c.phases.groups c.layer.new.groups (c.layer.auto.groups ∙ c.deref_mut.ensures.len) in
     let entries = with_items_is c.phases.entries c.send_phase.new.entries (c.send_phase.auto.entries ∙ c.deref_mut-in-Some.ensures.len) in
     record {
       entries = subst (AreEntries c.send_phase.new.residual) (sym entries) c.in_ok-send_phase-in-Some.ensures.entries;
-      groups = ap length groups ∙ c.layer.auto.groups ∙ ap length c.deref_mut.ensures.value ∙ inv.groups;
+      groups = inv.groups;
+      sorted = inv.sorted;
       phase = phase_sent c.args.residual.now c.phases.residual c.send_phase.new.residual c.args.surplus.now c.args.lack.now c.phases.surplus c.phases.lack c.send_phase.new.surplus c.send_phase.new.lack c.phases.prices.items c.phases.top inv.phase sent;
       prices = inv.prices;
       levels = ap length levels ∙ c.layer.auto.levels ∙ ap length c.deref_mut-in-phases.ensures.value ∙ inv.levels;

@@ -1,6 +1,7 @@
 use Rattle.std.proofs.Common.{◌≡◌, ◌+◌, ◌-◌, ◌*◌, length, sum}
 use Rattle.path_solver.specs.Phases.{IsPhase}
 use Rattle.path_solver.specs.Entries.{AreEntries}
+use Rattle.path_solver.specs.Groups.{AreGroups}
 use Rattle.path_solver.proofs.settle.settle.Given as goal
 
 abbrev pub invariant-phases : goal.invariant-phases
@@ -8,6 +9,7 @@ invariant-phases l = record {
   phase : IsPhase l.initial.residual l.residual l.initial.surplus l.initial.lack l.surplus l.lack l.prices.items l.top;
   entries : AreEntries l.residual l.entries.items;
   groups : length l.groups.items ≡ l.initial.residual.members + 3;
+  sorted : AreGroups l.prices.items l.groups.items;
   prices : length l.prices.items ≡ l.initial.residual.members;
   levels : length l.levels.items ≡ l.initial.residual.members;
   current : length l.current.items ≡ l.initial.residual.members;

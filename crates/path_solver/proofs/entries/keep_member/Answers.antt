@@ -1,5 +1,5 @@
 use Rattle.std.proofs.Common.{◌≡◌, Bool, true, false, cond, eqb, ◌||◌, ◌&&◌, not, refl, sym, ◌∙◌}
-use Rattle.path_solver.proofs.entries.with_member.Goals as goal
+use Rattle.path_solver.proofs.entries.keep_member.Goals as goal
 
 put_in : (e there h : Bool) → there ≡ true → (e || h) ≡ cond e there h
 put_in true there h on = sym on
@@ -12,5 +12,5 @@ taken_out false there h off = refl
 pub returns-then-there : goal.returns-then-there
 returns-then-there c m = c.put.ensures m ∙ put_in (eqb m c.args.member) c.args.there _ c.if-there.true
 
-pub returns : goal.returns
-returns c m = c.drop_member.ensures m ∙ taken_out (eqb m c.args.member) c.args.there _ c.if-there.false
+pub returns-else-there : goal.returns-else-there
+returns-else-there c m = c.drop_member.ensures m ∙ taken_out (eqb m c.args.member) c.args.there _ c.if-there.false
