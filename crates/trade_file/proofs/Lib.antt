@@ -7,4 +7,5 @@ pub mod TradeFacts
 pub mod PlaceFacts
 pub mod GivenFacts
 pub mod TableFacts
+pub mod PileFacts
 pub mod NameFacts

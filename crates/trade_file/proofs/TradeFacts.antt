@@ -1,9 +1,12 @@
 -- One more record of a trade file behind those that were read.
-use Rattle.std.proofs.Common.{◌≡◌, ◌∙◌, ap, refl, ℕ, ◌+◌, List, [], ◌∷◌, ◌++◌, length, Result, Ok, Err, ◌⊎◌, inl, inr, append_assoc, arith}
+use Rattle.std.proofs.Common.{◌≡◌, ◌≢◌, ◌∙◌, sym, ap, refl, ℕ, ◌+◌, List, [], ◌∷◌, ◌++◌, length, Result, Ok, Err, ◌⊎◌, inl, inr, append_assoc, arith}
 use Rattle.command_types.specs.Roster.{Rows}
 use Rattle.command_types.specs.declared.file_fault.FileFault.{FileFault}
 use Rattle.command_types.specs.declared.file_fault.FileFault.TheVariants.{Memory, Columns}
 use Rattle.trade_file.specs.declared.file_trade.FileTrade.{FileTrade}
+use Rattle.std.specs.Prelude.{IfOk, IfErr}
+use Rattle.trade_file.specs.declared.trade_draft.TradeDraft.{TradeDraft}
+use Rattle.trade_file.specs.TradeDraft.{trades_of_draft}
 use Rattle.trade_file.specs.TradeFile.{with_trade_record, with_trade_records, then_trades, trades_of}
 
 by_step : (o : Result (List FileTrade) FileFault) (f g : List FileTrade → Result (List FileTrade) FileFault) (next : List FileTrade) (end : Result (List FileTrade) FileFault)
@@ -56,3 +59,12 @@ whole rows (x ∷ front) trades n e some h = h
 pub nothing : (rows : Rows) (front : List (List (List ℕ))) (n : ℕ) → n ≡ length front → n ≡ 0 → trades_of rows front ≡ Err (Columns 1)
 nothing rows [] n e z = refl
 nothing rows (x ∷ front) n e z = absurd (omega arith)
+
+-- what the whole draft of the records answers
+pub whole_answer : (rows : Rows) (all front : List (List (List ℕ))) (draft : TradeDraft) (n : ℕ) (r : Result TradeDraft FileFault) → all ≡ front → with_trade_records rows 1 [] front ≡ Ok (trades_of_draft draft) → n ≡ length front
+    → IfOk r (λ d. (d ≡ draft) × (n ≢ 0)) → IfErr r (λ fault. (fault ≡ Columns 1) × (n ≡ 0))
+    → IfOk r (λ d. trades_of rows all ≡ Ok (trades_of_draft d)) × IfErr r (λ fault. (fault ≡ Memory) ⊎ (trades_of rows all ≡ Err fault))
+whole_answer rows all front draft n (Ok d) e h count ok err =
+    (ap (trades_of rows) e ∙ whole rows front (trades_of_draft draft) n count ok.1 h ∙ ap (λ x. Ok (trades_of_draft x)) (sym ok.0), tt)
+whole_answer rows all front draft n (Err fault) e h count ok err =
+    (tt, inr (ap (trades_of rows) e ∙ nothing rows front n count err.1 ∙ ap Err (sym err.0)))

@@ -6,3 +6,4 @@ pub mod TradeFile
 pub mod TradeDraft
 pub mod Networks
 pub mod Laws
+pub mod Piles

@@ -7,6 +7,7 @@ mod draft;
 mod file_trade;
 mod laws;
 mod names;
+mod piles;
 mod places;
 mod roster;
 mod roster_row;

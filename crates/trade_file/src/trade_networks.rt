@@ -4,6 +4,7 @@ ghost use Rattle.trade_file.specs.TradeFile.{AreFileTrades};
 ghost use Rattle.trade_file.specs.Networks.{IsNetworkOf, AreNetworksOf};
 
 use crate::file_trade::FileTrade;
+use crate::piles::Piles;
 use command_types::Roster;
 use network_laws::Network;
 use pair_table::PairTable;
@@ -38,9 +39,11 @@ pub fn networks(
     requires { AreFileTrades roster.now trades.now }
     ensures { IfOk result (λ networks. AreNetworksOf roster.now trades.now networks.items) }
 {
+    let products = roster.products().len();
+    let piles = Piles::of(alloc, trades, products)?;
     let mut networks = Vec::new(alloc);
-    for product in 0..roster.products().len() {
-        networks.push(network_of(alloc, trades, roster, product as u16)?)?;
+    for product in 0..products {
+        networks.push(network_of(alloc, piles.pile(product), roster, product as u16)?)?;
     }
     Ok(networks)
 }

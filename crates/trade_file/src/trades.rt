@@ -1,7 +1,7 @@
 //! Reading a trade file.
-ghost use Rattle.std.specs.Prelude.{◌≡◌, ◌≤◌, ◌⊎◌, length, Ok, Err, IfOk, IfErr};
+ghost use Rattle.std.specs.Prelude.{◌≡◌, ◌≢◌, ◌≤◌, ◌⊎◌, length, Ok, Err, IfOk, IfErr};
 ghost use Rattle.csv.specs.Records.{fields_of};
-ghost use Rattle.command_types.specs.declared.file_fault.FileFault.TheVariants.{Memory};
+ghost use Rattle.command_types.specs.declared.file_fault.FileFault.TheVariants.{Memory, Columns};
 ghost use Rattle.trade_file.specs.RosterFile.{records_of};
 ghost use Rattle.trade_file.specs.TradeFile.{trade_file, trades_of, with_trade_record, AreFileTrades};
 ghost use Rattle.trade_file.specs.TradeDraft.{IsTradeDraft, trades_of_draft, TradeSteps};
@@ -39,7 +39,18 @@ fn take_record(
     }
 }
 
-// The draft of all records of a file.
+// The draft of a file of so many records.
+fn whole_draft(draft: TradeDraft, records: u64) -> Result<TradeDraft, FileFault>
+    ensures draft { IfOk result (λ whole. (whole ≡ draft) × (records ≢ 0)) }
+    ensures fault { IfErr result (λ fault. (fault ≡ Columns 1) × (records ≡ 0)) }
+{
+    if records == 0 {
+        return Err(FileFault::Columns { row: 1 });
+    }
+    Ok(draft)
+}
+
+// The draft of all records of a file, which are read into one after another.
 fn read_records(
     alloc: Global,
     bytes: &[u8],
@@ -49,26 +60,25 @@ fn read_records(
     ensures trades { IfOk result (λ draft. trades_of directory.now (records_of bytes.now) ≡ Ok (trades_of_draft draft)) }
     ensures fault { IfErr result (λ fault. (fault ≡ Memory) ⊎ (trades_of directory.now (records_of bytes.now) ≡ Err fault)) }
 {
-    let reader = ReaderBuilder::new()
+    let mut reader = ReaderBuilder::new()
         .has_headers(false)
         .flexible(true)
         .from_reader(alloc, bytes);
+    let mut record = ByteRecord::new(alloc);
     let mut draft = TradeDraft::new(alloc);
-    let mut number = 0;
-    for record in reader.into_byte_records() {
-        let Ok(record) = record else {
+    for number in 1..u64::MAX {
+        let Ok(found) = reader.read_byte_record(&mut record) else {
             return Err(FileFault::Memory);
         };
-        number += 1;
+        if !found {
+            return whole_draft(draft, number - 1);
+        }
         match take_record(&mut draft, directory, number, &record) {
             Ok(()) => {}
             Err(fault) => return Err(fault),
         }
     }
-    if number == 0 {
-        return Err(FileFault::Columns { row: 1 });
-    }
-    Ok(draft)
+    unreachable!()
 }
 
 /// The trades that a file's bytes say, in the order of their records, or the file's first fault, with the number of

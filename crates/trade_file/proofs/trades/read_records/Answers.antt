@@ -1,28 +1,23 @@
-use Rattle.std.proofs.Common.{Bor, List, ℕ, ◌≡◌, ◌∙◌, ◌++◌, ◌+◌, sym, refl, ap, arith, inl, inr, length, Ok, Some, ◌∷◌, [], length-append}
-use Rattle.csv.specs.Reading.{Reached, default_config, strip_bom}
+use Rattle.std.proofs.Common.{Bor, List, ℕ, ◌≡◌, ◌∙◌, ◌++◌, ◌+◌, ◌-◌, sym, refl, subst, arith, inl, inr, length, Ok, Some, ◌∷◌, [], length-append}
+use Rattle.csv.specs.Reading.{Reached, ReadRecord, default_config, strip_bom}
 use Rattle.csv.specs.Records.{fields_of}
 use Rattle.csv.specs.declared.parser.State.TheVariants as st
 use Rattle.csv.proofs.ReadFacts.{rows-end, rows-more}
 use Rattle.trade_file.specs.RosterFile.{records_of}
-use Rattle.trade_file.specs.TradeFile.{trades_of, with_trade_record, with_trade_records}
+use Rattle.trade_file.specs.TradeFile.{with_trade_record, with_trade_records}
 use Rattle.trade_file.specs.TradeDraft.{trades_of_draft}
 use Rattle.trade_file.proofs.CsvFacts.{reached-all, reached-front, reached-size, strip_bom-size}
-use Rattle.trade_file.proofs.TradeFacts.{read_on, ends, whole, nothing}
+use Rattle.trade_file.proofs.TradeFacts.{read_on, ends, whole_answer}
 use Rattle.trade_file.proofs.trades.read_records.Goals as goal
 
-pub loop-record-init : goal.loop-record-init
+pub loop-number-init : goal.loop-number-init
 unfolding Reached with_trade_records
-loop-record-init c =
+loop-number-init c =
     let fr = c.from_reader-reader.ensures in
     let e = c.has_headers.ensures in
-    let d = c.flexible.ensures in
-    let start = c.into_iter-record-iterator.ensures.into_iter_gives ∙ refl in
-    let rdr = c.into_byte_records-record-items.ensures.rdr in
-    let left = c.into_byte_records-record-items.ensures.left in
-    rw (start, rdr) (
+    let d = c.flexible.ensures in (
       rw (d, e) at fr.trim ∙ c.new.ensures.trim,
       inr (inr (rw (d, e) at fr.has_headers, fr.headers)),
-      left,
       rw (d, e) at fr.config ∙ c.new.ensures.config,
       strip_bom c.args.bytes.now,
       fr.source,
@@ -33,55 +28,62 @@ loop-record-init c =
       refl,
     )
 
-pub overflow_add-number : goal.overflow_add-number
-overflow_add-number c =
-    let inv = c.loop-record.invariant in
-    let size = reached-size default_config st.StartRecord c.loop-record.record-iterator.rdr.state (strip_bom c.args.bytes.now) inv.4 inv.6 refl inv.7 in
-    omega (arith, size, strip_bom-size c.args.bytes.now, inv.10)
-
-pub loop-record-preserved : goal.loop-record-preserved
-loop-record-preserved c =
-    let inv = c.loop-record.invariant in
-    let s = rw (c.in-Some.is, c.in-Ok.is) at ((c.next.ensures.steps inv.2 inv.0).0 inv.1) in
-    let fields = fields_of c.in-Ok.record in
-    let m = rows-more (λ (s : Bor (List ℕ)). Some s.now) c.loop-record.record-iterator.rdr c.next.new.self.rdr fields default_config st.StartRecord (strip_bom c.args.bytes.now) inv.4 inv.6 inv.3 inv.5 inv.7 s.0 in
+pub loop-number-preserved : goal.loop-number-preserved
+loop-number-preserved c =
+    let inv = c.loop-number.invariant in
+    let reader = c.loop-number.reader in
+    let next = c.read_byte_record.new.self in
+    let fields = fields_of c.read_byte_record.new.row in
+    let s = subst (λ b. ReadRecord (λ (s : Bor (List ℕ)). Some s.now) reader next b fields) c.if-not-found.false (c.in-Ok.ensures.reads inv.0 inv.1) in
+    let m = rows-more (λ (s : Bor (List ℕ)). Some s.now) reader next fields default_config st.StartRecord (strip_bom c.args.bytes.now) inv.3 inv.5 inv.2 inv.4 inv.6 s in
     let fine = c.in-Ok-take_record.ensures in
-    let step : with_trade_record c.args.directory.now (length inv.6 + 1) (trades_of_draft c.loop-record.draft) fields ≡ Ok (trades_of_draft c.take_record.new.draft) = rw inv.10 at fine.1 in (
-      s.0.3 ∙ inv.0,
-      inl s.1,
-      s.2,
-      s.0.2 ∙ inv.3,
+    let step : with_trade_record c.args.directory.now (length inv.5 + 1) (trades_of_draft c.loop-number.draft) fields ≡ Ok (trades_of_draft c.take_record.new.draft) = rw inv.9 at fine.1 in (
+      s.3 ∙ inv.0,
+      inl (c.in-Ok.ensures.ready inv.0),
+      s.2 ∙ inv.2,
       m.0,
       m.1,
-      inv.6 ++ (fields ∷ []),
+      inv.5 ++ (fields ∷ []),
       m.2,
       fine.0,
-      read_on c.args.directory.now inv.6 fields (trades_of_draft c.loop-record.draft) (trades_of_draft c.take_record.new.draft) inv.9 step,
-      omega (arith, length-append inv.6 (fields ∷ []), inv.10),
+      read_on c.args.directory.now inv.5 fields (trades_of_draft c.loop-number.draft) (trades_of_draft c.take_record.new.draft) inv.8 step,
+      omega (arith, length-append inv.5 (fields ∷ []), inv.9),
     )
 
 pub returns-in-Err-clause-fault : goal.returns-in-Err-clause-fault
 returns-in-Err-clause-fault c =
-    let inv = c.loop-record.invariant in
-    let s = rw (c.in-Some.is, c.in-Ok.is) at ((c.next.ensures.steps inv.2 inv.0).0 inv.1) in
-    let fields = fields_of c.in-Ok.record in
-    let m = rows-more (λ (s : Bor (List ℕ)). Some s.now) c.loop-record.record-iterator.rdr c.next.new.self.rdr fields default_config st.StartRecord (strip_bom c.args.bytes.now) inv.4 inv.6 inv.3 inv.5 inv.7 s.0 in
-    let bad = rw inv.10 at c.in-Err.ensures in
-    let f = reached-front (strip_bom c.args.bytes.now) m.0 c.next.new.self.rdr.state (inv.6 ++ (fields ∷ [])) m.2 in
-    ends c.args.directory.now (records_of c.args.bytes.now) inv.6 f.0 fields (trades_of_draft c.loop-record.draft) c.in-Err.fault f.1 inv.9 bad
+    let inv = c.loop-number.invariant in
+    let reader = c.loop-number.reader in
+    let next = c.read_byte_record.new.self in
+    let fields = fields_of c.read_byte_record.new.row in
+    let s = subst (λ b. ReadRecord (λ (s : Bor (List ℕ)). Some s.now) reader next b fields) c.if-not-found.false (c.in-Ok.ensures.reads inv.0 inv.1) in
+    let m = rows-more (λ (s : Bor (List ℕ)). Some s.now) reader next fields default_config st.StartRecord (strip_bom c.args.bytes.now) inv.3 inv.5 inv.2 inv.4 inv.6 s in
+    let bad = rw inv.9 at c.in-Err.ensures in
+    let f = reached-front (strip_bom c.args.bytes.now) m.0 next.state (inv.5 ++ (fields ∷ [])) m.2 in
+    ends c.args.directory.now (records_of c.args.bytes.now) inv.5 f.0 fields (trades_of_draft c.loop-number.draft) c.in-Err.fault f.1 inv.8 bad
 
-pub returns-then-number-eq0-clause-fault : goal.returns-then-number-eq0-clause-fault
-returns-then-number-eq0-clause-fault c =
-    let inv = c.loop-record.invariant in
-    let s = rw c.in-None.is at ((c.next.ensures.steps inv.2 inv.0).0 inv.1) in
-    let end = rows-end (λ (s : Bor (List ℕ)). Some s.now) c.loop-record.record-iterator.rdr c.next.new.self.rdr [] default_config inv.4 inv.3 inv.5 s in
-    let all = reached-all (strip_bom c.args.bytes.now) inv.4 c.loop-record.record-iterator.rdr.state inv.6 inv.7 end in
-    inr (ap (trades_of c.args.directory.now) all ∙ nothing c.args.directory.now inv.6 c.loop-record.number inv.10 c.if-number-eq0.true)
+pub returns-then-not-found-clause-trades : goal.returns-then-not-found-clause-trades
+returns-then-not-found-clause-trades c =
+    let inv = c.loop-number.invariant in
+    let reader = c.loop-number.reader in
+    let fields = fields_of c.read_byte_record.new.row in
+    let s = subst (λ b. ReadRecord (λ (s : Bor (List ℕ)). Some s.now) reader c.read_byte_record.new.self b fields) c.if-not-found.true (c.in-Ok.ensures.reads inv.0 inv.1) in
+    let end = rows-end (λ (s : Bor (List ℕ)). Some s.now) reader c.read_byte_record.new.self fields default_config inv.3 inv.2 inv.4 s in
+    let all = reached-all (strip_bom c.args.bytes.now) inv.3 reader.state inv.5 inv.6 end in
+    (whole_answer c.args.directory.now (records_of c.args.bytes.now) inv.5 c.loop-number.draft (c.loop-number.number - 1) c.whole_draft.result all inv.8 (omega (arith, inv.9)) c.whole_draft.ensures.draft c.whole_draft.ensures.fault).0
 
-pub returns-clause-trades : goal.returns-clause-trades
-returns-clause-trades c =
-    let inv = c.loop-record.invariant in
-    let s = rw c.in-None.is at ((c.next.ensures.steps inv.2 inv.0).0 inv.1) in
-    let end = rows-end (λ (s : Bor (List ℕ)). Some s.now) c.loop-record.record-iterator.rdr c.next.new.self.rdr [] default_config inv.4 inv.3 inv.5 s in
-    let all = reached-all (strip_bom c.args.bytes.now) inv.4 c.loop-record.record-iterator.rdr.state inv.6 inv.7 end in
-    ap (trades_of c.args.directory.now) all ∙ whole c.args.directory.now inv.6 (trades_of_draft c.loop-record.draft) c.loop-record.number inv.10 c.if-number-eq0.false inv.9
+pub returns-then-not-found-clause-fault : goal.returns-then-not-found-clause-fault
+returns-then-not-found-clause-fault c =
+    let inv = c.loop-number.invariant in
+    let reader = c.loop-number.reader in
+    let fields = fields_of c.read_byte_record.new.row in
+    let s = subst (λ b. ReadRecord (λ (s : Bor (List ℕ)). Some s.now) reader c.read_byte_record.new.self b fields) c.if-not-found.true (c.in-Ok.ensures.reads inv.0 inv.1) in
+    let end = rows-end (λ (s : Bor (List ℕ)). Some s.now) reader c.read_byte_record.new.self fields default_config inv.3 inv.2 inv.4 s in
+    let all = reached-all (strip_bom c.args.bytes.now) inv.3 reader.state inv.5 inv.6 end in
+    (whole_answer c.args.directory.now (records_of c.args.bytes.now) inv.5 c.loop-number.draft (c.loop-number.number - 1) c.whole_draft.result all inv.8 (omega (arith, inv.9)) c.whole_draft.ensures.draft c.whole_draft.ensures.fault).1
+
+pub unreachable-requires : goal.unreachable-requires
+unreachable-requires c =
+    let inv = c.loop-number.invariant in
+    let size = reached-size default_config st.StartRecord c.loop-number.reader.state (strip_bom c.args.bytes.now) inv.3 inv.5 refl inv.6 in
+    omega (arith, size, strip_bom-size c.args.bytes.now, inv.9, c.loop-number-test.false, c.requires)

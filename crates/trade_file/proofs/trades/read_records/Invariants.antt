@@ -1,4 +1,4 @@
-use Rattle.std.proofs.Common.{◌≡◌, ◌<◌, ℕ, List, [], Some, Ok, length}
+use Rattle.std.proofs.Common.{◌≡◌, ◌+◌, ℕ, List, [], Some, Ok, length}
 use Rattle.csv.specs.Reading.{Reached, Ready, default_config, source_of, strip_bom}
 use Rattle.csv.specs.declared.parser.State.TheVariants as st
 use Rattle.csv.specs.declared.reader.Trim.TheVariants as trim
@@ -6,8 +6,8 @@ use Rattle.trade_file.specs.TradeFile.{with_trade_records}
 use Rattle.trade_file.specs.TradeDraft.{IsTradeDraft, trades_of_draft}
 use Rattle.trade_file.proofs.trades.read_records.Given as goal
 
-abbrev pub invariant-loop-record : goal.invariant-loop-record
-invariant-loop-record l = (l.record-iterator.rdr.trim ≡ trim.None) × Ready l.record-iterator.rdr × (0 < l.record-iterator.left) × (l.record-iterator.rdr.config ≡ default_config)
-    × (y : List ℕ) × (source_of (λ s. Some s.now) l.record-iterator.rdr ≡ Some y)
-    × (front : List (List (List ℕ))) × Reached default_config st.StartRecord (strip_bom l.fn.bytes) front l.record-iterator.rdr.state y
-    × IsTradeDraft l.draft × (with_trade_records l.fn.directory 1 [] front ≡ Ok (trades_of_draft l.draft)) × (l.number ≡ length front)
+abbrev pub invariant-loop-number : goal.invariant-loop-number
+invariant-loop-number l = (l.reader.trim ≡ trim.None) × Ready l.reader × (l.reader.config ≡ default_config)
+    × (y : List ℕ) × (source_of (λ s. Some s.now) l.reader ≡ Some y)
+    × (front : List (List (List ℕ))) × Reached default_config st.StartRecord (strip_bom l.fn.bytes) front l.reader.state y
+    × IsTradeDraft l.draft × (with_trade_records l.fn.directory 1 [] front ≡ Ok (trades_of_draft l.draft)) × (l.number ≡ length front + 1)
