@@ -51,7 +51,7 @@ pub fn note(entries: &mut [Entry], flow: Flow)
     );
 }
 
-/// Has a set have a member, or not.
+/// Puts a member into a set, or takes it out.
 fn keep_member(set: &mut MemberSet, member: u16, there: bool)
     requires { member < 256 }
     ensures { (m : ℕ) → has set.new m ≡ (if m == member then there else has set.old m) }
