@@ -4,14 +4,14 @@ ghost use Rattle.outside.specs.Faults.{Rose, one_more};
 
 use crate::{Disk, Failed};
 use std::alloc::AllocGlobal;
-use std::fs::{File, OpenOptions};
+use std::fs::{File, OpenOptions, TryLockError};
 use std::io::{self, ErrorKind};
 use std::os::unix::fs::FileExt;
 use std::path::Path;
 use std::rt::Files;
 
-/// A disk over the file that it is attached to. A missing file is an empty one: the first write makes it, and syncs its
-/// folder.
+/// A disk over the file that it is attached to, which it locks against other programs as long as it has it. A missing file
+/// is an empty one: the first write makes it, and syncs its folder.
 #[derive(Drop)]
 pub struct FileDisk<R: Files<File = File> + AllocGlobal + Drop> {
     rt: R,
@@ -36,10 +36,20 @@ fn counted<T: Drop>(faults: &mut u64, answer: io::Result<T>) -> Result<T, Failed
     }
 }
 
-// The file of this name with all of its bytes on the disk, if there is one.
+// Keeps other programs from the file, until it is closed; fails where another one has it.
+fn lock(file: &File) -> io::Result<()> {
+    match file.try_lock() {
+        Ok(()) => Ok(()),
+        Err(TryLockError::WouldBlock) => Err(io::Error::from(ErrorKind::WouldBlock)),
+        Err(TryLockError::Error(error)) => Err(error),
+    }
+}
+
+// The file of this name, locked, with all of its bytes on the disk, if there is one.
 fn open<R: Files<File = File>>(rt: &R, name: &str) -> io::Result<Option<File>> {
     match OpenOptions::new().read(true).write(true).open(rt, name) {
         Ok(file) => {
+            lock(&file)?;
             file.sync_all()?;
             Ok(Some(file))
         }
@@ -65,13 +75,17 @@ fn length_of(file: &File) -> io::Result<u64> {
     Ok(file.metadata()?.len())
 }
 
-// Makes the file of this name, and syncs its folder.
+// Makes the file of this name, locks it, and syncs its folder. Fails where another program has made and filled it since.
 fn make<R: Files<File = File>>(rt: &R, name: &str) -> io::Result<File> {
     let file = OpenOptions::new()
         .read(true)
         .write(true)
         .create(true)
         .open(rt, name)?;
+    lock(&file)?;
+    if file.metadata()?.len() > 0 {
+        return Err(io::Error::from(ErrorKind::AlreadyExists));
+    }
     let folder = match Path::new(name).parent() {
         Some(folder) => folder.as_str(),
         None => "/",
