@@ -5,3 +5,4 @@ pub mod ToldFacts
 pub mod CallingFacts
 pub mod ChangeFacts
 pub mod OpeningFacts
+pub mod Sends
