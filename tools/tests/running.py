@@ -22,6 +22,11 @@ def run(words: Sequence[str | bytes | Path], input: bytes = b"", folder: Path | 
     return Ran(done.returncode, done.stdout, done.stderr)
 
 
+def sessions() -> list[Path]:
+    """The example sessions, each NAME.next.session, which goes on with NAME's journal, behind NAME.session."""
+    return sorted(EXAMPLES.glob("*.session"), key=lambda path: (path.name.split(".")[0], len(path.name)))
+
+
 def program() -> Path:
     """The program that was built in this clone, or the one that COMPRESS_CLI names; where it is not there, skips."""
     path = Path(os.environ.get("COMPRESS_CLI") or ROOT / "crates/compress_cli/out/compress_cli")

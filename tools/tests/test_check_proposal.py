@@ -11,7 +11,7 @@ from markets import Market, changed, market
 from running import EXAMPLES, TOOLS, Ran, program, run
 
 CHECKER = TOOLS / "check_proposal"
-MARKETS = 5
+MARKETS = 3
 """How many markets are solved, and their proposals made wrong in each way."""
 
 

@@ -10,7 +10,7 @@ import unittest
 from pathlib import Path
 from typing import Any
 
-from running import EXAMPLES, TOOLS, Ran, program
+from running import EXAMPLES, TOOLS, Ran, program, sessions
 
 sys.path.insert(0, str(TOOLS))
 
@@ -233,9 +233,9 @@ class OfTheProgram(InFolder):
 
     def test_raw_is_the_programs_own(self) -> None:
         built = str(program())
-        for session in sorted(EXAMPLES.glob("*.session")):
+        for session in sessions():
             with self.subTest(session=session.name):
-                journal = self.folder / session.name
+                journal = self.folder / session.name.split(".")[0]
                 ran = self.client("--raw", ROSTER, journal, input=session.read_bytes(), COMPRESS_CLI=built)
                 self.assertEqual(ran.output, session.with_suffix(".replies").read_bytes())
                 self.assertEqual((ran.status, ran.errors), (int(b"\nno " in ran.output), b""))
@@ -265,7 +265,7 @@ class Shells(InFolder):
         self.assertNotIn(b"\x1b", ran.output)
 
     def test_raw(self) -> None:
-        for session in sorted(EXAMPLES.glob("*.session")):
+        for session in sessions():
             with self.subTest(session=session.name):
                 ran = self.client("--raw", ROSTER, self.journal, input=session.read_bytes(), example=session.stem)
                 self.assertEqual(ran.output, session.with_suffix(".replies").read_bytes())

@@ -4,7 +4,7 @@ import tempfile
 import unittest
 from pathlib import Path
 
-from running import EXAMPLES, TOOLS, Ran, program, run
+from running import EXAMPLES, TOOLS, Ran, program, run, sessions
 
 INSPECTOR = TOOLS / "journal"
 HEADER = "4f54434a524e4c31"
@@ -193,10 +193,10 @@ class Inspected(unittest.TestCase):
             self.assertEqual(ran, Ran(5, b"", b"sink fault\n"))
 
 
-def changes_of(session: bytes, replies: bytes) -> list[str]:
-    """The changes that a session made, by its replies: a line is one where its position is above the one before."""
+def changes_of(session: bytes, replies: bytes, before: int) -> list[str]:
+    """The changes that a session made since this position, by its replies: where a position is above the one before."""
     heads = [line for line in replies.decode().splitlines() if line.startswith(("ok ", "no "))]
-    made, before = [], 0
+    made: list[str] = []
     for line, head in zip(session.decode().splitlines(), heads):
         position = int(head.split(" ")[1])
         if position > before:
@@ -212,21 +212,25 @@ def changes_of(session: bytes, replies: bytes) -> list[str]:
 class OfTheProgram(unittest.TestCase):
     def test_the_journals_of_the_example_sessions(self) -> None:
         built = program()
-        with tempfile.TemporaryDirectory() as folder:
-            file = Path(folder) / "journal"
-            run([built, "script", EXAMPLES / "roster.csv", file], input=b"HELLO A KA\n")
-            if not file.exists():
-                self.skipTest("the program writes no journal")
-        for session in sorted(EXAMPLES.glob("*.session")):
-            with self.subTest(session=session.name), tempfile.TemporaryDirectory() as folder:
-                file = Path(folder) / "journal"
+        folder = tempfile.TemporaryDirectory()
+        self.addCleanup(folder.cleanup)
+        first = Path(folder.name) / "first"
+        run([built, "script", EXAMPLES / "roster.csv", first], input=b"HELLO A KA\n")
+        if not first.exists():
+            self.skipTest("the program writes no journal")
+        made: dict[str, list[str]] = {}
+        for session in sessions():
+            with self.subTest(session=session.name):
+                name = session.name.split(".")[0]
                 lines = session.read_bytes()
-                ran = run([built, "script", EXAMPLES / "roster.csv", file], input=lines)
+                ran = run([built, "script", EXAMPLES / "roster.csv", Path(folder.name) / name], input=lines)
                 self.assertEqual(ran.status, 0)
-                inspected = run([INSPECTOR, file])
+                due = made.setdefault(name, [])
+                due += changes_of(lines, ran.output, len(due))
+                inspected = run([INSPECTOR, Path(folder.name) / name])
                 self.assertEqual((inspected.status, inspected.errors), (0, b""))
                 told = [line for line in inspected.output.decode().splitlines() if " record " in line]
-                self.assertEqual([line.split(": ", 2)[2] for line in told], changes_of(lines, ran.output))
+                self.assertEqual([line.split(": ", 2)[2] for line in told], due)
 
 
 if __name__ == "__main__":
