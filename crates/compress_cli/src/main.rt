@@ -3,10 +3,14 @@
 
 use compress_server::run;
 use outside::sink::write_all;
-use outside::{StreamSink, StreamSource, SystemFiles};
+use outside::{FileDisk, StreamSink, StreamSource, SystemFiles};
+use parallel_solver::OpenGate;
 use std::alloc::AllocGlobal;
 use std::env::Env;
+use std::fs::File;
+use std::os::fd::AsRawFd;
 use std::process::ExitCode;
+use std::rt::Files;
 use std::{env, io};
 
 // The words behind the program's name.
@@ -18,21 +22,43 @@ fn words(rt: &(impl Env + AllocGlobal)) -> io::Result<Vec<String>> {
     Ok(words)
 }
 
+// Takes the place of each standard descriptor that is closed, so that no file of the program gets its number.
+fn fill_standard<R: Files<File = File> + AllocGlobal>(rt: &R) -> io::Result<Vec<File>> {
+    let mut taken = Vec::new(rt.alloc());
+    for _ in 0..3 {
+        let file = File::open(rt, "/dev/null")?;
+        if file.as_raw_fd() > 2 {
+            break;
+        }
+        taken.push(file)?;
+    }
+    Ok(taken)
+}
+
 fn main(rt: HostRuntime) -> ExitCode {
+    let mut errors = StreamSink::new(rt.stderr());
+    let Ok(_standard) = fill_standard(&rt) else {
+        let _ = write_all(&mut errors, b"file fault\n");
+        return ExitCode::from(11);
+    };
     let mut files = SystemFiles::new(&rt);
     let mut input = StreamSource::new(rt.stdin());
     let mut output = StreamSink::new(rt.stdout());
-    let mut errors = StreamSink::new(rt.stderr());
     match words(&rt) {
-        Ok(words) => ExitCode::from(run(
-            &rt,
-            rt.alloc(),
-            &words,
-            &mut files,
-            &mut input,
-            &mut output,
-            &mut errors,
-        )),
+        Ok(words) => {
+            let (status, _disk) = run(
+                &rt,
+                rt.alloc(),
+                &words,
+                &mut files,
+                &mut input,
+                &mut output,
+                &mut errors,
+                FileDisk::new(rt),
+                &OpenGate,
+            );
+            ExitCode::from(status)
+        }
         // A word that is no text is out of form.
         Err(error) if error.kind() == io::ErrorKind::InvalidData => {
             let _ = write_all(&mut errors, b"bad words\n");

@@ -1,13 +1,13 @@
--- A history in which no seat but 0 has a change is seat 0's alone.
-use Rattle.std.proofs.Common.{◌≡◌, ℕ, ◌+◌, ◌≤◌, ◌^◌, ◌==◌, Bool, true, false, List, [], ◌∷◌, ◌++◌, filter, cond, arith, refl, sym, subst, ap, ◌∙◌}
+-- What came to a history after a house was opened: where no seat but 0 has made any of it, and of seat 0 a session has seen all, it is what the session did.
+use Rattle.std.proofs.Common.{◌≡◌, ℕ, ◌+◌, ◌-◌, ◌≤◌, ◌==◌, Bool, true, false, List, [], ◌∷◌, ◌++◌, drop, length, filter, cond, arith, refl, sym, subst, ap, ◌∙◌, append_assoc}
+use Rattle.std.proofs.Math.Seq.{drop-append_seam}
 use Rattle.std.proofs.lemmas.Bool.Decides.{nat_tests}
+use Rattle.std.proofs.lemmas.List.{append-nil}
 use Rattle.std.proofs.lemmas.List.Elements.{filter-append}
 use Rattle.command_types.specs.declared.ask.Entry.{Entry}
-use Rattle.command_types.specs.Roster.{Rows}
-use Rattle.command_types.specs.Machine.{empty_state}
-use Rattle.command_types.specs.History.{History, new_history, longer, entries_of_seat}
+use Rattle.command_types.specs.History.{History, end_of, longer, entries_of_seat}
 
-abbrev of_seat : ℕ → List Entry → List Entry
+abbrev pub of_seat : ℕ → List Entry → List Entry
 of_seat n entries = filter (λ entry. entry.seat == n) entries
 
 same_number : (n : ℕ) → (n == n) ≡ true
@@ -38,11 +38,45 @@ empty_front : (xs ys : List Entry) → xs ++ ys ≡ [] → xs ≡ []
 empty_front [] ys e = refl
 empty_front (x ∷ xs) ys e = cc
 
-only_from : (rows : Rows) (more rest : List Entry) → ((n : ℕ) → 1 ≤ n → entries_of_seat (longer (longer (new_history (empty_state rows)) more) rest) n 0 ≡ []) → of_seat 0 more ≡ more
-only_from rows more rest none = own_alone more (λ n up. empty_front (of_seat n more) (of_seat n rest) (sym (filter-append (λ entry. entry.seat == n) more rest) ∙ none n up))
+empty_back : (xs ys : List Entry) → xs ++ ys ≡ [] → ys ≡ []
+empty_back [] ys e = e
+empty_back (x ∷ xs) ys e = cc
 
--- what a session saw of a history that began with nothing, and in which at the end no other seat has a change, is the session's own
-pub only_own : (rows : Rows) (now desk : History) (more rest : List Entry) (splits : ℕ) → now ≡ longer (new_history (empty_state rows)) more → desk ≡ longer now rest → splits + 1 ≡ 2 ^ 32 →
-    ((n : ℕ) → 2 ^ 32 ≤ n + splits → entries_of_seat desk n 0 ≡ []) → of_seat 0 more ≡ more
-only_own rows now desk more rest splits grown goes_on all none =
-    only_from rows more rest (λ n up. subst (λ h. entries_of_seat h n 0 ≡ []) (goes_on ∙ ap (λ h. longer h rest) grown) (none n (omega arith)))
+-- what adds nothing is nothing
+adds_none : (xs ys : List Entry) → xs ++ ys ≡ xs → ys ≡ []
+adds_none [] ys e = e
+adds_none (x ∷ xs) ys e = adds_none xs ys (cc)
+
+-- what a seat did after the end of a history
+pub since : (begun h : History) (more : List Entry) (n : ℕ) → h ≡ longer begun more → entries_of_seat h n (end_of begun) ≡ of_seat n more
+since begun h more n grown =
+    let k : end_of begun - begun.base.position ≡ length begun.entries = omega arith in
+    let all : drop (end_of begun - begun.base.position) (begun.entries ++ more) ≡ more = ap (λ i. drop i (begun.entries ++ more)) k ∙ drop-append_seam begun.entries more in
+    ap (λ (v : History). entries_of_seat v n (end_of begun)) grown ∙ ap (of_seat n) all
+
+further : (begun now h : History) (more rest : List Entry) → now ≡ longer begun more → h ≡ longer now rest → h ≡ longer begun (more ++ rest)
+further begun now h more rest grown goes_on =
+    goes_on ∙ ap (λ (v : History). longer v rest) grown ∙ ap (λ es. record begun { entries = es }) (append_assoc begun.entries more rest)
+
+module _ (begun now h : History) (more rest : List Entry) (grown : now ≡ longer begun more) (goes_on : h ≡ longer now rest)
+    (none : (n : ℕ) → 1 ≤ n → entries_of_seat h n (end_of begun) ≡ []) (own : entries_of_seat h 0 (end_of begun) ≡ entries_of_seat now 0 (end_of begun)) where
+  none_of : (n : ℕ) → 1 ≤ n → of_seat n more ++ of_seat n rest ≡ []
+  none_of n up =
+      sym (filter-append (λ entry. entry.seat == n) more rest) ∙ sym (since begun h (more ++ rest) n (further begun now h more rest grown goes_on)) ∙ none n up
+
+  -- seat 0 has done nothing more
+  no_more : of_seat 0 rest ≡ []
+  no_more =
+      adds_none (of_seat 0 more) (of_seat 0 rest)
+      (sym (filter-append (λ entry. entry.seat == 0) more rest) ∙ sym (since begun h (more ++ rest) 0 (further begun now h more rest grown goes_on)) ∙ own ∙ since begun now more 0 grown)
+
+  nothing_more : rest ≡ []
+  nothing_more = sym (own_alone rest (λ n up. empty_back (of_seat n more) (of_seat n rest) (none_of n up))) ∙ no_more
+
+  -- the session has seen the whole history
+  pub seen_all : h ≡ now
+  seen_all = goes_on ∙ ap (λ es. longer now es) nothing_more ∙ ap (λ es. record now { entries = es }) (append-nil now.entries)
+
+  -- and did all of it since the opening
+  pub own_all : of_seat 0 more ≡ more
+  own_all = own_alone more (λ n up. empty_front (of_seat n more) (of_seat n rest) (none_of n up))

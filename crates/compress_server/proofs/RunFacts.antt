@@ -1,126 +1,173 @@
--- What the program's one session says of its input and its output.
-use Rattle.std.proofs.Common.{◌≡◌, ◌⊎◌, ℕ, ◌+◌, ◌-◌, ◌≤◌, ◌^◌, ◌==◌, arith, false, List, [], ◌++◌, drop, filter, Option, sym, subst, ap, inl, inr, ◌∙◌}
+-- What the program's one session says of its input and its output, over a house.
+use Rattle.std.proofs.Common.{◌≡◌, ◌⊎◌, ℕ, ◌+◌, ◌^◌, ◌≤◌, arith, true, false, List, [], ◌++◌, Option, refl, sym, subst, ap, inl, inr, ◌∙◌}
+use Rattle.std.proofs.lemmas.List.{append-nil}
 use Rattle.outside.specs.Flow.{Flow, IsAtEnd}
 use Rattle.command_types.specs.declared.ask.Entry.{Entry}
-use Rattle.command_types.specs.Roster.{Rows}
-use Rattle.command_types.specs.Machine.{empty_state}
-use Rattle.command_types.specs.History.{History, IsLegal, new_history, longer, entries_of_seat}
+use Rattle.command_types.specs.declared.figures.Figures.{Figures}
+use Rattle.command_types.specs.History.{IsLegal, longer, end_of, entries_of_seat}
 use Rattle.command_types.specs.Lines.{cut_of, lines_of}
+use Rattle.command_types.specs.Session.{Mark, IsTalk, IsAnswered}
 use Rattle.cycle_lock.specs.declared.pass.Pass.{Pass}
-use Rattle.cycle_lock.specs.Passes.{LockId, lock_of, seat_of, figures_of, seen, saw_stop, may_split}
-use Rattle.cycle_states.specs.PlainDesk.{plain_figures}
+use Rattle.cycle_lock.specs.Passes as passes
+use Rattle.house.specs.House.{HouseView, figures_of, is_stopped}
 use Rattle.session.specs.declared.serve.SessionEnd.{SessionEnd}
 use Rattle.session.specs.declared.serve.SessionEnd.TheVariants.{Ended, SourceFault, SinkFault, Limit, Memory}
 use Rattle.session.specs.Serving.{Seat, Sight, of_pass, Grows, Written, Left, CutOff}
 use Rattle.session.specs.Ending.{Ends}
-use Rattle.compress_server.specs.Run.{program_figures, IsOwnHistory, IsReplied, IsLeft, IsCutOff, IsOpen}
+use Rattle.compress_server.specs.Run.{at_first, IsReplied, IsLeft, IsCutOff, IsOpen}
 use Rattle.compress_server.specs.Script.{ScriptEnds}
-use Rattle.compress_server.proofs.OnlyFacts.{only_own}
+use Rattle.compress_server.proofs.OnlyFacts.{since, seen_all, own_all}
 
--- what a pass of this lock has seen of a desk of these rows before the first line
-abbrev first_sight : LockId → Rows → Sight
-first_sight lock rows = record { seat = record { lock = lock; figures = program_figures rows; number = 0; splits = 4294967295 }; history = new_history (empty_state rows); stopped = false }
+-- what a pass of this lock has seen of a house before the first line
+abbrev pub first_sight : passes.LockId → HouseView → Sight
+first_sight lock v = record { seat = record { lock = lock; figures = figures_of v; number = 0; splits = 4294967295 }; history = v.history; stopped = false }
 
--- the first pass of a lock round a new desk
-pub first_at : (rows : Rows) (pass : Pass) (desk : History) → desk ≡ new_history (empty_state rows) → figures_of pass ≡ plain_figures desk → seat_of pass ≡ 0 → seen pass ≡ desk → saw_stop pass ≡ false → may_split pass + 1 ≡ 2 ^ 32 → of_pass pass ≡ first_sight (lock_of pass) rows
-first_at rows pass desk begun figures number history stop left =
-    let splits : may_split pass ≡ 4294967295 = omega arith in
-    let same : plain_figures desk ≡ program_figures rows = ap (λ (h : History). plain_figures h) begun in
-    λ i. record { seat = record { lock = lock_of pass; figures = (figures ∙ same) i; number = number i; splits = splits i }; history = (history ∙ begun) i; stopped = stop i }
+-- the first pass of a lock round a house that runs
+pub first_at : (v : HouseView) (pass : Pass) → passes.figures_of pass ≡ figures_of v → passes.seat_of pass ≡ 0 → passes.seen pass ≡ v.history → passes.saw_stop pass ≡ false → passes.may_split pass + 1 ≡ 2 ^ 32 → of_pass pass ≡ first_sight (passes.lock_of pass) v
+first_at v pass figures number history stop left =
+    let splits : passes.may_split pass ≡ 4294967295 = omega arith in
+    λ i. record { seat = record { lock = passes.lock_of pass; figures = figures i; number = number i; splits = splits i }; history = history i; stopped = stop i }
 
-own_on : (rows : Rows) (h : History) (more : List Entry) → h ≡ longer (new_history (empty_state rows)) more → (IsLegal (new_history (empty_state rows)) → IsLegal h) → IsOwnHistory rows h
-own_on rows h more grown legal = record { base = ap (λ v. v.base) grown; legal = legal tt }
-
--- The history goes on in the desk that was given back, in which no number has an entry that a pass of it may still have had.
-pub record IsClosed (now : Sight) : Type 0 where
-  pub desk : History
+-- The house w was given back by the lock, which the house v had gone into. Its history goes on from what was seen, with no further change of the seat. No number that a pass may still have had has a change.
+pub record IsClosed (v w : HouseView) (now : Sight) : Type 0 where
   pub rest : List Entry
-  pub goes_on : desk ≡ longer now.history rest
-  pub none : (n : ℕ) → 2 ^ 32 ≤ n + now.seat.splits → entries_of_seat desk n 0 ≡ []
+  pub goes_on : w.history ≡ longer now.history rest
+  pub own : entries_of_seat w.history 0 (end_of v.history) ≡ entries_of_seat now.history 0 (end_of v.history)
+  pub none : (n : ℕ) → 2 ^ 32 ≤ n + now.seat.splits → entries_of_seat w.history n (end_of v.history) ≡ []
+  pub stop : now.stopped ≡ true → is_stopped w ≡ true
 
--- what was recorded is all that was, and what the seat did
-all_made : (lock : LockId) (rows : Rows) (now : Sight) (made : List Entry) → IsClosed now → Grows (first_sight lock rows) now made → now.history.entries ≡ made
-all_made lock rows now made closed g =
-    let splits : now.seat.splits ≡ 4294967295 = ap (λ (s : Seat). s.splits) g.seat in
-    ap (λ (h : History). h.entries) g.grown
-    ∙ sym (only_own rows now.history closed.desk g.more closed.rest now.seat.splits g.grown closed.goes_on (omega arith) closed.none)
-    ∙ g.own
+module _ (lock : passes.LockId) (v w : HouseView) (now : Sight) (closed : IsClosed v w now) where
+  module _ (made : List Entry) (g : Grows (first_sight lock v) now made) where
+    none_else : (n : ℕ) → 1 ≤ n → entries_of_seat w.history n (end_of v.history) ≡ []
+    none_else n up =
+        let splits : now.seat.splits ≡ 4294967295 = ap (λ (s : Seat). s.splits) g.seat in
+        closed.none n (omega (arith, up, splits))
 
-all_own : (lock : LockId) (rows : Rows) (now : Sight) (made : List Entry) → Grows (first_sight lock rows) now made → made ≡ entries_of_seat now.history 0 0
-all_own lock rows now made g = sym g.own ∙ ap (λ (v : History). filter (λ entry. entry.seat == 0) (drop (0 - v.base.position) v.entries)) (sym g.grown)
+    seen_whole : w.history ≡ now.history
+    seen_whole = seen_all v.history now.history w.history g.more closed.rest g.grown closed.goes_on none_else closed.own
 
-abbrev replied : (lock : LockId) (rows : Rows) (begun taken : Option (List ℕ)) (now : Sight) (lines : List (List ℕ)) → IsClosed now → Written (first_sight lock rows) begun taken now lines → IsReplied rows begun taken lines
-replied lock rows begun taken now lines closed w = record {
-  history = now.history;
-  text = w.text;
-  own = own_on rows now.history w.grows.more w.grows.grown w.grows.legal;
-  session = record {
-    made = w.made;
-    to = w.to;
-    talk = w.talk;
-    own = all_own lock rows now w.made w.grows;
-  };
-  all = all_made lock rows now w.made closed w.grows;
-  took = w.took;
-}
+    did_all : g.more ≡ made
+    did_all = sym (own_all v.history now.history w.history g.more closed.rest g.grown closed.goes_on none_else closed.own) ∙ g.own
 
-open_replied : (lock : LockId) (rows : Rows) (begun taken : Option (List ℕ)) (now : Sight) (lines : List (List ℕ)) → IsClosed now → (w : Written (first_sight lock rows) begun taken now lines) → w.to.over ≡ false → IsOpen rows begun taken lines
-open_replied lock rows begun taken now lines closed w e = (replied lock rows begun taken now lines closed w, e)
+    -- the history has grown by what the session did
+    all_made : w.history ≡ longer v.history made
+    all_made = seen_whole ∙ g.grown ∙ ap (λ es. longer v.history es) did_all
 
-left_replied : (lock : LockId) (rows : Rows) (begun taken : Option (List ℕ)) (now : Sight) (lines : List (List ℕ)) → IsClosed now → Left (first_sight lock rows) begun taken now lines → IsLeft rows begun taken lines
-left_replied lock rows begun taken now lines closed l = record {
-  said = l.said;
-  others = l.others;
-  order = l.order;
-  replied = replied lock rows begun taken now l.said closed l.written;
-  over = l.over;
-}
+    all_own : made ≡ entries_of_seat w.history 0 (end_of v.history)
+    all_own = sym g.own ∙ sym (since v.history w.history g.more 0 (seen_whole ∙ g.grown))
 
-cut_off : (lock : LockId) (rows : Rows) (begun taken : Option (List ℕ)) (now : Sight) (lines : List (List ℕ)) → IsClosed now → CutOff (first_sight lock rows) begun taken now lines → IsCutOff rows begun taken lines
-cut_off lock rows begun taken now lines closed w = record {
-  history = now.history;
-  own = own_on rows now.history w.grows.more w.grows.grown w.grows.legal;
-  earlier = w.earlier;
-  line = w.line;
-  others = w.others;
-  order = w.order;
-  text = w.text;
-  last = w.last;
-  made = w.made;
-  first = w.first;
-  mid = w.mid;
-  to = w.to;
-  talk = w.talk;
-  answered = w.answered;
-  all = all_made lock rows now (w.made ++ w.first) closed w.grows;
-  written = w.written;
-  unfinished = w.unfinished;
-  took = w.took;
-}
+  -- where the session saw nothing new, nothing is new
+  stays : now ≡ first_sight lock v → w.history ≡ v.history
+  stays there =
+      let grows : Grows (first_sight lock v) now [] = record {
+        seat = ap (λ (s : Sight). s.seat) there;
+        more = [];
+        grown = ap (λ (s : Sight). s.history) there ∙ ap (λ es. record v.history { entries = es }) (sym (append-nil v.history.entries));
+        own = refl;
+        legal = λ legal. subst (λ (s : Sight). IsLegal s.history) (sym there) legal;
+      } in
+      seen_whole [] grows ∙ ap (λ (s : Sight). s.history) there
 
-ended_either : (lock : LockId) (rows : Rows) (flow : Option Flow) (begun taken : Option (List ℕ)) (now : Sight) (bytes : List ℕ) (P Q : Type 0) → IsClosed now →
-    (IsAtEnd flow × P × Written (first_sight lock rows) begun taken now (lines_of bytes)) ⊎ (Q × Left (first_sight lock rows) begun taken now (cut_of bytes).whole) →
-    (IsAtEnd flow × P × IsReplied rows begun taken (lines_of bytes)) ⊎ (Q × IsLeft rows begun taken (cut_of bytes).whole)
-ended_either lock rows flow begun taken now bytes P Q closed (inl (at_end, short, w)) = inl (at_end, short, replied lock rows begun taken now (lines_of bytes) closed w)
-ended_either lock rows flow begun taken now bytes P Q closed (inr (short, l)) = inr (short, left_replied lock rows begun taken now (cut_of bytes).whole closed l)
+  module _ (begun taken : Option (List ℕ)) where
+    abbrev replied : (lines : List (List ℕ)) → Written (first_sight lock v) begun taken now lines → IsReplied v w begun taken lines
+    replied lines r = record {
+      text = r.text;
+      session = record {
+        made = r.made;
+        to = r.to;
+        talk = subst (λ h. IsTalk (figures_of v) h 0 (at_first v) lines r.text r.made r.to) (sym (seen_whole r.made r.grows)) r.talk;
+        own = all_own r.made r.grows;
+      };
+      all = all_made r.made r.grows;
+      stops = λ stopped. closed.stop (sym (ap (λ (m : Mark). m.stopped) r.there) ∙ stopped);
+      took = r.took;
+    }
 
-cut_either : (lock : LockId) (rows : Rows) (flow : Option Flow) (begun taken : Option (List ℕ)) (now : Sight) (bytes : List ℕ) (P Q : Type 0) → IsClosed now →
-    (P × CutOff (first_sight lock rows) begun taken now (cut_of bytes).whole) ⊎ (IsAtEnd flow × Q × CutOff (first_sight lock rows) begun taken now (lines_of bytes)) →
-    (P × IsCutOff rows begun taken (cut_of bytes).whole) ⊎ (IsAtEnd flow × Q × IsCutOff rows begun taken (lines_of bytes))
-cut_either lock rows flow begun taken now bytes P Q closed (inl (short, w)) = inl (short, cut_off lock rows begun taken now (cut_of bytes).whole closed w)
-cut_either lock rows flow begun taken now bytes P Q closed (inr (at_end, short, w)) = inr (at_end, short, cut_off lock rows begun taken now (lines_of bytes) closed w)
+    open_replied : (lines : List (List ℕ)) (r : Written (first_sight lock v) begun taken now lines) → r.to.over ≡ false → IsOpen v w begun taken lines
+    open_replied lines r e = (replied lines r, e)
 
-ends_first : (lock : LockId) (rows : Rows) (opened flow : Option Flow) (begun taken : Option (List ℕ)) (now : Sight) (end : SessionEnd) → IsClosed now →
-    Ends (first_sight lock rows) opened flow begun taken now end → ScriptEnds rows opened flow begun taken end
-ends_first lock rows opened flow begun taken now Ended closed (bytes, gives, either) = (bytes, gives, ended_either lock rows flow begun taken now bytes _ _ closed either)
-ends_first lock rows opened flow begun taken now SourceFault closed (bytes, gives, short, (w, still)) = (bytes, gives, short, open_replied lock rows begun taken now (cut_of bytes).whole closed w still)
-ends_first lock rows opened flow begun taken now SinkFault closed (bytes, gives, either) = (bytes, gives, cut_either lock rows flow begun taken now bytes _ _ closed either)
-ends_first lock rows opened flow begun taken now Limit closed (bytes, gives, size, (w, still)) = (bytes, gives, size, open_replied lock rows begun taken now (cut_of bytes).whole closed w still)
-ends_first lock rows opened flow begun taken now Memory closed (same, none_taken, desk) = (same, none_taken)
+    left_replied : (lines : List (List ℕ)) → Left (first_sight lock v) begun taken now lines → IsLeft v w begun taken lines
+    left_replied lines l = record {
+      said = l.said;
+      others = l.others;
+      order = l.order;
+      replied = replied l.said l.written;
+      over = l.over;
+    }
+
+    cut_off : (lines : List (List ℕ)) → CutOff (first_sight lock v) begun taken now lines → IsCutOff v w begun taken lines
+    cut_off lines r =
+        let same = sym (seen_whole (r.made ++ r.first) r.grows) in
+        record {
+          earlier = r.earlier;
+          line = r.line;
+          others = r.others;
+          order = r.order;
+          text = r.text;
+          last = r.last;
+          made = r.made;
+          first = r.first;
+          mid = r.mid;
+          to = r.to;
+          talk = subst (λ h. IsTalk (figures_of v) h 0 (at_first v) r.earlier r.text r.made r.mid) same r.talk;
+          answered = subst (λ h. IsAnswered (figures_of v) h 0 r.mid r.line r.last r.first r.to) same r.answered;
+          all = all_made (r.made ++ r.first) r.grows;
+          stops = λ stopped. closed.stop (sym (ap (λ (m : Mark). m.stopped) r.there) ∙ stopped);
+          written = r.written;
+          unfinished = r.unfinished;
+          took = r.took;
+        }
+
+    module _ (flow : Option Flow) (bytes : List ℕ) (P Q : Type 0) where
+      ended_either : (IsAtEnd flow × P × Written (first_sight lock v) begun taken now (lines_of bytes)) ⊎ (Q × Left (first_sight lock v) begun taken now (cut_of bytes).whole) →
+          (IsAtEnd flow × P × IsReplied v w begun taken (lines_of bytes)) ⊎ (Q × IsLeft v w begun taken (cut_of bytes).whole)
+      ended_either (inl (at_end, short, r)) = inl (at_end, short, replied (lines_of bytes) r)
+      ended_either (inr (short, l)) = inr (short, left_replied (cut_of bytes).whole l)
+
+      cut_either : (P × CutOff (first_sight lock v) begun taken now (cut_of bytes).whole) ⊎ (IsAtEnd flow × Q × CutOff (first_sight lock v) begun taken now (lines_of bytes)) →
+          (P × IsCutOff v w begun taken (cut_of bytes).whole) ⊎ (IsAtEnd flow × Q × IsCutOff v w begun taken (lines_of bytes))
+      cut_either (inl (short, r)) = inl (short, cut_off (cut_of bytes).whole r)
+      cut_either (inr (at_end, short, r)) = inr (at_end, short, cut_off (lines_of bytes) r)
+
+    ends_first : (opened flow : Option Flow) (end : SessionEnd) → Ends (first_sight lock v) opened flow begun taken now end → ScriptEnds v w opened flow begun taken end
+    ends_first opened flow Ended (bytes, gives, either) = (bytes, gives, ended_either flow bytes _ _ either)
+    ends_first opened flow SourceFault (bytes, gives, short, (r, open_yet)) = (bytes, gives, short, open_replied (cut_of bytes).whole r open_yet)
+    ends_first opened flow SinkFault (bytes, gives, either) = (bytes, gives, cut_either flow bytes _ _ either)
+    ends_first opened flow Limit (bytes, gives, size, (r, open_yet)) = (bytes, gives, size, open_replied (cut_of bytes).whole r open_yet)
+    ends_first opened flow Memory (same, none_taken, there) = (same, none_taken, stays there)
 
 -- a session over a new desk is a script
-pub script_ends : (lock : LockId) (rows : Rows) (start : Sight) (opened flow : Option Flow) (begun taken : Option (List ℕ)) (now : Sight) (end : SessionEnd) → start ≡ first_sight lock rows → IsClosed now →
-    Ends start opened flow begun taken now end → ScriptEnds rows opened flow begun taken end
-script_ends lock rows start opened flow begun taken now end e closed ends =
+pub script_ends : (lock : passes.LockId) (v w : HouseView) (start : Sight) (opened flow : Option Flow) (begun taken : Option (List ℕ)) (now : Sight) (end : SessionEnd) → start ≡ first_sight lock v → IsClosed v w now →
+    Ends start opened flow begun taken now end → ScriptEnds v w opened flow begun taken end
+script_ends lock v w start opened flow begun taken now end e closed ends =
     let P : Sight → Type 0 = λ s. Ends s opened flow begun taken now end in
-    ends_first lock rows opened flow begun taken now end closed (subst P e ends)
+    ends_first lock v w now closed begun taken opened flow end (subst P e ends)
+
+-- a session keeps its seat
+pub seat_stays : (start : Sight) (opened flow : Option Flow) (begun taken : Option (List ℕ)) (now : Sight) (end : SessionEnd) → Ends start opened flow begun taken now end → now.seat ≡ start.seat
+seat_stays start opened flow begun taken now Ended (bytes, gives, inl (at_end, short, r)) = r.grows.seat
+seat_stays start opened flow begun taken now Ended (bytes, gives, inr (short, l)) = l.written.grows.seat
+seat_stays start opened flow begun taken now SourceFault (bytes, gives, short, (r, open_yet)) = r.grows.seat
+seat_stays start opened flow begun taken now SinkFault (bytes, gives, inl (short, r)) = r.grows.seat
+seat_stays start opened flow begun taken now SinkFault (bytes, gives, inr (at_end, short, r)) = r.grows.seat
+seat_stays start opened flow begun taken now Limit (bytes, gives, size, (r, open_yet)) = r.grows.seat
+seat_stays start opened flow begun taken now Memory (same, none_taken, there) = ap (λ (s : Sight). s.seat) there
+
+-- what a lock tells of the house that it gives back
+pub closed_on : (v w : HouseView) (pass : Pass) → end_of v.history ≡ v.opening → passes.seat_of pass ≡ 0 → passes.figures_of pass ≡ figures_of v → figures_of w ≡ passes.figures_of pass → passes.Continues w.history (passes.seen pass)
+    → passes.StandsFor pass (passes.seat_of pass)
+    → ((n : ℕ) → passes.StandsFor pass n → entries_of_seat w.history n (figures_of w).opening ≡ passes.made_by n pass)
+    → ((n : ℕ) → 2 ^ 32 ≤ n + passes.may_split pass → entries_of_seat w.history n (figures_of w).opening ≡ [])
+    → (passes.saw_stop pass ≡ true → is_stopped w ≡ true) → IsClosed v w (of_pass pass)
+closed_on v w pass opened number figures given goes_on mine made none stop =
+    let later : (passes.figures_of pass).opening ≡ end_of v.history = ap (λ (f : Figures). f.opening) figures ∙ sym opened in
+    let last : (figures_of w).opening ≡ end_of v.history = ap (λ (f : Figures). f.opening) given ∙ later in
+    let own : entries_of_seat w.history 0 (figures_of w).opening ≡ entries_of_seat (passes.seen pass) 0 (passes.figures_of pass).opening =
+    made 0 (subst (λ n. passes.StandsFor pass n) number mine) in
+    record {
+      rest = goes_on.0;
+      goes_on = goes_on.1;
+      own = ap (λ n. entries_of_seat w.history 0 n) (sym last) ∙ own ∙ ap (λ n. entries_of_seat (passes.seen pass) 0 n) later;
+      none = λ n up. ap (λ k. entries_of_seat w.history n k) (sym last) ∙ none n up;
+      stop = stop;
+    }

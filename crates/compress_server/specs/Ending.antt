@@ -1,6 +1,7 @@
 -- What was read and what was written, by the end of a form.
-use Rattle.std.specs.Prelude.{◌≡◌, ℕ, List, Option, Some, None}
+use Rattle.std.specs.Prelude.{◌≡◌, ◌⊎◌, ℕ, true, false, List, Option, Some, None}
 use Rattle.outside.specs.Files.{Folder}
+use Rattle.outside.specs.Faults.{Rose}
 use Rattle.outside.specs.Flow.{Flow, Takes, TakesFront}
 use Rattle.command_types.specs.declared.cycle.Mode.{Mode}
 use Rattle.command_types.specs.declared.file_fault.FileFault.{FileFault}
@@ -14,8 +15,10 @@ use Rattle.compress_server.specs.declared.load.FileRole.{FileRole}
 use Rattle.compress_server.specs.declared.load.LoadFault.{LoadFault}
 use Rattle.compress_server.specs.declared.load.LoadFault.TheVariants.{Files, Faulty, Memory as NoMemory}
 use Rattle.compress_server.specs.declared.ending.End.{End}
-use Rattle.compress_server.specs.declared.ending.End.TheVariants.{Done, No, BadWords, Unloaded, SourceFault, SinkFault, Limit, Memory}
+use Rattle.compress_server.specs.declared.ending.End.TheVariants.{Done, No, BadWords, Unloaded, Damaged, DiskFault, Stopped, SourceFault, SinkFault, Limit, Memory}
 use Rattle.compress_server.specs.Words.{Market, Form}
+use Rattle.house.specs.House.{is_stopped}
+use Rattle.compress_server.specs.Housed.{DiskState, OverHouse, IsDamaged, IsUnopened}
 use Rattle.compress_server.specs.Files.{SaysRoster, IsRosterFault, IsMarketFault, IsCheckFault, ReadBeforeRoster, ReadBeforeMarket, ReadBeforeCheck}
 use Rattle.compress_server.specs.Run.{IsWhole, IsStopped, IsAtLimit, IsUnwritten}
 use Rattle.compress_server.specs.Check.{SaysYes, SaysNo, SaysFront}
@@ -27,20 +30,31 @@ IsFault P Q (Faulty role fault) = P role fault
 IsFault P Q (Files role) = Q role
 IsFault P Q NoMemory = Unit {0}
 
+-- by the end of a script over these rows and a disk
+abbrev pub JournalRuns : Rows → Option Flow → Option Flow → Option (List ℕ) → Option (List ℕ) → DiskState → DiskState → End → Type 0
+JournalRuns rows opened flow begun taken disk left Done = OverHouse rows disk left (λ v w. (is_stopped w ≡ false) × IsWhole v w opened flow begun taken)
+JournalRuns rows opened flow begun taken disk left No = ⊥
+JournalRuns rows opened flow begun taken disk left BadWords = ⊥
+JournalRuns rows opened flow begun taken disk left (Unloaded fault) = ⊥
+JournalRuns rows opened flow begun taken disk left (Damaged place) = (flow ≡ opened) × (taken ≡ begun) × IsDamaged rows disk left place
+JournalRuns rows opened flow begun taken disk left DiskFault = (flow ≡ opened) × (taken ≡ begun) × IsUnopened rows disk left × Rose disk.faults left.faults
+JournalRuns rows opened flow begun taken disk left Stopped =
+    OverHouse rows disk left (λ v w. (is_stopped w ≡ true) × IsWhole v w opened flow begun taken) × Rose disk.faults left.faults
+JournalRuns rows opened flow begun taken disk left SourceFault = OverHouse rows disk left (λ v w. IsStopped v w opened flow begun taken)
+JournalRuns rows opened flow begun taken disk left SinkFault = OverHouse rows disk left (λ v w. IsUnwritten v w opened flow begun taken)
+JournalRuns rows opened flow begun taken disk left Limit = OverHouse rows disk left (λ v w. IsAtLimit v w opened flow begun taken)
+JournalRuns rows opened flow begun taken disk left Memory =
+    (flow ≡ opened) × (taken ≡ begun) × (IsUnopened rows disk left ⊎ OverHouse rows disk left (λ v w. w.history ≡ v.history))
+
 -- the roster's file says rows, which are those of a roster, and of which this holds
 abbrev pub OverRoster : Option Folder → List ℕ → (Rows → Type 0) → Type 0
 OverRoster folder name P = (rows : Rows) × SaysRoster folder name rows × IsRoster rows × P rows
 
--- by the end of a script over the roster's file
-abbrev pub ScriptRuns : Option Folder → List ℕ → Option Flow → Option Flow → Option (List ℕ) → Option (List ℕ) → End → Type 0
-ScriptRuns folder roster opened flow begun taken Done = OverRoster folder roster (λ rows. IsWhole rows opened flow begun taken)
-ScriptRuns folder roster opened flow begun taken No = ⊥
-ScriptRuns folder roster opened flow begun taken BadWords = ⊥
-ScriptRuns folder roster opened flow begun taken (Unloaded fault) = (flow ≡ opened) × (taken ≡ begun) × IsFault (IsRosterFault folder roster) ReadBeforeRoster fault
-ScriptRuns folder roster opened flow begun taken SourceFault = OverRoster folder roster (λ rows. IsStopped rows opened flow begun taken)
-ScriptRuns folder roster opened flow begun taken SinkFault = OverRoster folder roster (λ rows. IsUnwritten rows opened flow begun taken)
-ScriptRuns folder roster opened flow begun taken Limit = OverRoster folder roster (λ rows. IsAtLimit rows opened flow begun taken)
-ScriptRuns folder roster opened flow begun taken Memory = (flow ≡ opened) × (taken ≡ begun)
+-- by the end of a script: the roster could not be had, and the disk was left alone; or what came over its rows
+abbrev pub ScriptRuns : Option Folder → List ℕ → Option Flow → Option Flow → Option (List ℕ) → Option (List ℕ) → DiskState → DiskState → End → Type 0
+ScriptRuns folder roster opened flow begun taken disk left end =
+    ((fault : LoadFault) × (end ≡ Unloaded fault) × (flow ≡ opened) × (taken ≡ begun) × (left ≡ disk) × IsFault (IsRosterFault folder roster) ReadBeforeRoster fault)
+    ⊎ OverRoster folder roster (λ rows. JournalRuns rows opened flow begun taken disk left end)
 
 -- by the end of a check of parts that were read: the line that was written
 abbrev pub IsTold : Rows → Mode → List FileTrade → List ProposalPart → Option (List ℕ) → Option (List ℕ) → End → Type 0
@@ -52,6 +66,9 @@ IsTold rows mode trades parts begun taken SinkFault =
 IsTold rows mode trades parts begun taken Memory = taken ≡ begun
 IsTold rows mode trades parts begun taken BadWords = ⊥
 IsTold rows mode trades parts begun taken (Unloaded fault) = ⊥
+IsTold rows mode trades parts begun taken (Damaged place) = ⊥
+IsTold rows mode trades parts begun taken DiskFault = ⊥
+IsTold rows mode trades parts begun taken Stopped = ⊥
 IsTold rows mode trades parts begun taken SourceFault = ⊥
 IsTold rows mode trades parts begun taken Limit = ⊥
 
@@ -61,6 +78,9 @@ CheckRuns folder market proposal begun taken Done = SaysYes folder begun taken m
 CheckRuns folder market proposal begun taken No = SaysNo folder begun taken market proposal
 CheckRuns folder market proposal begun taken BadWords = ⊥
 CheckRuns folder market proposal begun taken (Unloaded fault) = (taken ≡ begun) × IsFault (IsCheckFault folder market proposal) (ReadBeforeCheck folder market) fault
+CheckRuns folder market proposal begun taken (Damaged place) = ⊥
+CheckRuns folder market proposal begun taken DiskFault = ⊥
+CheckRuns folder market proposal begun taken Stopped = ⊥
 CheckRuns folder market proposal begun taken SourceFault = ⊥
 CheckRuns folder market proposal begun taken SinkFault = SaysFront folder begun taken market proposal
 CheckRuns folder market proposal begun taken Limit = ⊥
@@ -72,14 +92,33 @@ SolveRuns folder market begun taken Done = Proposes folder begun taken market
 SolveRuns folder market begun taken No = ⊥
 SolveRuns folder market begun taken BadWords = ⊥
 SolveRuns folder market begun taken (Unloaded fault) = (taken ≡ begun) × IsFault (IsMarketFault folder market) (ReadBeforeMarket folder market) fault
+SolveRuns folder market begun taken (Damaged place) = ⊥
+SolveRuns folder market begun taken DiskFault = ⊥
+SolveRuns folder market begun taken Stopped = ⊥
 SolveRuns folder market begun taken SourceFault = ⊥
 SolveRuns folder market begun taken SinkFault = ProposesFront folder begun taken market
 SolveRuns folder market begun taken Limit = ⊥
 SolveRuns folder market begun taken Memory = taken ≡ begun
 
 -- by the end of the program
-abbrev pub Runs : Option Folder → Option Form → Option Flow → Option Flow → Option (List ℕ) → Option (List ℕ) → End → Type 0
-Runs folder None opened flow begun taken end = (end ≡ BadWords) × (flow ≡ opened) × (taken ≡ begun)
-Runs folder (Some (Form.Script roster journal)) opened flow begun taken end = ScriptRuns folder roster opened flow begun taken end
-Runs folder (Some (Form.Check market proposal)) opened flow begun taken end = (flow ≡ opened) × CheckRuns folder market proposal begun taken end
-Runs folder (Some (Form.Solve market)) opened flow begun taken end = (flow ≡ opened) × SolveRuns folder market begun taken end
+abbrev pub Runs : Option Folder → Option Form → Option Flow → Option Flow → Option (List ℕ) → Option (List ℕ) → DiskState → DiskState → End → Type 0
+Runs folder None opened flow begun taken disk left end = (end ≡ BadWords) × (flow ≡ opened) × (taken ≡ begun) × (left ≡ disk)
+Runs folder (Some (Form.Script roster journal)) opened flow begun taken disk left end = ScriptRuns folder roster opened flow begun taken disk left end
+Runs folder (Some (Form.Check market proposal)) opened flow begun taken disk left end = (flow ≡ opened) × (left ≡ disk) × CheckRuns folder market proposal begun taken end
+Runs folder (Some (Form.Solve market)) opened flow begun taken disk left end = (flow ≡ opened) × (left ≡ disk) × SolveRuns folder market begun taken end
+
+-- where the files, the input or the output failed, its count rose; a fault of the disk is counted in what a script comes to
+abbrev pub IsCounted : Type 0 → Type 0 → Type 0 → End → Type 0
+IsCounted files input output Done = Unit {0}
+IsCounted files input output No = Unit {0}
+IsCounted files input output BadWords = Unit {0}
+IsCounted files input output (Unloaded (Files role)) = files
+IsCounted files input output (Unloaded (Faulty role fault)) = Unit {0}
+IsCounted files input output (Unloaded NoMemory) = Unit {0}
+IsCounted files input output (Damaged place) = Unit {0}
+IsCounted files input output DiskFault = Unit {0}
+IsCounted files input output Stopped = Unit {0}
+IsCounted files input output SourceFault = input
+IsCounted files input output SinkFault = output
+IsCounted files input output Limit = Unit {0}
+IsCounted files input output Memory = Unit {0}

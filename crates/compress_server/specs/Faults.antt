@@ -1,4 +1,4 @@
--- The line that tells a file's fault.
+-- The lines that tell a file's fault.
 use Rattle.std.specs.Prelude.{ℕ, List, ◌++◌, codes, decimal}
 use Rattle.command_types.specs.declared.file_fault.FileFault.{FileFault}
 use Rattle.command_types.specs.declared.file_fault.FileFault.TheVariants.{TooLong, Columns, BadName, BadRole, BadAmount, BadDay, Twice, UnknownName, SameParty, GrossLimit, RowLimit, BadLine, Memory}
@@ -29,3 +29,7 @@ fault_line role (GrossLimit row) = row_line role row (codes "gross-limit")
 fault_line role (RowLimit row) = row_line role row (codes "row-limit")
 fault_line role (BadLine row) = row_line role row (codes "bad-line")
 fault_line role Memory = codes "memory\n"
+
+-- the line of a journal that is damaged at this place
+abbrev pub damage_line : ℕ → List ℕ
+damage_line place = codes "damaged at " ++ decimal place ++ codes "\n"

@@ -1,8 +1,10 @@
 pub mod Words
 pub mod Files
 pub mod Faults
+pub mod Housed
 pub mod Run
 pub mod Script
 pub mod Check
 pub mod Solve
 pub mod Ending
+pub mod Telling

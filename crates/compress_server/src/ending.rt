@@ -13,6 +13,12 @@ pub enum End {
     BadWords,
     /// A file could not be had.
     Unloaded(LoadFault),
+    /// The journal stands for no legal history; it is damaged at this place.
+    Damaged(u64),
+    /// The disk failed before a house was opened.
+    DiskFault,
+    /// A fault of the disk stopped the house; the session ended whole.
+    Stopped,
     /// The input failed.
     SourceFault,
     /// The output failed.

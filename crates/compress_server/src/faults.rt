@@ -1,7 +1,7 @@
-//! The line that tells a file's fault on the errors.
+//! The lines that tell a file's fault on the errors.
 
 ghost use Rattle.std.specs.Prelude.{◌≡◌, ◌++◌, IfOk, codes};
-ghost use Rattle.compress_server.specs.Faults.{role_name, row_line, fault_line};
+ghost use Rattle.compress_server.specs.Faults.{role_name, row_line, fault_line, damage_line};
 
 use crate::load::FileRole;
 use command_types::FileFault;
@@ -65,5 +65,15 @@ fn too_long_line(alloc: Global, role: FileRole) -> Result<Vec<u8>, AllocError>
 {
     let mut line = role_name(role).to_vec(alloc)?;
     line.extend_from_slice(b": too-long\n")?;
+    Ok(line)
+}
+
+/// The line of a journal that is damaged at this place. The only error is want of memory.
+pub fn damage_line(alloc: Global, place: u64) -> Result<Vec<u8>, AllocError>
+    ensures { IfOk result (λ line. line.items ≡ damage_line place) }
+{
+    let mut line = b"damaged at ".to_vec(alloc)?;
+    print_u128(u128::from(place), &mut line)?;
+    line.push(b'\n')?;
     Ok(line)
 }

@@ -1,4 +1,4 @@
-//! The program: its words, its files and its streams.
+//! The program: its words, its files, its streams and its disk.
 #![tactic(auto)]
 
 mod check;

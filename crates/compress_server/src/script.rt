@@ -1,18 +1,22 @@
-//! The form `script`: one session over a roster.
+//! The form `script`: one session over a roster and a journal.
 
-ghost use Rattle.std.specs.Prelude.{◌≡◌};
+ghost use Rattle.std.specs.Prelude.{◌≡◌, false};
+ghost use Rattle.outside.specs.Disk.{IsSettled};
 ghost use Rattle.outside.specs.Faults.{Rose};
-ghost use Rattle.compress_server.specs.Script.{ScriptEnds};
+ghost use Rattle.command_types.specs.History.{end_of};
+ghost use Rattle.house.specs.House.{figures_of, is_stopped};
+ghost use Rattle.compress_server.specs.Script.{ScriptEnds, script_end};
 ghost use Rattle.compress_server.specs.declared.load.FileRole.{FileRole as Role};
-ghost use Rattle.compress_server.specs.Ending.{ScriptRuns};
+ghost use Rattle.compress_server.specs.Housed.{disk_of};
+ghost use Rattle.compress_server.specs.Ending.{JournalRuns, ScriptRuns};
 
 use crate::ending::End;
 use crate::load::{LoadFault, load_roster};
 use command_types::Roster;
 use cycle_lock::Turns;
-use cycle_states::{Machine, PlainDesk};
-use outside::{Files, Sink, Source};
-use parallel_solver::OpenGate;
+use house::{House, OpenFault};
+use outside::{Disk, Files, Sink, Source};
+use parallel_solver::Gate;
 use path_solver::PathSolver;
 use session::{SessionEnd, serve_session};
 use std::alloc::Global;
@@ -22,27 +26,28 @@ use std::thread::Threads;
 // How many workers solve.
 const WORKERS: u32 = 4;
 
-// Serves one session under seat 0, over a new machine of this roster. Where memory for the machine or the session's
-// buffers is not to be had, nothing is read or written.
-fn serve_script<R: Threads + Wait + Sync, S: Source, K: Sink>(
+// Serves one session under seat 0, over a house that was just opened. Where memory for the lock or the session's buffers
+// is not to be had, nothing is read or written.
+fn serve_house<R: Threads + Wait + Sync, D: Disk + Send, S: Source, K: Sink, G: Gate>(
     rt: &R,
     alloc: Global,
     roster: &Roster,
+    house: House<D>,
     input: &mut S,
     output: &mut K,
-) -> SessionEnd
-    ensures ends { ScriptEnds roster.now (S.flow input.old) (S.flow input.new) (K.taken output.old) (K.taken output.new) result }
-    ensures source_fault { result ≡ SessionEnd.SourceFault → Rose (S.faults input.old) (S.faults input.new) }
-    ensures sink_fault { result ≡ SessionEnd.SinkFault → Rose (K.faults output.old) (K.faults output.new) }
+    gate: &G,
+) -> (SessionEnd, House<D>)
+    requires opened { end_of house.history ≡ house.opening }
+    requires roster { roster.now ≡ house.history.base.state.roster }
+    requires running { is_stopped house ≡ false }
+    ensures ends { ScriptEnds house result.1 (S.flow input.old) (S.flow input.new) (K.taken output.old) (K.taken output.new) result.0 }
+    ensures figures { figures_of result.1 ≡ figures_of house }
+    ensures source_fault { result.0 ≡ SessionEnd.SourceFault → Rose (S.faults input.old) (S.faults input.new) }
+    ensures sink_fault { result.0 ≡ SessionEnd.SinkFault → Rose (K.faults output.old) (K.faults output.new) }
 {
-    let Ok(copy) = roster.copy() else {
-        return SessionEnd::Memory;
-    };
-    let Ok(machine) = Machine::new(alloc, copy) else {
-        return SessionEnd::Memory;
-    };
-    let Ok((turns, pass)) = Turns::new(alloc, PlainDesk::new(alloc, machine)) else {
-        return SessionEnd::Memory;
+    let (turns, pass) = match Turns::new(alloc, house) {
+        Ok(lock) => lock,
+        Err(house) => return (SessionEnd::Memory, house),
     };
     let (end, pass) = serve_session(
         rt,
@@ -50,40 +55,85 @@ fn serve_script<R: Threads + Wait + Sync, S: Source, K: Sink>(
         &turns,
         WORKERS,
         &PathSolver::new(alloc),
-        &OpenGate,
+        gate,
         roster,
         pass,
         input,
         output,
     );
-    turns.close(rt, pass);
-    end
+    (end, turns.close(rt, pass))
 }
 
-/// Reads the roster of the file with this name, and serves one session over it. No file changes.
-pub fn run_script<R: Threads + Wait + Sync, F: Files, S: Source, K: Sink>(
-    rt: &R,
-    alloc: Global,
-    files: &mut F,
-    roster: &str,
-    input: &mut S,
-    output: &mut K,
-) -> End
-    ensures runs { ScriptRuns (F.folder files.old) roster.now (S.flow input.old) (S.flow input.new) (K.taken output.old) (K.taken output.new) result }
-    ensures stays { F.folder files.new ≡ F.folder files.old }
-    ensures source_fault { result ≡ End.SourceFault → Rose (S.faults input.old) (S.faults input.new) }
-    ensures sink_fault { result ≡ End.SinkFault → Rose (K.faults output.old) (K.faults output.new) }
-    ensures file_fault { (role : Role) → result ≡ End.Unloaded (LoadFault.Files role) → Rose (F.faults files.old) (F.faults files.new) }
+// The end of a script, by its session's end and by whether a fault of the disk stopped the house.
+fn end_of_script(end: SessionEnd, stopped: bool) -> End
+    ensures { result ≡ script_end end stopped }
 {
-    let roster = match load_roster(alloc, files, roster) {
-        Ok(roster) => roster,
-        Err(fault) => return End::Unloaded(fault),
-    };
-    match serve_script(rt, alloc, &roster, input, output) {
+    match end {
+        SessionEnd::Ended if stopped => End::Stopped,
         SessionEnd::Ended => End::Done,
         SessionEnd::SourceFault => End::SourceFault,
         SessionEnd::SinkFault => End::SinkFault,
         SessionEnd::Limit => End::Limit,
         SessionEnd::Memory => End::Memory,
+    }
+}
+
+// Opens a house of this roster on the journal of this name, and serves one session over it. The disk comes back.
+fn run_journal<R: Threads + Wait + Sync, S: Source, K: Sink, D: Disk + Send, G: Gate>(
+    rt: &R,
+    alloc: Global,
+    roster: &Roster,
+    journal: &str,
+    input: &mut S,
+    output: &mut K,
+    disk: D,
+    gate: &G,
+) -> (End, D)
+    requires { IsSettled (D.history disk) }
+    ensures runs { JournalRuns roster.now (S.flow input.old) (S.flow input.new) (K.taken output.old) (K.taken output.new) (disk_of (D.history disk) (D.fault_count disk)) (disk_of (D.history result.1) (D.fault_count result.1)) result.0 }
+    ensures source_fault { result.0 ≡ End.SourceFault → Rose (S.faults input.old) (S.faults input.new) }
+    ensures sink_fault { result.0 ≡ End.SinkFault → Rose (K.faults output.old) (K.faults output.new) }
+{
+    let mut disk = disk;
+    if disk.attach(journal).is_err() {
+        return (End::DiskFault, disk);
+    }
+    let Ok(copy) = roster.copy() else {
+        return (End::Memory, disk);
+    };
+    let house = match House::new(alloc, copy, disk) {
+        Ok(house) => house,
+        Err((OpenFault::Damaged { offset }, disk)) => return (End::Damaged(offset), disk),
+        Err((OpenFault::DiskFault, disk)) => return (End::DiskFault, disk),
+        Err((OpenFault::Memory, disk)) => return (End::Memory, disk),
+    };
+    let (end, house) = serve_house(rt, alloc, roster, house, input, output, gate);
+    let stopped = house.is_stopped();
+    (end_of_script(end, stopped), house.end())
+}
+
+/// Reads the roster of the file with this name, opens the journal with that one, and serves one session. No file changes but
+/// the journal, whose disk comes back.
+pub fn run_script<R: Threads + Wait + Sync, F: Files, S: Source, K: Sink, D: Disk + Send, G: Gate>(
+    rt: &R,
+    alloc: Global,
+    files: &mut F,
+    roster: &str,
+    journal: &str,
+    input: &mut S,
+    output: &mut K,
+    disk: D,
+    gate: &G,
+) -> (End, D)
+    requires { IsSettled (D.history disk) }
+    ensures runs { ScriptRuns (F.folder files.old) roster.now (S.flow input.old) (S.flow input.new) (K.taken output.old) (K.taken output.new) (disk_of (D.history disk) (D.fault_count disk)) (disk_of (D.history result.1) (D.fault_count result.1)) result.0 }
+    ensures stays { F.folder files.new ≡ F.folder files.old }
+    ensures source_fault { result.0 ≡ End.SourceFault → Rose (S.faults input.old) (S.faults input.new) }
+    ensures sink_fault { result.0 ≡ End.SinkFault → Rose (K.faults output.old) (K.faults output.new) }
+    ensures file_fault { (role : Role) → result.0 ≡ End.Unloaded (LoadFault.Files role) → Rose (F.faults files.old) (F.faults files.new) }
+{
+    match load_roster(alloc, files, roster) {
+        Ok(roster) => run_journal(rt, alloc, &roster, journal, input, output, disk, gate),
+        Err(fault) => (End::Unloaded(fault), disk),
     }
 }

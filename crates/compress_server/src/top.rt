@@ -1,89 +1,124 @@
 //! The program, over whatever files and streams it is given.
 
-ghost use Rattle.std.specs.Prelude.{◌≡◌, ◌≢◌, ◌⊎◌, ◌==◌, ◌↔◌, IsTrue, IsNone, map, [], ◌∷◌, Some, string_bytes};
-ghost use Rattle.std.specs.List.{list_any};
+ghost use Rattle.std.specs.Prelude.{◌≡◌, map, string_bytes};
+ghost use Rattle.outside.specs.Disk.{IsSettled};
 ghost use Rattle.outside.specs.Faults.{Rose};
-ghost use Rattle.command_types.specs.Roster.{Rows};
-ghost use Rattle.command_types.specs.declared.file_fault.FileFault.{FileFault as Fault};
+ghost use Rattle.compress_server.specs.declared.ending.End.{End as Ending};
 ghost use Rattle.compress_server.specs.declared.load.FileRole.{FileRole as Role};
-ghost use Rattle.compress_server.specs.Words.{form_of, OnScript, OnCheck, OnSolve, IsScriptAnd, IsCheckAnd};
-ghost use Rattle.compress_server.specs.Files.{SaysRoster, IsFirstFault, AreReadBefore};
-ghost use Rattle.compress_server.specs.Faults.{fault_line};
-ghost use Rattle.compress_server.specs.Run.{status_line, IsReported, IsWhole, IsStopped, IsAtLimit, IsUnwritten};
-ghost use Rattle.compress_server.specs.Check.{SaysYes, SaysNo, SaysFront};
-ghost use Rattle.compress_server.specs.Solve.{Proposes, ProposesFront};
-ghost use Rattle.compress_server.specs.Ending.{OverRoster, Runs};
+ghost use Rattle.compress_server.specs.Words.{form_of};
+ghost use Rattle.compress_server.specs.Faults.{fault_line, damage_line};
+ghost use Rattle.compress_server.specs.Run.{IsReported};
+ghost use Rattle.compress_server.specs.Housed.{disk_of};
+ghost use Rattle.compress_server.specs.Ending.{Runs, IsCounted};
+ghost use Rattle.compress_server.specs.Telling.{IsLine, TellsEnd};
 
 use crate::check::run_check;
 use crate::ending::End;
-use crate::faults::fault_line;
+use crate::faults::{damage_line, fault_line};
 use crate::load::{FileRole, LoadFault};
 use crate::script::run_script;
 use crate::solve::run_solve;
 use crate::words::{Form, read_words};
 use command_types::FileFault;
 use outside::sink::write_all;
-use outside::{Files, Sink, Source};
+use outside::{Disk, Files, Sink, Source};
+use parallel_solver::Gate;
 use std::alloc::Global;
 use std::sync::Wait;
 use std::thread::Threads;
 
-// Writes the line of a status. A fault of the errors changes nothing.
-fn report<E: Sink>(errors: &mut E, line: &[u8])
-    ensures { IsReported (E.taken errors.old) (E.taken errors.new) (E.faults errors.old) (E.faults errors.new) line.now }
+// Writes a line, and answers the status. A fault of the errors changes nothing.
+fn tell<E: Sink>(errors: &mut E, status: u8, line: &[u8]) -> u8
+    ensures status { result ≡ status }
+    ensures line { IsReported (E.taken errors.old) (E.taken errors.new) (E.faults errors.old) (E.faults errors.new) line.now }
 {
     let _ = write_all(errors, line);
+    status
 }
 
 // Writes the line of a file's fault, and answers its status; where there is no memory for the line, that is told.
-fn report_fault<E: Sink>(alloc: Global, errors: &mut E, role: FileRole, fault: FileFault) -> u8
-    ensures status { (result ≡ 3) ⊎ (result ≡ 9) }
-    ensures fault { result ≡ 3 → IsReported (E.taken errors.old) (E.taken errors.new) (E.faults errors.old) (E.faults errors.new) (fault_line role fault) }
-    ensures memory { result ≡ 9 → IsReported (E.taken errors.old) (E.taken errors.new) (E.faults errors.old) (E.faults errors.new) (status_line 9) }
+fn tell_fault<E: Sink>(alloc: Global, errors: &mut E, role: FileRole, fault: FileFault) -> u8
+    ensures { IsLine (E.taken errors.old) (E.taken errors.new) (E.faults errors.old) (E.faults errors.new) 3 (fault_line role fault) result }
 {
-    let Ok(line) = fault_line(alloc, role, fault) else {
-        report(errors, b"memory\n");
-        return 9;
-    };
-    report(errors, &line);
-    3
+    match fault_line(alloc, role, fault) {
+        Ok(line) => tell(errors, 3, &line),
+        Err(_) => tell(errors, 9, b"memory\n"),
+    }
+}
+
+// Writes the line of a damaged journal, and answers its status; where there is no memory for the line, that is told.
+fn tell_damage<E: Sink>(alloc: Global, errors: &mut E, place: u64) -> u8
+    ensures { IsLine (E.taken errors.old) (E.taken errors.new) (E.faults errors.old) (E.faults errors.new) 7 (damage_line place) result }
+{
+    match damage_line(alloc, place) {
+        Ok(line) => tell(errors, 7, &line),
+        Err(_) => tell(errors, 9, b"memory\n"),
+    }
+}
+
+// Writes the line of an end, if it has one, and answers its status.
+fn tell_end<E: Sink>(alloc: Global, errors: &mut E, end: End) -> u8
+    ensures { TellsEnd (E.taken errors.old) (E.taken errors.new) (E.faults errors.old) (E.faults errors.new) end result }
+{
+    match end {
+        End::Done => 0,
+        End::No => 1,
+        End::BadWords => tell(errors, 2, b"bad words\n"),
+        End::Unloaded(LoadFault::Faulty(role, fault)) => tell_fault(alloc, errors, role, fault),
+        End::Unloaded(LoadFault::Files(_)) => tell(errors, 11, b"file fault\n"),
+        End::Unloaded(LoadFault::Memory) => tell(errors, 9, b"memory\n"),
+        End::Damaged(place) => tell_damage(alloc, errors, place),
+        End::DiskFault => tell(errors, 6, b"disk fault\n"),
+        End::Stopped => tell(errors, 6, b"disk fault\n"),
+        End::SourceFault => tell(errors, 4, b"source fault\n"),
+        End::SinkFault => tell(errors, 5, b"sink fault\n"),
+        End::Limit => tell(errors, 8, b"session limit\n"),
+        End::Memory => tell(errors, 9, b"memory\n"),
+    }
 }
 
 // Does what the words ask for.
-fn run_form<R: Threads + Wait + Sync, F: Files, S: Source, K: Sink>(
+fn run_form<R: Threads + Wait + Sync, F: Files, S: Source, K: Sink, D: Disk + Send, G: Gate>(
     rt: &R,
     alloc: Global,
     words: &[String],
     files: &mut F,
     input: &mut S,
     output: &mut K,
-) -> End
-    ensures runs { Runs (F.folder files.old) (form_of (map string_bytes words.now)) (S.flow input.old) (S.flow input.new) (K.taken output.old) (K.taken output.new) result }
-    ensures words { (result ≡ End.BadWords) ↔ IsNone (form_of (map string_bytes words.now)) }
+    disk: D,
+    gate: &G,
+) -> (End, D)
+    requires { IsSettled (D.history disk) }
+    ensures runs { Runs (F.folder files.old) (form_of (map string_bytes words.now)) (S.flow input.old) (S.flow input.new) (K.taken output.old) (K.taken output.new) (disk_of (D.history disk) (D.fault_count disk)) (disk_of (D.history result.1) (D.fault_count result.1)) result.0 }
     ensures stays { F.folder files.new ≡ F.folder files.old }
-    ensures source_fault { result ≡ End.SourceFault → Rose (S.faults input.old) (S.faults input.new) }
-    ensures sink_fault { result ≡ End.SinkFault → Rose (K.faults output.old) (K.faults output.new) }
-    ensures file_fault { (role : Role) → result ≡ End.Unloaded (LoadFault.Files role) → Rose (F.faults files.old) (F.faults files.new) }
+    ensures source_fault { result.0 ≡ End.SourceFault → Rose (S.faults input.old) (S.faults input.new) }
+    ensures sink_fault { result.0 ≡ End.SinkFault → Rose (K.faults output.old) (K.faults output.new) }
+    ensures file_fault { (role : Role) → result.0 ≡ End.Unloaded (LoadFault.Files role) → Rose (F.faults files.old) (F.faults files.new) }
 {
     match read_words(words) {
-        None => End::BadWords,
-        Some(Form::Script { roster, .. }) => run_script(rt, alloc, files, roster, input, output),
-        Some(Form::Check { market, proposal }) => {
-            run_check(alloc, files, &market, proposal, output)
+        None => (End::BadWords, disk),
+        Some(Form::Script { roster, journal }) => {
+            run_script(rt, alloc, files, roster, journal, input, output, disk, gate)
         }
-        Some(Form::Solve { market }) => run_solve(alloc, files, &market, output),
+        Some(Form::Check { market, proposal }) => {
+            (run_check(alloc, files, &market, proposal, output), disk)
+        }
+        Some(Form::Solve { market }) => (run_solve(alloc, files, &market, output), disk),
     }
 }
 
 /// Runs the program by its words:
 ///
-/// - `script ROSTER JOURNAL`: one session, under seat 0, over the roster of a file. No journal is touched.
+/// - `script ROSTER JOURNAL`: one session, under seat 0, over the roster of a file, on the history that the journal keeps;
+///   each of its changes is in the journal before it is answered.
 /// - `check ROSTER TRADES MODE PROPOSAL`: whether a proposal is right for a market; `yes`, or `no`, the first product
 ///   that fails and why.
 /// - `solve ROSTER TRADES MODE`: a proposal for a market.
 ///
 /// MODE is `conservative` or `hybrid`, and no other word begins with a dash. The files are read in the order of the
-/// words of the form, the proposal last, and the first that can't be had ends the call. It answers the status:
+/// words of the form, the proposal last, and the first that can't be had ends the call. The disk, which a script attaches to
+/// its journal, has to be settled: a crash now would leave what a read gives. It is handed back in each case. A worker passes
+/// the gate before it solves a problem of a PROPOSE. It answers the status:
 ///
 /// - 0: all was done and written: a script's input was read to its end, or a BYE was accepted; a check says yes;
 /// - 1: a check says no;
@@ -91,13 +126,23 @@ fn run_form<R: Threads + Wait + Sync, F: Files, S: Source, K: Sink>(
 /// - 3: a file has a fault, and the files before it have none;
 /// - 4: the input of a script failed; its whole lines up to there are replied to;
 /// - 5: the output failed; a front of what was to be written is there;
+/// - 6: the disk failed: at the opening, and nothing was read or written; or in the session, which ended as with 0;
+/// - 7: the journal is damaged at a place that is told, and stays as it is;
 /// - 8: a script's session took 2^30 bytes; its whole lines up to there are replied to;
 /// - 9: memory was not to be had;
 /// - 11: the files failed at one of them, and the files before it have no fault.
 ///
-/// At 2, 3, 9 and 11 nothing was read from the input or written to the output. A check and a solve read no input. For
-/// each status but 0 and 1 one line goes to the errors.
-pub fn run<R: Threads + Wait + Sync, F: Files, S: Source, K: Sink, E: Sink>(
+/// At 2, 3, 7, 9 and 11 nothing was read from the input or written to the output. A check and a solve read no input, and
+/// leave the disk alone. For each status but 0 and 1 one line goes to the errors.
+pub fn run<
+    R: Threads + Wait + Sync,
+    F: Files,
+    S: Source,
+    K: Sink,
+    E: Sink,
+    D: Disk + Send,
+    G: Gate,
+>(
     rt: &R,
     alloc: Global,
     words: &[String],
@@ -105,71 +150,15 @@ pub fn run<R: Threads + Wait + Sync, F: Files, S: Source, K: Sink, E: Sink>(
     input: &mut S,
     output: &mut K,
     errors: &mut E,
-) -> u8
-    ensures statuses { IsTrue (list_any (λ status. result == status) (0 ∷ 1 ∷ 2 ∷ 3 ∷ 4 ∷ 5 ∷ 8 ∷ 9 ∷ 11 ∷ [])) }
-    ensures words { (result ≡ 2) ↔ IsNone (form_of (map string_bytes words.now)) }
-
-    // A script.
-    ensures whole { result ≡ 0 → OnScript (form_of (map string_bytes words.now)) (λ roster. OverRoster (F.folder files.old) roster (λ rows. IsWhole rows (S.flow input.old) (S.flow input.new) (K.taken output.old) (K.taken output.new))) }
-    ensures stopped { result ≡ 4 → IsScriptAnd (form_of (map string_bytes words.now)) (λ roster. OverRoster (F.folder files.old) roster (λ rows. IsStopped rows (S.flow input.old) (S.flow input.new) (K.taken output.old) (K.taken output.new))) }
-    ensures unwritten { result ≡ 5 → OnScript (form_of (map string_bytes words.now)) (λ roster. OverRoster (F.folder files.old) roster (λ rows. IsUnwritten rows (S.flow input.old) (S.flow input.new) (K.taken output.old) (K.taken output.new))) }
-    ensures limit { result ≡ 8 → IsScriptAnd (form_of (map string_bytes words.now)) (λ roster. OverRoster (F.folder files.old) roster (λ rows. IsAtLimit rows (S.flow input.old) (S.flow input.new) (K.taken output.old) (K.taken output.new))) }
-
-    // A check.
-    ensures yes { result ≡ 0 → OnCheck (form_of (map string_bytes words.now)) (SaysYes (F.folder files.old) (K.taken output.old) (K.taken output.new)) }
-    ensures no { result ≡ 1 → IsCheckAnd (form_of (map string_bytes words.now)) (SaysNo (F.folder files.old) (K.taken output.old) (K.taken output.new)) }
-    ensures cut_verdict { result ≡ 5 → OnCheck (form_of (map string_bytes words.now)) (SaysFront (F.folder files.old) (K.taken output.old) (K.taken output.new)) }
-
-    // A solve.
-    ensures solved { result ≡ 0 → OnSolve (form_of (map string_bytes words.now)) (Proposes (F.folder files.old) (K.taken output.old) (K.taken output.new)) }
-    ensures cut_proposal { result ≡ 5 → OnSolve (form_of (map string_bytes words.now)) (ProposesFront (F.folder files.old) (K.taken output.old) (K.taken output.new)) }
-
-    // What failed, and what is told of it.
-    ensures faulty { result ≡ 3 → (role : Role) × (fault : Fault) × IsFirstFault (F.folder files.old) (form_of (map string_bytes words.now)) role fault × IsReported (E.taken errors.old) (E.taken errors.new) (E.faults errors.old) (E.faults errors.new) (fault_line role fault) }
-    ensures input_fault { result ≡ 4 → Rose (S.faults input.old) (S.faults input.new) }
-    ensures output_fault { result ≡ 5 → Rose (K.faults output.old) (K.faults output.new) }
-    ensures file_fault { result ≡ 11 → Rose (F.faults files.old) (F.faults files.new) }
-    ensures files_before { result ≡ 11 → (role : Role) × AreReadBefore (F.folder files.old) (form_of (map string_bytes words.now)) role }
-    ensures reported { result ≢ 3 → IsReported (E.taken errors.old) (E.taken errors.new) (E.faults errors.old) (E.faults errors.new) (status_line result) }
-
-    // What stays.
-    ensures unread { (result ≡ 2) ⊎ (result ≡ 3) ⊎ (result ≡ 9) ⊎ (result ≡ 11) → S.flow input.new ≡ S.flow input.old }
-    ensures untaken { (result ≡ 2) ⊎ (result ≡ 3) ⊎ (result ≡ 9) ⊎ (result ≡ 11) → K.taken output.new ≡ K.taken output.old }
-    ensures check_reads_no_input { OnCheck (form_of (map string_bytes words.now)) (λ market proposal. S.flow input.new ≡ S.flow input.old) }
-    ensures solve_reads_no_input { OnSolve (form_of (map string_bytes words.now)) (λ market. S.flow input.new ≡ S.flow input.old) }
+    disk: D,
+    gate: &G,
+) -> (u8, D)
+    requires { IsSettled (D.history disk) }
+    ensures ends { (end : Ending) × Runs (F.folder files.old) (form_of (map string_bytes words.now)) (S.flow input.old) (S.flow input.new) (K.taken output.old) (K.taken output.new) (disk_of (D.history disk) (D.fault_count disk)) (disk_of (D.history result.1) (D.fault_count result.1)) end
+        × TellsEnd (E.taken errors.old) (E.taken errors.new) (E.faults errors.old) (E.faults errors.new) end result.0
+        × IsCounted (Rose (F.faults files.old) (F.faults files.new)) (Rose (S.faults input.old) (S.faults input.new)) (Rose (K.faults output.old) (K.faults output.new)) end }
     ensures files { F.folder files.new ≡ F.folder files.old }
 {
-    match run_form(rt, alloc, words, files, input, output) {
-        End::Done => 0,
-        End::No => 1,
-        End::BadWords => {
-            report(errors, b"bad words\n");
-            2
-        }
-        End::Unloaded(LoadFault::Faulty(role, fault)) => report_fault(alloc, errors, role, fault),
-        End::Unloaded(LoadFault::Files(_)) => {
-            report(errors, b"file fault\n");
-            11
-        }
-        End::SourceFault => {
-            report(errors, b"source fault\n");
-            4
-        }
-        End::SinkFault => {
-            report(errors, b"sink fault\n");
-            5
-        }
-        End::Limit => {
-            report(errors, b"session limit\n");
-            8
-        }
-        End::Unloaded(LoadFault::Memory) => {
-            report(errors, b"memory\n");
-            9
-        }
-        End::Memory => {
-            report(errors, b"memory\n");
-            9
-        }
-    }
+    let (end, disk) = run_form(rt, alloc, words, files, input, output, disk, gate);
+    (tell_end(alloc, errors, end), disk)
 }

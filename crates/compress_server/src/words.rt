@@ -18,7 +18,7 @@ pub struct MarketFiles<'a> {
 /// What the program is to do, with the names of its files.
 #[derive(Clone, Copy)]
 pub enum Form<'a> {
-    /// One session over a roster. The journal is not touched yet.
+    /// One session over a roster and a journal.
     Script {
         roster: &'a str,
         journal: &'a str,

@@ -1,8 +1,12 @@
 //! The program over streams in memory: what it is given, and what it answers.
 
+ghost use Rattle.std.specs.Prelude.{Some, IfOk};
+ghost use Rattle.outside.specs.Disk.{IsSettled};
+
 use compress_server::run;
-use outside::{MemoryFiles, MemorySink, MemorySource, Sink, Source};
-use std::alloc::{AllocError, AllocGlobal};
+use outside::{MemoryDisk, MemoryFiles, MemorySink, MemorySource, Sink, Source};
+use parallel_solver::{Gate, OpenGate};
+use std::alloc::{AllocError, AllocGlobal, Global};
 use std::sync::Wait;
 use std::thread::Threads;
 
@@ -35,15 +39,28 @@ impl Ran {
     }
 }
 
-/// Runs these words over these files, each by its name, and over these streams. It gives the status, and what was told
-/// on the errors.
-pub fn run_over<R: Threads + Wait + Sync + AllocGlobal, S: Source, K: Sink>(
+/// A disk with room for a session.
+pub fn empty_disk(alloc: Global) -> Result<MemoryDisk, AllocError>
+    ensures { IfOk result (λ d. IsSettled (Some d.history)) }
+{
+    MemoryDisk::new(alloc, 1 << 20, 16384)
+}
+
+/// What a run over a disk left: the status, what was told on the errors, and the disk.
+pub type Left = (u8, MemorySink, MemoryDisk);
+
+/// Runs these words over these files, each by its name, over these streams, over this disk, and through this gate.
+pub fn run_through<R: Threads + Wait + Sync + AllocGlobal, S: Source, K: Sink, G: Gate>(
     rt: &R,
     of: &[&str],
     contents: &[(&str, &[u8])],
     source: &mut S,
     output: &mut K,
-) -> Result<(u8, MemorySink), AllocError> {
+    disk: MemoryDisk,
+    gate: &G,
+) -> Result<Left, AllocError>
+    requires { IsSettled (Some disk.history) }
+{
     let mut words = Vec::new(rt.alloc());
     for word in of {
         words.push(String::from_str(rt.alloc(), word)?)?;
@@ -53,7 +70,7 @@ pub fn run_over<R: Threads + Wait + Sync + AllocGlobal, S: Source, K: Sink>(
         files.put(name, bytes)?;
     }
     let mut errors = MemorySink::new(rt.alloc(), 256)?;
-    let status = run(
+    let (status, disk) = run(
         rt,
         rt.alloc(),
         &words,
@@ -61,7 +78,37 @@ pub fn run_over<R: Threads + Wait + Sync + AllocGlobal, S: Source, K: Sink>(
         source,
         output,
         &mut errors,
+        disk,
+        gate,
     );
+    Ok((status, errors, disk))
+}
+
+/// Runs these words over these files, each by its name, over these streams, and over this disk.
+pub fn run_on<R: Threads + Wait + Sync + AllocGlobal, S: Source, K: Sink>(
+    rt: &R,
+    of: &[&str],
+    contents: &[(&str, &[u8])],
+    source: &mut S,
+    output: &mut K,
+    disk: MemoryDisk,
+) -> Result<Left, AllocError>
+    requires { IsSettled (Some disk.history) }
+{
+    run_through(rt, of, contents, source, output, disk, &OpenGate)
+}
+
+/// Runs these words over these files, each by its name, over these streams, and over an empty disk. It gives the status,
+/// and what was told on the errors.
+pub fn run_over<R: Threads + Wait + Sync + AllocGlobal, S: Source, K: Sink>(
+    rt: &R,
+    of: &[&str],
+    contents: &[(&str, &[u8])],
+    source: &mut S,
+    output: &mut K,
+) -> Result<(u8, MemorySink), AllocError> {
+    let disk = empty_disk(rt.alloc())?;
+    let (status, errors, _disk) = run_on(rt, of, contents, source, output, disk)?;
     Ok((status, errors))
 }
 

@@ -1,0 +1,123 @@
+-- What a script comes to over its disk.
+use Rattle.std.proofs.Common.{◌≡◌, ◌∙◌, inl, inr, refl, sym, subst, ap, ℕ, ◌≤◌, Bool, true, false, List, Option, Some, None, is_some, arith}
+use Rattle.outside.specs.Disk.{History, IsSettled}
+use Rattle.outside.specs.Faults.{Rose}
+use Rattle.outside.specs.Flow.{Flow}
+use Rattle.journal_core.specs.Moments.{LeavesOnly}
+use Rattle.recovery.specs.StandsFor.{StandsFor}
+use Rattle.command_types.specs.declared.ask.Entry.{Entry}
+use Rattle.command_types.specs.declared.figures.Base.{Base}
+use Rattle.command_types.specs.declared.figures.Figures.{Figures}
+use Rattle.command_types.specs.declared.figures.JournalFigures.{JournalFigures}
+use Rattle.command_types.specs.History.{end_of}
+use Rattle.command_types.specs.Roster.{Rows}
+use Rattle.house.specs.House.{HouseView, figures_of, is_stopped, Keeps}
+use Rattle.house.specs.Opening.{IsOpened, FindsFault, StandsForNone}
+use Rattle.house.specs.declared.fault.OpenFault.{OpenFault}
+use Rattle.house.specs.declared.fault.OpenFault.TheVariants as opens
+use Rattle.house.specs.Storing.{ContentStandsFor, moment_of}
+use Rattle.house.proofs.OpeningFacts.{still_standing}
+use Rattle.session.specs.declared.serve.SessionEnd.{SessionEnd}
+use Rattle.session.specs.declared.serve.SessionEnd.TheVariants.{Ended, SourceFault, SinkFault, Limit, Memory}
+use Rattle.compress_server.specs.declared.ending.End.{End}
+use Rattle.compress_server.specs.declared.ending.End.TheVariants as script
+use Rattle.compress_server.specs.Housed.{DiskState, disk_of, IsHoused, IsUnopened, IsDamaged}
+use Rattle.compress_server.specs.Script.{ScriptEnds, script_end}
+use Rattle.compress_server.specs.Ending.{JournalRuns}
+use Rattle.compress_server.proofs.EndFacts.{rose_later}
+
+-- a disk on which nothing was written
+pub unopened_still : (rows : Rows) (o now : Option History) (n m : ℕ) → now ≡ o → IsSettled o → IsUnopened rows (disk_of o n) (disk_of now m)
+unopened_still rows o now n m same settled = record {
+  any_moment = λ entries stands. still_standing o now entries same settled stands;
+  untouched = λ none. same;
+}
+
+-- A house was asked for with a copy of the rows, on the disk once it was attached, which changes nothing.
+module _ (rows copy : Rows) (o mid : Option History) (before after : ℕ) (copied : copy ≡ rows) (same : mid ≡ o) (never_fell : before ≤ after) where
+  -- none was opened
+  pub unopened_later : (now : Option History) (n m : ℕ) → ((entries : List Entry) → ContentStandsFor mid entries → LeavesOnly mid now (λ image. StandsFor image entries))
+      → (StandsForNone copy mid → now ≡ mid) → IsUnopened rows (disk_of o n) (disk_of now m)
+  unopened_later now n m any untouched = record {
+    any_moment = λ entries stands. subst (λ (d : Option History). LeavesOnly d now (λ image. StandsFor image entries)) same (any entries (subst (λ (d : Option History). ContentStandsFor d entries) (sym same) stands));
+    untouched = λ none. untouched (subst (λ (d : Option History). StandsForNone copy d) (sym same) (subst (λ (r : Rows). StandsForNone r o) (sym copied) none)) ∙ same;
+  }
+
+  -- it is damaged
+  pub damaged_later : (now : Option History) (n m : ℕ) (fault : OpenFault) (place : ℕ) → fault ≡ opens.Damaged place → FindsFault copy mid fault → IsUnopened rows (disk_of o n) (disk_of now m) → now ≡ mid → IsDamaged rows (disk_of o n) (disk_of now m) place
+  damaged_later now n m fault place is found unopened stays = record {
+    found = subst (λ (r : Rows). FindsFault r o (opens.Damaged place)) copied (subst (λ (d : Option History). FindsFault copy d (opens.Damaged place)) same (subst (λ (f : OpenFault). FindsFault copy mid f) is found));
+    unopened = unopened;
+    same = stays ∙ same;
+  }
+
+  -- one was opened, and came back
+  pub housed_later : (v w : HouseView) (now : Option History) (count : ℕ) → IsOpened copy mid after v → Keeps v → Keeps w → figures_of w ≡ figures_of v → now ≡ w.disk → count ≡ w.faults → IsHoused rows (disk_of o before) (disk_of now count) v w
+  housed_later v w now count is first last figures disk faults = record {
+    opened = record {
+      base = (subst (λ (r : Rows). IsOpened r mid after v) copied is).base;
+      opening = is.opening;
+      stands = subst (λ (d : Option History). ContentStandsFor d v.history.entries) same is.stands;
+      running = is.running;
+      size = is.size;
+      tells = is.tells ∙ ap (λ (d : Option History). is_some d) same;
+      first_moment = is.first_moment ∙ ap (λ (d : Option History). moment_of d) same;
+      moment = is.moment;
+      counted = (omega (arith, never_fell, is.counted.0), is.counted.1);
+    };
+    kept_first = first;
+    kept = last;
+    figures = figures;
+    left_disk = λ i. record { history = disk i; faults = faults i };
+  }
+
+-- A house that was just opened: its history ends where it was opened, it has the rows, and it runs.
+module _ (rows : Rows) (o : Option History) (count : ℕ) (v : HouseView) (is : IsOpened rows o count v) where
+  pub at_opening : end_of v.history ≡ v.opening
+  at_opening =
+      let start : v.history.base.position ≡ 0 = ap (λ (b : Base). b.position) is.base in
+      omega (arith, start, is.opening)
+
+  pub has_rows : v.history.base.state.roster ≡ rows
+  has_rows = ap (λ (b : Base). b.state.roster) is.base
+
+  pub runs_yet : is_stopped v ≡ false
+  runs_yet = ap (λ (k : Option Entry). is_some k) is.running
+
+abbrev journal_faults : Option JournalFigures → ℕ
+journal_faults None = 0
+journal_faults (Some journal) = journal.faults
+
+-- where a house is stopped, the disk's count has risen since the disk came in
+risen : (rows : Rows) (disk left : DiskState) (v w : HouseView) → IsHoused rows disk left v w → is_stopped w ≡ true → Rose disk.faults left.faults
+risen rows disk left v w h stopped =
+    let counted : w.journal.faults ≡ v.faults = ap (λ (f : Figures). journal_faults f.journal) h.figures ∙ h.opened.counted.1 in
+    let since : Rose v.faults w.faults = subst (λ n. Rose n w.faults) counted (h.kept.stopped stopped) in
+    subst (λ n. Rose disk.faults n) (sym (ap (λ (d : DiskState). d.faults) h.left_disk)) (rose_later disk.faults v.faults w.faults h.opened.counted.0 since)
+
+module _ (rows : Rows) (disk left : DiskState) (v w : HouseView) (housed : IsHoused rows disk left v w) (opened flow : Option Flow) (begun taken : Option (List ℕ)) where
+  -- a session over the house is a script over the disk
+  pub journal_runs : (end : SessionEnd) (stopped : Bool) → stopped ≡ is_stopped w → ScriptEnds v w opened flow begun taken end → JournalRuns rows opened flow begun taken disk left (script_end end stopped)
+  journal_runs Ended false is ends = (v, w, housed, (sym is, ends))
+  journal_runs Ended true is ends = ((v, w, housed, (sym is, ends)), risen rows disk left v w housed (sym is))
+  journal_runs SourceFault stopped is ends = (v, w, housed, ends)
+  journal_runs SinkFault stopped is ends = (v, w, housed, ends)
+  journal_runs Limit stopped is ends = (v, w, housed, ends)
+  journal_runs Memory stopped is (same, none_taken, still) = (same, none_taken, inr (v, w, housed, still))
+
+-- the end that a session's end was
+pub source_end : (end : SessionEnd) (stopped : Bool) → script_end end stopped ≡ script.SourceFault → end ≡ SourceFault
+source_end Ended false e = absurd cc
+source_end Ended true e = absurd cc
+source_end SourceFault stopped e = refl
+source_end SinkFault stopped e = absurd cc
+source_end Limit stopped e = absurd cc
+source_end Memory stopped e = absurd cc
+
+pub sink_end : (end : SessionEnd) (stopped : Bool) → script_end end stopped ≡ script.SinkFault → end ≡ SinkFault
+sink_end Ended false e = absurd cc
+sink_end Ended true e = absurd cc
+sink_end SourceFault stopped e = absurd cc
+sink_end SinkFault stopped e = refl
+sink_end Limit stopped e = absurd cc
+sink_end Memory stopped e = absurd cc
