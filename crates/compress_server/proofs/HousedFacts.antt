@@ -1,5 +1,5 @@
 -- What a script comes to over its disk.
-use Rattle.std.proofs.Common.{◌≡◌, ◌∙◌, inl, inr, refl, sym, subst, ap, ℕ, ◌≤◌, Bool, true, false, List, Option, Some, None, is_some, arith}
+use Rattle.std.proofs.Common.{◌≡◌, ◌∙◌, ◌⊎◌, inl, inr, refl, sym, subst, ap, ℕ, ◌≤◌, Bool, true, false, List, Option, Some, None, is_some, arith}
 use Rattle.outside.specs.Disk.{History, IsSettled}
 use Rattle.outside.specs.Faults.{Rose}
 use Rattle.outside.specs.Flow.{Flow}
@@ -10,21 +10,24 @@ use Rattle.command_types.specs.declared.figures.Base.{Base}
 use Rattle.command_types.specs.declared.figures.Figures.{Figures}
 use Rattle.command_types.specs.declared.figures.JournalFigures.{JournalFigures}
 use Rattle.command_types.specs.History.{end_of}
-use Rattle.command_types.specs.Roster.{Rows}
-use Rattle.house.specs.House.{HouseView, figures_of, is_stopped, Keeps}
+use Rattle.command_types.specs.Machine.{empty_state}
+use Rattle.command_types.specs.Roster.{Rows, IsRoster}
+use Rattle.house.specs.House.{HouseView, figures_of, is_stopped, bytes_of, Keeps}
 use Rattle.house.specs.Opening.{IsOpened, FindsFault, StandsForNone}
 use Rattle.house.specs.declared.fault.OpenFault.{OpenFault}
 use Rattle.house.specs.declared.fault.OpenFault.TheVariants as opens
-use Rattle.house.specs.Storing.{ContentStandsFor, moment_of}
+use Rattle.house.specs.Storing.{ContentStandsFor, AreOnDisk, LeavesEntries, StandsForFront, StandsForKept, moment_of}
+use Rattle.house.proofs.JournalFacts.{stored_stand}
 use Rattle.house.proofs.OpeningFacts.{still_standing}
 use Rattle.session.specs.declared.serve.SessionEnd.{SessionEnd}
 use Rattle.session.specs.declared.serve.SessionEnd.TheVariants.{Ended, SourceFault, SinkFault, Limit, Memory}
 use Rattle.compress_server.specs.declared.ending.End.{End}
 use Rattle.compress_server.specs.declared.ending.End.TheVariants as script
-use Rattle.compress_server.specs.Housed.{DiskState, disk_of, IsHoused, IsUnopened, IsDamaged}
+use Rattle.compress_server.specs.Housed.{DiskState, disk_of, AtAnyMoment, IsHoused, IsUnopened, IsDamaged}
 use Rattle.compress_server.specs.Script.{ScriptEnds, script_end}
 use Rattle.compress_server.specs.Ending.{JournalRuns}
 use Rattle.compress_server.proofs.EndFacts.{rose_later}
+use Rattle.compress_server.proofs.CycleFacts.{keeps_laws}
 
 -- a disk on which nothing was written
 pub unopened_still : (rows : Rows) (o now : Option History) (n m : ℕ) → now ≡ o → IsSettled o → IsUnopened rows (disk_of o n) (disk_of now m)
@@ -32,6 +35,67 @@ unopened_still rows o now n m same settled = record {
   any_moment = λ entries stands. still_standing o now entries same settled stands;
   untouched = λ none. same;
 }
+
+-- ---- what a house keeps, of its disk
+
+content_stands : (since opening : ℕ) (o : Option History) (size : ℕ) (entries : List Entry) (kept : Option Entry) → AreOnDisk since opening o size entries kept → kept ≡ None → ContentStandsFor o entries
+content_stands since opening None size entries kept on none = tt
+content_stands since opening (Some h) size entries kept on none = stored_stand h size entries (on.stored none)
+
+moments_left : (o : Option History) (opening : ℕ) (now : Option History) (size : ℕ) (entries : List Entry) (kept : Option Entry) → is_some now ≡ is_some o → AreOnDisk (moment_of o) opening now size entries kept
+    → AtAnyMoment o now (λ image. StandsForFront opening entries image ⊎ StandsForKept entries kept image)
+moments_left None opening None size entries kept tells on = refl
+moments_left None opening (Some k) size entries kept tells on = absurd cc
+moments_left (Some h) opening None size entries kept tells on = absurd cc
+moments_left (Some h) opening (Some k) size entries kept tells on = (on.later, on.each)
+
+abbrev journal_in : JournalFigures → Option JournalFigures → JournalFigures
+journal_in other None = other
+journal_in other (Some journal) = journal
+
+-- A house was opened with these rows on a disk, and came back with the same figures.
+module _ (rows : Rows) (o now : Option History) (before after count : ℕ) (roster : IsRoster rows) (v w : HouseView) (is : IsOpened rows o after v) (never_fell : before ≤ after)
+    (first : Keeps v) (last : Keeps w) (figures : figures_of w ≡ figures_of v) (disk : now ≡ w.disk) (faults : count ≡ w.faults) where
+  same_journal : w.journal ≡ v.journal
+  same_journal = ap (λ (f : Figures). journal_in w.journal f.journal) figures
+
+  same_opening : w.opening ≡ v.opening
+  same_opening = ap (λ (f : Figures). f.opening) figures
+
+  since : w.journal.first_moment ≡ moment_of o
+  since = ap (λ (j : JournalFigures). j.first_moment) same_journal ∙ is.first_moment
+
+  tells_now : is_some w.disk ≡ is_some o
+  tells_now = last.tells ∙ ap (λ (j : JournalFigures). j.tells) same_journal ∙ is.tells
+
+  on_disk : AreOnDisk (moment_of o) v.opening w.disk (bytes_of w) w.history.entries w.kept
+  on_disk = subst (λ n. AreOnDisk (moment_of o) n w.disk (bytes_of w) w.history.entries w.kept) same_opening
+      (subst (λ n. AreOnDisk n w.opening w.disk (bytes_of w) w.history.entries w.kept) since last.on_disk)
+
+  left_at_any_moment : AtAnyMoment o w.disk (λ image. StandsForFront v.opening w.history.entries image ⊎ StandsForKept w.history.entries w.kept image)
+  left_at_any_moment = moments_left o v.opening w.disk (bytes_of w) w.history.entries w.kept tells_now on_disk
+
+  same_base : w.history.base.state ≡ empty_state rows
+  same_base = ap (λ (f : Figures). f.base.state) figures ∙ ap (λ (b : Base). b.state) is.base
+
+  faults_rose : is_stopped w ≡ true → Rose before count
+  faults_rose stopped =
+      let counted : w.journal.faults ≡ v.faults = ap (λ (j : JournalFigures). j.faults) same_journal ∙ is.counted.1 in
+      let later : Rose v.faults w.faults = subst (λ n. Rose n w.faults) counted (last.stopped stopped) in
+      subst (λ n. Rose before n) (sym faults) (rose_later before v.faults w.faults (omega (arith, never_fell, is.counted.0)) later)
+
+  housed : IsOpened rows o before v → IsHoused rows (disk_of o before) (disk_of now count) v w
+  housed opened = record {
+    opened = opened;
+    figures = figures;
+    legal_first = first.legal;
+    legal = last.legal;
+    stands = λ none. subst (λ (d : Option History). ContentStandsFor d w.history.entries) (sym disk) (content_stands w.journal.first_moment w.opening w.disk (bytes_of w) w.history.entries w.kept last.on_disk none);
+    leaves = λ none. subst (λ (d : Option History). LeavesEntries d w.history.entries) (sym disk) (last.leaves none);
+    any_moment = subst (λ (d : Option History). AtAnyMoment o d (λ image. StandsForFront v.opening w.history.entries image ⊎ StandsForKept w.history.entries w.kept image)) (sym disk) left_at_any_moment;
+    stopped = faults_rose;
+    cycles = keeps_laws rows w.history roster same_base last.legal;
+  }
 
 -- A house was asked for with a copy of the rows, on the disk once it was attached, which changes nothing.
 module _ (rows copy : Rows) (o mid : Option History) (before after : ℕ) (copied : copy ≡ rows) (same : mid ≡ o) (never_fell : before ≤ after) where
@@ -51,25 +115,35 @@ module _ (rows copy : Rows) (o mid : Option History) (before after : ℕ) (copie
     same = stays ∙ same;
   }
 
-  -- one was opened, and came back
-  pub housed_later : (v w : HouseView) (now : Option History) (count : ℕ) → IsOpened copy mid after v → Keeps v → Keeps w → figures_of w ≡ figures_of v → now ≡ w.disk → count ≡ w.faults → IsHoused rows (disk_of o before) (disk_of now count) v w
-  housed_later v w now count is first last figures disk faults = record {
-    opened = record {
-      base = (subst (λ (r : Rows). IsOpened r mid after v) copied is).base;
-      opening = is.opening;
-      stands = subst (λ (d : Option History). ContentStandsFor d v.history.entries) same is.stands;
-      running = is.running;
-      size = is.size;
-      tells = is.tells ∙ ap (λ (d : Option History). is_some d) same;
-      first_moment = is.first_moment ∙ ap (λ (d : Option History). moment_of d) same;
-      moment = is.moment;
-      counted = (omega (arith, never_fell, is.counted.0), is.counted.1);
-    };
-    kept_first = first;
-    kept = last;
-    figures = figures;
-    left_disk = λ i. record { history = disk i; faults = faults i };
+  -- one was opened, as on the disk that came in
+  opened_later : (v : HouseView) → IsOpened copy mid after v → IsOpened rows o after v
+  opened_later v is = record {
+    base = (subst (λ (r : Rows). IsOpened r mid after v) copied is).base;
+    opening = is.opening;
+    stands = subst (λ (d : Option History). ContentStandsFor d v.history.entries) same is.stands;
+    running = is.running;
+    size = is.size;
+    tells = is.tells ∙ ap (λ (d : Option History). is_some d) same;
+    first_moment = is.first_moment ∙ ap (λ (d : Option History). moment_of d) same;
+    moment = is.moment;
+    counted = is.counted;
   }
+
+  -- and came back
+  pub housed_later : IsRoster rows → (v w : HouseView) (now : Option History) (count : ℕ) → IsOpened copy mid after v → Keeps v → Keeps w → figures_of w ≡ figures_of v → now ≡ w.disk → count ≡ w.faults → IsHoused rows (disk_of o before) (disk_of now count) v w
+  housed_later roster v w now count is first last figures disk faults =
+      let opened = opened_later v is in
+      housed rows o now before after count roster v w opened never_fell first last figures disk faults (record {
+        base = opened.base;
+        opening = opened.opening;
+        stands = opened.stands;
+        running = opened.running;
+        size = opened.size;
+        tells = opened.tells;
+        first_moment = opened.first_moment;
+        moment = opened.moment;
+        counted = (omega (arith, never_fell, is.counted.0), is.counted.1);
+      })
 
 -- A house that was just opened: its history ends where it was opened, it has the rows, and it runs.
 module _ (rows : Rows) (o : Option History) (count : ℕ) (v : HouseView) (is : IsOpened rows o count v) where
@@ -84,22 +158,11 @@ module _ (rows : Rows) (o : Option History) (count : ℕ) (v : HouseView) (is : 
   pub runs_yet : is_stopped v ≡ false
   runs_yet = ap (λ (k : Option Entry). is_some k) is.running
 
-abbrev journal_faults : Option JournalFigures → ℕ
-journal_faults None = 0
-journal_faults (Some journal) = journal.faults
-
--- where a house is stopped, the disk's count has risen since the disk came in
-risen : (rows : Rows) (disk left : DiskState) (v w : HouseView) → IsHoused rows disk left v w → is_stopped w ≡ true → Rose disk.faults left.faults
-risen rows disk left v w h stopped =
-    let counted : w.journal.faults ≡ v.faults = ap (λ (f : Figures). journal_faults f.journal) h.figures ∙ h.opened.counted.1 in
-    let since : Rose v.faults w.faults = subst (λ n. Rose n w.faults) counted (h.kept.stopped stopped) in
-    subst (λ n. Rose disk.faults n) (sym (ap (λ (d : DiskState). d.faults) h.left_disk)) (rose_later disk.faults v.faults w.faults h.opened.counted.0 since)
-
 module _ (rows : Rows) (disk left : DiskState) (v w : HouseView) (housed : IsHoused rows disk left v w) (opened flow : Option Flow) (begun taken : Option (List ℕ)) where
   -- a session over the house is a script over the disk
   pub journal_runs : (end : SessionEnd) (stopped : Bool) → stopped ≡ is_stopped w → ScriptEnds v w opened flow begun taken end → JournalRuns rows opened flow begun taken disk left (script_end end stopped)
   journal_runs Ended false is ends = (v, w, housed, (sym is, ends))
-  journal_runs Ended true is ends = ((v, w, housed, (sym is, ends)), risen rows disk left v w housed (sym is))
+  journal_runs Ended true is ends = ((v, w, housed, (sym is, ends)), housed.stopped (sym is))
   journal_runs SourceFault stopped is ends = (v, w, housed, ends)
   journal_runs SinkFault stopped is ends = (v, w, housed, ends)
   journal_runs Limit stopped is ends = (v, w, housed, ends)

@@ -1,4 +1,5 @@
 pub mod OnlyFacts
 pub mod RunFacts
 pub mod EndFacts
+pub mod CycleFacts
 pub mod HousedFacts

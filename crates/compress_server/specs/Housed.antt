@@ -1,13 +1,16 @@
 -- A script over its disk.
-use Rattle.std.specs.Prelude.{◌≡◌, ℕ, List, Option}
+use Rattle.std.specs.Prelude.{◌≡◌, ◌⊎◌, ℕ, ◌≤◌, true, List, Option, Some, None}
 use Rattle.command_types.specs.declared.ask.Entry.{Entry}
+use Rattle.command_types.specs.History.{IsLegal}
 use Rattle.command_types.specs.Roster.{Rows}
 use Rattle.outside.specs.Disk as disks
+use Rattle.outside.specs.Faults.{Rose}
 use Rattle.journal_core.specs.Moments.{LeavesOnly}
 use Rattle.recovery.specs.StandsFor.{StandsFor}
-use Rattle.house.specs.House.{HouseView, figures_of, Keeps}
+use Rattle.house.specs.House.{HouseView, figures_of, is_stopped}
 use Rattle.house.specs.Opening.{IsOpened, FindsFault, StandsForNone}
-use Rattle.house.specs.Storing.{ContentStandsFor}
+use Rattle.house.specs.Storing.{ContentStandsFor, LeavesEntries, StandsForFront, StandsForKept}
+use Rattle.compress_server.specs.Cycles.{KeepsLaws}
 use Rattle.house.specs.declared.fault.OpenFault.TheVariants as opens
 
 -- a disk, and the count of its faults
@@ -18,13 +21,26 @@ pub record DiskState : Type 0 where
 abbrev pub disk_of : Option disks.History → ℕ → DiskState
 disk_of history faults = record { history = history; faults = faults }
 
--- On the disk that came in a house was opened, with the view v. The house came back with the view w, and the disk that is left is its disk.
+-- A crash at any moment from before to after leaves what has P. It says nothing of a disk that tells nothing, but that it goes on so.
+abbrev pub AtAnyMoment : Option disks.History → Option disks.History → (List ℕ → Type 0) → Type 0
+AtAnyMoment None after P = after ≡ None
+AtAnyMoment (Some before) None P = ⊥
+AtAnyMoment (Some before) (Some after) P = (disks.moment before ≤ disks.moment after) × ((image : List ℕ) → disks.left_since after (disks.moment before) image → P image)
+
+-- On the disk that came in a house was opened, with the view v, and it came back with the view w; this is what it left.
 pub record IsHoused (rows : Rows) (disk left : DiskState) (v w : HouseView) : Type 0 where
+  -- the history at the opening is the one for which the content stands
   pub opened : IsOpened rows disk.history disk.faults v
-  pub kept_first : Keeps v
-  pub kept : Keeps w
   pub figures : figures_of w ≡ figures_of v
-  pub left_disk : left ≡ disk_of w.disk w.faults
+  pub legal_first : IsLegal v.history
+  pub legal : IsLegal w.history
+  -- unless a fault of the disk stopped the house, the content stands for its history, and so does what a crash now leaves
+  pub stands : w.kept ≡ None → ContentStandsFor left.history w.history.entries
+  pub leaves : w.kept ≡ None → LeavesEntries left.history w.history.entries
+  -- what a crash at any moment of the run left stands for a front of the history, no shorter than the one at the opening, or, where a fault stopped the house, for all of it with the entry that was kept
+  pub any_moment : AtAnyMoment disk.history left.history (λ image. StandsForFront v.opening w.history.entries image ⊎ StandsForKept w.history.entries w.kept image)
+  pub stopped : is_stopped w ≡ true → Rose disk.faults left.faults
+  pub cycles : KeepsLaws rows w.history
 
 -- No house was opened: a crash at any moment leaves what stands for the entries for which the content stood; where it stood for no legal history, it is as it was.
 pub record IsUnopened (rows : Rows) (disk left : DiskState) : Type 0 where

@@ -1,6 +1,7 @@
 pub mod Words
 pub mod Files
 pub mod Faults
+pub mod Cycles
 pub mod Housed
 pub mod Run
 pub mod Script

@@ -4,6 +4,7 @@ ghost use Rattle.std.specs.Prelude.{◌≡◌, false};
 ghost use Rattle.outside.specs.Disk.{IsSettled};
 ghost use Rattle.outside.specs.Faults.{Rose};
 ghost use Rattle.command_types.specs.History.{end_of};
+ghost use Rattle.command_types.specs.Roster.{IsRoster};
 ghost use Rattle.house.specs.House.{figures_of, is_stopped};
 ghost use Rattle.compress_server.specs.Script.{ScriptEnds, script_end};
 ghost use Rattle.compress_server.specs.declared.load.FileRole.{FileRole as Role};
@@ -89,7 +90,8 @@ fn run_journal<R: Threads + Wait + Sync, S: Source, K: Sink, D: Disk + Send, G: 
     disk: D,
     gate: &G,
 ) -> (End, D)
-    requires { IsSettled (D.history disk) }
+    requires settled { IsSettled (D.history disk) }
+    requires roster { IsRoster roster.now }
     ensures runs { JournalRuns roster.now (S.flow input.old) (S.flow input.new) (K.taken output.old) (K.taken output.new) (disk_of (D.history disk) (D.fault_count disk)) (disk_of (D.history result.1) (D.fault_count result.1)) result.0 }
     ensures source_fault { result.0 ≡ End.SourceFault → Rose (S.faults input.old) (S.faults input.new) }
     ensures sink_fault { result.0 ≡ End.SinkFault → Rose (K.faults output.old) (K.faults output.new) }

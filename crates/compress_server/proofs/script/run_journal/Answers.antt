@@ -7,12 +7,12 @@ use Rattle.compress_server.proofs.script.run_journal.Goals as goal
 -- the disk could not be attached
 pub returns-then-is_err-clause-runs : goal.returns-then-is_err-clause-runs
 returns-then-is_err-clause-runs g c =
-    (refl, refl, unopened_still c.args.roster.now (g.D.Disk.history c.args.disk) (g.D.Disk.history c.attach.new.self) (g.D.Disk.fault_count c.args.disk) (g.D.Disk.fault_count c.attach.new.self) c.attach.ensures.same c.requires, search rules)
+    (refl, refl, unopened_still c.args.roster.now (g.D.Disk.history c.args.disk) (g.D.Disk.history c.attach.new.self) (g.D.Disk.fault_count c.args.disk) (g.D.Disk.fault_count c.attach.new.self) c.attach.ensures.same c.requires.settled, search rules)
 
 -- no memory for the copy of the roster
 pub returns-in_default-clause-runs : goal.returns-in_default-clause-runs
 returns-in_default-clause-runs g c =
-    (refl, refl, inl (unopened_still c.args.roster.now (g.D.Disk.history c.args.disk) (g.D.Disk.history c.attach.new.self) (g.D.Disk.fault_count c.args.disk) (g.D.Disk.fault_count c.attach.new.self) c.attach.ensures.same c.requires))
+    (refl, refl, inl (unopened_still c.args.roster.now (g.D.Disk.history c.args.disk) (g.D.Disk.history c.attach.new.self) (g.D.Disk.fault_count c.args.disk) (g.D.Disk.fault_count c.attach.new.self) c.attach.ensures.same c.requires.settled))
 
 pub returns-clause-runs : goal.returns-clause-runs
 returns-clause-runs g c =
@@ -25,7 +25,7 @@ returns-clause-runs g c =
     let count = g.D.Disk.fault_count c.end.result in
     let v = c.in-Ok-new.house in
     let w = c.serve_house-end.result.1 in
-    let housed = housed_later rows c.in-Ok.copy was mid n k c.in-Ok.ensures c.attach.ensures.same c.attach.ensures.never_falls v w left count
+    let housed = housed_later rows c.in-Ok.copy was mid n k c.in-Ok.ensures c.attach.ensures.same c.attach.ensures.never_falls c.requires.roster v w left count
     c.in-Ok-new.ensures.opened c.in-Ok-new.ensures.keeps c.is_stopped-stopped.ensures.keeps c.serve_house-end.ensures.figures c.end.ensures.disk c.end.ensures.faults in
     let opened = g.S.Source.flow c.args.input.now in
     let flow = g.S.Source.flow c.serve_house-end.new.input in
