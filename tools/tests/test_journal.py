@@ -210,27 +210,50 @@ def changes_of(session: bytes, replies: bytes, before: int) -> list[str]:
 
 
 class OfTheProgram(unittest.TestCase):
-    def test_the_journals_of_the_example_sessions(self) -> None:
-        built = program()
+    def setUp(self) -> None:
+        self.program = program()
         folder = tempfile.TemporaryDirectory()
         self.addCleanup(folder.cleanup)
-        first = Path(folder.name) / "first"
-        run([built, "script", EXAMPLES / "roster.csv", first], input=b"HELLO A KA\n")
-        if not first.exists():
+        self.folder = Path(folder.name)
+        self.script(EXAMPLES / "first-trades.session", self.folder / "two")
+        if not (self.folder / "two").exists():
             self.skipTest("the program writes no journal")
+
+    def script(self, session: Path, journal: Path) -> Ran:
+        return run([self.program, "script", EXAMPLES / "roster.csv", journal], input=session.read_bytes())
+
+    def test_the_journals_of_the_example_sessions(self) -> None:
         made: dict[str, list[str]] = {}
         for session in sessions():
             with self.subTest(session=session.name):
                 name = session.name.split(".")[0]
-                lines = session.read_bytes()
-                ran = run([built, "script", EXAMPLES / "roster.csv", Path(folder.name) / name], input=lines)
+                ran = self.script(session, self.folder / name)
                 self.assertEqual(ran.status, 0)
                 due = made.setdefault(name, [])
-                due += changes_of(lines, ran.output, len(due))
-                inspected = run([INSPECTOR, Path(folder.name) / name])
+                due += changes_of(session.read_bytes(), ran.output, len(due))
+                inspected = run([INSPECTOR, self.folder / name])
                 self.assertEqual((inspected.status, inspected.errors), (0, b""))
                 told = [line for line in inspected.output.decode().splitlines() if " record " in line]
                 self.assertEqual([line.split(": ", 2)[2] for line in told], due)
+
+    def test_the_place_of_damage(self) -> None:
+        """Where the inspector tells damage of a journal, the program tells it at the same place, and leaves the file."""
+        whole = (self.folder / "two").read_bytes()
+        changed = [whole[:size] for size in range(len(whole))]
+        changed += [whole[:at] + bytes([255 - whole[at]]) + whole[at + 1 :] for at in range(len(whole))]
+        places = set()
+        for content in changed:
+            with self.subTest(content=content):
+                journal = self.folder / "changed"
+                journal.write_bytes(content)
+                inspected = run([INSPECTOR, journal])
+                if inspected.status == 7:
+                    ran = self.script(EXAMPLES / "first-trades.session", journal)
+                    place = inspected.errors.split(b": ")[0] + b"\n"
+                    self.assertEqual((ran.status, ran.errors), (7, place))
+                    self.assertEqual(journal.read_bytes(), content)
+                    places.add(place)
+        self.assertEqual(places, {b"damaged at %d\n" % at for at in (0, 8, 38, 58)})
 
 
 if __name__ == "__main__":
