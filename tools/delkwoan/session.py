@@ -98,6 +98,8 @@ class Session:
         """The lines of the reply to a line."""
         if "\n" in line:
             raise ValueError("a line has no line feed in it")
+        if self.end_of_link is not None:
+            raise LinkClosed(*self.end_of_link)
         self.link.send(line.encode(errors="surrogateescape") + b"\n")
         head = self.given()
         return [head, *(self.given() for _ in range(replies.count_of(head.decode(errors="replace").rstrip("\n"))))]

@@ -202,7 +202,7 @@ class Sessions(InFolder):
             with self.assertRaises(LinkClosed) as caught:
                 session.hello("B", "KB")
             self.assertEqual((caught.exception.status, caught.exception.errors), (70, "not as the session"))
-            with self.assertRaises((LinkClosed, ValueError)):
+            with self.assertRaises(LinkClosed):
                 session.nets("P")
 
     def test_words_that_are_none(self) -> None:
