@@ -24,8 +24,8 @@ use std::alloc::Global;
 use std::sync::Wait;
 use std::thread::Threads;
 
-// How many workers solve.
-const WORKERS: u32 = 4;
+/// How many workers solve.
+pub const WORKERS: u32 = 4;
 
 // Serves one session under seat 0, over a house that was just opened. Where memory for the lock or the session's buffers
 // is not to be had, nothing is read or written.

@@ -9,16 +9,18 @@ ghost use Rattle.compress_server.specs.Ending.{SolveRuns};
 use crate::ending::End;
 use crate::load::{LoadFault, load_roster, load_trades};
 use crate::words::MarketFiles;
-use file_market::solve;
-use outside::{Files, Sink, write_all};
+use file_market::{Workers, solve};
+use outside::{Files, Gate, Sink, write_all};
 use std::alloc::Global;
+use std::thread::Threads;
 
-/// Reads the market's files, solves the market, and writes the proposal. No file changes.
-pub fn run_solve<F: Files, K: Sink>(
+/// Reads the market's files, has the workers solve the market, and writes the proposal. No file changes.
+pub fn run_solve<R: Threads + Sync, F: Files, K: Sink, G: Gate>(
     alloc: Global,
     files: &mut F,
     market: &MarketFiles<'_>,
     output: &mut K,
+    workers: &Workers<'_, R, G>,
 ) -> End
     ensures runs { SolveRuns (F.folder files.old) (read_market market.now) (K.taken output.old) (K.taken output.new) result }
     ensures stays { F.folder files.new ≡ F.folder files.old }
@@ -33,7 +35,7 @@ pub fn run_solve<F: Files, K: Sink>(
         Ok(trades) => trades,
         Err(fault) => return End::Unloaded(fault),
     };
-    let Ok(text) = solve(alloc, &roster, market.mode, &trades) else {
+    let Ok(text) = solve(alloc, &roster, market.mode, &trades, workers) else {
         return End::Memory;
     };
     if write_all(output, &text).is_err() {

@@ -16,10 +16,11 @@ use crate::check::run_check;
 use crate::ending::End;
 use crate::faults::{damage_line, fault_line};
 use crate::load::{FileRole, LoadFault};
-use crate::script::run_script;
+use crate::script::{WORKERS, run_script};
 use crate::solve::run_solve;
 use crate::words::{Form, read_words};
 use command_types::FileFault;
+use file_market::Workers;
 use outside::sink::write_all;
 use outside::{Disk, Files, Sink, Source};
 use parallel_solver::Gate;
@@ -103,7 +104,10 @@ fn run_form<R: Threads + Wait + Sync, F: Files, S: Source, K: Sink, D: Disk + Se
         Some(Form::Check { market, proposal }) => {
             (run_check(alloc, files, &market, proposal, output), disk)
         }
-        Some(Form::Solve { market }) => (run_solve(alloc, files, &market, output), disk),
+        Some(Form::Solve { market }) => {
+            let workers = Workers::new(rt, WORKERS, gate);
+            (run_solve(alloc, files, &market, output, &workers), disk)
+        }
     }
 }
 

@@ -1,36 +1,62 @@
--- One solution more.
-use Rattle.std.proofs.Common.{◌≡◌, ◌≢◌, ◌∙◌, sym, ap, subst, ℕ, ◌<◌, List, [], ◌∷◌, ◌++◌, length, get_or, arith, length-append, ⊎_elim}
+-- Problems of networks, and what solves them.
+use Rattle.std.proofs.Common.{◌≡◌, ◌≢◌, ◌∙◌, refl, sym, ap, subst, ℕ, zero, suc, ◌<◌, List, [], ◌∷◌, ◌++◌, length, get_or, arith, length-append, ⊎_elim}
 use Rattle.std.proofs.lemmas.Bool.{cases_eq}
 use Rattle.std.proofs.lemmas.List.{get_or_append_left, get_or_read}
 use Rattle.std.proofs.Math.Seq.{get_or-append_seam}
 use Rattle.network_laws.specs.Networks.{NetworkData}
-use Rattle.network_laws.specs.Solutions.{SolutionData}
+use Rattle.network_laws.specs.Solutions.{ProblemData, SolutionData}
+use Rattle.network_laws.specs.Solved.{IsSolved, AreSolved}
 use Rattle.command_types.specs.declared.cycle.Mode.{Mode}
 use Rattle.command_types.specs.Roster.{Rows}
 use Rattle.trade_file.specs.declared.file_trade.FileTrade.{FileTrade}
 use Rattle.trade_file.specs.Networks.{AreNetworksOf}
 use Rattle.dual_certificate.specs.Writing.{SolveMembers}
-use Rattle.file_market.specs.Solve.{IsSolutionOf, AreSolutions}
+use Rattle.file_market.specs.Solve.{problem_for, AreProblemsOf, AreSolutions}
 
--- each solution is that of the network at its place
-abbrev pub SolveBelow : Rows → Mode → List NetworkData → List SolutionData → Type 0
-SolveBelow rows mode networks solutions =
-    (k : ℕ) (d : NetworkData) (e : SolutionData) → k < length solutions → IsSolutionOf rows mode k (get_or networks k d) (get_or solutions k e)
+-- each problem is that of the network at its place
+abbrev pub ProblemsBelow : Rows → Mode → List NetworkData → List ProblemData → Type 0
+ProblemsBelow rows mode networks problems =
+    (k : ℕ) (d : NetworkData) (e : ProblemData) → k < length problems → get_or problems k e ≡ problem_for rows mode k (get_or networks k d)
 
-pub solve_one_more : (rows : Rows) (mode : Mode) (networks : List NetworkData) (solutions : List SolutionData) (n : ℕ) (network : NetworkData) (solution : SolutionData)
-    → length solutions ≡ n → SolveBelow rows mode networks solutions → n < length networks → network ≡ get_or networks n network → IsSolutionOf rows mode n network solution
-    → SolveBelow rows mode networks (solutions ++ solution ∷ [])
-solve_one_more rows mode networks solutions n network solution len before within is h k d e l =
+pub problem_more : (rows : Rows) (mode : Mode) (networks : List NetworkData) (problems : List ProblemData) (n : ℕ) (network : NetworkData) (problem : ProblemData)
+    → length problems ≡ n → ProblemsBelow rows mode networks problems → n < length networks → network ≡ get_or networks n network → problem ≡ problem_for rows mode n network
+    → ProblemsBelow rows mode networks (problems ++ problem ∷ [])
+problem_more rows mode networks problems n network problem len before within is h k d e l =
     ⊎_elim
     (λ (at : k ≡ n).
-    let k_len : k ≡ length solutions = at ∙ sym len in
-    let this : solution ≡ get_or (solutions ++ solution ∷ []) k e = sym (ap (λ m. get_or (solutions ++ solution ∷ []) m e) k_len ∙ get_or-append_seam solutions solution [] e) in
+    let k_len : k ≡ length problems = at ∙ sym len in
+    let this : get_or (problems ++ problem ∷ []) k e ≡ problem = ap (λ m. get_or (problems ++ problem ∷ []) m e) k_len ∙ get_or-append_seam problems problem [] e in
     let that : network ≡ get_or networks k d = get_or_read networks n network within is d ∙ ap (λ m. get_or networks m d) (sym at) in
-    subst (λ s. IsSolutionOf rows mode k (get_or networks k d) s) this (subst (λ y. IsSolutionOf rows mode k y solution) that (subst (λ m. IsSolutionOf rows mode m network solution) (sym at) h)))
+    this ∙ (h ∙ (λ i. problem_for rows mode (sym at i) (that i))))
     (λ (ne : k ≢ n).
-    let below : k < length solutions = omega (arith, len, l, length-append solutions (solution ∷ [])) in
-    subst (λ s. IsSolutionOf rows mode k (get_or networks k d) s) (sym (get_or_append_left solutions (solution ∷ []) e k below)) (before k d e below))
+    let below : k < length problems = omega (arith, len, l, length-append problems (problem ∷ [])) in
+    get_or_append_left problems (problem ∷ []) e k below ∙ before k d e below)
     (cases_eq k n)
+
+-- a solution for each problem
+solved_count : (problems : List ProblemData) (solutions : List SolutionData) → AreSolved problems solutions → length solutions ≡ length problems
+solved_count [] [] s = refl
+solved_count (p ∷ problems) (x ∷ solutions) s = ap suc (solved_count problems solutions s.1)
+solved_count [] (x ∷ solutions) s = absurd s
+solved_count (p ∷ problems) [] s = absurd s
+
+solved_here : (problems : List ProblemData) (solutions : List SolutionData) (k : ℕ) (d : ProblemData) (e : SolutionData) → AreSolved problems solutions → k < length problems → IsSolved (get_or problems k d) (get_or solutions k e)
+solved_here [] [] k d e s l = absurd (omega arith)
+solved_here (p ∷ problems) (x ∷ solutions) zero d e s l = s.0
+solved_here (p ∷ problems) (x ∷ solutions) (suc k) d e s l = solved_here problems solutions k d e s.1 (omega arith)
+solved_here [] (x ∷ solutions) k d e s l = absurd s
+solved_here (p ∷ problems) [] k d e s l = absurd s
+
+-- what solves the problems of the networks is solutions of the market
+pub solutions_of : (rows : Rows) (mode : Mode) (networks : List NetworkData) (problems : List ProblemData) (solutions : List SolutionData) → AreProblemsOf rows mode networks problems → AreSolved problems solutions → AreSolutions rows mode networks solutions
+solutions_of rows mode networks problems solutions are solved = record {
+  count = solved_count problems solutions solved ∙ are.count;
+  each = λ k d e l.
+      let x : ProblemData = problem_for rows mode k d in
+      let within : k < length problems = omega (arith, are.count) in
+      let here : IsSolved (problem_for rows mode k (get_or networks k d)) (get_or solutions k e) = subst (λ p. IsSolved p (get_or solutions k e)) (are.each k d x l) (solved_here problems solutions k x e solved within) in
+      record { good = here.fits; solves = here.solves };
+}
 
 -- solutions of the market's networks are over the roster's members
 pub solve_members : (rows : Rows) (mode : Mode) (trades : List FileTrade) (networks : List NetworkData) (solutions : List SolutionData)

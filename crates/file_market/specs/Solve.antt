@@ -1,13 +1,22 @@
 -- The solution of the market of a trade file.
 use Rattle.std.specs.Prelude.{◌≡◌, ℕ, ◌<◌, List, length, slice_index_or}
 use Rattle.network_laws.specs.Networks.{NetworkData}
-use Rattle.network_laws.specs.Solutions.{SolutionData, IsSolution, Solves}
+use Rattle.network_laws.specs.Solutions.{ProblemData, SolutionData, IsSolution, Solves}
 use Rattle.command_types.specs.declared.cycle.Mode.{Mode}
 use Rattle.command_types.specs.Roster.{Rows}
 use Rattle.trade_file.specs.declared.file_trade.FileTrade.{FileTrade}
 use Rattle.trade_file.specs.Networks.{AreNetworksOf}
 use Rattle.dual_certificate.specs.ProposalText.{proposal_text}
 use Rattle.file_market.specs.Market.{market_limits}
+
+-- a product's network, with its limits
+abbrev pub problem_for : Rows → Mode → ℕ → NetworkData → ProblemData
+problem_for rows mode product network = record { limits = market_limits rows mode product network; network = network }
+
+-- one problem for each product's network, in order
+pub record AreProblemsOf (rows : Rows) (mode : Mode) (networks : List NetworkData) (problems : List ProblemData) : Type 0 where
+  pub count : length problems ≡ length networks
+  pub each : (product : ℕ) (d : NetworkData) (e : ProblemData) → product < length networks → slice_index_or problems product e ≡ problem_for rows mode product (slice_index_or networks product d)
 
 -- the solution is certified within the product's limits, and where its gross is that of the product's network, its
 -- network is that network

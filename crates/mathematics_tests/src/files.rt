@@ -1,10 +1,14 @@
 //! Roster and trade files of small markets, and the proposals that are checked and solved for them.
 
+ghost use Rattle.std.specs.Prelude.{◌≤◌};
+
 use command_types::{Mode, Roster};
 use dual_certificate::read_proposal;
-use file_market::{check, solve, verdict};
-use std::alloc::Global;
+use file_market::{Workers, check, solve, verdict};
+use outside::OpenGate;
+use std::alloc::{AllocGlobal, Global};
 use std::test::Fail;
+use std::thread::Threads;
 use trade_file::{read_roster, read_trades};
 
 pub const FIVE_DEALERS: &str =
@@ -53,21 +57,39 @@ pub fn is_told(
     Ok(found.as_slice() == told.as_bytes())
 }
 
-/// What is solved for the text of a trade file.
-pub fn solved_text(
-    alloc: Global,
+/// What so many workers solve for the text of a trade file.
+pub fn solved_text<R: Threads + Sync + AllocGlobal>(
+    rt: &R,
+    workers: u32,
     roster: &Roster,
     mode: Mode,
     text: &[u8],
-) -> Result<Vec<u8>, Fail> {
-    let trades = read_trades(alloc, text, roster)?;
-    let proposal = solve(alloc, roster, mode, &trades)?;
+) -> Result<Vec<u8>, Fail>
+    requires { (1 ≤ workers) × (workers ≤ 64) }
+{
+    let trades = read_trades(rt.alloc(), text, roster)?;
+    let workers = Workers::new(rt, workers, &OpenGate);
+    let proposal = solve(rt.alloc(), roster, mode, &trades, &workers)?;
     Ok(proposal)
 }
 
+/// What so many workers solve for a market.
+pub fn solved_by<R: Threads + Sync + AllocGlobal>(
+    rt: &R,
+    workers: u32,
+    market: FileMarket<'_>,
+) -> Result<Vec<u8>, Fail>
+    requires { (1 ≤ workers) × (workers ≤ 64) }
+{
+    let roster = read_roster(rt.alloc(), market.parties.as_bytes())?;
+    let text = trades_text(rt.alloc(), market.trades)?;
+    solved_text(rt, workers, &roster, market.mode, &text)
+}
+
 /// What is solved for a market.
-pub fn solved(alloc: Global, market: FileMarket<'_>) -> Result<Vec<u8>, Fail> {
-    let roster = read_roster(alloc, market.parties.as_bytes())?;
-    let text = trades_text(alloc, market.trades)?;
-    solved_text(alloc, &roster, market.mode, &text)
+pub fn solved<R: Threads + Sync + AllocGlobal>(
+    rt: &R,
+    market: FileMarket<'_>,
+) -> Result<Vec<u8>, Fail> {
+    solved_by(rt, 4, market)
 }

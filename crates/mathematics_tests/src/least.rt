@@ -4,8 +4,9 @@ use crate::files::solved_text;
 use crate::threes::{Amounts, Growing, least_gross, original};
 use command_types::{Mode, Roster};
 use dual_certificate::read_proposal;
-use std::alloc::{AllocError, Global};
+use std::alloc::{AllocError, AllocGlobal, Global};
 use std::test::Fail;
+use std::thread::Threads;
 use trade_file::read_roster;
 
 fn put_line(text: &mut Vec<u8>, pair: &[u8], amount: u8) -> Result<(), AllocError> {
@@ -31,15 +32,15 @@ fn trades_text(alloc: Global, of: &Amounts) -> Result<Vec<u8>, AllocError> {
 }
 
 /// The least gross that is written for the market, if it has a product.
-fn solved_gross(
-    alloc: Global,
+fn solved_gross<R: Threads + Sync + AllocGlobal>(
+    rt: &R,
     roster: &Roster,
     mode: Mode,
     of: &Amounts,
 ) -> Result<Option<u64>, Fail> {
-    let trades = trades_text(alloc, of)?;
-    let text = solved_text(alloc, roster, mode, &trades)?;
-    let parts = read_proposal(alloc, &text, roster)?;
+    let trades = trades_text(rt.alloc(), of)?;
+    let text = solved_text(rt, 1, roster, mode, &trades)?;
+    let parts = read_proposal(rt.alloc(), &text, roster)?;
     match parts.first() {
         None => Ok(None),
         Some(part) => Ok(Some(part.least)),
@@ -47,11 +48,16 @@ fn solved_gross(
 }
 
 /// Whether 67 markets are solved to the least gross of all networks in which these pairs may grow.
-fn are_least(alloc: Global, parties: &[u8], mode: Mode, growing: Growing) -> Result<bool, Fail> {
-    let roster = read_roster(alloc, parties)?;
+fn are_least<R: Threads + Sync + AllocGlobal>(
+    rt: &R,
+    parties: &[u8],
+    mode: Mode,
+    growing: Growing,
+) -> Result<bool, Fail> {
+    let roster = read_roster(rt.alloc(), parties)?;
     for step in 0..67 {
         let old = original(step * 11);
-        let found = solved_gross(alloc, &roster, mode, &old)?;
+        let found = solved_gross(rt, &roster, mode, &old)?;
         if found != Some(u64::from(least_gross(&old, growing))) {
             return Ok(false);
         }
@@ -61,13 +67,12 @@ fn are_least(alloc: Global, parties: &[u8], mode: Mode, growing: Growing) -> Res
 
 #[test]
 fn no_network_of_three_members_has_less_gross(rt: HostRuntime) -> Result<(), Fail> {
-    let alloc = rt.alloc();
     let dealers =
         b"name,role,key\nA,dealer,KA\nB,dealer,KB\nC,dealer,KC\nP,product,2031-06-30\n".as_slice();
     let with_customer =
         b"name,role,key\nA,dealer,KA\nB,dealer,KB\nC,customer,KC\nP,product,2031-06-30\n".as_slice();
-    assert!(rt; are_least(alloc, dealers, Mode::Conservative, Growing::Nobody)?);
-    assert!(rt; are_least(alloc, with_customer, Mode::Hybrid, Growing::AAndB)?);
-    assert!(rt; are_least(alloc, dealers, Mode::Hybrid, Growing::All)?);
+    assert!(rt; are_least(&rt, dealers, Mode::Conservative, Growing::Nobody)?);
+    assert!(rt; are_least(&rt, with_customer, Mode::Hybrid, Growing::AAndB)?);
+    assert!(rt; are_least(&rt, dealers, Mode::Hybrid, Growing::All)?);
     Ok(())
 }

@@ -34,3 +34,5 @@ mod tolerances;
 mod verdicts;
 #[cfg(test)]
 mod votes;
+#[cfg(test)]
+mod workers;

@@ -3,8 +3,9 @@
 use crate::files::{FIVE_DEALERS, FileMarket, THREE_DEALERS, TWO_AND_TWO, is_told, solved};
 use command_types::Mode;
 use dual_certificate::read_proposal;
-use std::alloc::Global;
+use std::alloc::AllocGlobal;
 use std::test::Fail;
+use std::thread::Threads;
 use trade_file::read_roster;
 
 const CHAIN: FileMarket<'static> = FileMarket {
@@ -14,16 +15,21 @@ const CHAIN: FileMarket<'static> = FileMarket {
 };
 
 /// Whether what is solved begins and ends like this, and passes the check.
-fn gives(alloc: Global, market: FileMarket<'_>, head: &str, end: &str) -> Result<bool, Fail> {
-    let text = solved(alloc, market)?;
-    let passes = is_told(alloc, market, &text, "yes\n")?;
+fn gives<R: Threads + Sync + AllocGlobal>(
+    rt: &R,
+    market: FileMarket<'_>,
+    head: &str,
+    end: &str,
+) -> Result<bool, Fail> {
+    let text = solved(rt, market)?;
+    let passes = is_told(rt.alloc(), market, &text, "yes\n")?;
     Ok(passes && text.starts_with(head.as_bytes()) && text.ends_with(end.as_bytes()))
 }
 
 #[test]
 fn a_chain_of_dealers_is_solved(rt: HostRuntime) -> Result<(), Fail> {
     let head = "product P 17 10 10 17\nrow A B 3\nrow A C 7\npot A ";
-    assert!(rt; gives(rt.alloc(), CHAIN, head, "\nbound 10\nend 1\n")?);
+    assert!(rt; gives(&rt, CHAIN, head, "\nbound 10\nend 1\n")?);
     Ok(())
 }
 
@@ -34,7 +40,7 @@ fn a_chain_keeps_its_rows_in_conservative_mode(rt: HostRuntime) -> Result<(), Fa
         ..CHAIN
     };
     let head = "product P 17 17 10 17\nrow A B 10\nrow B C 7\npot A ";
-    assert!(rt; gives(rt.alloc(), market, head, "\nbound 17\nend 1\n")?);
+    assert!(rt; gives(&rt, market, head, "\nbound 17\nend 1\n")?);
     Ok(())
 }
 
@@ -46,7 +52,7 @@ fn a_ring_is_solved_to_nothing(rt: HostRuntime) -> Result<(), Fail> {
         mode: Mode::Conservative,
     };
     let head = "product P 30 0 0 30\npot A ";
-    assert!(rt; gives(rt.alloc(), market, head, "\nbound 0\nend 1\n")?);
+    assert!(rt; gives(&rt, market, head, "\nbound 0\nend 1\n")?);
     Ok(())
 }
 
@@ -60,14 +66,7 @@ fn large_and_small_amounts_are_solved(rt: HostRuntime) -> Result<(), Fail> {
     };
     let head =
         "product P 4000000000000002 2000000000000000 1000000000000001 2000000000000000\nrow B A 1\nrow B C 1000000000000000\nrow C A 999999999999999\npot A ";
-    assert!(rt;
-        gives(
-            rt.alloc(),
-            market,
-            head,
-            "\nbound 2000000000000000\nend 1\n"
-        )?
-    );
+    assert!(rt; gives(&rt, market, head, "\nbound 2000000000000000\nend 1\n")?);
     Ok(())
 }
 
@@ -85,14 +84,14 @@ fn differ(numbers: &[i32], differences: &[i64]) -> bool {
 }
 
 /// Whether the potentials of what is solved differ from the first one's as it says.
-fn has_potentials(
-    alloc: Global,
+fn has_potentials<R: Threads + Sync + AllocGlobal>(
+    rt: &R,
     market: FileMarket<'_>,
     differences: &[i64],
 ) -> Result<bool, Fail> {
-    let roster = read_roster(alloc, market.parties.as_bytes())?;
-    let text = solved(alloc, market)?;
-    let parts = read_proposal(alloc, &text, &roster)?;
+    let roster = read_roster(rt.alloc(), market.parties.as_bytes())?;
+    let text = solved(rt, market)?;
+    let parts = read_proposal(rt.alloc(), &text, &roster)?;
     match parts.first() {
         None => Ok(false),
         Some(part) => Ok(differ(part.solution.potentials(), differences)),
@@ -101,20 +100,24 @@ fn has_potentials(
 
 #[test]
 fn the_first_potential_of_a_chain_is_1_above_the_others(rt: HostRuntime) -> Result<(), Fail> {
-    assert!(rt; has_potentials(rt.alloc(), CHAIN, &[0, -1, -1])?);
+    assert!(rt; has_potentials(&rt, CHAIN, &[0, -1, -1])?);
     Ok(())
 }
 
 /// Whether what is solved passes the check, in both modes.
-fn passes(alloc: Global, parties: &str, trades: &str) -> Result<bool, Fail> {
+fn passes<R: Threads + Sync + AllocGlobal>(
+    rt: &R,
+    parties: &str,
+    trades: &str,
+) -> Result<bool, Fail> {
     for mode in [Mode::Conservative, Mode::Hybrid] {
         let market = FileMarket {
             parties,
             trades,
             mode,
         };
-        let text = solved(alloc, market)?;
-        if !is_told(alloc, market, &text, "yes\n")? {
+        let text = solved(rt, market)?;
+        if !is_told(rt.alloc(), market, &text, "yes\n")? {
             return Ok(false);
         }
     }
@@ -141,7 +144,7 @@ fn what_is_solved_passes_the_check(rt: HostRuntime) -> Result<(), Fail> {
         ("name,role,key\nA,customer,KA\n", "\n"),
     ];
     for (parties, trades) in markets {
-        assert!(rt; passes(rt.alloc(), parties, trades)?);
+        assert!(rt; passes(&rt, parties, trades)?);
     }
     Ok(())
 }

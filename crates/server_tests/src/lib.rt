@@ -22,6 +22,8 @@ mod lock;
 #[cfg(test)]
 mod market_files;
 #[cfg(test)]
+mod meetings;
+#[cfg(test)]
 mod paced;
 #[cfg(test)]
 mod phase_lines;

@@ -1,24 +1,9 @@
-use Rattle.std.proofs.Common.{◌∙◌, sym, ap, subst, ℕ, ◌<◌, length, arith, length-append, [], ◌∷◌}
-use Rattle.file_market.proofs.SolutionFacts.{SolveBelow, solve_one_more}
+use Rattle.std.proofs.Common.{subst}
+use Rattle.network_laws.specs.Solved.{AreSolved}
+use Rattle.file_market.proofs.SolutionFacts.{solutions_of}
 use Rattle.file_market.proofs.solving.solutions_of.Goals as goal
 
-pub loop-product-preserved : goal.loop-product-preserved
-loop-product-preserved c =
-    let n : ℕ = c.loop-product.product in
-    let solutions = c.loop-product.solutions.items in
-    let solution = c.in_ok-solution_of.field-0 in
-    let products = ap length c.products-product-end.ensures.rows in
-    let within : n < length c.args.networks.now = omega (arith, products, c.requires.count) in
-    let more = solve_one_more c.args.roster.now c.args.mode c.args.networks.now solutions n c.index-networks-product.result solution
-    c.loop-product.invariant.0 c.loop-product.invariant.1 within c.index-networks-product.is c.in_ok-solution_of.ensures in (
-      ap length c.in_ok-push.ensures.items ∙ omega (arith, length-append solutions (solution ∷ []), c.loop-product.invariant.0),
-      subst (SolveBelow c.args.roster.now c.args.mode c.args.networks.now) (sym c.in_ok-push.ensures.items) more,
-    )
-
 pub returns : goal.returns
-returns c =
-    let products = ap length c.products-product-end.ensures.rows in
-    record {
-      count = omega (arith, products, c.requires.count, c.loop-product.invariant.0);
-      each = λ k d e l. c.loop-product.invariant.1 k d e (omega (arith, products, c.requires.count, c.loop-product.invariant.0));
-    }
+returns g c =
+    let solutions = c.in_ok-solutions.solutions.items in
+    solutions_of c.args.roster.now c.args.mode c.args.networks.now c.in_ok-problems.problems.items solutions c.in_ok-problems.ensures (subst (λ problems. AreSolved problems solutions) c.deref.ensures.value c.in_ok-solutions.ensures)

@@ -1,0 +1,128 @@
+//! Problems that workers solve beside one another, and the products of a market.
+
+ghost use Rattle.std.specs.Prelude.{◌≤◌};
+
+use crate::files::{FileMarket, solved_by};
+use crate::networks::{Market, Sale, unbounded};
+use crate::problems::problem_of;
+use command_types::Mode;
+use net_positions::gross;
+use outside::{Gate, OpenGate};
+use parallel_solver::solve_all;
+use path_solver::PathSolver;
+use std::alloc::AllocGlobal;
+use std::hint::spin_loop;
+use std::sync::atomic::{AtomicU64, Ordering};
+use std::test::Fail;
+use std::thread::Threads;
+
+// How many looks at the word are many enough for another worker to come.
+const MANY_LOOKS: u64 = 200_000_000;
+
+// Holds each worker until two have come.
+#[derive(Drop)]
+struct Meeting {
+    come: AtomicU64,
+    missed: AtomicU64,
+}
+
+impl Meeting {
+    fn new() -> Meeting {
+        Meeting {
+            come: AtomicU64::new(0),
+            missed: AtomicU64::new(0),
+        }
+    }
+
+    // Whether so many came, and none of them in vain.
+    fn was(&self, count: u64) -> bool {
+        self.come.load(Ordering::SeqCst) == count && self.missed.load(Ordering::SeqCst) == 0
+    }
+}
+
+impl Gate for Meeting {
+    fn enter(&self, _piece: u64) {
+        self.come.fetch_add(1, Ordering::SeqCst);
+        for _ in 0..MANY_LOOKS {
+            if self.come.load(Ordering::SeqCst) >= 2 {
+                return;
+            }
+            spin_loop();
+        }
+        self.missed.fetch_add(1, Ordering::SeqCst);
+    }
+}
+
+// Chains of three members who may all trade with one another, and the least gross of each.
+const CHAINS: [([Sale; 2], u64); 3] = [
+    ([(0, 1, 10), (1, 2, 7)], 10),
+    ([(0, 1, 20), (1, 2, 7)], 20),
+    ([(0, 1, 30), (1, 2, 40)], 40),
+];
+
+/// Whether so many workers solve the first chains, each in its place.
+fn are_solved<R: Threads + Sync + AllocGlobal, G: Gate>(
+    rt: &R,
+    workers: u32,
+    count: usize,
+    gate: &G,
+) -> Result<bool, Fail>
+    requires { (1 ≤ workers) × (workers ≤ 64) }
+{
+    let bounds = unbounded(rt.alloc(), 3)?;
+    let mut problems = Vec::new(rt.alloc());
+    for (sales, _) in CHAINS.iter().take(count) {
+        let market = Market {
+            members: 3,
+            sales,
+            bounds: &bounds,
+        };
+        problems.push(problem_of(rt.alloc(), market)?)?;
+    }
+    let solver = PathSolver::new(rt.alloc());
+    let solutions = solve_all(rt, rt.alloc(), workers, &problems, &solver, gate)?;
+    for (solution, (_, least)) in solutions.iter().zip(&CHAINS) {
+        if gross(solution.network()) != *least {
+            return Ok(false);
+        }
+    }
+    Ok(solutions.len() == count)
+}
+
+#[test]
+fn each_problem_is_solved_in_its_place(rt: HostRuntime) -> Result<(), Fail> {
+    for count in [0, 1, 3] {
+        let one = are_solved(&rt, 1, count, &OpenGate)?;
+        let two = are_solved(&rt, 2, count, &OpenGate)?;
+        let many = are_solved(&rt, 64, count, &OpenGate)?;
+        assert!(rt; one && two && many);
+    }
+    Ok(())
+}
+
+#[test]
+fn two_workers_meet(rt: HostRuntime) -> Result<(), Fail> {
+    let (two, many) = (Meeting::new(), Meeting::new());
+    assert!(rt; are_solved(&rt, 2, 2, &two)? && two.was(2));
+    assert!(rt; are_solved(&rt, 64, 2, &many)? && many.was(2));
+    Ok(())
+}
+
+const THREE_PRODUCTS: FileMarket<'static> = FileMarket {
+    parties: "name,role,key\nA,dealer,KA\nB,dealer,KB\nC,dealer,KC\nP,product,2031-06-30\nQ,product,2031-06-30\nR,product,2032-06-30\n",
+    trades: "A,B,P,10\nB,C,P,7\nA,B,Q,20\nB,C,Q,7\nA,B,R,30\nB,C,R,40\n",
+    mode: Mode::Hybrid,
+};
+
+#[test]
+fn any_number_of_workers_writes_the_same_bytes(rt: HostRuntime) -> Result<(), Fail> {
+    let one = solved_by(&rt, 1, THREE_PRODUCTS)?;
+    let two = solved_by(&rt, 2, THREE_PRODUCTS)?;
+    let many = solved_by(&rt, 64, THREE_PRODUCTS)?;
+    assert!(rt;
+        one.starts_with(b"product P 17 10 10 17\nrow A B 3\nrow A C 7\n")
+            && one.ends_with(b"\nbound 40\nend 3\n")
+    );
+    assert!(rt; one == two && one == many);
+    Ok(())
+}
