@@ -1,0 +1,4 @@
+pub mod Visits
+pub mod MemoryDoor
+pub mod MemoryListener
+pub mod Sockets

@@ -1,0 +1,12 @@
+-- What listeners and doors at a socket show.
+use Rattle.std.specs.Prelude.{ℕ}
+use Rattle.doors.specs.declared.socket_door.SocketDoor.{SocketDoor}
+use Rattle.doors.specs.declared.socket_listener.SocketListener.{SocketListener}
+
+-- how many calls of a door failed
+abbrev pub accept_faults : {L Stream : Type 0} → SocketDoor L Stream → ℕ
+accept_faults d = d.faults
+
+-- how many calls of a listener failed, and how many doors came back of which a call had failed
+abbrev pub listen_faults : {R : Type 0} → SocketListener R → ℕ
+listen_faults s = s.faults

@@ -1,0 +1,19 @@
+//! Where connections come from: listeners, their doors, and the forms of both in memory and over a socket.
+#![tactic(auto)]
+
+mod door;
+mod listener;
+mod memory_connection;
+mod memory_door;
+mod memory_listener;
+mod planned_door;
+mod socket_door;
+mod socket_listener;
+
+pub use door::Door;
+pub use listener::Listener;
+pub use memory_connection::MemoryConnection;
+pub use memory_door::MemoryDoor;
+pub use memory_listener::MemoryListener;
+pub use socket_door::SocketDoor;
+pub use socket_listener::SocketListener;

@@ -1,0 +1,41 @@
+//! What makes doors.
+
+ghost use Rattle.std.specs.Prelude.{◌≡◌, ℕ, ◌≤◌, ◌<◌, Option, IfOk, OnOk, OnErr, Err};
+ghost use Rattle.outside.specs.Faults.{Rose};
+ghost use Rattle.doors.specs.Visits.{Doors, IsNew, IsLent, Lends, TakesBack};
+
+use crate::door::Door;
+use outside::Trouble;
+
+/// Listens at an address, hands out doors for it, and takes them back. A listener counts the calls that failed, and the
+/// doors that came back of which a call had failed.
+pub trait Listener {
+    type Door: Door + Drop;
+
+    // What became of its doors, where it tells that.
+    ghost doors: { Self → Option Doors };
+
+    // The count. It never falls, and stands still at the largest number that it can keep.
+    ghost faults: { Self → ℕ };
+
+    /// Listens at this address from now on.
+    fn bind(&mut self, address: &str) -> Result<(), Trouble>
+        ensures same { doors self.new ≡ doors self.old }
+        ensures never_falls { faults self.old ≤ faults self.new }
+        ensures failed { result ≡ Err Trouble.Failed → Rose (faults self.old) (faults self.new) };
+
+    /// A new door for the connections to that address. It gave none yet, and no call of it failed.
+    fn door(&mut self) -> Result<Self::Door, Trouble>
+        ensures new { IfOk result (λ d. IsNew (Self.Door.visits d) × (Self.Door.faults d ≡ 0)) }
+        ensures lends { OnOk result (Lends (doors self.old) (doors self.new)) }
+        ensures nothing { OnErr result (doors self.new ≡ doors self.old) }
+        ensures never_falls { faults self.old ≤ faults self.new }
+        ensures failed { result ≡ Err Trouble.Failed → Rose (faults self.old) (faults self.new) };
+
+    /// Takes a door back that it handed out. It takes no memory.
+    fn take_back(&mut self, door: Self::Door)
+        requires lent { IsLent (doors self.old) }
+        ensures returns { TakesBack (doors self.old) (doors self.new) (Self.Door.visits door) }
+        ensures never_falls { faults self.old ≤ faults self.new }
+        ensures failed { 0 < Self.Door.faults door → Rose (faults self.old) (faults self.new) };
+}

@@ -1,0 +1,117 @@
+//! A listener at a socket.
+
+ghost use Rattle.std.specs.Prelude.{◌≡◌, ◌≤◌, ◌<◌, IfOk, OnOk, OnErr, Err, Option, None};
+ghost use Rattle.outside.specs.Faults.{Rose, one_more};
+ghost use Rattle.doors.specs.Visits.{Doors, IsNew, Lends};
+ghost use Rattle.doors.specs.Sockets.{accept_faults, listen_faults};
+ghost use Rattle.outside.specs.declared.trouble.Trouble.TheVariants as trouble;
+
+use crate::listener::Listener;
+use crate::socket_door::{SocketDoor, trouble_of};
+use outside::Trouble;
+use std::net::{Net, TcpListener, TcpStream};
+
+/// A listener at one socket, which its doors share. It counts the calls that failed and the doors of which a call had
+/// failed, and tells nothing of connections.
+#[derive(Drop)]
+pub struct SocketListener<'a, R: Net<Listener = TcpListener, Stream = TcpStream>> {
+    rt: &'a R,
+    socket: Option<TcpListener>,
+    faults: u64,
+}
+
+impl<'a, R: Net<Listener = TcpListener, Stream = TcpStream>> SocketListener<'a, R> {
+    /// A listener at no address yet.
+    pub fn new(rt: &'a R) -> SocketListener<'a, R>
+        ensures { listen_faults result ≡ 0 }
+    {
+        SocketListener {
+            rt,
+            socket: None,
+            faults: 0,
+        }
+    }
+
+    /// The port at which it listens, where the system tells one.
+    pub fn port(&self) -> Option<u16> {
+        match &self.socket {
+            Some(socket) => Some(socket.local_addr().ok()?.port()),
+            None => None,
+        }
+    }
+
+    // Another descriptor of the socket.
+    fn shared_socket(&self) -> Result<TcpListener, Trouble> {
+        let Some(socket) = &self.socket else {
+            return Err(Trouble::Failed);
+        };
+        match socket.try_clone() {
+            Ok(socket) => Ok(socket),
+            Err(error) => Err(trouble_of(&error)),
+        }
+    }
+}
+
+impl<'a, R: Net<Listener = TcpListener, Stream = TcpStream>> Listener for SocketListener<'a, R> {
+    ghost use Rattle.doors.specs.Sockets.{listen_faults};
+
+    type Door = SocketDoor<TcpListener>;
+
+    ghost doors = { λ s. None };
+
+    ghost faults = { λ s. listen_faults s };
+
+    /// Listens at a host's name or address and a port, as `127.0.0.1:7000`.
+    fn bind(&mut self, address: &str) -> Result<(), Trouble>
+        ensures never_falls { listen_faults self.old ≤ listen_faults self.new }
+        ensures failed { result ≡ Err trouble.Failed → Rose (listen_faults self.old) (listen_faults self.new) }
+
+        ensures no_fault { OnOk result (listen_faults self.new ≡ listen_faults self.old) }
+        ensures fault { result ≡ Err trouble.Failed → listen_faults self.new ≡ one_more (listen_faults self.old) }
+    {
+        match TcpListener::bind(self.rt, address) {
+            Ok(socket) => {
+                self.socket = Some(socket);
+                Ok(())
+            }
+            Err(error) => match trouble_of(&error) {
+                Trouble::Memory => Err(Trouble::Memory),
+                Trouble::Failed => {
+                    self.faults = self.faults.saturating_add(1);
+                    Err(Trouble::Failed)
+                }
+            },
+        }
+    }
+
+    /// A door at the socket. It fails where nothing is listened at yet, and where the system does.
+    fn door(&mut self) -> Result<SocketDoor<TcpListener>, Trouble>
+        ensures new { IfOk result (λ d. IsNew None × (accept_faults d ≡ 0)) }
+        ensures lends { OnOk result (Lends None None) }
+        ensures nothing { OnErr result (◌≡◌ {A = Option Doors} None None) }
+        ensures never_falls { listen_faults self.old ≤ listen_faults self.new }
+        ensures failed { result ≡ Err trouble.Failed → Rose (listen_faults self.old) (listen_faults self.new) }
+
+        ensures no_fault { OnOk result (listen_faults self.new ≡ listen_faults self.old) }
+        ensures fault { result ≡ Err trouble.Failed → listen_faults self.new ≡ one_more (listen_faults self.old) }
+    {
+        match self.shared_socket() {
+            Ok(socket) => Ok(SocketDoor::new(socket)),
+            Err(Trouble::Memory) => Err(Trouble::Memory),
+            Err(Trouble::Failed) => {
+                self.faults = self.faults.saturating_add(1);
+                Err(Trouble::Failed)
+            }
+        }
+    }
+
+    /// Lets the door go. The socket listens on.
+    fn take_back(&mut self, door: SocketDoor<TcpListener>)
+        ensures never_falls { listen_faults self.old ≤ listen_faults self.new }
+        ensures failed { 0 < accept_faults door → Rose (listen_faults self.old) (listen_faults self.new) }
+    {
+        if door.has_failed() {
+            self.faults = self.faults.saturating_add(1);
+        }
+    }
+}
