@@ -15,6 +15,8 @@ mod networks;
 #[cfg(test)]
 mod pairs;
 #[cfg(test)]
+mod plain_limits;
+#[cfg(test)]
 mod plans;
 #[cfg(test)]
 mod problems;
