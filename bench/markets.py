@@ -1,0 +1,87 @@
+#!/usr/bin/env python3
+"""Writes the markets of the bench into a folder: for each NAME the files NAME-roster.csv and NAME-trades.csv.
+
+    markets.py FOLDER
+
+genN        44 members, 14 of them dealers, 8 products, 3,000 trades between any two members; N from 1 to 8
+uniformP    256 members, 64 of them dealers, P products, 100,000 trades between any two members
+coreP       the same, where each trade is between two dealers or between a dealer and a customer, by half
+latticeP    the same, where each member sells to the four that come next, round in a ring
+"""
+
+import pathlib
+import sys
+
+
+class Draws:
+    """Numbers below 2^31 from a linear congruential generator: the high bits of its state."""
+
+    def __init__(self, seed):
+        self.state = seed
+
+    def below(self, limit):
+        self.state = (self.state * 6364136223846793005 + 1442695040888963407) % 2**64
+        return (self.state >> 33) % limit
+
+
+def other(draws, first, members):
+    """A member that is not the first one, of those with the lowest numbers."""
+    second = draws.below(members - 1)
+    return second + (second >= first)
+
+
+def uniform(draws, members, dealers):
+    seller = draws.below(members)
+    return seller, other(draws, seller, members)
+
+
+def core(draws, members, dealers):
+    dealer = draws.below(dealers)
+    if draws.below(2) == 0:
+        return dealer, other(draws, dealer, dealers)
+    customer = dealers + draws.below(members - dealers)
+    return (dealer, customer) if draws.below(2) == 0 else (customer, dealer)
+
+
+def lattice(draws, members, dealers):
+    seller = draws.below(members)
+    return seller, (seller + 1 + draws.below(4)) % members
+
+
+# name, members, dealers, products, trades, and who trades with whom
+MARKETS = [
+    *((f"gen{number}", 44, 14, 8, 3_000, uniform) for number in range(1, 9)),
+    ("uniform64", 256, 64, 64, 100_000, uniform),
+    ("core64", 256, 64, 64, 100_000, core),
+    ("lattice64", 256, 64, 64, 100_000, lattice),
+    ("uniform1", 256, 64, 1, 100_000, uniform),
+    ("core1", 256, 64, 1, 100_000, core),
+    ("lattice1", 256, 64, 1, 100_000, lattice),
+]
+
+
+def write(folder, name, members, dealers, products, trades, parties):
+    names = [f"{'D' if v < dealers else 'C'}{v:02}" for v in range(members)]
+    with open(folder / f"{name}-roster.csv", "w") as roster:
+        roster.write("name,role,key\n")
+        for v, party in enumerate(names):
+            roster.write(f"{party},{'dealer' if v < dealers else 'customer'},{party}\n")
+        for p in range(products):
+            roster.write(f"P{p},product,2040-01-01\n")
+    draws = Draws(int(name[3:]) if name.startswith("gen") else 1)
+    with open(folder / f"{name}-trades.csv", "w") as rows:
+        rows.write("seller,buyer,product,amount\n")
+        for _ in range(trades):
+            seller, buyer = parties(draws, members, dealers)
+            product = draws.below(products)
+            rows.write(f"{names[seller]},{names[buyer]},P{product},{1 + draws.below(1_000_000)}\n")
+
+
+def main():
+    folder = pathlib.Path(sys.argv[1])
+    folder.mkdir(parents=True, exist_ok=True)
+    for market in MARKETS:
+        write(folder, *market)
+
+
+main()
