@@ -3,6 +3,8 @@
 #![tactic(auto)]
 
 #[cfg(test)]
+mod bounded;
+#[cfg(test)]
 mod certificates;
 #[cfg(test)]
 mod figures;
@@ -36,5 +38,7 @@ mod tolerances;
 mod verdicts;
 #[cfg(test)]
 mod votes;
+#[cfg(test)]
+mod wide;
 #[cfg(test)]
 mod workers;
