@@ -63,17 +63,23 @@ const FOLDER: &str = "outside_file_disk";
 
 const FILE: &str = "outside_file_disk/journal";
 
-/// Whether a disk of the file, which is not there, makes it with the first write.
-fn is_made(rt: HostRuntime, disk: &mut FileDisk<HostRuntime>) -> bool {
+const OTHER: &str = "outside_file_disk/other";
+
+/// Whether a disk of the file, which is not there, makes it with the first write, and keeps another one out as long as it
+/// has it.
+fn is_made(rt: HostRuntime, again: &mut FileDisk<HostRuntime>) -> bool {
+    let mut disk = FileDisk::new(rt);
     disk.attach(FILE).is_ok()
         && disk.length() == Ok(0)
         && fs::metadata(&rt, FILE).is_err()
         && disk.write_at(0, b"ABCDE").is_ok()
         && disk.write_at(3, b"XYZ").is_ok()
         && disk.sync().is_ok()
+        && again.attach(FILE).is_err()
+        && again.faults() == 1
 }
 
-/// Whether another disk of the file reads what was written, and cuts it.
+/// Whether the other disk then reads what was written, and cuts it.
 fn is_read_and_cut(again: &mut FileDisk<HostRuntime>, into: &mut [u8]) -> bool {
     again.attach(FILE).is_ok()
         && again.length() == Ok(6)
@@ -82,28 +88,33 @@ fn is_read_and_cut(again: &mut FileDisk<HostRuntime>, into: &mut [u8]) -> bool {
         && again.cut(2).is_ok()
 }
 
-/// Whether the first disk sees the cut, and the other is not attached to a folder.
-fn is_cut(
-    disk: &mut FileDisk<HostRuntime>,
-    again: &mut FileDisk<HostRuntime>,
-    into: &mut [u8],
-) -> bool {
-    disk.length() == Ok(2)
-        && disk.read(u64::MAX, into) == Ok(0)
+/// Whether it sees the cut, and is not attached to a folder.
+fn is_cut(again: &mut FileDisk<HostRuntime>, into: &mut [u8]) -> bool {
+    again.length() == Ok(2)
+        && again.read(u64::MAX, into) == Ok(0)
         && again.attach(FOLDER).is_err()
-        && again.faults() == 1
+        && again.faults() == 2
+}
+
+/// Whether a file that another program makes and fills in between is left alone.
+fn is_left_alone(rt: HostRuntime) -> bool {
+    let mut late = FileDisk::new(rt);
+    late.attach(OTHER).is_ok()
+        && fs::write(&rt, OTHER, b"F").is_ok()
+        && late.write_at(0, b"ABCDE").is_err()
+        && late.faults() == 1
 }
 
 #[test]
 fn what_was_written_is_read_when_the_file_is_opened_again(rt: HostRuntime) -> Result<(), Fail> {
     let _ = fs::remove_dir_all(&rt, FOLDER);
     fs::create_dir(&rt, FOLDER)?;
-    let mut disk = FileDisk::new(rt);
     let mut again = FileDisk::new(rt);
     let mut into = [0; 8];
-    assert!(rt; is_made(rt, &mut disk));
+    assert!(rt; is_made(rt, &mut again));
     assert!(rt; is_read_and_cut(&mut again, &mut into));
-    assert!(rt; is_cut(&mut disk, &mut again, &mut into));
+    assert!(rt; is_cut(&mut again, &mut into));
+    assert!(rt; is_left_alone(rt));
     fs::remove_dir_all(&rt, FOLDER)?;
     Ok(())
 }
