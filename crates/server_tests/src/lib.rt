@@ -16,7 +16,11 @@ mod failing_streams;
 #[cfg(test)]
 mod file_faults;
 #[cfg(test)]
+mod gates;
+#[cfg(test)]
 mod in_step;
+#[cfg(test)]
+mod journals;
 #[cfg(test)]
 mod lock;
 #[cfg(test)]
@@ -41,6 +45,8 @@ mod sizes;
 mod solves;
 #[cfg(test)]
 mod sources;
+#[cfg(test)]
+mod stopped_cycles;
 #[cfg(test)]
 mod trades;
 #[cfg(test)]
