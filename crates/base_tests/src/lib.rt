@@ -1,6 +1,8 @@
-//! The tests of units, of what lies outside the program, and of networks and limits. All call public items alone.
+//! The tests of units, of what lies outside the program, of connections, and of networks and limits. All call public items alone.
 #![tactic(auto)]
 
+#[cfg(test)]
+mod connections;
 #[cfg(test)]
 mod days;
 #[cfg(test)]
