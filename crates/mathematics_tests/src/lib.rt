@@ -17,8 +17,6 @@ mod networks;
 #[cfg(test)]
 mod pairs;
 #[cfg(test)]
-mod plain_limits;
-#[cfg(test)]
 mod plans;
 #[cfg(test)]
 mod problems;
