@@ -1,0 +1,4 @@
+pub mod PlaceFacts
+pub mod VisitFacts
+pub mod FinalFacts
+pub mod SeatedFacts

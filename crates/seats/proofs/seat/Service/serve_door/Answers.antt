@@ -1,0 +1,69 @@
+use Rattle.std.proofs.Common.{◌++◌, ◌∙◌, Ok, refl, sym, ap, arith}
+use Rattle.std.proofs.lemmas.Bool.{false≢true}
+use denote.Enum.Bare.{sameb}
+use Rattle.session.specs.contracts.serve.SessionEnd.{the_type}
+use Rattle.session.specs.Serving.{of_pass}
+use Rattle.session.proofs.GrowthFacts.{grows_both, same_roster}
+use Rattle.session.specs.declared.serve.SessionEnd.TheVariants as session_end
+use Rattle.seats.specs.declared.seat.SeatEnd.TheVariants as seat_end
+use Rattle.seats.proofs.VisitFacts.{IsRound, serves_on, serves_end, not_over, ends_grow, some_holds, rose_from_none}
+use Rattle.seats.proofs.seat.Service.serve_door.Goals as goal
+
+pub returns-then-eq-clause-serves : goal.returns-then-eq-clause-serves
+returns-then-eq-clause-serves g c =
+    let visits = g.D.Door.visits in
+    let fresh = some_holds _ _ _ c.in-Ok-Some.field-0-is c.in-Ok-Some.ensures.fresh in
+    let round : IsRound (of_pass c.loop.pass) (of_pass c.serve_session-end.result.1) (visits c.loop.door) (visits c.accept.new.self) (visits c.give_back.new.self) c.serve_session-end.result.0 = record {
+      opened = _;
+      flow = _;
+      begun = _;
+      taken = _;
+      input_faults = _;
+      output_faults = _;
+      opens = some_holds _ _ _ c.in-Ok-Some.field-0-is c.in-Ok-Some.ensures.opens;
+      ends = c.serve_session-end.ensures.ends;
+      source_fault = λ e. rose_from_none _ _ fresh.0 (c.serve_session-end.ensures.source_fault e);
+      sink_fault = λ e. rose_from_none _ _ fresh.1 (c.serve_session-end.ensures.sink_fault e);
+      returns = c.give_back.ensures.returns;
+    } in
+    serves_on _ _ _ _ _ _ _ _ c.loop.counter _ seat_end.Memory c.loop.invariant.serves round (omega (arith, c.loop-test.true)) (λ e. absurd cc) (λ e. absurd cc) (λ e. refl)
+
+pub loop-preserved : goal.loop-preserved
+loop-preserved g c =
+    let before = c.loop.invariant in
+    let visits = g.D.Door.visits in
+    let fresh = some_holds _ _ _ c.in-Ok-Some.field-0-is c.in-Ok-Some.ensures.fresh in
+    let round : IsRound (of_pass c.loop.pass) (of_pass c.serve_session-end.result.1) (visits c.loop.door) (visits c.accept.new.self) (visits c.give_back.new.self) c.serve_session-end.result.0 = record {
+      opened = _;
+      flow = _;
+      begun = _;
+      taken = _;
+      input_faults = _;
+      output_faults = _;
+      opens = some_holds _ _ _ c.in-Ok-Some.field-0-is c.in-Ok-Some.ensures.opens;
+      ends = c.serve_session-end.ensures.ends;
+      source_fault = λ e. rose_from_none _ _ fresh.0 (c.serve_session-end.ensures.source_fault e);
+      sink_fault = λ e. rose_from_none _ _ fresh.1 (c.serve_session-end.ensures.sink_fault e);
+      returns = c.give_back.ensures.returns;
+    } in
+    let came = ends_grow (of_pass c.loop.pass) _ _ _ _ (of_pass c.serve_session-end.result.1) c.serve_session-end.result.0 c.serve_session-end.ensures.ends in
+    record {
+      own = c.serve_session-end.ensures.own;
+      roster = before.roster ∙ sym (same_roster _ _ came.0 came.1);
+      grows = (before.grows.0 ++ came.0, grows_both _ _ _ before.grows.0 came.0 before.grows.1 came.1);
+      serves = serves_on _ _ _ _ _ _ _ _ c.loop.counter _ seat_end.Most before.serves round (omega arith) (λ e. refl) not_over (λ e. absurd (false≢true (sym c.if-eq.false ∙ (c.eq.ensures ∙ ap (λ x. sameb the_type x session_end.Memory) e))));
+      faults = omega (arith, before.faults, c.accept.ensures.never_falls, c.give_back.ensures.same);
+    }
+
+pub returns-in-Ok-None-clause-serves : goal.returns-in-Ok-None-clause-serves
+returns-in-Ok-None-clause-serves g c =
+    let none = ap (λ o. Ok o) c.in-Ok-None.field-0-is in
+    serves_end _ _ _ _ _ _ _ seat_end.Over (c.in-Ok-None.ensures.same none) (omega (arith, c.loop-test.true)) (λ e. absurd cc) (λ e. c.in-Ok-None.ensures.over none) c.loop.invariant.serves
+
+pub returns-in-Err-Failed-clause-serves : goal.returns-in-Err-Failed-clause-serves
+returns-in-Err-Failed-clause-serves g c =
+    serves_end _ _ _ _ _ _ _ seat_end.DoorFault c.in-Err-Failed.ensures.nothing (omega (arith, c.loop-test.true)) (λ e. absurd cc) (λ e. absurd cc) c.loop.invariant.serves
+
+pub returns-in-Err-Memory-clause-serves : goal.returns-in-Err-Memory-clause-serves
+returns-in-Err-Memory-clause-serves g c =
+    serves_end _ _ _ _ _ _ _ seat_end.Memory c.in-Err-Memory.ensures.nothing (omega (arith, c.loop-test.true)) (λ e. absurd cc) (λ e. absurd cc) c.loop.invariant.serves
