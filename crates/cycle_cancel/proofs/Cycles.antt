@@ -8,11 +8,11 @@ use Rattle.cycle_cancel.specs.Traces.{arc_at, costs, IsWalkBack}
 use Rattle.residual_graph.specs.Arcs.{arc_count, head, tail}
 use Rattle.cycle_cancel.specs.Rounds.{label_at, IsLoweredBy, IsCaused, IsRound}
 
-caused_some : (flows : List Flow) (before : List Step) (v : ℕ) (l : ℤ) (o : Option ℕ) (a : ℕ) → o ≡ Some a → IsCaused flows before v l o → IsLoweredBy flows before v l a
-caused_some flows before v l o a e h = subst (IsCaused flows before v l) e h
+caused_some : {least : ℕ} (flows : List Flow) (before : List Step) (v : ℕ) (l : ℤ) (o : Option ℕ) (a : ℕ) → o ≡ Some a → IsCaused least flows before v l o → IsLoweredBy least flows before v l a
+caused_some {least = least} flows before v l o a e h = subst (IsCaused least flows before v l) e h
 
-caused_none : (flows : List Flow) (before : List Step) (v : ℕ) (l : ℤ) (o : Option ℕ) → o ≡ None → IsCaused flows before v l o → l ≡ label_at before v
-caused_none flows before v l o e h = subst (IsCaused flows before v l) e h
+caused_none : (least : ℕ) (flows : List Flow) (before : List Step) (v : ℕ) (l : ℤ) (o : Option ℕ) → o ≡ None → IsCaused least flows before v l o → l ≡ label_at before v
+caused_none least flows before v l o e h = subst (IsCaused least flows before v l) e h
 
 -- from w at level m back along the arcs to v at level k
 abbrev pub Traced : List Flow → (ℕ → List Step) → ℕ → ℕ → List ℕ → ℕ → ℕ → Type 0
@@ -20,7 +20,7 @@ Traced flows table m w [] k v = (m ≡ k) × (w ≡ v)
 Traced flows table zero w (a ∷ arcs) k v = ⊥
 Traced flows table (suc m) w (a ∷ arcs) k v = (arc_at (table (suc m)) w ≡ Some a) × Traced flows table m (tail flows a) arcs k v
 
-module _ (flows : List Flow) (table : ℕ → List Step) (n members : ℕ) (wide : (k : ℕ) → k ≤ n → length (table k) ≡ members) (rounds : (k : ℕ) → k < n → IsRound flows (table k) (table (suc k)) (arc_count flows)) (ends : (a : ℕ) → a < arc_count flows → (tail flows a < members) × (head flows a < members)) where
+module _ {least : ℕ} (flows : List Flow) (table : ℕ → List Step) (n members : ℕ) (wide : (k : ℕ) → k ≤ n → length (table k) ≡ members) (rounds : (k : ℕ) → k < n → IsRound least flows (table k) (table (suc k)) (arc_count flows)) (ends : (a : ℕ) → a < arc_count flows → (tail flows a < members) × (head flows a < members)) where
   -- labels never rise
   fall : (k m v : ℕ) → k ≤ m → m ≤ n → v < members → label_at (table m) v ≤ℤ label_at (table k) v
   fall k zero v le ln lv = let e : k ≡ 0 = omega arith in rw e (omega (arith, ints))
@@ -36,8 +36,8 @@ module _ (flows : List Flow) (table : ℕ → List Step) (n members : ℕ) (wide
       let first = rounds k (omega arith) in
       let by = caused_some flows (table (suc k)) v (label_at (table (suc (suc k))) v) (arc_at (table (suc (suc k))) v) a e (second.caused v (omega (arith, wide (suc (suc k)) (omega arith)))) in
       let in_ends = ends a by.arc in
-      let kept = first.relaxed a by.arc by.room in
-      let same = caused_none flows (table k) (tail flows a) (label_at (table (suc k)) (tail flows a)) (arc_at (table (suc k)) (tail flows a)) none (first.caused (tail flows a) (omega (arith, wide (suc k) (omega arith)))) in
+      let kept = first.relaxed a by.arc by.counts in
+      let same = caused_none least flows (table k) (tail flows a) (label_at (table (suc k)) (tail flows a)) (arc_at (table (suc k)) (tail flows a)) none (first.caused (tail flows a) (omega (arith, wide (suc k) (omega arith)))) in
       omega (arith, ints, by.is, by.below, kept, ap (label_at (table (suc k))) by.head, same)
 
   pub traced_cost : (m w : ℕ) (arcs : List ℕ) (k v : ℕ) → m ≤ n → w < members → Traced flows table m w arcs k v → (k ≤ m) × (label_at (table m) w ≡ label_at (table k) v +ℤ costs arcs)
@@ -67,7 +67,7 @@ module _ (flows : List Flow) (table : ℕ → List Step) (n members : ℕ) (wide
   traced_push (suc m) w (b ∷ arcs) k v a t e = (t.0, traced_push m (tail flows b) arcs k v a t.1 e)
 
   -- what the arc of a label at a level is
-  pub cause : (k v : ℕ) (a : ℕ) → suc k ≤ n → v < members → arc_at (table (suc k)) v ≡ Some a → IsLoweredBy flows (table k) v (label_at (table (suc k)) v) a
+  pub cause : (k v : ℕ) (a : ℕ) → suc k ≤ n → v < members → arc_at (table (suc k)) v ≡ Some a → IsLoweredBy least flows (table k) v (label_at (table (suc k)) v) a
   cause k v a lk lv e = caused_some flows (table k) v (label_at (table (suc k)) v) (arc_at (table (suc k)) v) a e ((rounds k lk).caused v (omega (arith, wide (suc k) lk)))
 
   pub cycle_gains : (m v : ℕ) (a : ℕ) (arcs : List ℕ) (k : ℕ) → suc m ≤ n → v < members → Traced flows table (suc m) v (a ∷ arcs) k v → costs (a ∷ arcs) <ℤ pos 0

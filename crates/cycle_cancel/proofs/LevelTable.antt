@@ -27,52 +27,52 @@ cost_low : (f : Bool) → (neg_ℤ (pos 1) ≤ℤ cost_in f)
 cost_low true = omega (arith, ints)
 cost_low false = omega (arith, ints)
 
-level_cause : (flows : List Flow) (before : List Step) (k v : ℕ) (l : ℤ) (o : Option ℕ) → All (IsFlow (length before)) flows → IsLevel k before → v < length before → IsCaused flows before v l o → (neg_ℤ (pos (k + 1)) ≤ℤ l) × (l ≤ℤ pos 0)
-level_cause flows before k v l None range level lv c =
+level_cause : (least : ℕ) (flows : List Flow) (before : List Step) (k v : ℕ) (l : ℤ) (o : Option ℕ) → All (IsFlow (length before)) flows → IsLevel k before → v < length before → IsCaused least flows before v l o → (neg_ℤ (pos (k + 1)) ≤ℤ l) × (l ≤ℤ pos 0)
+level_cause least flows before k v l None range level lv c =
     let b = level v lv in
     (omega (arith, ints, c, b.0), omega (arith, ints, c, b.1))
-level_cause flows before k v l (Some a) range level lv c =
+level_cause least flows before k v l (Some a) range level lv c =
     let b = level v lv in
     let t = level (tail flows a) (ends_in (length before) flows range a c.arc).0 in
     (omega (arith, ints, c.is, t.0, cost_low (is_forward a)), omega (arith, ints, c.below, b.1))
 
 -- labels fall by at most one in a round
-pub round_level : (flows : List Flow) (before next : List Step) (n k : ℕ) → All (IsFlow (length before)) flows → IsLevel k before → IsRound flows before next n → IsLevel (k + 1) next
-round_level flows before next n k range level r v lv =
-    level_cause flows before k v (label_at next v) (get_or next v first_step).arc range level (omega (arith, r.same_length)) (r.caused v lv)
+pub round_level : {least : ℕ} (flows : List Flow) (before next : List Step) (n k : ℕ) → All (IsFlow (length before)) flows → IsLevel k before → IsRound least flows before next n → IsLevel (k + 1) next
+round_level {least = least} flows before next n k range level r v lv =
+    level_cause least flows before k v (label_at next v) (get_or next v first_step).arc range level (omega (arith, r.same_length)) (r.caused v lv)
 
 -- one more round
-pub table_push : (flows : List Flow) (n : ℕ) (levels : List (Vec Step Global)) (next : Vec Step Global) (k : ℕ) → IsTable flows n levels → length levels ≡ k + 1 → length next.items ≡ n → ((d : Vec Step Global) → IsRound flows (get_or levels k d).items next.items (arc_count flows)) → IsTable flows n (levels ++ next ∷ [])
-table_push flows n levels next k t len wide r = record {
+pub table_push : {least : ℕ} (flows : List Flow) (n : ℕ) (levels : List (Vec Step Global)) (next : Vec Step Global) (k : ℕ) → IsTable least flows n levels → length levels ≡ k + 1 → length next.items ≡ n → ((d : Vec Step Global) → IsRound least flows (get_or levels k d).items next.items (arc_count flows)) → IsTable least flows n (levels ++ next ∷ [])
+table_push {least = least} flows n levels next k t len wide r = record {
   wide = All-push (λ (level : Vec Step Global). length level.items ≡ n) levels next t.wide wide;
   rounds = λ j d lj. ⊎_elim
       (λ (q : j ≡ k).
       let here = ap (λ x. get_or (levels ++ next ∷ []) x d) (ap suc q ∙ sym (len ∙ plus k)) ∙ get_or-append_seam levels next [] d in
       let before = get_or-append levels (next ∷ []) d j (omega (arith, len)) ∙ ap (λ x. get_or levels x d) q in
-      subst (λ (v : Vec Step Global). IsRound flows (get_or (levels ++ next ∷ []) j d).items v.items (arc_count flows)) (sym here)
-      (subst (λ (v : Vec Step Global). IsRound flows v.items next.items (arc_count flows)) (sym before) (r d)))
+      subst (λ (v : Vec Step Global). IsRound least flows (get_or (levels ++ next ∷ []) j d).items v.items (arc_count flows)) (sym here)
+      (subst (λ (v : Vec Step Global). IsRound least flows v.items next.items (arc_count flows)) (sym before) (r d)))
       (λ (q : j ≢ k).
       let in_levels : suc j < length levels = omega (arith, len, length-append levels (next ∷ [])) in
-      subst (λ (v : Vec Step Global). IsRound flows (get_or (levels ++ next ∷ []) j d).items v.items (arc_count flows)) (sym (get_or-append levels (next ∷ []) d (suc j) in_levels))
-      (subst (λ (v : Vec Step Global). IsRound flows v.items (get_or levels (suc j) d).items (arc_count flows)) (sym (get_or-append levels (next ∷ []) d j (omega arith))) (t.rounds j d in_levels)))
+      subst (λ (v : Vec Step Global). IsRound least flows (get_or (levels ++ next ∷ []) j d).items v.items (arc_count flows)) (sym (get_or-append levels (next ∷ []) d (suc j) in_levels))
+      (subst (λ (v : Vec Step Global). IsRound least flows v.items (get_or levels (suc j) d).items (arc_count flows)) (sym (get_or-append levels (next ∷ []) d j (omega arith))) (t.rounds j d in_levels)))
       (cases_eq j k);
 }
   where
     plus : (k : ℕ) → k + 1 ≡ suc k
     plus k = omega arith
 
-pub table_one : (flows : List Flow) (n : ℕ) (first : Vec Step Global) → length first.items ≡ n → IsTable flows n (first ∷ [])
+pub table_one : {least : ℕ} (flows : List Flow) (n : ℕ) (first : Vec Step Global) → length first.items ≡ n → IsTable least flows n (first ∷ [])
 table_one flows n first wide = record {
   wide = λ k d l. let q : k ≡ 0 = omega arith in rw q wide;
   rounds = λ k d l. absurd (omega arith);
 }
 
-is_same : (flows : List Flow) (before : List Step) (v : ℕ) (l : ℤ) (o : Option ℕ) → o ≡ None → IsCaused flows before v l o → l ≡ label_at before v
-is_same flows before v l o e c = subst (IsCaused flows before v l) e c
+is_same : (least : ℕ) (flows : List Flow) (before : List Step) (v : ℕ) (l : ℤ) (o : Option ℕ) → o ≡ None → IsCaused least flows before v l o → l ≡ label_at before v
+is_same least flows before v l o e c = subst (IsCaused least flows before v l) e c
 
 -- where the last round lowered nothing, no arc lowers a label
-pub settled : (r : ResidualData) (before last : List Step) (k : ℕ) → IsResidual r → length before ≡ r.members → IsLevel k last → k ≤ r.members → IsRound r.flows before last (arc_count r.flows) → ((v : ℕ) → v < length last → arc_at last v ≡ None) → AreSettled r (map label_of last)
-settled r before last k h wide level few round none = record {
+pub settled : {least : ℕ} (r : ResidualData) (before last : List Step) (k : ℕ) → least ≡ 1 → IsResidual r → length before ≡ r.members → IsLevel k last → k ≤ r.members → IsRound least r.flows before last (arc_count r.flows) → ((v : ℕ) → v < length last → arc_at last v ≡ None) → AreSettled r (map label_of last)
+settled {least = least} r before last k one h wide level few round none = record {
   one_each = length-map last label_of ∙ round.same_length ∙ wide;
   low = λ v d l.
       let in_last : v < length last = omega (arith, length-map last label_of) in
@@ -82,8 +82,8 @@ settled r before last k h wide level few round none = record {
   none_lower = λ a la has.
       let ends = ends_in r.members r.flows h.good a la in
       let in_last : tail r.flows a < length last = omega (arith, round.same_length, wide, ends.0) in
-      let same = is_same r.flows before (tail r.flows a) (label_at last (tail r.flows a)) (arc_at last (tail r.flows a)) (none (tail r.flows a) in_last) (round.caused (tail r.flows a) in_last) in
-      omega (arith, ints, round.relaxed a la has, same, any-get_or-map label_of last (tail r.flows a) first_step, any-get_or-map label_of last (head r.flows a) first_step);
+      let same = is_same least r.flows before (tail r.flows a) (label_at last (tail r.flows a)) (arc_at last (tail r.flows a)) (none (tail r.flows a) in_last) (round.caused (tail r.flows a) in_last) in
+      omega (arith, ints, round.relaxed a la (omega (arith, one, has)), same, any-get_or-map label_of last (tail r.flows a) first_step, any-get_or-map label_of last (head r.flows a) first_step);
 }
 
 -- with no members there is no arc
@@ -95,6 +95,6 @@ settled_empty r h e = record {
 }
 
 -- the level behind a table is as wide, and its labels are one lower at most
-pub next_level : (r : ResidualData) (levels : List (Vec Step Global)) (any : Vec Step Global) (k : ℕ) (next : List Step) → IsResidual r → IsTable r.flows r.members levels → k < length levels → IsLevel k (get_or levels k any).items → IsRound r.flows (get_or levels k any).items next (arc_count r.flows) → IsLevel (k + 1) next × (length next ≡ r.members)
+pub next_level : {least : ℕ} (r : ResidualData) (levels : List (Vec Step Global)) (any : Vec Step Global) (k : ℕ) (next : List Step) → IsResidual r → IsTable least r.flows r.members levels → k < length levels → IsLevel k (get_or levels k any).items → IsRound least r.flows (get_or levels k any).items next (arc_count r.flows) → IsLevel (k + 1) next × (length next ≡ r.members)
 next_level r levels any k next h tab l level round =
     (round_level r.flows (get_or levels k any).items next (arc_count r.flows) k (subst (λ m. All (IsFlow m) r.flows) (sym (tab.wide k any l)) h.good) level round, round.same_length ∙ tab.wide k any l)

@@ -58,11 +58,11 @@ module _ (flows : List Flow) (levels : List (Vec Step Global)) (members rounds :
     pub marked : (w m : ℕ) → w < members → get_or marks w None ≡ Some m → (m < back) × ((k m' : ℕ) → rounds ≡ back + k → rounds ≡ m + m' → Traced flows (table levels any) m' w (drop m path) k at)
     pub heads : (i : ℕ) (d : ℕ) → i < back → (get_or marks (head flows (get_or path i d)) None ≡ Some i) × (get_or path i d < arc_count flows) × (0 < room flows (get_or path i d))
 
-module _ (flows : List Flow) (levels : List (Vec Step Global)) (members rounds : ℕ) (any : Vec Step Global) (tab : IsTable flows members levels) (len : length levels ≡ rounds + 1) (good : All (IsFlow members) flows) where
+module _ {least : ℕ} (flows : List Flow) (levels : List (Vec Step Global)) (members rounds : ℕ) (any : Vec Step Global) (tab : IsTable least flows members levels) (len : length levels ≡ rounds + 1) (good : All (IsFlow members) flows) where
   wide : (k : ℕ) → k ≤ rounds → length (table levels any k) ≡ members
   wide k l = tab.wide k any (omega arith)
 
-  steps : (k : ℕ) → k < rounds → IsRound flows (table levels any k) (table levels any (suc k)) (arc_count flows)
+  steps : (k : ℕ) → k < rounds → IsRound least flows (table levels any k) (table levels any (suc k)) (arc_count flows)
   steps k l = tab.rounds k any (omega arith)
 
   ends : (a : ℕ) → a < arc_count flows → (tail flows a < members) × (head flows a < members)

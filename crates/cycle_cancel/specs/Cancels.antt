@@ -26,10 +26,10 @@ pub record AreSettled (r : ResidualData) (labels : List ℤ) : Type 0 where
   pub low : All (IsLabel r.members) labels
   pub none_lower : AreLabels r.flows labels
 
--- labels that no arc can lower, or a cycle that gains
-abbrev pub IsFound : ResidualData → Found → Type 0
-IsFound r (Labels labels) = AreSettled r labels.items
-IsFound r (Cycle arcs) = IsGain r.flows arcs.items
+-- labels, which no arc can lower where each arc with room counts, or a cycle that gains
+abbrev pub IsFound : ℕ → ResidualData → Found → Type 0
+IsFound least r (Labels labels) = least ≡ 1 → AreSettled r labels.items
+IsFound least r (Cycle arcs) = IsGain r.flows arcs.items
 
 -- less gross, the same nets, and still within the limits
 pub record IsCancelled (old new : List Flow) : Type 0 where

@@ -27,7 +27,7 @@ pub record IsGain (flows : List Flow) (arcs : List ℕ) : Type 0 where
   pub different : AllPairs (λ a b. a ≢ b) arcs
   pub gains : costs arcs <ℤ pos 0
 
--- each level is a round of the one before, over this many members
-pub record IsTable (flows : List Flow) (members : ℕ) (levels : List (Vec Step Global)) : Type 0 where
+-- each level is a round of the one before, over this many members, by arcs of at least so much room
+pub record IsTable (least : ℕ) (flows : List Flow) (members : ℕ) (levels : List (Vec Step Global)) : Type 0 where
   pub wide : All (λ level. length level.items ≡ members) levels
-  pub rounds : (k : ℕ) (d : Vec Step Global) → suc k < length levels → IsRound flows (slice_index_or levels k d).items (slice_index_or levels (suc k) d).items (arc_count flows)
+  pub rounds : (k : ℕ) (d : Vec Step Global) → suc k < length levels → IsRound least flows (slice_index_or levels k d).items (slice_index_or levels (suc k) d).items (arc_count flows)

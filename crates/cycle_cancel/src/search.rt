@@ -13,24 +13,26 @@ use std::alloc::{AllocError, Global};
 /// What the rounds of labels end with.
 #[derive(Drop)]
 pub enum Found {
-    /// A label for each member, which no arc can lower.
+    /// A label for each member, which no arc that counts can lower.
     Labels(Vec<i32>),
     /// The arcs of a cycle of negative cost, each of which has room, from the last to the first.
     Cycle(Vec<u32>),
 }
 
-/// Rounds of labels from 0 on, each on the one before, which are all kept. They stop at the first round
-/// that lowers no label, and at the first whose arcs, followed back, pass a member twice. There are at most
-/// as many rounds as members, since a walk back through so many passes one twice.
-pub fn search(alloc: Global, residual: &Residual) -> Result<Found, AllocError>
-    ensures { IfOk result (IsFound residual.now) }
+/// Rounds of labels from 0 on, each on the one before, which are all kept, by the arcs that have room for at
+/// least so much. They stop at the first round that lowers no label, and at the first whose arcs, followed
+/// back, pass a member twice. There are at most as many rounds as members, since a walk back through so many
+/// passes one twice.
+pub fn search(alloc: Global, residual: &Residual, least: u64) -> Result<Found, AllocError>
+    requires { 1 ≤ least }
+    ensures { IfOk result (IsFound least residual.now) }
 {
     let members = residual.members();
     let mut levels = Vec::new(alloc);
     let first = zeros(alloc, members)?;
     levels.push(first)?;
     for level in 0..members {
-        let next = round(alloc, residual, &levels[level as usize], level)?;
+        let next = round(alloc, residual, &levels[level as usize], level, least)?;
         let Some(start) = changed(&next) else {
             let labels = labels_of(alloc, &next)?;
             return Ok(Found::Labels(labels));

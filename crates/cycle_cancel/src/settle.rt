@@ -15,14 +15,25 @@ pub struct Settled {
     pub cancelled: bool,
 }
 
-/// Cancels cycles until the labels settle. Each lowers the gross by at least 1, so it ends.
+/// The most room that an arc is asked for: a power of 2 that is above most amounts.
+const MOST: u64 = 1_152_921_504_606_846_976;
+
+/// Cancels cycles until the labels settle. At first only arcs count that have much room, and whenever the labels settle,
+/// those with half as much count too, down to 1: so few cycles move little. Each lowers the gross by at least 1, so it
+/// ends.
 pub fn settle(alloc: Global, residual: &mut Residual) -> Result<Settled, AllocError>
     ensures { IfOk result (IsSettled residual.old residual.new) }
 {
     let mut cancelled = false;
+    let mut least = MOST;
     loop {
-        match search(alloc, residual)? {
-            Found::Labels(labels) => return Ok(Settled { labels, cancelled }),
+        match search(alloc, residual, least)? {
+            Found::Labels(labels) => {
+                if least == 1 {
+                    return Ok(Settled { labels, cancelled });
+                }
+                least /= 2;
+            }
             Found::Cycle(arcs) => {
                 cancel(residual, &arcs);
                 cancelled = true;

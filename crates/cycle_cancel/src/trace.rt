@@ -20,7 +20,7 @@ pub fn trace(
     rounds: u16,
     start: u16,
 ) -> Result<Option<Vec<u32>>, AllocError>
-    requires table { IsTable residual.now.flows residual.now.members levels.now }
+    requires table { (least : ℕ) × IsTable least residual.now.flows residual.now.members levels.now }
     requires levels { length levels.now ≡ rounds + 1 }
     requires rounds { rounds ≤ residual.now.members }
     requires start { start < residual.now.members }

@@ -14,4 +14,4 @@ loop-arc-preserved c =
     let inv = c.loop-arc.invariant in
     let l : c.loop-arc.arc < arc_count c.args.residual.now.flows = omega (arith, c.loop-arc-test.true, c.arcs-arc-end.ensures.value) in
     let ends = ends_in c.args.residual.now.members c.args.residual.now.flows c.arcs-arc-end.ensures.residual.good c.loop-arc.arc l in
-    subst (λ (x : List Step). IsRound c.args.residual.now.flows c.args.before.now x (c.loop-arc.arc + 1)) (sym c.lower.ensures) (arc_keeps c.args.residual.now.flows c.args.before.now c.loop-arc.next c.loop-arc.arc inv l (omega (arith, ends.1, inv.same_length, c.requires.members)))
+    subst (λ (x : List Step). IsRound c.args.least c.args.residual.now.flows c.args.before.now x (c.loop-arc.arc + 1)) (sym c.lower.ensures) (arc_keeps c.args.residual.now.flows c.args.before.now c.loop-arc.next c.loop-arc.arc c.requires.least inv l (omega (arith, ends.1, inv.same_length, c.requires.members)))

@@ -9,7 +9,7 @@ use Rattle.cycle_cancel.proofs.search.search.Given as goal
 abbrev pub invariant-loop-level : goal.invariant-loop-level
 invariant-loop-level l = record {
   counted : length l.levels.items ≡ l.level + 1;
-  table : IsTable l.residual.flows l.residual.members l.levels.items;
+  table : IsTable l.least l.residual.flows l.residual.members l.levels.items;
   level : (d : Vec Step Global) → IsLevel l.level (get_or l.levels.items l.level d).items;
   few : 0 < l.level → l.level < l.residual.members;
 }

@@ -1,10 +1,14 @@
+use Rattle.std.proofs.Common.{◌+◌, ◌≤◌}
 use Rattle.network_laws.specs.Networks.{total}
 use Rattle.residual_graph.specs.Residual.{flow_rows}
 use Rattle.cycle_cancel.specs.Cancels.{IsKept}
 use Rattle.cycle_cancel.proofs.settle.settle.Given as goal
 
 abbrev pub invariant-loop-labels : goal.invariant-loop-labels
-invariant-loop-labels l = IsKept l.cancelled l.initial.residual l.residual
+invariant-loop-labels l = record {
+  kept : IsKept l.cancelled l.initial.residual l.residual;
+  some : 1 ≤ l.least;
+}
 
 abbrev pub decreases-loop-labels : goal.decreases-loop-labels
-decreases-loop-labels l = total (flow_rows l.residual.flows)
+decreases-loop-labels l = total (flow_rows l.residual.flows) + l.least

@@ -18,7 +18,7 @@ returns-in-Some c =
     let any = c.index-levels-0.result in
     let t = c.loop-back.invariant.3 c.index-levels-0.result in
     let seen : get_or c.loop-back.marks.items c.loop-back.at None ≡ Some c.in-Some.mark = ap (λ (xs : List (Option ℕ)). get_or xs c.loop-back.at None) (sym c.deref.ensures.value) ∙ sym c.in-Some.ensures in
-    let gain = tracing_found c.args.residual.now.flows c.args.levels.now c.args.residual.now.members c.args.rounds any c.requires.table c.requires.levels c.members.ensures.residual.good c.loop-back.path.items c.loop-back.marks.items c.loop-back.at c.loop-back.back c.in-Some.mark t (omega arith) seen in
+    let gain = tracing_found c.args.residual.now.flows c.args.levels.now c.args.residual.now.members c.args.rounds any c.requires.table.1 c.requires.levels c.members.ensures.residual.good c.loop-back.path.items c.loop-back.marks.items c.loop-back.at c.loop-back.back c.in-Some.mark t (omega arith) seen in
     let is : c.in_ok-arcs.arcs.items ≡ drop c.in-Some.mark c.loop-back.path.items = c.in_ok-arcs.ensures ∙ ap (drop c.in-Some.mark) c.deref-in-Some.ensures.value in
     subst (IsGain c.args.residual.now.flows) (sym is) gain
 
@@ -38,7 +38,7 @@ tail-at-requires c =
     let n = c.args.rounds in
     let b = c.loop-back.back in
     let is = subst (λ k. arc_at (get_or c.args.levels.now k any).items c.loop-back.at ≡ Some c.arc_of-arc.result) (level_up n b c.loop-back-test.true) (c.arc_of-arc.ensures any) in
-    arc_in_flows c.args.residual.now.flows c.args.levels.now c.args.residual.now.members n any c.requires.table c.requires.levels c.members.ensures.residual.good c.loop-back.at (n - (b + 1)) c.arc_of-arc.result (omega arith) c.loop-back.invariant.2 is
+    arc_in_flows c.args.residual.now.flows c.args.levels.now c.args.residual.now.members n any c.requires.table.1 c.requires.levels c.members.ensures.residual.good c.loop-back.at (n - (b + 1)) c.arc_of-arc.result (omega arith) c.loop-back.invariant.2 is
 
 pub loop-back-preserved : goal.loop-back-preserved
 loop-back-preserved c =
@@ -54,7 +54,7 @@ loop-back-preserved c =
     let longer : c.push.new.self.items ≡ c.loop-back.path.items ++ c.arc_of-arc.result ∷ [] = c.in_ok-push.ensures.items in
     let free : get_or c.loop-back.marks.items c.loop-back.at None ≡ None = ap (λ (xs : List (Option ℕ)). get_or xs c.loop-back.at None) (sym c.deref.ensures.value) ∙ sym c.mark_of.ensures ∙ c.in_default.is in
     let step = λ (any : Vec Step Global).
-    tracing_step flows levels members n any c.requires.table c.requires.levels c.members.ensures.residual.good path marks at b (n - (b + 1)) a (c.loop-back.invariant.3 any) (omega arith) free
+    tracing_step flows levels members n any c.requires.table.1 c.requires.levels c.members.ensures.residual.good path marks at b (n - (b + 1)) a (c.loop-back.invariant.3 any) (omega arith) free
     (subst (λ k. arc_at (get_or levels k any).items at ≡ Some a) (level_up n b c.loop-back-test.true) (c.arc_of-arc.ensures any)) in
     let one = step c.index-levels-0.result in (
       ap length longer ∙ one.path_length,
@@ -74,7 +74,7 @@ returns-in-Some-mark_of c =
     let any = c.index-levels-0.result in
     let t = c.loop-back.invariant.3 c.index-levels-0.result in
     let seen : get_or c.loop-back.marks.items c.loop-back.at None ≡ Some c.in-Some-mark_of.mark = ap (λ (xs : List (Option ℕ)). get_or xs c.loop-back.at None) (sym c.deref-2.ensures.value) ∙ sym c.in-Some-mark_of.ensures in
-    let gain = tracing_found c.args.residual.now.flows c.args.levels.now c.args.residual.now.members c.args.rounds any c.requires.table c.requires.levels c.members.ensures.residual.good c.loop-back.path.items c.loop-back.marks.items c.loop-back.at c.loop-back.back c.in-Some-mark_of.mark t (omega arith) seen in
+    let gain = tracing_found c.args.residual.now.flows c.args.levels.now c.args.residual.now.members c.args.rounds any c.requires.table.1 c.requires.levels c.members.ensures.residual.good c.loop-back.path.items c.loop-back.marks.items c.loop-back.at c.loop-back.back c.in-Some-mark_of.mark t (omega arith) seen in
     let is : c.in_ok-arcs-in-Some-mark_of.arcs.items ≡ drop c.in-Some-mark_of.mark c.loop-back.path.items = c.in_ok-arcs-in-Some-mark_of.ensures ∙ ap (drop c.in-Some-mark_of.mark) c.deref-in-Some-mark_of.ensures.value in
     subst (IsGain c.args.residual.now.flows) (sym is) gain
 
@@ -87,5 +87,5 @@ returns c =
     ⊎_elim (λ (l : c.args.rounds < c.args.residual.now.members). l)
     (λ (le : c.args.residual.now.members ≤ c.args.rounds).
     let done : c.loop-back.back ≡ c.args.residual.now.members = omega (arith, c.requires.rounds) in
-    absurd (tracing_full c.args.residual.now.flows c.args.levels.now c.args.residual.now.members c.args.rounds any c.requires.table c.requires.levels c.members.ensures.residual.good c.loop-back.path.items c.loop-back.marks.items c.loop-back.at (subst (IsTracing c.args.residual.now.flows c.args.levels.now c.args.residual.now.members c.args.rounds any c.loop-back.path.items c.loop-back.marks.items c.loop-back.at) done t) none))
+    absurd (tracing_full c.args.residual.now.flows c.args.levels.now c.args.residual.now.members c.args.rounds any c.requires.table.1 c.requires.levels c.members.ensures.residual.good c.loop-back.path.items c.loop-back.marks.items c.loop-back.at (subst (IsTracing c.args.residual.now.flows c.args.levels.now c.args.residual.now.members c.args.rounds any c.loop-back.path.items c.loop-back.marks.items c.loop-back.at) done t) none))
     (cases_lt c.args.rounds c.args.residual.now.members)
