@@ -66,8 +66,8 @@ abbrev pub Lends : Option Doors → Option Doors → Type 0
 Lends None after = after ≡ None
 Lends (Some d) after = after ≡ Some (record { lent = d.lent + 1; back = d.back })
 
--- A door that tells this is taken back.
+-- A door that tells this is taken back. Of one that tells nothing, what became of its connections stands there all the same.
 abbrev pub TakesBack : Option Doors → Option Doors → Option Visits → Type 0
 TakesBack None after door = after ≡ None
 TakesBack (Some d) after (Some visits) = after ≡ Some (record { lent = d.lent - 1; back = d.back ++ visits ∷ [] })
-TakesBack (Some d) after None = Unit {0}
+TakesBack (Some d) after None = (visits : Visits) × (after ≡ Some (record { lent = d.lent - 1; back = d.back ++ visits ∷ [] }))

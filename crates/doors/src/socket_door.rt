@@ -29,15 +29,27 @@ pub fn trouble_of(error: &io::Error) -> Trouble {
     Trouble::Failed
 }
 
-// The next connection. One that its peer broke off before it was accepted is passed over.
+// Whether the system told a fault of one connection that was not accepted yet, or only broke off the waiting.
+fn is_passed_over(kind: ErrorKind) -> bool {
+    matches!(
+        kind,
+        ErrorKind::Interrupted
+            | ErrorKind::ConnectionAborted
+            | ErrorKind::ConnectionReset
+            | ErrorKind::HostUnreachable
+            | ErrorKind::NetworkUnreachable
+            | ErrorKind::NetworkDown
+            | ErrorKind::TimedOut
+    )
+}
+
+// The next connection. One that its peer or the network broke off before it was accepted is passed over.
 fn accept_one<L: OpenListener>(socket: &L) -> Result<L::Stream, Trouble> {
     for _ in 0..u64::MAX {
         match socket.accept() {
             Ok((stream, _)) => return Ok(stream),
-            Err(error) => match error.kind() {
-                ErrorKind::Interrupted | ErrorKind::ConnectionAborted => {}
-                _ => return Err(trouble_of(&error)),
-            },
+            Err(error) if is_passed_over(error.kind()) => {}
+            Err(error) => return Err(trouble_of(&error)),
         }
     }
     Err(Trouble::Failed)
