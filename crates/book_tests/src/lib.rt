@@ -14,4 +14,6 @@ mod market;
 #[cfg(test)]
 mod postings;
 #[cfg(test)]
+mod row_lists;
+#[cfg(test)]
 mod trade_book;

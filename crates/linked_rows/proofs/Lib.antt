@@ -1,0 +1,11 @@
+pub mod LinkFacts
+pub mod Chains
+pub mod Rings
+pub mod Entries
+pub mod Lists
+pub mod Pools
+pub mod Live
+pub mod Pushing
+pub mod TakingFacts
+pub mod Alone
+pub mod Once
