@@ -267,6 +267,10 @@ pub hold_keeps : (held : Bool) (side : Side) (row : TradeRow) → KeepsTerms row
 hold_keeps held Out row = record { number = refl; product = refl; seller = refl; buyer = refl; amount = refl; submitter = refl; state = λ h. h }
 hold_keeps held In row = record { number = refl; product = refl; seller = refl; buyer = refl; amount = refl; submitter = refl; state = λ h. h }
 
+pub hold_state : (held : Bool) (side : Side) (row : TradeRow) → (row_with_hold held side row).state ≡ row.state
+hold_state held Out row = refl
+hold_state held In row = refl
+
 -- what is found under a number is that trade
 pub found_trade : (members products submitted : ℕ) (rows : List TradeRow) (number : ℕ) (o : Option (Bor TradeRow)) → IsBook members products submitted rows → 0 < number → option_copied o ≡ slice_get rows (number - 1) →
     IfSome o (λ row. IsTrade members products number row.now)

@@ -5,3 +5,5 @@ pub mod NetworkFacts
 pub mod HeldFacts
 pub mod ExecutionFacts
 pub mod FrozenFacts
+pub mod KeptFacts
+pub mod SumFacts

@@ -2,3 +2,4 @@ pub mod Book
 pub mod Freezes
 pub mod Networks
 pub mod Execution
+pub mod Kept

@@ -9,6 +9,7 @@ ghost use Rattle.command_types.specs.Execution.{IsExecutable};
 ghost use Rattle.product_book.specs.Freezes.{rows_by_choice, frozen_among, FrozenCount};
 ghost use Rattle.product_book.specs.Networks.{network_of, AllCount};
 
+use crate::kept::KeptSums;
 use crate::networks::{self, Which};
 use crate::row::{append, ended_by, live, put_row, row_at, with_hold};
 use crate::{execution, freezes, picks, sums};
@@ -43,20 +44,21 @@ pub struct Position {
 #[derive(Drop)]
 pub struct Book {
     rows: Vec<TradeRow>,
-    members: u16,
+    sums: KeptSums,
     products: u16,
     submitted: u64,
 }
 
 impl Model for Book {
     ghost use Rattle.std.specs.Prelude.{◌-◌, vec_len, vec_capacity};
-    ghost use Rattle.product_book.specs.Book.{BookView, IsBook};
+    ghost use Rattle.product_book.specs.Book.{BookView};
+    ghost use Rattle.product_book.specs.Kept.{IsSummedBook};
 
     ghost Value = { BookView };
 
-    ghost view = { λ b. record { rows = b.rows.items; spare = vec_capacity b.rows - vec_len b.rows; members = b.members; products = b.products } };
+    ghost view = { λ b. record { rows = b.rows.items; spare = vec_capacity b.rows - vec_len b.rows; members = b.sums.members; products = b.products } };
 
-    ghost invariant = { λ b. IsBook b.members b.products b.submitted b.rows.items };
+    ghost invariant = { λ b. IsSummedBook b.sums.members b.products b.submitted b.sums.products.items b.sums.sold.items b.sums.bought.items b.rows.items };
 }
 
 impl Book {
@@ -70,7 +72,7 @@ impl Book {
     {
         Ok(Book {
             rows: Vec::new(alloc),
-            members,
+            sums: KeptSums::new(alloc, members, products)?,
             products,
             submitted: 0,
         })
@@ -120,7 +122,7 @@ impl Book {
         ensures sum { result ≡ gross_of product self.now.rows }
         ensures most { result ≤ gross_limit }
     {
-        sums::gross(&self.rows, product)
+        self.sums.of_product(product.index())
     }
 
     /// What the seller owes the buyer in the product, over their live trades. It takes no memory.
@@ -138,7 +140,14 @@ impl Book {
         ensures most_sold { result.sold ≤ gross_limit }
         ensures most_bought { result.bought ≤ gross_limit }
     {
-        let (sold, bought) = sums::position(&self.rows, product, member);
+        let (product, member) = (product.index(), member.index());
+        if product >= self.products as usize {
+            return Position { sold: 0, bought: 0 };
+        }
+        if member >= self.sums.members as usize {
+            return Position { sold: 0, bought: 0 };
+        }
+        let (sold, bought) = self.sums.of_member(product, member);
         Position { sold, bought }
     }
 
@@ -171,7 +180,7 @@ impl Book {
         ensures { IfOk result (λ network. network ≡ network_of which self.now.members product self.now.rows) }
     {
         let alloc = *self.rows.allocator();
-        networks::network_of(alloc, &self.rows, self.members, product, which)
+        networks::network_of(alloc, &self.rows, self.sums.members, product, which)
     }
 
     /// How many of the trades a party submitted. It takes no memory.
@@ -201,24 +210,23 @@ impl Book {
         ensures state { self.new ≡ record self.old { rows = with_alleged self.old.rows seller buyer product amount day submitter; spare = self.old.spare - 1 } }
     {
         let number = self.rows.len() as u64 + 1;
+        let row = TradeRow {
+            number,
+            seller,
+            buyer,
+            product,
+            amount,
+            day,
+            state: TradeState::Alleged,
+            submitter: Some(submitter),
+            mark: None,
+            hold_out: false,
+            hold_in: false,
+            frozen: false,
+        };
         self.submitted += 1;
-        append(
-            &mut self.rows,
-            TradeRow {
-                number,
-                seller,
-                buyer,
-                product,
-                amount,
-                day,
-                state: TradeState::Alleged,
-                submitter: Some(submitter),
-                mark: None,
-                hold_out: false,
-                hold_in: false,
-                frozen: false,
-            },
-        );
+        self.sums.enter(&row);
+        append(&mut self.rows, row);
         number
     }
 
@@ -228,7 +236,9 @@ impl Book {
         ensures { self.new ≡ record self.old { rows = affirmed self.old.rows trade } }
     {
         let row = row_at(&self.rows, trade);
-        put_row(&mut self.rows, trade, live(row));
+        let agreed = live(row);
+        self.sums.settle(&row, &agreed);
+        put_row(&mut self.rows, trade, agreed);
     }
 
     /// A party of this side asks to end a trade: an alleged trade ends, and so does a live one that the other party
@@ -239,10 +249,10 @@ impl Book {
         ensures afterwards { IfSome (trade_numbered self.old.rows trade) (λ row. result ≡ (row_ended_by side row).state) }
     {
         let row = row_at(&self.rows, trade);
-        let row = ended_by(row, side);
-        let state = row.state;
-        put_row(&mut self.rows, trade, row);
-        state
+        let asked = ended_by(row, side);
+        self.sums.settle(&row, &asked);
+        put_row(&mut self.rows, trade, asked);
+        asked.state
     }
 
     /// Sets the hold of this side's party on a live trade. It takes no memory.
@@ -291,5 +301,6 @@ impl Book {
         ensures { self.new ≡ record self.old { rows = executed plan.now self.old.rows; spare = self.old.spare - count_of is_new plan.now } }
     {
         execution::execute(&mut self.rows, plan);
+        self.sums.recount(&self.rows);
     }
 }

@@ -4,6 +4,7 @@
 mod book;
 mod execution;
 mod freezes;
+mod kept;
 mod laws;
 mod networks;
 mod picks;
