@@ -50,7 +50,7 @@ told_after start f flow t taken now SinkFault (bytes, gives, inr (at_end, short,
 told_after start f flow t taken now Memory (same, none_taken, desk) =
     record { gave = []; left = f.left; took = t; flow_is = same ∙ (λ i. Some (record { given = sym (append-nil f.given) i; left = f.left })); all = refl; taken_is = none_taken }
 
-pub rose_from_none : (before after : ℕ) → before ≡ 0 → Rose before after → 0 < after
+rose_from_none : (before after : ℕ) → before ≡ 0 → Rose before after → 0 < after
 rose_from_none before after none (inl lt) = omega (arith, none, lt)
 rose_from_none before after none (inr e) = subst (λ (n : ℕ). 0 < n) (sym e) (omega arith)
 
@@ -108,6 +108,23 @@ pub record IsRound (now new : Sight) (w after returned : Option Visits) (end : S
   pub source_fault : end ≡ session_end.SourceFault → 0 < input_faults
   pub sink_fault : end ≡ session_end.SinkFault → 0 < output_faults
   pub returns : Returns after returned flow taken input_faults output_faults
+
+-- a round, by streams none of whose calls had failed when they were given
+pub round_of : (now new : Sight) (w after returned : Option Visits) (opened flow : Option Flow) (begun taken : Option (List ℕ)) (end : SessionEnd) (first_in last_in first_out last_out : ℕ) → Opens w after opened begun → (first_in ≡ 0) × (first_out ≡ 0) →
+    Ends now opened flow begun taken new end → (end ≡ session_end.SourceFault → Rose first_in last_in) → (end ≡ session_end.SinkFault → Rose first_out last_out) → Returns after returned flow taken last_in last_out → IsRound now new w after returned end
+round_of now new w after returned opened flow begun taken end first_in last_in first_out last_out opens fresh ends source_fault sink_fault returns = record {
+  opened = opened;
+  flow = flow;
+  begun = begun;
+  taken = taken;
+  input_faults = last_in;
+  output_faults = last_out;
+  opens = opens;
+  ends = ends;
+  source_fault = λ e. rose_from_none first_in last_in fresh.0 (source_fault e);
+  sink_fault = λ e. rose_from_none first_out last_out fresh.1 (sink_fault e);
+  returns = returns;
+}
 
 -- a visit, by streams that were opened for it
 visit_of : (now new : Sight) (opened flow : Option Flow) (begun taken : Option (List ℕ)) (end : SessionEnd) (input gave left took : List ℕ) → opened ≡ Some (record { given = []; left = input }) → begun ≡ Some [] →

@@ -6,46 +6,26 @@ use Rattle.session.specs.Serving.{of_pass}
 use Rattle.session.proofs.GrowthFacts.{grows_both, same_roster}
 use Rattle.session.specs.declared.serve.SessionEnd.TheVariants as session_end
 use Rattle.seats.specs.declared.seat.SeatEnd.TheVariants as seat_end
-use Rattle.seats.proofs.VisitFacts.{IsRound, serves_on, serves_end, not_over, ends_grow, some_holds, rose_from_none}
+use Rattle.seats.proofs.VisitFacts.{round_of, serves_on, serves_end, not_over, ends_grow, some_holds}
 use Rattle.seats.proofs.seat.Service.serve_door.Goals as goal
 
 pub returns-then-eq-clause-serves : goal.returns-then-eq-clause-serves
 returns-then-eq-clause-serves g c =
     let visits = g.D.Door.visits in
-    let fresh = some_holds _ _ _ c.in-Ok-Some.field-0-is c.in-Ok-Some.ensures.fresh in
-    let round : IsRound (of_pass c.loop.pass) (of_pass c.serve_session-end.result.1) (visits c.loop.door) (visits c.accept.new.self) (visits c.give_back.new.self) c.serve_session-end.result.0 = record {
-      opened = _;
-      flow = _;
-      begun = _;
-      taken = _;
-      input_faults = _;
-      output_faults = _;
-      opens = some_holds _ _ _ c.in-Ok-Some.field-0-is c.in-Ok-Some.ensures.opens;
-      ends = c.serve_session-end.ensures.ends;
-      source_fault = λ e. rose_from_none _ _ fresh.0 (c.serve_session-end.ensures.source_fault e);
-      sink_fault = λ e. rose_from_none _ _ fresh.1 (c.serve_session-end.ensures.sink_fault e);
-      returns = c.give_back.ensures.returns;
-    } in
+    let given = c.in-Ok-Some in
+    let s = c.serve_session-end in
+    let round = round_of (of_pass c.loop.pass) (of_pass s.result.1) (visits c.loop.door) (visits c.accept.new.self) (visits c.give_back.new.self) _ _ _ _ s.result.0 _ _ _ _ (some_holds _ _ _ given.field-0-is given.ensures.opens)
+        (some_holds _ _ _ given.field-0-is given.ensures.fresh) s.ensures.ends s.ensures.source_fault s.ensures.sink_fault c.give_back.ensures.returns in
     serves_on _ _ _ _ _ _ _ _ c.loop.counter _ seat_end.Memory c.loop.invariant.serves round (omega (arith, c.loop-test.true)) (λ e. absurd cc) (λ e. absurd cc) (λ e. refl)
 
 pub loop-preserved : goal.loop-preserved
 loop-preserved g c =
     let before = c.loop.invariant in
     let visits = g.D.Door.visits in
-    let fresh = some_holds _ _ _ c.in-Ok-Some.field-0-is c.in-Ok-Some.ensures.fresh in
-    let round : IsRound (of_pass c.loop.pass) (of_pass c.serve_session-end.result.1) (visits c.loop.door) (visits c.accept.new.self) (visits c.give_back.new.self) c.serve_session-end.result.0 = record {
-      opened = _;
-      flow = _;
-      begun = _;
-      taken = _;
-      input_faults = _;
-      output_faults = _;
-      opens = some_holds _ _ _ c.in-Ok-Some.field-0-is c.in-Ok-Some.ensures.opens;
-      ends = c.serve_session-end.ensures.ends;
-      source_fault = λ e. rose_from_none _ _ fresh.0 (c.serve_session-end.ensures.source_fault e);
-      sink_fault = λ e. rose_from_none _ _ fresh.1 (c.serve_session-end.ensures.sink_fault e);
-      returns = c.give_back.ensures.returns;
-    } in
+    let given = c.in-Ok-Some in
+    let s = c.serve_session-end in
+    let round = round_of (of_pass c.loop.pass) (of_pass s.result.1) (visits c.loop.door) (visits c.accept.new.self) (visits c.give_back.new.self) _ _ _ _ s.result.0 _ _ _ _ (some_holds _ _ _ given.field-0-is given.ensures.opens)
+        (some_holds _ _ _ given.field-0-is given.ensures.fresh) s.ensures.ends s.ensures.source_fault s.ensures.sink_fault c.give_back.ensures.returns in
     let came = ends_grow (of_pass c.loop.pass) _ _ _ _ (of_pass c.serve_session-end.result.1) c.serve_session-end.result.0 c.serve_session-end.ensures.ends in
     record {
       own = c.serve_session-end.ensures.own;
