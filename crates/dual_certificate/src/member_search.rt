@@ -1,7 +1,7 @@
-//! The members of a roster by name, where names come mostly in the roster's order: each is looked for from the last
-//! one on.
+//! The members of a roster by name: each has a slot by a key that is made of its name, and only one that lost its slot to
+//! another is looked for among all members.
 
-ghost use Rattle.std.specs.Prelude.{◌≡◌, IfOk};
+ghost use Rattle.std.specs.Prelude.{◌≡◌, ◌<◌, length, IfOk};
 ghost use Rattle.command_types.specs.Roster.{member_place};
 
 use command_types::Roster;
@@ -9,22 +9,28 @@ use std::alloc::{AllocError, Global};
 use std::marker::Model;
 use units_core::{MemberNo, Name};
 
+/// As many slots as keys.
+const SLOTS: usize = 1024;
+
 /// A roster, and for each member the place of the first one with its name. Contracts see the roster's rows.
 #[derive(Drop)]
 pub(crate) struct Members<'a> {
     roster: &'a Roster,
     firsts: Vec<Option<MemberNo>>,
+    /// By a name's key the place of a member that may have it.
+    slots: Vec<u16>,
 }
 
 impl<'a> Model for Members<'a> {
     ghost use Rattle.command_types.specs.Roster.{Rows};
+    ghost use Rattle.std.specs.Prelude.{◌≡◌, length};
     ghost use Rattle.dual_certificate.specs.Firsts.{AreFirsts};
 
     ghost Value = { Rows };
 
     ghost view = { λ m. m.roster.now };
 
-    ghost invariant = { λ m. AreFirsts m.roster.now m.firsts.items };
+    ghost invariant = { λ m. AreFirsts m.roster.now m.firsts.items × (length m.slots.items ≡ 1024) };
 }
 
 ghost use Rattle.dual_certificate.specs.Firsts.{AreFirsts};
@@ -40,21 +46,41 @@ fn firsts_of(alloc: Global, roster: &Roster) -> Result<Vec<Option<MemberNo>>, Al
     Ok(firsts)
 }
 
-// The same as looking the name up in the roster.
-fn found_from(
+// A number that names of one form seldom share: it follows from a name's last bytes most of all.
+fn key_of(name: &Name) -> usize
+    ensures { result < 1024 }
+{
+    let mut key: usize = 0;
+    for byte in name.text() {
+        key = (10 * key + *byte as usize) % SLOTS;
+    }
+    key
+}
+
+// By each key the place of the last member whose name has it, or the first place.
+fn slots_of(alloc: Global, roster: &Roster) -> Result<Vec<u16>, AllocError>
+    ensures { IfOk result (λ slots. length slots.items ≡ 1024) }
+{
+    let mut slots = vec![in alloc; 0u16; SLOTS]?;
+    for (place, row) in roster.members().iter().enumerate() {
+        slots[key_of(&row.name)] = place as u16;
+    }
+    Ok(slots)
+}
+
+// The same as looking the name up in the roster, where this place is tried first.
+fn found_at(
     roster: &Roster,
     firsts: &[Option<MemberNo>],
     name: &Name,
-    from: u16,
+    place: usize,
 ) -> Option<MemberNo>
     requires { AreFirsts roster.now firsts.now }
     ensures { result ≡ member_place roster.now name.now }
 {
     let members = roster.members();
-    for place in usize::from(from)..members.len() {
-        if members[place].name.is(name) {
-            return firsts[place];
-        }
+    if place < members.len() && members[place].name.is(name) {
+        return firsts[place];
     }
     roster.member_named(name)
 }
@@ -64,7 +90,12 @@ impl<'a> Members<'a> {
         ensures { IfOk result (λ members. members ≡ roster.now) }
     {
         let firsts = firsts_of(alloc, roster)?;
-        Ok(Members { roster, firsts })
+        let slots = slots_of(alloc, roster)?;
+        Ok(Members {
+            roster,
+            firsts,
+            slots,
+        })
     }
 
     /// The roster.
@@ -74,11 +105,11 @@ impl<'a> Members<'a> {
         self.roster
     }
 
-    /// The place of the member with this name; none exactly where no member has it. The name is looked for from the
-    /// place `from` on, and then among all members.
-    pub(crate) fn member_from(&self, name: &Name, from: u16) -> Option<MemberNo>
+    /// The place of the member with this name; none exactly where no member has it.
+    pub(crate) fn member(&self, name: &Name) -> Option<MemberNo>
         ensures { result ≡ member_place self.now name.now }
     {
-        found_from(self.roster, &self.firsts, name, from)
+        let place = self.slots[key_of(name)] as usize;
+        found_at(self.roster, &self.firsts, name, place)
     }
 }

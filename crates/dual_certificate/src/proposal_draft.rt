@@ -52,14 +52,6 @@ fn may_follow(rows: &[Row], total: u64, row: Row) -> bool
     row.seller != row.buyer && stands_behind(rows.last(), row) && total + row.amount <= MOST_GROSS
 }
 
-// The places of a row's seller and buyer, or 0 where there is no row.
-fn places_of(row: Option<&Row>) -> (u16, u16) {
-    match row {
-        None => (0, 0),
-        Some(row) => (row.seller, row.buyer),
-    }
-}
-
 impl ProposalDraft {
     pub(crate) fn new(alloc: Global) -> ProposalDraft
         ensures reading { reading_of result ≡ nothing_read }
@@ -206,11 +198,10 @@ impl ProposalDraft {
         requires { IsDraft members.now self.old }
         ensures { ReadSteps members.now row (with_row (reading_of self.old) (member_place members.now seller) (member_place members.now buyer) amount) self.new result }
     {
-        let (last_seller, last_buyer) = places_of(self.rows.last());
-        let Some(seller) = members.member_from(&seller, last_seller) else {
+        let Some(seller) = members.member(&seller) else {
             return Err(FileFault::BadLine { row });
         };
-        let Some(buyer) = members.member_from(&buyer, last_buyer) else {
+        let Some(buyer) = members.member(&buyer) else {
             return Err(FileFault::BadLine { row });
         };
         let added = Row {

@@ -2,11 +2,11 @@ use Rattle.std.proofs.Common.{◌∙◌, sym, ap, ℕ, ◌<◌, List, length, ge
 use Rattle.std.proofs.lemmas.Slice.Eq.{bytes_eq-Decides}
 use Rattle.command_types.specs.declared.roster.MemberRow.{MemberRow}
 use Rattle.command_types.specs.Roster.{member_place}
-use Rattle.dual_certificate.proofs.member_search.found_from.Goals as goal
+use Rattle.dual_certificate.proofs.member_search.found_at.Goals as goal
 
 pub returns-then-is : goal.returns-then-is
 returns-then-is c =
-    let k : ℕ = c.loop-place.place in
+    let k : ℕ = c.args.place in
     let row : MemberRow = c.index-members-place.result in
     let rows = c.members-members.ensures.rows in
     let within : k < length c.args.firsts.now = omega (arith, ap length rows, c.requires.count) in
