@@ -110,7 +110,7 @@ fn growing_from(market: &Market, seller: u16, from: u16) -> u16
         return members;
     }
     for buyer in from..members {
-        if may_grow(market.mode, market.members, seller, buyer) {
+        if buyer != seller && is_dealer(market.members, buyer) {
             return buyer;
         }
     }

@@ -75,6 +75,12 @@ pub(super) fn levels_of(
     ensures floor { result.floor ≡ floor_in rows.now member product other side }
     ensures ceiling { result.ceiling ≡ ceiling_in rows.now member product other side }
 {
+    if rows.is_empty() {
+        return Levels {
+            floor: 0,
+            ceiling: None,
+        };
+    }
     let at = first_setting(rows, place(member, product, other, side));
     if at < rows.len() && is_setting_of(&rows[at], member, product, other, side) {
         let row = rows[at];

@@ -2,14 +2,16 @@
 use Rattle.std.proofs.Common.{◌≡◌, ◌∙◌, sym, ap, subst, refl, ℕ, ◌+◌, ◌<◌, ◌≤◌, List, [], ◌∷◌, ◌++◌, length, take, get_or, Bool, true, false, cond, is_some, Option, Some, None, arith, eqb, ltb, ⊎_elim, length-append}
 use Rattle.std.proofs.lemmas.Bool.{cases_eq, cases_Bool, lt-ltb, le-ltb, eq-eqb, ne_eqb}
 use Rattle.std.proofs.lemmas.Bool.Decides.{same_from_decides}
-use Rattle.std.proofs.lemmas.List.{take_more, length-take-le}
+use Rattle.std.proofs.lemmas.List.{get_or_append_left, get_or_push, length_push, take_more, length-take-le}
 use Rattle.std.proofs.lemmas.List.Folds.{position_or_len_push}
 use Rattle.std.proofs.lemmas.List.Sums.{prefix_len-le-length}
 use Rattle.std.proofs.lemmas.Slice.Eq.{bytes_eq-Decides}
 use Rattle.std.specs.List.{position, position_or_len}
 use Rattle.std.specs.Map.{lookup}
 use Rattle.std.specs.Str.{bytes_eq}
+use Rattle.trade_file.specs.declared.places.Placed.{Placed}
 use Rattle.trade_file.specs.Places.{place_in, with_place}
+use Rattle.trade_file.specs.Placed.{ArePlaced}
 
 -- the value, or else another
 or_else : Option ℕ → Option ℕ → Option ℕ
@@ -78,6 +80,10 @@ turned a b =
     let back = bytes_eq-Decides b a in
     same_from_decides (bytes_eq a b) (bytes_eq b a) (bytes_eq-Decides a b) (λ h. sym (back.0 h), λ e. back.1 (sym e))
 
+pub none_from : (o : Option ℕ) → is_some o ≡ false → o ≡ None
+none_from None h = refl
+none_from (Some x) h = absurd cc
+
 -- the places of the first rows know one row more
 pub knows_more : {X : Type 0} (name_of : X → List ℕ) (rows : List X) (places : List (List ℕ × ℕ)) (i : ℕ) (row : X) → i < length rows → get_or rows i row ≡ row
     → ((name : List ℕ) → place_in places name ≡ position (λ r. bytes_eq (name_of r) name) (take i rows))
@@ -98,6 +104,24 @@ placed_new places name place h = rw h refl
 pub placed_old : (places : List (List ℕ × ℕ)) (name : List ℕ) (place : ℕ) → is_some (place_in places name) ≡ true → places ≡ with_place places name place
 placed_old places name place h = rw h refl
 
-pub none_from : (o : Option ℕ) → is_some o ≡ false → o ≡ None
-none_from None h = refl
-none_from (Some x) h = absurd cc
+-- one more name leaves the places of the others
+place_kept : (places : List (List ℕ × ℕ)) (name : List ℕ) (place : ℕ) (sought : List ℕ) (x : ℕ) → place_in places sought ≡ Some x → place_in (places ++ ((name, place) ∷ [])) sought ≡ Some x
+place_kept places name place sought x e =
+    lookup_push (bytes_eq sought) places name place ∙ or_else-some (place_in places sought) (cond (bytes_eq sought name) (Some place) None) (ap is_some e) ∙ e
+
+-- a new name has its place
+place_new : (places : List (List ℕ × ℕ)) (name : List ℕ) (place : ℕ) → is_some (place_in places name) ≡ false → place_in (places ++ ((name, place) ∷ [])) name ≡ Some place
+unfolding or_else
+place_new places name place absent =
+    let same : bytes_eq name name ≡ true = (bytes_eq-Decides name name).1 refl in
+    lookup_push (bytes_eq name) places name place ∙ rw (none_from (place_in places name) absent, same) refl
+
+pub placed_kept : (places : List (List ℕ × ℕ)) (placed : List Placed) (name : List ℕ) (place : ℕ) → ArePlaced places placed → ArePlaced (places ++ ((name, place) ∷ [])) placed
+placed_kept places placed name place h k d l = place_kept places name place (get_or placed k d).name (get_or placed k d).place (h k d l)
+
+pub placed_more : (places : List (List ℕ × ℕ)) (placed : List Placed) (name : List ℕ) (place : ℕ) → is_some (place_in places name) ≡ false → ArePlaced places placed → ArePlaced (places ++ ((name, place) ∷ [])) (placed ++ record { name = name; place = place } ∷ [])
+placed_more places placed name place absent h k d l =
+    let new : Placed = record { name = name; place = place } in
+    ⊎_elim (λ (e : k ≡ length placed). rw (get_or_push placed new d k (sym e)) (place_new places name place absent))
+    (λ (ne : k ≡ length placed → ⊥). let lt : k < length placed = omega (arith, length_push placed new) in rw (get_or_append_left placed (new ∷ []) d k lt) (placed_kept places placed name place h k d lt))
+    (cases_eq k (length placed))

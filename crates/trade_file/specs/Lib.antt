@@ -7,3 +7,4 @@ pub mod TradeDraft
 pub mod Networks
 pub mod Laws
 pub mod Piles
+pub mod Placed

@@ -1,5 +1,6 @@
-//! The places of names.
-ghost use Rattle.std.specs.Prelude.{◌≡◌, [], OnOk};
+//! The places of names. A name's place stands in a slot by a key that is made of the name; only one that lost its slot to
+//! another is looked for in the map.
+ghost use Rattle.std.specs.Prelude.{◌≡◌, ◌<◌, [], OnOk, IfOk};
 ghost use Rattle.trade_file.specs.Places.{place_in, with_place};
 
 use indexmap::IndexMap;
@@ -7,18 +8,46 @@ use std::alloc::{AllocError, Global};
 use std::marker::Model;
 use units_core::Name;
 
+/// As many slots as keys.
+const SLOTS: usize = 1024;
+
+/// A name and its place.
+#[derive(Clone, Copy)]
+pub(crate) struct Placed {
+    name: Name,
+    place: u16,
+}
+
 /// Names with their places, each name once. Contracts see them as a list, in the order in which they came.
 #[derive(Drop)]
 pub(crate) struct Places {
     places: IndexMap<Name, u16>,
+    /// The same, one after another.
+    placed: Vec<Placed>,
+    /// By a name's key where it may stand among these.
+    slots: [u16; 1024],
 }
 
 impl Model for Places {
-    ghost use Rattle.std.specs.Prelude.{List, ℕ};
+    ghost use Rattle.std.specs.Prelude.{◌≡◌, List, ℕ, length};
+    ghost use Rattle.trade_file.specs.Placed.{ArePlaced};
 
     ghost Value = { List (List ℕ × ℕ) };
 
     ghost view = { λ p. p.places.entries };
+
+    ghost invariant = { λ p. ArePlaced p.places.entries p.placed.items };
+}
+
+// A number that names of one form seldom share: it follows from a name's last bytes most of all.
+fn key_of(name: &Name) -> usize
+    ensures { result < 1024 }
+{
+    let mut key: usize = 0;
+    for byte in name.text() {
+        key = (10 * key + *byte as usize) % SLOTS;
+    }
+    key
 }
 
 impl Places {
@@ -27,6 +56,8 @@ impl Places {
     {
         Places {
             places: IndexMap::new(alloc),
+            placed: Vec::new(alloc),
+            slots: [0; 1024],
         }
     }
 
@@ -34,6 +65,10 @@ impl Places {
     pub(crate) fn place(&self, name: Name) -> Option<u16>
         ensures { result ≡ place_in self.now name }
     {
+        let at = self.slots[key_of(&name)] as usize;
+        if at < self.placed.len() && self.placed[at].name.is(&name) {
+            return Some(self.placed[at].place);
+        }
         self.places.get(&name).copied()
     }
 
@@ -45,6 +80,8 @@ impl Places {
             return Ok(());
         }
         self.places.insert(name, place)?;
+        self.slots[key_of(&name)] = place;
+        self.placed.push(Placed { name, place })?;
         Ok(())
     }
 }

@@ -1,5 +1,5 @@
 //! The networks of trades: what each member sold to each other one, added up.
-ghost use Rattle.std.specs.Prelude.{IfOk};
+ghost use Rattle.std.specs.Prelude.{◌≡◌, length, IfOk};
 ghost use Rattle.trade_file.specs.TradeFile.{AreFileTrades};
 ghost use Rattle.trade_file.specs.Networks.{IsNetworkOf, AreNetworksOf};
 
@@ -10,17 +10,19 @@ use network_laws::Network;
 use pair_table::PairTable;
 use std::alloc::{AllocError, Global};
 
-// The network of a product's trades.
+// The network of a product's trades, which are added up in this table.
 fn network_of(
-    alloc: Global,
+    table: &mut PairTable,
     trades: &[FileTrade],
     roster: &Roster,
     product: u16,
 ) -> Result<Network, AllocError>
-    requires { AreFileTrades roster.now trades.now }
-    ensures { IfOk result (IsNetworkOf roster.now trades.now product) }
+    requires trades { AreFileTrades roster.now trades.now }
+    requires members { table.old.members ≡ length roster.now.members }
+    ensures network { IfOk result (IsNetworkOf roster.now trades.now product) }
+    ensures members { table.new.members ≡ table.old.members }
 {
-    let mut table = PairTable::new(alloc, roster.members().len() as u16)?;
+    table.clear();
     for trade in trades {
         if trade.product.0 == product {
             table.add(trade.seller, trade.buyer, trade.amount.get());
@@ -41,9 +43,11 @@ pub fn networks(
 {
     let products = roster.products().len();
     let piles = Piles::of(alloc, trades, products)?;
+    let mut table = PairTable::new(alloc, roster.members().len() as u16)?;
     let mut networks = Vec::new(alloc);
     for product in 0..products {
-        networks.push(network_of(alloc, piles.pile(product), roster, product as u16)?)?;
+        let network = network_of(&mut table, piles.pile(product), roster, product as u16)?;
+        networks.push(network)?;
     }
     Ok(networks)
 }

@@ -1,7 +1,8 @@
-use Rattle.std.proofs.Common.{◌≡◌, ◌++◌}
-use Rattle.command_types.specs.Books.{listed_below}
-use Rattle.pair_table.specs.PairSums.{cell_row}
+use Rattle.pair_table.proofs.Listed.{IsListed, size}
 use Rattle.pair_table.proofs.table.add_seller.Given as goal
 
 abbrev pub invariant-loop-buyer : goal.invariant-loop-buyer
-invariant-loop-buyer l = l.rows.items ≡ l.initial.rows.items ++ listed_below l.buyer (cell_row l.sums l.seller)
+invariant-loop-buyer l = IsListed l.members l.sums l.seller l.initial.rows.items l.rows.items l.left
+
+abbrev pub decreases-loop-buyer : goal.decreases-loop-buyer
+decreases-loop-buyer l = size l.members l.left

@@ -10,7 +10,7 @@ use Rattle.pair_table.proofs.table.PairTable.network.Goals as goal
 pub unreachable-requires : goal.unreachable-requires
 unreachable-requires c =
     let table : PairSums = record { members = c.self.inside.members; sums = c.self.inside.sums.items } in
-    let good = IsNetwork-network_by c.self.inside.members (sum_in table) c.self.invariant.few c.self.invariant.different c.self.invariant.within in
+    let good = IsNetwork-network_by c.self.inside.members (sum_in table) c.self.invariant.0.few c.self.invariant.0.different c.self.invariant.0.within in
     false≢true (c.in-Err.ensures.good.1 (rw (c.in_ok-rows.ensures, c.deref.ensures.value) good))
 
 pub returns-clause-amounts : goal.returns-clause-amounts
