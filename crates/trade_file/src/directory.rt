@@ -4,7 +4,7 @@ use crate::places::Places;
 use command_types::{MemberRow, ProductRow, Roster};
 use std::alloc::{AllocError, Global};
 use std::marker::Model;
-use units_core::{MemberNo, Name, ProductNo};
+use units_core::{MemberNo, ProductNo};
 
 /// A roster with the places of its names. Contracts see the roster's rows.
 #[derive(Drop)]
@@ -68,13 +68,10 @@ impl<'a> Directory<'a> {
     pub(crate) fn member(&self, field: &[u8]) -> Option<MemberNo>
         ensures { result ≡ member_of self.now field.now }
     {
-        let Some(name) = Name::read(field) else {
-            return None;
-        };
-        let Some(place) = self.members.place(name) else {
-            return None;
-        };
-        Some(MemberNo(place))
+        match self.members.place_of(field) {
+            Some(place) => Some(MemberNo(place)),
+            None => None,
+        }
     }
 
     /// The product whose name the field is.
@@ -82,12 +79,9 @@ impl<'a> Directory<'a> {
         ensures place { result ≡ product_of self.now field.now }
         ensures few { IfSome result (λ place. place < 64) }
     {
-        let Some(name) = Name::read(field) else {
-            return None;
-        };
-        let Some(place) = self.products.place(name) else {
-            return None;
-        };
-        Some(ProductNo(place))
+        match self.products.place_of(field) {
+            Some(place) => Some(ProductNo(place)),
+            None => None,
+        }
     }
 }

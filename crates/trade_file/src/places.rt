@@ -1,6 +1,7 @@
 //! The places of names. A name's place stands in a slot by a key that is made of the name; only one that lost its slot to
 //! another is looked for in the map.
-ghost use Rattle.std.specs.Prelude.{◌≡◌, ◌<◌, [], OnOk, IfOk};
+ghost use Rattle.std.specs.Prelude.{◌≡◌, ◌<◌, [], None, if◌then◌else◌, OnOk};
+ghost use Rattle.units_core.specs.Name.{is_name};
 ghost use Rattle.trade_file.specs.Places.{place_in, with_place};
 
 use indexmap::IndexMap;
@@ -39,12 +40,12 @@ impl Model for Places {
     ghost invariant = { λ p. ArePlaced p.places.entries p.placed.items };
 }
 
-// A number that names of one form seldom share: it follows from a name's last bytes most of all.
-fn key_of(name: &Name) -> usize
+// A number that texts of one form seldom share: it follows from the last bytes most of all.
+fn key_of(text: &[u8]) -> usize
     ensures { result < 1024 }
 {
     let mut key: usize = 0;
-    for byte in name.text() {
+    for byte in text {
         key = (10 * key + *byte as usize) % SLOTS;
     }
     key
@@ -61,15 +62,25 @@ impl Places {
         }
     }
 
-    /// The place of a name, if it came.
-    pub(crate) fn place(&self, name: Name) -> Option<u16>
+    // The place of a name, if it came.
+    fn place(&self, name: Name) -> Option<u16>
         ensures { result ≡ place_in self.now name }
     {
-        let at = self.slots[key_of(&name)] as usize;
-        if at < self.placed.len() && self.placed[at].name.is(&name) {
+        self.places.get(&name).copied()
+    }
+
+    /// The place of the name that this text is, if it is a name and came.
+    pub(crate) fn place_of(&self, text: &[u8]) -> Option<u16>
+        ensures { result ≡ (if is_name text.now then place_in self.now text.now else None) }
+    {
+        let at = self.slots[key_of(text)] as usize;
+        if at < self.placed.len() && self.placed[at].name.text() == text {
             return Some(self.placed[at].place);
         }
-        self.places.get(&name).copied()
+        match Name::read(text) {
+            Some(name) => self.place(name),
+            None => None,
+        }
     }
 
     /// Puts a name with its place last, if it did not come yet.
@@ -80,7 +91,7 @@ impl Places {
             return Ok(());
         }
         self.places.insert(name, place)?;
-        self.slots[key_of(&name)] = place;
+        self.slots[key_of(name.text())] = place;
         self.placed.push(Placed { name, place })?;
         Ok(())
     }

@@ -50,7 +50,7 @@ fn whole_draft(draft: TradeDraft, records: u64) -> Result<TradeDraft, FileFault>
     Ok(draft)
 }
 
-// The draft of all records of a file, which are read into one after another.
+// The draft of all records of a file. Each record is read into the place of the one before it.
 fn read_records(
     alloc: Global,
     bytes: &[u8],
