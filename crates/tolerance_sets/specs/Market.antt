@@ -1,17 +1,23 @@
 -- What the limits of a product follow from, as the walk over the pairs has it.
-use Rattle.std.specs.Prelude.{◌≡◌, ℕ, ◌+◌, ◌*◌, ◌<◌, ◌≤◌, false, List, [], length}
+use Rattle.std.specs.Prelude.{◌≡◌, ℕ, ◌+◌, ◌*◌, ◌<◌, ◌≤◌, false, List, [], length, slice_get}
 use Rattle.network_laws.specs.declared.rows.LimitRow.{LimitRow}
 use Rattle.network_laws.specs.Networks.{IsRising, IsCursor}
-use Rattle.command_types.specs.Tolerances.{may_grow, pair_limit}
+use Rattle.command_types.specs.declared.roster.MemberRow.{MemberRow}
+use Rattle.command_types.specs.Tolerances.{is_dealer_row, may_grow, pair_limit}
 use Rattle.tolerance_sets.specs.declared.limits.Market.{Market}
 use Rattle.tolerance_sets.specs.declared.pair_cursor.PairCursor.{PairCursor}
 use Rattle.tolerance_sets.specs.Settings.{AreSettings}
+
+-- no member from a place on is a dealer
+abbrev pub AreNoDealers : List MemberRow → ℕ → Type 0
+AreNoDealers members from = (k : ℕ) → from ≤ k → is_dealer_row (slice_get members k) ≡ false
 
 -- settings and rows are in order
 pub record IsMarket (market : Market) : Type 0 where
   pub settings : AreSettings market.settings.now
   pub network : IsRising market.network.now
   pub held : IsRising market.held.now
+  pub dealers : AreNoDealers market.members.now market.dealers_end
 
 -- the row of a pair, if it has one
 abbrev pub market_limit : Market → ℕ → ℕ → List LimitRow

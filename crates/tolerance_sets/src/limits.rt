@@ -6,7 +6,7 @@ ghost use Rattle.network_laws.specs.Networks.{IsRising};
 ghost use Rattle.command_types.specs.Books.{listed_below, listed_pairs};
 ghost use Rattle.command_types.specs.Tolerances.{smaller_of, pair_floor, pair_ceiling, is_dealer_row, may_grow, pair_upper, pair_lower, limit_row};
 ghost use Rattle.tolerance_sets.specs.Settings.{AreSettings};
-ghost use Rattle.tolerance_sets.specs.Market.{IsMarket, IsAtPair, HaveNone, market_limit};
+ghost use Rattle.tolerance_sets.specs.Market.{IsMarket, AreNoDealers, IsAtPair, HaveNone, market_limit};
 
 use crate::pair_cursor::PairCursor;
 use crate::settings::levels_of;
@@ -20,6 +20,8 @@ use units_core::{MemberNo, ProductNo};
 pub(super) struct Market<'a> {
     pub mode: Mode,
     pub members: &'a [MemberRow],
+    /// The place behind the last dealer's, or one behind that.
+    pub dealers_end: u16,
     pub settings: &'a [ToleranceRow],
     pub product: ProductNo,
     /// What members owe one another.
@@ -36,6 +38,20 @@ pub(super) fn is_dealer(members: &[MemberRow], place: u16) -> bool
         None => false,
         Some(row) => row.role == Role::Dealer,
     }
+}
+
+/// The place behind the last dealer's.
+pub(super) fn dealers_end(members: &[MemberRow]) -> u16
+    requires { length members.now ≤ 256 }
+    ensures { AreNoDealers members.now result }
+{
+    let mut end = 0;
+    for place in 0..members.len() as u16 {
+        if is_dealer(members, place) {
+            end = place + 1;
+        }
+    }
+    end
 }
 
 /// Whether a pair may come to more than its amount.
@@ -165,7 +181,7 @@ pub(super) fn all_limits(alloc: Global, market: &Market) -> Result<Vec<LimitRow>
     ensures { IfOk result (λ rows. rows.items ≡ listed_pairs (length market.now.members.now) (market_limit market.now)) }
 {
     let members = market.members.len() as u16;
-    let mut rows = Vec::new(alloc);
+    let mut rows = Vec::with_capacity(alloc, market.network.len())?;
     for seller in 0..members {
         add_seller(&mut rows, market, seller, members)?;
     }

@@ -100,6 +100,7 @@ fn may_sell_more(market: &Market, seller: u16) -> bool
 
 // The first buyer from one on with whom a seller's pair may grow, or the number of members.
 fn growing_from(market: &Market, seller: u16, from: u16) -> u16
+    requires market { IsMarket market.now }
     requires few { length market.now.members.now ≤ 256 }
     requires from { from ≤ length market.now.members.now }
     ensures from { from ≤ result }
@@ -109,7 +110,7 @@ fn growing_from(market: &Market, seller: u16, from: u16) -> u16
     if !may_sell_more(market, seller) {
         return members;
     }
-    for buyer in from..members {
+    for buyer in from..market.dealers_end {
         if buyer != seller && is_dealer(market.members, buyer) {
             return buyer;
         }

@@ -5,7 +5,7 @@ ghost use Rattle.network_laws.specs.Limits.{IsWithinLimits};
 ghost use Rattle.command_types.specs.Tolerances.{with_setting, limits_of};
 ghost use Rattle.command_types.specs.CycleRefusals.{is_crossed};
 
-use crate::limits::{Market, all_limits};
+use crate::limits::{Market, all_limits, dealers_end};
 use crate::settings::put;
 use command_types::{Level, Mode, Roster, Side, ToleranceRow};
 use network_laws::{Limits, Network};
@@ -132,6 +132,7 @@ impl Tolerances {
         let market = Market {
             mode,
             members,
+            dealers_end: dealers_end(members),
             settings: &self.rows,
             product,
             network: network.rows(),

@@ -11,6 +11,7 @@ all_limits-requires-clause-market c = record {
   settings = subst AreSettings (sym c.deref.ensures.value) c.self.invariant;
   network = c.rows.ensures.rows.rising;
   held = c.rows-2.ensures.rows.rising;
+  dealers = c.dealers_end.ensures;
 }
 
 pub unreachable-requires : goal.unreachable-requires
