@@ -1,8 +1,8 @@
 -- A change that is made, and one on which the disk fails.
-use Rattle.std.proofs.Common.{◌≡◌, inl, inr, ℕ, ◌+◌, ◌≤◌, nat_lt, Bool, true, false, not, ◌||◌, List, [], ◌∷◌, ◌++◌, length, drop, All, Option, Some, None, IsTrue, refl, sym, ◌∙◌, subst, ap, arith, length-append}
+use Rattle.std.proofs.Common.{◌≡◌, inl, inr, ℕ, ◌+◌, ◌≤◌, nat_lt, Bool, true, false, not, ◌||◌, List, [], ◌∷◌, ◌++◌, length, take, drop, All, Option, Some, None, IsTrue, refl, sym, ◌∙◌, subst, ap, arith, length-append, take-append-drop}
 use Rattle.std.proofs.lemmas.Bool.{false≢true}
 use Rattle.std.proofs.lemmas.List.{drop-append-le, take-append-le}
-use Rattle.std.proofs.lemmas.List.Sums.{sum_by-append}
+use Rattle.std.proofs.lemmas.List.Sums.{sum_by-append, sum_by-cons}
 use Rattle.network_laws.specs.Solutions.{IsSolution}
 use Rattle.command_types.specs.declared.ask.Ask.{Ask}
 use Rattle.command_types.specs.declared.ask.Entry.{Entry}
@@ -161,3 +161,17 @@ module _ (s : State) (entries : List Entry) (opening size : ℕ) (journal : Jour
           figures = refl;
           keeps = keeps_broken;
         }
+
+-- ---- how many changes there are
+
+-- a record takes more than one byte
+at_least : (entries : List Entry) → length entries ≤ frames_size entries
+at_least [] = omega arith
+at_least (e ∷ entries) = omega (arith, sum_by-cons (λ (x : Entry). frame_size x.ask) e entries, at_least entries)
+
+-- there are no more than the journal has bytes
+pub entries_within : (s : State) (size : ℕ) (v : HouseView) → IsHouse s size v → length v.history.entries ≤ size
+entries_within s size v house =
+    let first = take v.opening v.history.entries in
+    let back = drop v.opening v.history.entries in
+    omega (arith, house.sized, house.keeps.size, ap frames_size house.keeps.first, at_least first, at_least back, ap length (take-append-drop v.opening v.history.entries), length-append first back)

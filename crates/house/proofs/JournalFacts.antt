@@ -1,5 +1,5 @@
 -- How a file comes to stand for entries.
-use Rattle.std.proofs.Common.{◌≡◌, inl, inr, ⊎_elim, List, ℕ, [], ◌∷◌, ◌++◌, map, Option, Some, None, refl, sym, ◌∙◌, subst, ap}
+use Rattle.std.proofs.Common.{◌≡◌, inl, inr, ⊎_elim, List, ℕ, [], ◌∷◌, ◌++◌, Option, Some, None, sym, ◌∙◌, subst, ap}
 use Rattle.command_types.specs.declared.ask.Entry.{Entry}
 use Rattle.command_types.specs.Spelling.{Spells}
 use Rattle.outside.specs.Disk.{History}
@@ -8,40 +8,18 @@ use Rattle.journal_core.specs.Journal.{HoldsWithOrWithout}
 use Rattle.journal_core.proofs.MomentFacts.{leaves_more}
 use Rattle.journal_core.proofs.JournalFacts.{journal_holds}
 use Rattle.journal_core.proofs.OneReading.{one_list}
-use Rattle.recovery.specs.declared.entries.EntryAt.{EntryAt}
-use Rattle.recovery.specs.StandsFor.{SpellAll, StandsFor, gates}
-use Rattle.recovery.specs.Reading.{entries_of}
-use Rattle.recovery.proofs.EntryFacts.{AllZip-more, one_list_of_entries}
+use Rattle.recovery.specs.StandsFor.{SpellAll, StandsFor}
+use Rattle.recovery.proofs.EntryFacts.{AllZip-more, read_stand as read_what_stands, read_one_way as read_the_same}
 use Rattle.house.specs.Storing.{AreStored, StandsForEither}
 use Rattle.house.specs.Journals.{ReadEntriesStand, FilesReadOneWay, StoredEntriesStand, StoredEntriesAreReady, AppendAddsTheEntry, AppendLeavesEither, StartChangesNothing, StartStoresTheSame}
 
 -- ---- what is read of a file
 
 pub read_stand : ReadEntriesStand
-read_stand file e read = (read.0, read.1, read.2)
-
-abbrev entry_of : EntryAt → Entry
-entry_of x = x.entry
-
-abbrev at_of : EntryAt → ℕ
-at_of x = x.at
-
-same_items : (xs ys : List EntryAt) → map entry_of xs ≡ map entry_of ys → map at_of xs ≡ map at_of ys → xs ≡ ys
-same_items [] [] e a = refl
-same_items [] (y ∷ ys) e a = absurd cc
-same_items (x ∷ xs) [] e a = absurd cc
-same_items (x ∷ xs) (y ∷ ys) e a =
-    let one : x.entry ≡ y.entry = cc in
-    let place : x.at ≡ y.at = cc in
-    let those : map entry_of xs ≡ map entry_of ys = cc in
-    let places : map at_of xs ≡ map at_of ys = cc in
-    let others : xs ≡ ys = same_items xs ys those places in
-    ap (λ (n : ℕ). record { at = n; entry = x.entry } ∷ xs) place ∙ ap (λ (e' : Entry). record { at = y.at; entry = e' } ∷ xs) one ∙ ap (λ (l : List EntryAt). y ∷ l) others
+read_stand = read_what_stands
 
 pub read_one_way : FilesReadOneWay
-read_one_way file e f a b =
-    same_items e.list.items f.list.items (one_list_of_entries file (entries_of e) (entries_of f) (read_stand file e a) (read_stand file f b))
-    (a.3 ∙ ap gates (one_list file a.0 b.0 a.1 b.1) ∙ sym b.3)
+read_one_way = read_the_same
 
 -- ---- what is written to it
 

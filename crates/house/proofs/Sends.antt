@@ -1,6 +1,6 @@
 -- A house may go to another thread where its disk may.
 use denote.RattleType.{RattleType}
-use denote.Param.Send.{IsSend, sendable}
+use denote.Param.Send.{IsSend, owning_send, sendable}
 use denote.Param.SendFields.{declared_send}
 use Rattle.std.proofs.Crossing.{crosses}
 use Rattle.outside.specs.declared.disk.Disk.{Ghosts}
@@ -14,6 +14,8 @@ use Rattle.product_book.specs.contracts.book.Book as Book
 use Rattle.tolerance_sets.specs.contracts.tolerances.Tolerances as Tolerances
 use Rattle.cycle_states.specs.contracts.machine.cycle.Cycle as Cycle
 use Rattle.cycle_states.specs.contracts.machine.Machine as Machine
+use Rattle.house.specs.contracts.past.Log as Log
+use Rattle.house.specs.contracts.past.Past as Past
 use Rattle.house.specs.contracts.house.House as House
 
 roster_send : IsSend Roster.the_row
@@ -46,5 +48,12 @@ ask_send = declared_send Ask.the_type (search (sendable, crosses) depth 60, (wha
 entry_send : IsSend Entry.the_row
 entry_send = declared_send Entry.the_type (search (sendable, crosses) depth 60, (ask_send, tt))
 
+-- a log owns nothing
+log_send : IsSend Log.the_row
+log_send = owning_send Log.the_type tt (λ d. tt) (λ k x w. tt)
+
+past_send : IsSend Past.the_row
+past_send = search (log_send, sendable, crosses) depth 60
+
 pub house_send : (D : RattleType) (g : Ghosts D.Denot) → IsSend D → IsSend (House.the_row D g)
-house_send D g s = search (machine_send, entry_send, sendable, crosses) depth 60 fits 100000
+house_send D g s = search (machine_send, entry_send, past_send, sendable, crosses) depth 60 fits 100000

@@ -8,9 +8,9 @@ use Rattle.journal_core.specs.Holds.{end_of, Holds}
 use Rattle.journal_core.specs.Moments.{LeavesOnly}
 use Rattle.journal_core.specs.Walk.{EndsAt}
 use Rattle.journal_core.specs.Journal.{DiskHolds, IsAtRest, IsReady, HoldsWithOrWithout}
-use Rattle.recovery.specs.declared.entries.Entries.{Entries}
+use Rattle.recovery.specs.declared.entries.EntryAt.{EntryAt}
 use Rattle.recovery.specs.StandsFor.{StandsFor}
-use Rattle.recovery.specs.Reading.{entries_of, IsRead}
+use Rattle.recovery.specs.Reading.{entries_in, IsRead}
 use Rattle.house.specs.Storing.{IsStored, AreStored, StandsForEither, ContentStandsFor}
 
 -- ---- what a journal's calls tell of its records
@@ -38,11 +38,11 @@ IsStarted old new end =
 
 -- What is read of a file is what it stands for,
 abbrev pub ReadEntriesStand : Type 0
-ReadEntriesStand = (file : List ℕ) (e : Entries) → IsRead file e → StandsFor file (entries_of e)
+ReadEntriesStand = (file : List ℕ) (list : List EntryAt) → IsRead file list → StandsFor file (entries_in list)
 
 -- and is read with the same places each time.
 abbrev pub FilesReadOneWay : Type 0
-FilesReadOneWay = (file : List ℕ) (e f : Entries) → IsRead file e → IsRead file f → e.list.items ≡ f.list.items
+FilesReadOneWay = (file : List ℕ) (xs ys : List EntryAt) → IsRead file xs → IsRead file ys → xs ≡ ys
 
 -- What is stored on a disk is what its content stands for,
 abbrev pub StoredEntriesStand : Type 0

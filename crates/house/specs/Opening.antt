@@ -8,7 +8,6 @@ use Rattle.command_types.specs.Roster.{Rows}
 use Rattle.command_types.specs.Sizes.{frames_size}
 use Rattle.cycle_states.specs.PlainDesk.{history_of}
 use Rattle.outside.specs.Disk.{History}
-use Rattle.recovery.specs.declared.entries.Entries.{Entries}
 use Rattle.recovery.specs.declared.entries.EntryAt.{EntryAt}
 use Rattle.recovery.specs.declared.fault.RecoverFault.TheVariants as recovers
 use Rattle.recovery.specs.StandsFor.{StandsFor}
@@ -26,7 +25,7 @@ IsFirstRefused s (x ∷ xs) place =
 
 -- the file stands for entries, and the first of them that is not accepted at its place has its gate at this one
 abbrev pub IsRefused : Rows → List ℕ → ℕ → Type 0
-IsRefused roster file place = (e : Entries) × IsRead file e × IsFirstRefused (empty_state roster) e.list.items place
+IsRefused roster file place = (list : List EntryAt) × IsRead file list × IsFirstRefused (empty_state roster) list place
 
 -- The file stands for no legal history: it stands for no entries, and is damaged at this place as recovery tells, or it
 -- stands for some of which one is not accepted at its place.

@@ -33,7 +33,7 @@ impl<D: Disk> House<D> {
         ensures calls { Calls self.old self.new entry.seat entry.ask result }
         ensures short { end_of self.new.history < 2 ^ 63 }
     {
-        let at = self.entries.len() as u64;
+        let at = self.past.count();
         if !self.journal.fits(length(&entry)) {
             let size = self.journal.bytes();
             return refused(at, Refusal::JournalFull { size });
@@ -44,7 +44,7 @@ impl<D: Disk> House<D> {
         match store(
             self.alloc,
             &mut self.machine,
-            &mut self.entries,
+            &mut self.past,
             &mut self.journal,
             entry,
         ) {
@@ -64,7 +64,7 @@ impl<D: Disk> House<D> {
         ensures calls { Calls self.old self.new seat ask result }
         ensures short { end_of self.new.history < 2 ^ 63 }
     {
-        let at = self.entries.len() as u64;
+        let at = self.past.count();
         let answer = match self.machine.answer(&ask) {
             Ok(answer) => answer,
             Err(_) => return refused(at, Refusal::Memory),

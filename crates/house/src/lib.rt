@@ -5,6 +5,7 @@ mod calling;
 pub mod fault;
 pub mod house;
 mod opening;
+pub mod past;
 mod storing;
 
 pub use fault::OpenFault;

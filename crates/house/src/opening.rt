@@ -1,5 +1,5 @@
 //! A house, opened on what a disk holds.
-ghost use Rattle.std.specs.Prelude.{◌≡◌, ◌≢◌, ◌+◌, ◌≤◌, List, [], ◌∷◌, length, map, IfOk, IfErr, OnOk, Err};
+ghost use Rattle.std.specs.Prelude.{◌≡◌, ◌≢◌, ◌+◌, ◌≤◌, List, [], ◌∷◌, IfOk, IfErr, OnOk, Err};
 ghost use Rattle.command_types.specs.declared.ask.Entry.{Entry};
 ghost use Rattle.command_types.specs.Machine.{empty_state, state_after};
 ghost use Rattle.command_types.specs.History.{IsAcceptedIn};
@@ -10,17 +10,20 @@ ghost use Rattle.outside.specs.Disk.{IsSettled};
 ghost use Rattle.outside.specs.Faults.{Rose};
 ghost use Rattle.journal_core.specs.Moments.{LeavesOnly};
 ghost use Rattle.journal_core.specs.Walk.{EndsAt};
+ghost use Rattle.recovery.specs.declared.entries.EntryAt.{EntryAt};
 ghost use Rattle.recovery.specs.StandsFor.{StandsFor};
+ghost use Rattle.recovery.specs.Reading.{file_of, entries_in, IsRead};
 ghost use Rattle.house.specs.declared.fault.OpenFault.TheVariants.{DiskFault};
 ghost use Rattle.house.specs.Opening.{IsReplayFault, StandsForNone, FindsFault, IsOpened};
 ghost use Rattle.house.specs.Storing.{ContentStandsFor};
 
+use crate::past::Past;
 use crate::{House, OpenFault};
 use command_types::{Entry, Roster};
 use cycle_states::{Machine, is_recorded};
 use journal_core::Journal;
 use outside::Disk;
-use recovery::{EntryAt, read_entries};
+use recovery::{Entries, EntryAt, read_entries};
 use std::alloc::Global;
 use std::snapshot::Snapshot;
 
@@ -41,63 +44,61 @@ fn accept(machine: &mut Machine, item: EntryAt) -> Result<Entry, OpenFault>
     Ok(entry)
 }
 
-// Has a machine that made no change yet make these, if it accepts each at its place.
-fn replay(alloc: Global, machine: &mut Machine, list: Vec<EntryAt>) -> Result<Vec<Entry>, OpenFault>
+// Has a machine that made no change yet make those that were read, one after another, if it accepts each at its place.
+fn replay(alloc: Global, machine: &mut Machine, read: &Entries) -> Result<Past, OpenFault>
     requires { machine.old.state ≡ empty_state machine.old.state.roster }
-    ensures entries { IfOk result (λ entries. entries.items ≡ map (λ (x : EntryAt). x.entry) list.items) }
-    ensures replayed { IfOk result (λ entries. IsReplayed machine.new.state entries.items) }
+    ensures entries { (list : List EntryAt) → IsRead (file_of read.now) list → IfOk result (λ past. past ≡ entries_in list) }
+    ensures replayed { IfOk result (λ past. IsReplayed machine.new.state past) }
     ensures roster { OnOk result (machine.new.state.roster ≡ machine.old.state.roster) }
-    ensures fault { IfErr result (IsReplayFault machine.old.state list.items) }
+    ensures fault { (list : List EntryAt) → IsRead (file_of read.now) list → IfErr result (IsReplayFault machine.old.state list) }
 {
-    let mut entries = Vec::with_capacity(alloc, list.len())?;
-    for item in list {
-        entries.push(accept(machine, item)?)?;
+    let mut past = Past::new();
+    let mut reader = read.reader();
+    while let Some(item) = reader.next(alloc)? {
+        let entry = accept(machine, item)?;
+        past.push(&entry);
     }
-    Ok(entries)
+    Ok(past)
 }
 
-// The machine of this roster after these changes, if it accepts each at its place, and the changes.
-fn restore(
-    alloc: Global,
-    roster: Roster,
-    list: Vec<EntryAt>,
-) -> Result<(Machine, Vec<Entry>), OpenFault>
-    ensures entries { IfOk result (λ r. r.1.items ≡ map (λ (x : EntryAt). x.entry) list.items) }
-    ensures replayed { IfOk result (λ r. IsReplayed r.0.state r.1.items) }
+// The machine of this roster after the changes that were read, if it accepts each at its place, and the changes.
+fn restore(alloc: Global, roster: Roster, read: &Entries) -> Result<(Machine, Past), OpenFault>
+    ensures entries { (list : List EntryAt) → IsRead (file_of read.now) list → IfOk result (λ r. r.1 ≡ entries_in list) }
+    ensures replayed { IfOk result (λ r. IsReplayed r.0.state r.1) }
     ensures roster { IfOk result (λ r. r.0.state.roster ≡ roster) }
-    ensures fault { IfErr result (IsReplayFault (empty_state roster) list.items) }
+    ensures fault { (list : List EntryAt) → IsRead (file_of read.now) list → IfErr result (IsReplayFault (empty_state roster) list) }
 {
     let mut machine = Machine::new(alloc, roster)?;
-    let entries = replay(alloc, &mut machine, list)?;
-    Ok((machine, entries))
+    let past = replay(alloc, &mut machine, read)?;
+    Ok((machine, past))
 }
 
 // What is read of a disk: the machine after its changes, the changes, and the place where its journal goes on.
 #[derive(Drop)]
 pub(crate) struct Recovered {
     machine: Machine,
-    entries: Vec<Entry>,
+    past: Past,
     end: u64,
 }
 
 // Reads a disk's journal, and makes its changes. It writes nothing.
 fn recover<D: Disk>(alloc: Global, roster: Roster, disk: &mut D) -> Result<Recovered, OpenFault>
-    ensures stands { IfOk result (λ r. ContentStandsFor (D.history disk.old) r.entries.items) }
-    ensures replayed { IfOk result (λ r. IsReplayed r.machine.state r.entries.items) }
+    ensures stands { IfOk result (λ r. ContentStandsFor (D.history disk.old) r.past) }
+    ensures replayed { IfOk result (λ r. IsReplayed r.machine.state r.past) }
     ensures roster { IfOk result (λ r. r.machine.state.roster ≡ roster) }
     ensures ends { IfOk result (λ r. EndsAt (D.history disk.old) r.end) }
-    ensures size { IfOk result (λ r. r.end ≡ 9 + frames_size r.entries.items) }
+    ensures size { IfOk result (λ r. r.end ≡ 9 + frames_size r.past) }
     ensures fault { IfErr result (FindsFault roster (D.history disk.old)) }
     ensures same { D.history disk.new ≡ D.history disk.old }
     ensures never_falls { D.fault_count disk.old ≤ D.fault_count disk.new }
     ensures failed { result ≡ Err DiskFault → Rose (D.fault_count disk.old) (D.fault_count disk.new) }
 {
     let read = read_entries(alloc, disk)?;
-    let (machine, entries) = restore(alloc, roster, read.list)?;
+    let (machine, past) = restore(alloc, roster, &read)?;
     Ok(Recovered {
         machine,
-        entries,
-        end: read.end,
+        past,
+        end: read.end(),
     })
 }
 
@@ -129,8 +130,8 @@ impl<D: Disk> House<D> {
             Ok(journal) => Ok(House {
                 alloc,
                 machine: recovered.machine,
-                opening: recovered.entries.len() as u64,
-                entries: recovered.entries,
+                opening: recovered.past.count(),
+                past: recovered.past,
                 opened: Snapshot::of(&journal),
                 journal,
                 kept: None,

@@ -1,11 +1,11 @@
 //! A change, made and kept.
-ghost use Rattle.std.specs.Prelude.{◌≡◌, ◌≤◌, ◌<◌, ◌+◌, ◌^◌, [], ◌∷◌, ◌++◌, length, is_some, All, IsTrue, IfOk, IfErr, OnOk, OnErr, Err, vec_len, vec_capacity};
+ghost use Rattle.std.specs.Prelude.{◌≡◌, ◌≤◌, ◌<◌, ◌+◌, ◌^◌, [], ◌∷◌, ◌++◌, length, is_some, All, IsTrue, IfOk, IfErr, OnOk, OnErr, Err};
 ghost use Rattle.network_laws.specs.Solutions.{IsSolution};
 ghost use Rattle.command_types.specs.Machine.{answer_to, state_after, changes};
 ghost use Rattle.command_types.specs.History.{is_recorded, solutions_posted};
 ghost use Rattle.command_types.specs.Sizes.{record_size, frame_size, journal_limit};
 ghost use Rattle.command_types.specs.Spelling.{Spells, posted, most_solutions};
-ghost use Rattle.cycle_states.specs.Machine.{IsYoung, IsReady, rows_added, settings_added};
+ghost use Rattle.cycle_states.specs.Machine.{IsYoung};
 ghost use Rattle.outside.specs.Faults.{Rose};
 ghost use Rattle.journal_core.specs.Moments.{LeavesOnly};
 ghost use Rattle.journal_core.specs.Journal.{disk_of, size_of, IsReady as IsReadyAt};
@@ -13,8 +13,9 @@ ghost use Rattle.house.specs.Storing.{AreStored, StandsForEither};
 ghost use Rattle.house.specs.declared.storing.Unstored.TheVariants.{Memory};
 ghost use Rattle.house.specs.Unstored.{Tells};
 
+use crate::past::Past;
 use command_types::{Answer, Entry};
-use cycle_states::{Machine, Ready};
+use cycle_states::Machine;
 use journal_core::{Frame, Journal};
 use outside::Disk;
 use record_codec::encode;
@@ -49,42 +50,13 @@ fn frame_of(alloc: Global, entry: &Entry) -> Result<Frame, AllocError>
     Frame::of(alloc, &bytes)
 }
 
-// Makes room for one more entry.
-fn make_room(entries: &mut Vec<Entry>) -> Result<(), AllocError>
-    ensures items { entries.new.items ≡ entries.old.items }
-    ensures room { OnOk result (vec_len entries.new < vec_capacity entries.new) }
-{
-    entries.reserve(1)?;
-    Ok(())
-}
-
-// Makes room for the change in the machine and for its entry, and all that it is made with.
-fn ready_for(
-    machine: &mut Machine,
-    entries: &mut Vec<Entry>,
-    entry: Entry,
-) -> Result<Ready, AllocError>
-    requires accepted { IsTrue (is_recorded entry.ask.what (answer_to machine.old.state entry.ask)) }
-    requires young { IsYoung machine.old.state.cycle }
-    ensures state { machine.new.state ≡ machine.old.state }
-    ensures items { entries.new.items ≡ entries.old.items }
-    ensures entry { IfOk result (λ ready. ready.entry ≡ entry) }
-    ensures ready { IfOk result (λ ready. IsReady machine.old.state ready) }
-    ensures room { OnOk result (rows_added machine.old.state entry.ask.what ≤ machine.new.spare) }
-    ensures slot { OnOk result (settings_added entry.ask.what ≤ machine.new.slots) }
-    ensures space { OnOk result (vec_len entries.new < vec_capacity entries.new) }
-{
-    make_room(entries)?;
-    machine.prepare(entry)
-}
-
 /// Makes an accepted change that fits into the journal, and puts it last, once its record is on the disk. What a crash at
 /// any moment leaves stands for the entries from before, or for these and the one more. Where there is no memory, all stays;
-/// where the disk fails, machine and entries do.
+/// where the disk fails, machine and changes do.
 pub(crate) fn store<D: Disk>(
     alloc: Global,
     machine: &mut Machine,
-    entries: &mut Vec<Entry>,
+    past: &mut Past,
     journal: &mut Journal<D>,
     entry: Entry,
 ) -> Result<Answer, Unstored>
@@ -94,26 +66,27 @@ pub(crate) fn store<D: Disk>(
     requires few { posted entry.ask.what ≤ most_solutions }
     requires ready { IsReadyAt (D.history (disk_of journal.old)) (size_of journal.old) }
     requires fits { size_of journal.old + frame_size entry.ask ≤ journal_limit }
+    requires short { length past.old + 1 < 2 ^ 63 }
     ensures answer { IfOk result (λ answer. answer ≡ answer_to machine.old.state entry.ask) }
     ensures state { OnOk result (machine.new.state ≡ state_after machine.old.state entry.ask) }
-    ensures entries { OnOk result (entries.new.items ≡ entries.old.items ++ entry ∷ []) }
+    ensures past { OnOk result (past.new ≡ past.old ++ entry ∷ []) }
     ensures solutions { OnOk result (All IsSolution (solutions_posted entry.ask.what)) }
     ensures size { OnOk result (size_of journal.new ≡ size_of journal.old + frame_size entry.ask) }
-    ensures stored { AreStored (D.history (disk_of journal.old)) (size_of journal.old) entries.old.items → OnOk result (AreStored (D.history (disk_of journal.new)) (size_of journal.new) (entries.old.items ++ entry ∷ [])) }
-    ensures any_moment { AreStored (D.history (disk_of journal.old)) (size_of journal.old) entries.old.items → LeavesOnly (D.history (disk_of journal.old)) (D.history (disk_of journal.new)) (StandsForEither entries.old.items entry) }
+    ensures stored { AreStored (D.history (disk_of journal.old)) (size_of journal.old) past.old → OnOk result (AreStored (D.history (disk_of journal.new)) (size_of journal.new) (past.old ++ entry ∷ [])) }
+    ensures any_moment { AreStored (D.history (disk_of journal.old)) (size_of journal.old) past.old → LeavesOnly (D.history (disk_of journal.old)) (D.history (disk_of journal.new)) (StandsForEither past.old entry) }
     ensures same_state { OnErr result (machine.new.state ≡ machine.old.state) }
-    ensures same_entries { OnErr result (entries.new.items ≡ entries.old.items) }
+    ensures same_past { OnErr result (past.new ≡ past.old) }
     ensures same_size { OnErr result (size_of journal.new ≡ size_of journal.old) }
     ensures same_disk { result ≡ Err Memory → (D.history (disk_of journal.new) ≡ D.history (disk_of journal.old)) × (D.fault_count (disk_of journal.new) ≡ D.fault_count (disk_of journal.old)) }
     ensures never_falls { D.fault_count (disk_of journal.old) ≤ D.fault_count (disk_of journal.new) }
     ensures failed { IfErr result (Tells entry (Rose (D.fault_count (disk_of journal.old)) (D.fault_count (disk_of journal.new)))) }
 {
     let frame = frame_of(alloc, &entry)?;
-    let ready = ready_for(machine, entries, entry)?;
+    let ready = machine.prepare(entry)?;
     match journal.append(&frame) {
         Ok(()) => {
             let (entry, answer) = machine.commit(ready);
-            entries.push_reserved(entry);
+            past.push(&entry);
             Ok(answer)
         }
         Err(_) => Err(Unstored::Failed(ready.into_entry())),

@@ -1,15 +1,17 @@
 -- A file has one reading: it holds one list of records, or it is damaged at one place.
-use Rattle.std.proofs.Common.{◌≡◌, ◌⊎◌, inl, inr, ℕ, ◌+◌, ◌≤◌, ◌<◌, List, [], ◌∷◌, ◌++◌, length, take, drop, get_or, Result, Ok, Err, IfOk, IfErr, Option, Some, None, refl, subst, sym, ◌∙◌, ap, arith, append_assoc, length-append}
+use Rattle.std.proofs.Common.{◌≡◌, ◌≢◌, ◌⊎◌, inl, inr, ℕ, ◌+◌, ◌≤◌, ◌<◌, ◌^◌, List, [], ◌∷◌, ◌++◌, length, take, drop, get_or, Option, Some, None, refl, subst, sym, ◌∙◌, ap, arith, append_assoc, length-append}
 use Rattle.std.proofs.Math.Seq.{take-append_seam, drop-append_seam}
+use Rattle.std.specs.Int.{w32, to_le_bytes}
 use Rattle.std.specs.List.{flat_map}
 use Rattle.journal_core.specs.Holds.{header, limit, frame, front, IsJournal, Holds}
 use Rattle.outside.specs.Disk.{History}
-use Rattle.journal_core.specs.Walk.{HasFound, IsWalked, IsDamaged, IsFault, IsOnlyFault, FindsRecords, FindsFault, EndsAt}
+use Rattle.journal_core.specs.Records.{AreAhead, IsNext}
+use Rattle.journal_core.specs.Walk.{NamesNoRecord, bytes_of, IsWalked, IsDamaged, IsFault, IsOnlyFault, FindsRecords, FindsFault, EndsAt}
 use Rattle.journal_core.specs.declared.walked.Walked.{Walked}
 use Rattle.journal_core.specs.declared.walked.WalkFault.{WalkFault}
 use Rattle.journal_core.specs.declared.walked.WalkFault.TheVariants.{Damaged, DiskFault, Memory}
 use Rattle.journal_core.proofs.JournalFacts.{length-frame}
-use Rattle.journal_core.proofs.WalkFacts.{same_size, walked_all, fault_all, IsPiece}
+use Rattle.journal_core.proofs.WalkFacts.{same_size, holds_all, fault_all, IsPiece}
 
 abbrev frames : List (List ℕ) → List ℕ
 frames records = flat_map frame records
@@ -21,9 +23,9 @@ front_size : (records : List (List ℕ)) → length (front records) ≡ 8 + leng
 front_size records = omega arith
 
 -- Two frames with something behind them are the same bytes.
-module _ (a b x y : List ℕ) (small : length a < limit) (small' : length b < limit) (is : frame a ++ x ≡ frame b ++ y) where
+module _ (a b x y : List ℕ) (small : length a < 2 ^ 32) (small' : length b < 2 ^ 32) (is : frame a ++ x ≡ frame b ++ y) where
   size : length a ≡ length b
-  size = same_size (length a) (length b) (omega (arith, small)) (omega (arith, small')) (ap (λ (l : List ℕ). take 4 (drop 1 l)) is)
+  size = same_size (length a) (length b) small small' (ap (λ (l : List ℕ). take 4 (drop 1 l)) is)
 
   behind : a ++ x ≡ b ++ y
   behind = ap (λ (l : List ℕ). drop 5 l) is
@@ -62,8 +64,8 @@ compared (a ∷ rs) [] t u small small' is =
     inr (inr (record { bytes = a; more = frames rs ++ t; split = sym is ∙ append_assoc (frame a) (frames rs) t; within = omega (arith, frames_size a rs) }))
 compared (a ∷ rs) (b ∷ ss) t u small small' is =
     let both : frame a ++ (frames rs ++ t) ≡ frame b ++ (frames ss ++ u) = sym (append_assoc (frame a) (frames rs) t) ∙ is ∙ append_assoc (frame b) (frames ss) u in
-    let short : length a < limit = omega (arith, small, frames_size a rs) in
-    let short' : length b < limit = omega (arith, small', frames_size b ss) in
+    let short : length a < 2 ^ 32 = omega (arith, small, frames_size a rs) in
+    let short' : length b < 2 ^ 32 = omega (arith, small', frames_size b ss) in
     one_more a b rs ss t u (same_bytes a b (frames rs ++ t) (frames ss ++ u) short short' both)
     (compared rs ss t u (omega (arith, small, frames_size a rs)) (omega (arith, small', frames_size b ss)) (same_rest a b (frames rs ++ t) (frames ss ++ u) short short' both))
 
@@ -127,29 +129,86 @@ one_place file p q (long, inr d) (long', inr e) =
     (fronts_compared d.0 e.0 d.1 e.1 (omega (arith, d.3, d.4)) (omega (arith, e.3, e.4)) (sym d.2 ∙ e.2))
 
 -- so what a walk tells is all that can be told
-pub only_found : (file : List ℕ) (w : Walked) → IsWalked file w → (records : List (List ℕ)) → Holds file records → HasFound w records
-only_found file w is records holds = subst (HasFound w) (one_list file is.0 records is.1 holds) (is.2, is.3)
-
 pub only_fault : (file : List ℕ) (fault : WalkFault) → IsFault file fault → IsOnlyFault file fault
 only_fault file (Damaged place) damaged = (λ other is. one_place file other place is damaged, λ records holds. not_both file records place holds damaged)
 only_fault file DiskFault told = tt
 only_fault file Memory told = tt
 
-pub walked_of : (r : Result Walked WalkFault) (o : Option History) (piece : List ℕ) → IsPiece o piece → IfOk r (IsWalked piece) → IfOk r (FindsRecords o)
-walked_of (Ok w) None piece is walked = tt
-walked_of (Ok w) (Some h) piece is walked =
-    let all = walked_all h.content is.0 is.1 w (subst (λ (l : List ℕ). IsWalked l w) is.2 walked) in
-    (all, only_found h.content w all)
-walked_of (Err fault) o piece is walked = tt
+pub finds : (o : Option History) (w : Walked) → IsPiece o (bytes_of w) → IsWalked w → FindsRecords o w
+finds None w is walked = tt
+finds (Some h) w is walked =
+    let all : (records : List (List ℕ)) → Holds (bytes_of w) records → Holds h.content records =
+    λ records holds. holds_all h.content is.0 is.1 records (subst (λ (l : List ℕ). Holds l records) is.2 holds) in
+    (all, λ records holds. subst (Holds (bytes_of w)) (one_list h.content walked.0 records (all walked.0 walked.1) holds) walked.1)
 
-pub fault_of : (r : Result Walked WalkFault) (o : Option History) (piece : List ℕ) → IsPiece o piece → IfErr r (IsFault piece) → IfErr r (FindsFault o)
-fault_of (Ok w) o piece is fault = tt
-fault_of (Err fault) None piece is told = tt
-fault_of (Err fault) (Some h) piece is told =
+pub fault_of : (o : Option History) (piece : List ℕ) (fault : WalkFault) → IsPiece o piece → IsFault piece fault → FindsFault o fault
+fault_of None piece fault is told = tt
+fault_of (Some h) piece fault is told =
     let all = fault_all h.content is.0 is.1 fault (subst (λ (l : List ℕ). IsFault l fault) is.2 told) in
     (all, only_fault h.content fault all)
 
-pub ends_of : (r : Result Walked WalkFault) (o : Option History) → IfOk r (FindsRecords o) → IfOk r (λ w. EndsAt o w.end)
-ends_of (Ok w) None finds = tt
-ends_of (Ok w) (Some h) finds = (finds.0.0, finds.0.1, finds.0.3)
-ends_of (Err fault) o finds = tt
+pub ends_of : (o : Option History) (w : Walked) → FindsRecords o w → IsWalked w → EndsAt o w.end
+ends_of None w found walked = tt
+ends_of (Some h) w found walked = (walked.0, found.0 walked.0 walked.1, walked.2)
+
+-- ---- the records ahead
+
+-- an open gate has a record behind it
+pub next_ahead : (place : ℕ) (rest body b after : List ℕ) (records : List (List ℕ)) (next : ℕ) → AreAhead place rest records → rest ≡ 1 ∷ body → body ≡ to_le_bytes w32 (length b) ++ b ++ after
+    → length b < 2 ^ 32 → (place + (5 + length b) < limit → next ≡ place + (5 + length b)) → IsNext place records b next after
+next_ahead place rest body b after records next (inl none) is_open is_record small step = absurd (omega (arith, ap length (sym none.0 ∙ is_open)))
+next_ahead place rest body b after [] next (inr on) is_open is_record small step =
+    absurd (on.closed (ap (λ (l : List ℕ). get_or l 0 0) (sym on.split ∙ is_open)))
+next_ahead place rest body b after (r ∷ records) next (inr on) is_open is_record small step =
+    let behind : List ℕ = on.gate ∷ on.rest in
+    let whole : frame r ++ (frames records ++ behind) ≡ frame b ++ after =
+    sym (append_assoc (frame r) (frames records) behind) ∙ sym on.split ∙ is_open ∙ ap (λ (l : List ℕ). 1 ∷ l) is_record in
+    let short : length r < 2 ^ 32 = omega (arith, on.within, frames_size r records) in
+    let same : r ≡ b = same_bytes r b (frames records ++ behind) after short small whole in
+    let long : length r ≡ length b = ap length same in
+    let there : next ≡ place + (5 + length b) = step (omega (arith, on.within, frames_size r records, long)) in
+    record {
+      others = records;
+      split = ap (λ (x : List ℕ). x ∷ records) same;
+      behind = there;
+      ahead = inr (record {
+        gate = on.gate;
+        rest = on.rest;
+        split = sym (same_rest r b (frames records ++ behind) after short small whole);
+        closed = on.closed;
+        within = omega (arith, on.within, frames_size r records, long, there);
+      });
+    }
+
+-- where no gate is open, none is ahead
+pub none_ahead : (place : ℕ) (rest : List ℕ) (records : List (List ℕ)) → AreAhead place rest records → ((body : List ℕ) → rest ≢ 1 ∷ body) → records ≡ []
+none_ahead place rest records (inl none) shut = none.1
+none_ahead place rest [] (inr on) shut = refl
+none_ahead place rest (r ∷ records) (inr on) shut =
+    absurd (shut (to_le_bytes w32 (length r) ++ r ++ (frames records ++ on.gate ∷ on.rest)) (on.split ∙ append_assoc (frame r) (frames records) (on.gate ∷ on.rest)))
+
+-- nor where an open one has no record behind it
+pub none_named : (place : ℕ) (rest body : List ℕ) (records : List (List ℕ)) → AreAhead place rest records → rest ≡ 1 ∷ body → NamesNoRecord body → records ≡ []
+none_named place rest body records (inl none) is_open named = none.1
+none_named place rest body [] (inr on) is_open named = refl
+none_named place rest body (r ∷ records) (inr on) is_open named =
+    let behind : List ℕ = frames records ++ on.gate ∷ on.rest in
+    let whole : body ≡ to_le_bytes w32 (length r) ++ r ++ behind = ap (λ (l : List ℕ). drop 1 l) (sym is_open ∙ on.split ∙ append_assoc (frame r) (frames records) (on.gate ∷ on.rest)) in
+    absurd (omega (arith, named r behind whole, on.within, frames_size r records))
+
+-- the records of a file, from its first gate on
+pub ahead_in : (file : List ℕ) (records : List (List ℕ)) → Holds file records → 10 ≤ length file → AreAhead 8 (drop 8 file) records
+ahead_in file records (inl short) long = absurd (omega (arith, short.0, long))
+ahead_in file records (inr j) long =
+    let split : file ≡ header ++ (frames records ++ j.1.gate ∷ j.1.rest) = j.1.split ∙ append_assoc header (frames records) (j.1.gate ∷ j.1.rest) in
+    inr (record {
+      gate = j.1.gate;
+      rest = j.1.rest;
+      split = ap (λ (l : List ℕ). drop 8 l) split ∙ drop-append_seam header (frames records ++ j.1.gate ∷ j.1.rest);
+      closed = j.1.closed;
+      within = omega (arith, j.1.within, front_size records);
+    })
+
+pub none_in : (file : List ℕ) (records : List (List ℕ)) → Holds file records → length file < 10 → AreAhead 8 [] records
+none_in file records (inl none) short = inl (refl, none.1)
+none_in file records (inr j) short = absurd (omega (arith, j.0, short))

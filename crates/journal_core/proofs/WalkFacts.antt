@@ -1,81 +1,60 @@
 -- What a walk over a journal's file finds.
-use Rattle.std.proofs.Common.{◌≡◌, ◌≢◌, inl, inr, ⊎_elim, ℕ, ◌+◌, ◌-◌, ◌≤◌, ◌<◌, ◌^◌, min, List, [], ◌∷◌, ◌++◌, length, take, drop, get_or, map, Option, Some, None, refl, sym, ◌∙◌, subst, ap, arith, append_assoc, length-append, take-append-drop}
-use Rattle.std.proofs.lemmas.List.{take_at, take-append-le, length-take, length-drop, map-append}
+use Rattle.std.proofs.Common.{◌≡◌, ◌≢◌, inl, inr, ⊎_elim, ℕ, ◌+◌, ◌-◌, ◌≤◌, ◌<◌, ◌^◌, min, List, [], ◌∷◌, ◌++◌, length, take, drop, get_or, Option, Some, None, refl, sym, ◌∙◌, ap, arith, append_assoc, length-append, take-append-drop}
+use Rattle.std.proofs.lemmas.List.{take_at, take-append-le, length-take, length-drop}
 use Rattle.std.proofs.Math.Seq.{take-append-add}
 use Rattle.std.proofs.lemmas.Nat.{from_le_bytes-to_le_bytes_4}
 use Rattle.std.specs.Int.{w32, to_le_bytes, from_le_bytes}
-use Rattle.std.specs.List.{flat_map}
 use Rattle.outside.specs.Disk.{History, HasLength, Reads}
 use Rattle.journal_core.specs.Holds.{header, limit, frame, front, IsJournal, Holds}
-use Rattle.journal_core.specs.Walk.{placed, place_and_bytes, NamesNoRecord, IsWalked, IsDamaged, IsFault}
-use Rattle.journal_core.specs.declared.walked.Walked.{Walked}
-use Rattle.journal_core.specs.declared.walked.RecordAt.{RecordAt}
+use Rattle.journal_core.specs.Walk.{NamesNoRecord, EndsIn, IsDamaged, IsFault}
 use Rattle.journal_core.specs.declared.walked.WalkFault.{WalkFault}
 use Rattle.journal_core.specs.declared.walked.WalkFault.TheVariants.{Damaged, DiskFault, Memory}
 use Rattle.journal_core.proofs.JournalFacts.{length-frame, front-push, lt_or_le}
 
--- the bytes of the records
-abbrev pub all_bytes : List RecordAt → List (List ℕ)
-all_bytes records = map (λ (r : RecordAt). r.bytes.items) records
-
-placed-push : (place : ℕ) (records : List (List ℕ)) (bytes : List ℕ) → placed place (records ++ bytes ∷ []) ≡ placed place records ++ (place + length (flat_map frame records), bytes) ∷ []
-placed-push place [] bytes = let same : place ≡ place + 0 = omega arith in ap (λ (n : ℕ). (n, bytes) ∷ []) same
-placed-push place (r ∷ records) bytes =
-    let same : place + (5 + length r) + length (flat_map frame records) ≡ place + length (flat_map frame (r ∷ records)) =
-    omega (arith, length-append (frame r) (flat_map frame records), length-frame r) in
-    ap (λ (l : List (ℕ × List ℕ)). (place, r) ∷ l) (placed-push (place + (5 + length r)) records bytes ∙ ap (λ (n : ℕ). placed (place + (5 + length r)) records ++ (n, bytes) ∷ []) same)
-
--- what a walk has found so far in the bytes
-pub record SoFar (bytes : List ℕ) (records : List RecordAt) (at : ℕ) (rest : List ℕ) : Type 0 where
-  pub split : bytes ≡ front (all_bytes records) ++ rest
-  pub places : map place_and_bytes records ≡ placed 8 (all_bytes records)
-  pub here : at ≡ length (front (all_bytes records))
+-- what a walk has passed so far in the bytes
+pub record SoFar (bytes : List ℕ) (at : ℕ) (rest : List ℕ) : Type 0 where
+  pub records : List (List ℕ)
+  pub split : bytes ≡ front records ++ rest
+  pub here : at ≡ length (front records)
   pub within : at < limit
 
-pub at_header : (bytes rest : List ℕ) → bytes ≡ header ++ rest → SoFar bytes [] 8 rest
-at_header bytes rest is = record { split = is; places = refl; here = refl; within = omega arith }
+pub at_header : (bytes rest : List ℕ) → bytes ≡ header ++ rest → SoFar bytes 8 rest
+at_header bytes rest is = record { records = []; split = is; here = refl; within = omega arith }
 
-pub one_more : (bytes : List ℕ) (records : List RecordAt) (at : ℕ) (rest body after : List ℕ) (r : RecordAt) → SoFar bytes records at rest → rest ≡ 1 ∷ body
-    → body ≡ to_le_bytes w32 (length r.bytes.items) ++ r.bytes.items ++ after → r.at ≡ at → at + 5 + length r.bytes.items < limit
-    → SoFar bytes (records ++ r ∷ []) (at + 5 + length r.bytes.items) after
-one_more bytes records at rest body after r so_far is_open is_record place small =
-    let before = all_bytes records in
-    let b = r.bytes.items in
-    let pushed : all_bytes (records ++ r ∷ []) ≡ before ++ b ∷ [] = map-append (λ (x : RecordAt). x.bytes.items) records (r ∷ []) in
-    let longer : front (all_bytes (records ++ r ∷ [])) ≡ front before ++ frame b = ap front pushed ∙ front-push before b in
-    let gap : length (front before) ≡ 8 + length (flat_map frame before) = omega arith in
+pub one_more : (bytes : List ℕ) (at : ℕ) (rest body after b : List ℕ) → SoFar bytes at rest → rest ≡ 1 ∷ body
+    → body ≡ to_le_bytes w32 (length b) ++ b ++ after → at + 5 + length b < limit → SoFar bytes (at + 5 + length b) after
+one_more bytes at rest body after b so_far is_open is_record small =
+    let before = so_far.records in
+    let longer : front (before ++ b ∷ []) ≡ front before ++ frame b = front-push before b in
     record {
+      records = before ++ b ∷ [];
       split = so_far.split ∙ ap (λ (l : List ℕ). front before ++ l) (is_open ∙ ap (λ (l : List ℕ). 1 ∷ l) is_record) ∙ sym (append_assoc (front before) (frame b) after) ∙ ap (λ (l : List ℕ). l ++ after) (sym longer);
-      places =
-          map-append place_and_bytes records (r ∷ []) ∙ ap (λ (l : List (ℕ × List ℕ)). l ++ (r.at, b) ∷ []) so_far.places
-          ∙ ap (λ (n : ℕ). placed 8 before ++ (n, b) ∷ []) (place ∙ so_far.here ∙ gap) ∙ sym (placed-push 8 before b) ∙ ap (placed 8) (sym pushed);
       here = omega (arith, so_far.here, ap length longer, length-append (front before) (frame b), length-frame b);
       within = small;
     }
 
 -- a gate that is not open
-pub ended : (bytes : List ℕ) (records : List RecordAt) (at : ℕ) (rest : List ℕ) → SoFar bytes records at rest → 0 < length rest → ((body : List ℕ) → rest ≢ 1 ∷ body) → IsJournal bytes (all_bytes records)
-ended bytes records at [] so_far some shut = absurd (omega (arith, some))
-ended bytes records at (gate ∷ rest) so_far some shut =
+pub ended : (bytes : List ℕ) (at : ℕ) (rest : List ℕ) (so_far : SoFar bytes at rest) → 0 < length rest → ((body : List ℕ) → rest ≢ 1 ∷ body) → IsJournal bytes so_far.records
+ended bytes at [] so_far some shut = absurd (omega (arith, some))
+ended bytes at (gate ∷ rest) so_far some shut =
     record { gate = gate; rest = rest; split = so_far.split; closed = λ is. shut rest (ap (λ (g : ℕ). g ∷ rest) is); within = omega (arith, so_far.here, so_far.within) }
 
-pub is_walked : (bytes : List ℕ) (records : List RecordAt) (at : ℕ) (rest : List ℕ) (w : Walked) → SoFar bytes records at rest → 0 < length rest → ((body : List ℕ) → rest ≢ 1 ∷ body) → 10 ≤ length bytes
-    → w.records.items ≡ records → w.end ≡ at + 1 → IsWalked bytes w
-is_walked bytes records at rest w so_far some shut long found end =
-    (all_bytes records, inr (long, ended bytes records at rest so_far some shut), ap (λ (l : List RecordAt). map place_and_bytes l) found ∙ so_far.places, end ∙ ap (λ (n : ℕ). n + 1) so_far.here)
+pub ends_there : (bytes : List ℕ) (at : ℕ) (rest : List ℕ) → SoFar bytes at rest → 0 < length rest → ((body : List ℕ) → rest ≢ 1 ∷ body) → 10 ≤ length bytes → EndsIn bytes (at + 1)
+ends_there bytes at rest so_far some shut long =
+    (so_far.records, inr (long, ended bytes at rest so_far some shut), ap (λ (n : ℕ). n + 1) so_far.here)
 
 -- no gate at all
-pub no_gate : (bytes : List ℕ) (records : List RecordAt) (at : ℕ) (rest : List ℕ) → SoFar bytes records at rest → length rest ≡ 0 → 10 ≤ length bytes → IsDamaged bytes at
-no_gate bytes records at [] so_far none long = (long, inr (all_bytes records, [], so_far.split, so_far.here, so_far.within, λ gate rest is. absurd (omega (arith, ap length is)), λ b rest is. absurd (omega (arith, ap length is, length-append (frame b) rest))))
-no_gate bytes records at (x ∷ rest) so_far none long = absurd (omega (arith, none))
+pub no_gate : (bytes : List ℕ) (at : ℕ) (rest : List ℕ) → SoFar bytes at rest → length rest ≡ 0 → 10 ≤ length bytes → IsDamaged bytes at
+no_gate bytes at [] so_far none long = (long, inr (so_far.records, [], so_far.split, so_far.here, so_far.within, λ gate rest is. absurd (omega (arith, ap length is)), λ b rest is. absurd (omega (arith, ap length is, length-append (frame b) rest))))
+no_gate bytes at (x ∷ rest) so_far none long = absurd (omega (arith, none))
 
 -- an open gate with no record behind it
-pub no_record : (bytes : List ℕ) (records : List RecordAt) (at : ℕ) (rest body : List ℕ) → SoFar bytes records at rest → rest ≡ 1 ∷ body
+pub no_record : (bytes : List ℕ) (at : ℕ) (rest body : List ℕ) → SoFar bytes at rest → rest ≡ 1 ∷ body
     → ((b more : List ℕ) → body ≡ to_le_bytes w32 (length b) ++ b ++ more → limit ≤ at + (5 + length b)) → 10 ≤ length bytes → IsDamaged bytes at
-no_record bytes records at rest body so_far is_open none long = (
+no_record bytes at rest body so_far is_open none long = (
   long,
   inr (
-    all_bytes records,
+    so_far.records,
     rest,
     so_far.split,
     so_far.here,
@@ -98,15 +77,6 @@ one_is_large at body a after is_a small large b more is_b = ⊎_elim (λ lt. ome
     same_front : length b < 2 ^ 32 → to_le_bytes w32 (length b) ≡ to_le_bytes w32 (length a)
     same_front lt = ap (λ (l : List ℕ). take 4 l) (sym is_b ∙ is_a)
 
--- the same of a record that was copied
-pub copied_one : (bytes : List ℕ) (records more : List RecordAt) (at : ℕ) (rest body after b : List ℕ) (r : RecordAt) → more ≡ records ++ r ∷ [] → r.bytes.items ≡ b → SoFar bytes records at rest → rest ≡ 1 ∷ body
-    → body ≡ to_le_bytes w32 (length b) ++ b ++ after → r.at ≡ at → at + 5 + length b < limit → SoFar bytes more (at + 5 + length b) after
-copied_one bytes records more at rest body after b r more_is b_is so_far is_open is_record place small =
-    subst (λ (l : List RecordAt). SoFar bytes l (at + 5 + length b) after) (sym more_is)
-    (subst (λ (x : List ℕ). SoFar bytes (records ++ r ∷ []) (at + 5 + length x) after) b_is
-    (one_more bytes records at rest body after r so_far is_open (subst (λ (x : List ℕ). body ≡ to_le_bytes w32 (length x) ++ x ++ after) (sym b_is) is_record) place
-    (subst (λ (x : List ℕ). at + 5 + length x < limit) (sym b_is) small)))
-
 -- What stands in a front of the file stands in the file.
 module _ (file : List ℕ) (k : ℕ) (cut : k ≡ min (length file) limit) where
   whole : file ≡ take k file ++ drop k file
@@ -127,9 +97,6 @@ module _ (file : List ℕ) (k : ℕ) (cut : k ≡ min (length file) limit) where
       within = j.1.within;
     },
   )
-
-  pub walked_all : (w : Walked) → IsWalked (take k file) w → IsWalked file w
-  walked_all w is = (is.0, holds_all is.0 is.1, is.2, is.3)
 
   no_header : 10 ≤ length (take k file) → ((rest : List ℕ) → take k file ≢ header ++ rest) → (rest : List ℕ) → file ≢ header ++ rest
   no_header long none rest is =

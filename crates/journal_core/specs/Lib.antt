@@ -1,5 +1,6 @@
 pub mod Holds
 pub mod Moments
+pub mod Records
 pub mod Walk
 pub mod Journal
 pub mod Frame

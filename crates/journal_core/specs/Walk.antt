@@ -1,10 +1,9 @@
 -- What a walk over a journal's file finds.
-use Rattle.std.specs.Prelude.{◌≡◌, ◌≢◌, ◌⊎◌, ◌<◌, ◌≤◌, ℕ, ◌+◌, ◌^◌, List, [], ◌∷◌, ◌++◌, length, map, Option, Some, None}
+use Rattle.std.specs.Prelude.{◌≡◌, ◌≢◌, ◌⊎◌, ◌<◌, ◌≤◌, ℕ, ◌+◌, ◌^◌, List, [], ◌∷◌, ◌++◌, length, Option, Some, None}
 use Rattle.std.specs.Int.{w32, to_le_bytes}
 use Rattle.outside.specs.Disk.{History}
 use Rattle.journal_core.specs.Holds.{header, limit, frame, front, end_of, Holds}
 use Rattle.journal_core.specs.declared.walked.Walked.{Walked}
-use Rattle.journal_core.specs.declared.walked.RecordAt.{RecordAt}
 use Rattle.journal_core.specs.declared.walked.WalkFault.{WalkFault}
 use Rattle.journal_core.specs.declared.walked.WalkFault.TheVariants.{Damaged, DiskFault, Memory}
 
@@ -13,25 +12,17 @@ abbrev pub placed : ℕ → List (List ℕ) → List (ℕ × List ℕ)
 placed place [] = []
 placed place (bytes ∷ records) = (place, bytes) ∷ placed (place + (5 + length bytes)) records
 
--- the place of a record's gate, and its bytes
-abbrev pub place_and_bytes : RecordAt → ℕ × List ℕ
-place_and_bytes r = (r.at, r.bytes.items)
+-- the bytes that a walk read
+abbrev pub bytes_of : Walked → List ℕ
+bytes_of w = w.bytes.items
 
--- the records that a walk found
-abbrev pub records_of : Walked → List (List ℕ)
-records_of w = map (λ (r : RecordAt). r.bytes.items) w.records.items
+-- the file holds some records, and they end at this place
+abbrev pub EndsIn : List ℕ → ℕ → Type 0
+EndsIn file end = (records : List (List ℕ)) × Holds file records × (end ≡ end_of records)
 
--- these with the places of their gates
-abbrev pub found : Walked → List (ℕ × List ℕ)
-found w = map place_and_bytes w.records.items
-
--- the walk found these records, the places of their gates and their end
-abbrev pub HasFound : Walked → List (List ℕ) → Type 0
-HasFound w records = (found w ≡ placed 8 records) × (w.end ≡ end_of records)
-
--- the walk found the records that the file holds
-abbrev pub IsWalked : List ℕ → Walked → Type 0
-IsWalked file w = (records : List (List ℕ)) × Holds file records × (found w ≡ placed 8 records) × (w.end ≡ end_of records)
+-- the bytes that the walk read hold records, and these end at the place that it tells
+abbrev pub IsWalked : Walked → Type 0
+IsWalked w = EndsIn (bytes_of w) w.end
 
 -- the bytes begin with no record's length and the record behind it
 abbrev pub NamesNoRecord : List ℕ → Type 0
@@ -58,10 +49,12 @@ IsOnlyFault file (Damaged place) = ((other : ℕ) → IsDamaged file other → o
 IsOnlyFault file DiskFault = Unit {0}
 IsOnlyFault file Memory = Unit {0}
 
--- where the disk tells what it holds, the walk found the records that it holds, and it holds no others
+-- where the disk tells what it holds, that holds the records that the walk read, and no others
 abbrev pub FindsRecords : Option History → Walked → Type 0
 FindsRecords None w = Unit {0}
-FindsRecords (Some h) w = IsWalked h.content w × ((records : List (List ℕ)) → Holds h.content records → HasFound w records)
+FindsRecords (Some h) w =
+    ((records : List (List ℕ)) → Holds (bytes_of w) records → Holds h.content records)
+    × ((records : List (List ℕ)) → Holds h.content records → Holds (bytes_of w) records)
 
 -- and the fault tells true, and is the only one
 abbrev pub FindsFault : Option History → WalkFault → Type 0
@@ -71,4 +64,4 @@ FindsFault (Some h) fault = IsFault h.content fault × IsOnlyFault h.content fau
 -- where the disk tells what it holds, these are records that end at the place
 abbrev pub EndsAt : Option History → ℕ → Type 0
 EndsAt None end = Unit {0}
-EndsAt (Some h) end = (records : List (List ℕ)) × Holds h.content records × (end ≡ end_of records)
+EndsAt (Some h) end = EndsIn h.content end

@@ -4,12 +4,15 @@
 pub mod frame;
 pub mod journal;
 mod laws;
+mod parts;
 mod put;
+pub mod records;
 pub mod walked;
 mod walking;
 
 pub use frame::Frame;
 pub use journal::Journal;
 pub use laws::files_hold_one_list;
-pub use walked::{RecordAt, WalkFault, Walked};
+pub use records::{RecordAt, Records};
+pub use walked::{WalkFault, Walked};
 pub use walking::walk;

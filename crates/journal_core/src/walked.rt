@@ -1,23 +1,38 @@
 //! What a walk over a journal answers.
-ghost use Rattle.std.specs.Prelude.{◌≡◌};
+ghost use Rattle.std.specs.Prelude.{◌≡◌, ◌<◌, ◌^◌, List, ℕ, length};
 ghost use Rattle.journal_core.specs.declared.walked.WalkFault.TheVariants.{Memory, DiskFault};
+ghost use Rattle.journal_core.specs.Holds.{Holds};
+ghost use Rattle.journal_core.specs.Records.{AreAhead};
 
+use crate::Records;
 use outside::Failed;
 use std::alloc::{AllocError, AllocFailed};
 use thiserror::Error;
 
-/// A record, and the place of its gate in the file.
-#[derive(Debug, Drop)]
-pub struct RecordAt {
-    pub at: u64,
-    pub bytes: Vec<u8>,
+/// A file that holds records, and the place just past the gate behind them.
+#[derive(Drop)]
+pub struct Walked {
+    pub(crate) bytes: Vec<u8>,
+    pub end: u64,
 }
 
-/// The records that a file holds, and the place just past the gate behind them.
-#[derive(Debug, Drop)]
-pub struct Walked {
-    pub records: Vec<RecordAt>,
-    pub end: u64,
+impl Walked {
+    ghost use Rattle.journal_core.specs.Walk.{bytes_of};
+
+    /// The file's records, to be read one after another. It takes no memory.
+    pub fn records(&self) -> Records<'_>
+        ensures first { result.at ≡ 8 }
+        ensures few { length result.rest.now < 2 ^ 63 }
+        ensures all { (records : List (List ℕ)) → Holds (bytes_of self.now) records → AreAhead result.at result.rest.now records }
+    {
+        if self.bytes.len() < 10 {
+            return Records { at: 8, rest: &[] };
+        }
+        Records {
+            at: 8,
+            rest: &self.bytes[8..],
+        }
+    }
 }
 
 /// Why a walk found no records.
@@ -45,14 +60,6 @@ impl From<AllocError> for WalkFault {
     ghost from_gives = { λ _ e. e ≡ Memory };
 
     fn from(_: AllocError) -> WalkFault {
-        WalkFault::Memory
-    }
-}
-
-impl<T: Drop> From<AllocFailed<T>> for WalkFault {
-    ghost from_gives = { λ _ e. e ≡ Memory };
-
-    fn from(_: AllocFailed<T>) -> WalkFault {
         WalkFault::Memory
     }
 }

@@ -24,10 +24,14 @@ fn is_appended(
     let (disk, answer) = append_to(alloc, disk_of(alloc, before)?, record_bytes)?;
     let mut disk = disk.crash();
     let walked = walk(alloc, &mut disk)?;
-    let is_last = match walked.records.last() {
-        Some(last) => last.at == at && last.bytes.as_slice() == record_bytes,
-        None => false,
-    };
+    let mut records = walked.records();
+    let mut is_last = false;
+    for _ in 0..9 {
+        let Some(found) = records.next() else {
+            break;
+        };
+        is_last = found.at == at && found.bytes == record_bytes;
+    }
     Ok(answer.is_ok() && is_last && holds(&mut disk, after)?)
 }
 

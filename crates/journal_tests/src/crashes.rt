@@ -40,16 +40,20 @@ fn append_until_it_fails(alloc: Global, disk: TracedDisk) -> Result<(TracedDisk,
 fn holds_more(alloc: Global, image: &[u8], before: &[&[u8]]) -> Result<bool, Fail> {
     let mut disk = disk_of(alloc, image)?;
     let walked = walk(alloc, &mut disk)?;
-    let mut found = walked.records.iter();
+    let mut records = walked.records();
     for expected in before {
-        if found.next().map(|record| record.bytes.as_slice()) != Some(*expected) {
+        let is_kept = match records.next() {
+            Some(found) => found.bytes == *expected,
+            None => false,
+        };
+        if !is_kept {
             return Err(Fail::new("a record from before is lost"));
         }
     }
-    match found.next() {
+    match records.next() {
         None => Ok(false),
         Some(more) => {
-            if more.bytes.as_slice() != b"AB".as_slice() || found.next().is_some() {
+            if more.bytes != b"AB".as_slice() || records.next().is_some() {
                 return Err(Fail::new("another record came"));
             }
             Ok(true)

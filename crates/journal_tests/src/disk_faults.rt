@@ -1,6 +1,6 @@
 //! Calls of the disk that fail: in an append, a walk, a start and in reading entries.
 
-use crate::disks::{FIRST_TAG, ONE, append_to, damaged, failing_disk};
+use crate::disks::{FIRST_TAG, ONE, append_to, count_of, damaged, failing_disk};
 use journal_core::{Journal, WalkFault, walk};
 use outside::Disk;
 use recovery::{RecoverFault, read_entries};
@@ -21,7 +21,7 @@ fn append_leaves(
     let counted = disk.faults();
     let mut disk = disk.crash();
     let walked = walk(alloc, &mut disk)?;
-    Ok(answer.is_ok() == is_done && counted == faults && walked.records.len() == records)
+    Ok(answer.is_ok() == is_done && counted == faults && count_of(&walked) == records)
 }
 
 #[test]

@@ -3,9 +3,9 @@
 ghost use Rattle.std.specs.Prelude.{◌<◌, ◌^◌, length, Some, IfOk};
 ghost use Rattle.outside.specs.Disk.{IsSettled};
 
-use journal_core::{Frame, Journal, WalkFault, walk};
+use journal_core::{Frame, Journal, WalkFault, Walked, walk};
 use outside::{Disk, Failed, MemoryDisk};
-use recovery::{RecoverFault, read_entries};
+use recovery::{Entries, RecoverFault, read_entries};
 use std::alloc::Global;
 use std::test::Fail;
 
@@ -50,6 +50,28 @@ pub fn holds(disk: &mut MemoryDisk, bytes: &[u8]) -> Result<bool, Fail> {
     Ok(length == bytes.len() as u64 && into.get(..read) == Some(bytes))
 }
 
+/// How many records a walk found, up to 100.
+pub fn count_of(walked: &Walked) -> usize {
+    let mut records = walked.records();
+    for count in 0..100 {
+        if records.next().is_none() {
+            return count;
+        }
+    }
+    100
+}
+
+/// How many entries were read, up to 100.
+fn entries_in(alloc: Global, entries: &Entries) -> Result<usize, Fail> {
+    let mut reader = entries.reader();
+    for count in 0..100 {
+        if reader.next(alloc)?.is_none() {
+            return Ok(count);
+        }
+    }
+    Ok(100)
+}
+
 /// Whether a walk over these bytes finds so many records that end there, or this fault.
 pub fn is_walked(
     alloc: Global,
@@ -57,7 +79,10 @@ pub fn is_walked(
     answer: Result<(usize, u64), WalkFault>,
 ) -> Result<bool, Fail> {
     let mut disk = disk_of(alloc, bytes)?;
-    let given = walk(alloc, &mut disk).map(|walked| (walked.records.len(), walked.end));
+    let given = match walk(alloc, &mut disk) {
+        Ok(walked) => Ok((count_of(&walked), walked.end)),
+        Err(fault) => Err(fault),
+    };
     Ok(given == answer)
 }
 
@@ -68,7 +93,10 @@ pub fn is_read(
     answer: Result<(usize, u64), RecoverFault>,
 ) -> Result<bool, Fail> {
     let mut disk = disk_of(alloc, bytes)?;
-    let given = read_entries(alloc, &mut disk).map(|entries| (entries.list.len(), entries.end));
+    let given = match read_entries(alloc, &mut disk) {
+        Ok(entries) => Ok((entries_in(alloc, &entries)?, entries.end())),
+        Err(fault) => Err(fault),
+    };
     Ok(given == answer)
 }
 

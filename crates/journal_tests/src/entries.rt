@@ -32,20 +32,24 @@ fn is_the_affirmation(entry: &Entry) -> Result<bool, Fail> {
 }
 
 /// Whether these are the trade alone, with its gate at byte 8.
-fn are_one(entries: &Entries) -> Result<bool, Fail> {
-    let [only] = entries.list.as_slice() else {
+fn are_one(alloc: Global, entries: &Entries) -> Result<bool, Fail> {
+    let mut reader = entries.reader();
+    let Some(only) = reader.next(alloc)? else {
         return Ok(false);
     };
-    Ok(entries.end == 39 && only.at == 8 && is_the_trade(&only.entry)?)
+    let is_last = reader.next(alloc)?.is_none();
+    Ok(is_last && entries.end() == 39 && only.at == 8 && is_the_trade(&only.entry)?)
 }
 
 /// Whether these are the trade and the affirmation, with their gates at the bytes 8 and 38.
-fn are_two(entries: &Entries) -> Result<bool, Fail> {
-    let [first, second] = entries.list.as_slice() else {
+fn are_two(alloc: Global, entries: &Entries) -> Result<bool, Fail> {
+    let mut reader = entries.reader();
+    let (Some(first), Some(second)) = (reader.next(alloc)?, reader.next(alloc)?) else {
         return Ok(false);
     };
-    let are_placed = entries.end == 59 && (first.at, second.at) == (8, 38);
-    Ok(are_placed && is_the_trade(&first.entry)? && is_the_affirmation(&second.entry)?)
+    let is_last = reader.next(alloc)?.is_none();
+    let are_placed = entries.end() == 59 && (first.at, second.at) == (8, 38);
+    Ok(is_last && are_placed && is_the_trade(&first.entry)? && is_the_affirmation(&second.entry)?)
 }
 
 /// The entries of a file of these bytes.
@@ -59,14 +63,14 @@ fn a_file_of_one_record_has_its_entry(rt: HostRuntime) -> Result<(), Fail> {
     for gate in [0, 7] {
         let mut file = ONE;
         file[38] = gate;
-        assert!(rt; are_one(&entries_of(rt.alloc(), &file)?)?, "gate {gate}");
+        assert!(rt; are_one(rt.alloc(), &entries_of(rt.alloc(), &file)?)?, "gate {gate}");
     }
     Ok(())
 }
 
 #[test]
 fn entries_come_in_the_order_of_their_records(rt: HostRuntime) -> Result<(), Fail> {
-    assert!(rt; are_two(&entries_of(rt.alloc(), &TWO)?)?);
+    assert!(rt; are_two(rt.alloc(), &entries_of(rt.alloc(), &TWO)?)?);
     Ok(())
 }
 
@@ -75,6 +79,6 @@ fn a_journal_goes_on_where_the_entries_end(rt: HostRuntime) -> Result<(), Fail> 
     let alloc = rt.alloc();
     let (disk, answer) = append_to(alloc, disk_of(alloc, &ONE)?, &TWO[43..58])?;
     let mut disk = disk.crash();
-    assert!(rt; answer.is_ok() && are_two(&read_entries(alloc, &mut disk)?)?);
+    assert!(rt; answer.is_ok() && are_two(alloc, &read_entries(alloc, &mut disk)?)?);
     Ok(())
 }

@@ -1,6 +1,6 @@
 //! A journal over a file of the system.
 
-use crate::disks::append_to;
+use crate::disks::{append_to, count_of};
 use journal_core::walk;
 use outside::{Disk, FileDisk};
 use std::fs;
@@ -26,7 +26,7 @@ fn a_journal_over_a_file_is_found_again(rt: HostRuntime) -> Result<(), Fail> {
     let mut disk = FileDisk::new(rt);
     disk.attach(FILE)?;
     let walked = walk(alloc, &mut disk)?;
-    assert_eq!(rt; (walked.records.len(), walked.end), (2, 22));
+    assert_eq!(rt; (count_of(&walked), walked.end), (2, 22));
     let file = fs::read(&rt, FILE)?;
     assert!(rt; file.as_slice() == b"OTCJRNL1\x01\x02\0\0\0AB\x01\x01\0\0\0C\0".as_slice());
     fs::remove_dir_all(&rt, FOLDER)?;

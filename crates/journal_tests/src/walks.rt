@@ -9,10 +9,12 @@ use std::test::Fail;
 fn has_only(alloc: Global, bytes: &[u8], at: u64, record: &[u8], end: u64) -> Result<bool, Fail> {
     let mut disk = disk_of(alloc, bytes)?;
     let walked = walk(alloc, &mut disk)?;
-    Ok(match walked.records.as_slice() {
-        [found] => found.at == at && found.bytes.as_slice() == record && walked.end == end,
-        _ => false,
-    })
+    let mut records = walked.records();
+    let Some(found) = records.next() else {
+        return Ok(false);
+    };
+    let is_found = found.at == at && found.bytes == record && walked.end == end;
+    Ok(is_found && records.next().is_none())
 }
 
 #[test]

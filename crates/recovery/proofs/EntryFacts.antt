@@ -1,6 +1,6 @@
 -- The entries that records spell, and the fault of records that spell none.
-use Rattle.std.proofs.Common.{◌≡◌, inl, inr, ℕ, ◌+◌, ◌<◌, List, [], ◌∷◌, ◌++◌, length, take, drop, get_or, map, Result, Ok, Err, IfOk, IfErr, Option, Some, None, refl, subst, sym, ◌∙◌, ap, arith, length-append, take-append-drop}
-use Rattle.std.proofs.lemmas.List.{drop_more, map-append, map_more}
+use Rattle.std.proofs.Common.{◌≡◌, inl, inr, ℕ, ◌+◌, List, [], ◌∷◌, ◌++◌, length, map, Ok, Err, Option, Some, None, refl, subst, sym, ◌∙◌, ap, arith, append_assoc, length-append}
+use Rattle.std.proofs.lemmas.List.{append-nil}
 use Rattle.std.proofs.lemmas.List.Concat.{flat_map-cons}
 use Rattle.std.proofs.lemmas.List.Sums.{sum_by-cons}
 use Rattle.std.specs.List.{AllZip, flat_map}
@@ -9,9 +9,9 @@ use Rattle.command_types.specs.Sizes.{frame_size, frames_size}
 use Rattle.command_types.specs.Spelling.{Spells}
 use Rattle.outside.specs.Disk.{History}
 use Rattle.journal_core.specs.Holds.{header, frame, end_of, Holds}
-use Rattle.journal_core.specs.Walk.{records_of, placed, place_and_bytes, FindsRecords, FindsFault as FindsWalkFault}
+use Rattle.journal_core.specs.Records.{AreAhead, IsNext}
+use Rattle.journal_core.specs.Walk.{bytes_of as walked_bytes, placed, IsWalked, FindsRecords, FindsFault as FindsWalkFault}
 use Rattle.journal_core.specs.declared.walked.Walked.{Walked}
-use Rattle.journal_core.specs.declared.walked.RecordAt.{RecordAt}
 use Rattle.journal_core.specs.declared.walked.WalkFault.{WalkFault}
 use Rattle.journal_core.specs.declared.walked.WalkFault.TheVariants as walks
 use Rattle.journal_core.proofs.JournalFacts.{length-frame}
@@ -19,11 +19,12 @@ use Rattle.journal_core.proofs.OneReading.{one_list, one_place, not_both}
 use Rattle.record_codec.proofs.RecordReading.{unique}
 use Rattle.record_codec.proofs.SizeFacts.{fields_change, spelling_length}
 use Rattle.recovery.specs.StandsFor.{SpellAll, StandsFor, IsFirstBad, IsUnreadable}
-use Rattle.recovery.specs.Reading.{entries_of, SpellsAt, IsFaultAmong, IsRead, IsFault, IsOnlyFault, FindsEntries, GivesOnly, FindsFault}
+use Rattle.recovery.specs.Reading.{file_of, entries_in, SpellsAt, AreSpelled, IsFaultAmong, IsRead, HasRead, AreLeft, IsNext as IsNextOf, IsFault, IsOnlyFault, FindsEntries, GivesOnly, FindsFault}
 use Rattle.recovery.specs.Laws.{FilesStandForOneList}
 use Rattle.recovery.specs.Faults.{fault_of_walk}
 use Rattle.recovery.specs.declared.entries.Entries.{Entries}
 use Rattle.recovery.specs.declared.entries.EntryAt.{EntryAt}
+use Rattle.recovery.specs.declared.reader.EntryReader.{EntryReader}
 use Rattle.recovery.specs.declared.fault.RecoverFault.{RecoverFault}
 use Rattle.recovery.specs.declared.fault.RecoverFault.TheVariants.{Damaged, DiskFault, Memory}
 
@@ -99,37 +100,43 @@ spell_all [] (x ∷ xs) is = absurd is
 spell_all (r ∷ rs) [] is = absurd is
 spell_all (r ∷ rs) (x ∷ xs) is = (is.0.1, spell_all rs xs is.1)
 
-same_gates : (rs : List Placed) (xs : List EntryAt) → AllZip SpellsAt rs xs → map (λ (x : EntryAt). x.at) xs ≡ map (λ (r : Placed). r.0) rs
-same_gates [] [] is = refl
-same_gates [] (x ∷ xs) is = absurd is
-same_gates (r ∷ rs) [] is = absurd is
-same_gates (r ∷ rs) (x ∷ xs) is =
-    ap (λ (n : ℕ). n ∷ map (λ (y : EntryAt). y.at) xs) is.0.0 ∙ ap (λ (l : List ℕ). r.0 ∷ l) (same_gates rs xs is.1)
+-- what is read of a file is what it stands for
+pub read_stand : (file : List ℕ) (list : List EntryAt) → IsRead file list → StandsFor file (entries_in list)
+read_stand file list read =
+    (read.0, read.1, subst (λ (l : List (List ℕ)). SpellAll l (entries_in list)) (bytes_of-placed 8 read.0) (spell_all (placed 8 read.0) list read.2))
 
-is_read : (file : List ℕ) (e : Entries) (records : List (List ℕ)) → Holds file records → AllZip SpellsAt (placed 8 records) e.list.items → IsRead file e
-is_read file e records holds is =
-    let spelled : SpellAll records (entries_of e) =
-    subst (λ (l : List (List ℕ)). SpellAll l (entries_of e)) (bytes_of-placed 8 records) (spell_all (placed 8 records) e.list.items is) in
-    (records, holds, spelled, same_gates (placed 8 records) e.list.items is)
+same_items : (rs : List Placed) (xs ys : List EntryAt) → AllZip SpellsAt rs xs → AllZip SpellsAt rs ys → xs ≡ ys
+same_items [] [] [] s t = refl
+same_items [] [] (y ∷ ys) s t = absurd t
+same_items [] (x ∷ xs) ys s t = absurd s
+same_items (r ∷ rs) [] ys s t = absurd s
+same_items (r ∷ rs) (x ∷ xs) [] s t = absurd t
+same_items (r ∷ rs) (x ∷ xs) (y ∷ ys) s t =
+    let place : x.at ≡ y.at = s.0.0 ∙ sym t.0.0 in
+    let one : x.entry ≡ y.entry = unique r.1 x.entry y.entry s.0.1 t.0.1 in
+    ap (λ (n : ℕ). record { at = n; entry = x.entry } ∷ xs) place ∙ ap (λ (e : Entry). record { at = y.at; entry = e } ∷ xs) one
+    ∙ ap (λ (l : List EntryAt). y ∷ l) (same_items rs xs ys s.1 t.1)
+
+-- and with the same places each time
+pub read_one_way : (file : List ℕ) (xs ys : List EntryAt) → IsRead file xs → IsRead file ys → xs ≡ ys
+read_one_way file xs ys a b =
+    same_items (placed 8 b.0) xs ys (subst (λ (l : List (List ℕ)). AllZip SpellsAt (placed 8 l) xs) (one_list file a.0 b.0 a.1 b.1) a.2) b.2
 
 told_of : (file : List ℕ) (fault : RecoverFault) (records : List (List ℕ)) → Holds file records → IsFaultAmong (placed 8 records) fault → IsFault file fault
 told_of file (Damaged place) records holds bad = inr (records, holds, bad)
 told_of file DiskFault records holds bad = tt
 told_of file Memory records holds bad = tt
 
--- what was read of the records that a walk found
-pub found_of : (o : Option History) (w : Walked) (records : List RecordAt) (e : Entries) → records ≡ w.records.items → FindsRecords o w → AllZip SpellsAt (map place_and_bytes records) e.list.items → FindsEntries o e
-found_of None w records e same finds is = tt
-found_of (Some h) w records e same finds is =
-    let places : map place_and_bytes records ≡ placed 8 finds.0.0 = ap (map place_and_bytes) same ∙ finds.0.2 in
-    is_read h.content e finds.0.0 finds.0.1 (subst (λ (l : List Placed). AllZip SpellsAt l e.list.items) places is)
+-- what is read of the bytes that a walk read is read of the content
+pub found_of : (o : Option History) (e : Entries) → FindsRecords o e.walked → FindsEntries o e
+found_of None e finds = tt
+found_of (Some h) e finds = λ list read. (read.0, finds.0 read.0 read.1, read.2)
 
--- their fault
-pub fault_among : (o : Option History) (w : Walked) (records : List RecordAt) (fault : RecoverFault) → records ≡ w.records.items → FindsRecords o w → IsFaultAmong (map place_and_bytes records) fault → FindsFault o fault
-fault_among None w records fault same finds bad = tt
-fault_among (Some h) w records fault same finds bad =
-    let places : map place_and_bytes records ≡ placed 8 finds.0.0 = ap (map place_and_bytes) same ∙ finds.0.2 in
-    let told = told_of h.content fault finds.0.0 finds.0.1 (subst (λ (l : List Placed). IsFaultAmong l fault) places bad) in
+-- the fault of their records
+pub fault_among : (o : Option History) (w : Walked) (records : List (List ℕ)) (fault : RecoverFault) → Holds (walked_bytes w) records → FindsRecords o w → IsFaultAmong (placed 8 records) fault → FindsFault o fault
+fault_among None w records fault holds finds bad = tt
+fault_among (Some h) w records fault holds finds bad =
+    let told = told_of h.content fault records (finds.0 records holds) bad in
     (told, only_fault h.content fault told)
 
 -- a walk's fault
@@ -159,25 +166,29 @@ frames_length (r ∷ rs) (x ∷ xs) is =
     ∙ ap (λ (n : ℕ). n + length behind) (spelled_length r.1 x.entry is.0.1) ∙ ap (λ (n : ℕ). frame_size x.entry.ask + n) (frames_length rs xs is.1)
     ∙ sym (sum_by-cons (λ (e : Entry). frame_size e.ask) x.entry others)
 
-bytes_of-records : (records : List RecordAt) → bytes_of (map place_and_bytes records) ≡ map (λ (r : RecordAt). r.bytes.items) records
-bytes_of-records [] = refl
-bytes_of-records (r ∷ records) = ap (λ (l : List (List ℕ)). r.bytes.items ∷ l) (bytes_of-records records)
-
-pub size_of_entries : (w : Walked) (records : List RecordAt) (e : Entries) → records ≡ w.records.items → w.end ≡ end_of (records_of w) → AllZip SpellsAt (map place_and_bytes records) e.list.items → e.end ≡ w.end → e.end ≡ 9 + frames_size (entries_of e)
-size_of_entries w records e same ends is end =
-    let those : records_of w ≡ bytes_of (map place_and_bytes records) = ap (λ (l : List RecordAt). map (λ (r : RecordAt). r.bytes.items) l) (sym same) ∙ sym (bytes_of-records records) in
-    let frames = flat_map frame (bytes_of (map place_and_bytes records)) in
-    let sized : end_of (bytes_of (map place_and_bytes records)) ≡ 9 + length frames = omega (arith, length-append header frames) in
-    end ∙ ends ∙ ap end_of those ∙ sized ∙ ap (λ (n : ℕ). 9 + n) (frames_length (map place_and_bytes records) e.list.items is)
+-- where all records of the bytes that a walk read spell entries, these are read
+pub has_read : (e : Entries) (walked : IsWalked e.walked) → AreSpelled (placed 8 walked.0) → HasRead e
+has_read e walked spelled =
+    let frames = flat_map frame walked.0 in
+    let sized : end_of walked.0 ≡ 9 + length frames = omega (arith, length-append header frames) in
+    let same : length (flat_map frame (bytes_of (placed 8 walked.0))) ≡ length frames = ap (λ (l : List (List ℕ)). length (flat_map frame l)) (bytes_of-placed 8 walked.0) in
+    let size : e.walked.end ≡ 9 + frames_size (entries_in spelled.0) =
+    walked.2 ∙ sized ∙ ap (λ (n : ℕ). 9 + n) (sym same ∙ frames_length (placed 8 walked.0) spelled.0 spelled.1) in
+    (spelled.0, (walked.0, walked.1, spelled.1), size)
 
 -- ---- the answer is the only one
 
-pub only_of : (o : Option History) (r : Result Entries RecoverFault) → IfOk r (FindsEntries o) → IfErr r (FindsFault o) → GivesOnly o r
-only_of None r finds told = tt
-only_of (Some h) (Ok e) finds told = λ entries s. one_list_of_entries h.content (entries_of e) entries (finds.0, finds.1, finds.2) s
-only_of (Some h) (Err (Damaged place)) finds told = λ entries s. told.1.1 entries s
-only_of (Some h) (Err DiskFault) finds told = λ entries s. tt
-only_of (Some h) (Err Memory) finds told = λ entries s. tt
+pub only_of : (o : Option History) (e : Entries) → HasRead e → FindsEntries o e → GivesOnly o (Ok e)
+only_of None e read finds = tt
+only_of (Some h) e read finds = λ entries s.
+    let same : entries_in read.0 ≡ entries = one_list_of_entries h.content (entries_in read.0) entries (read_stand h.content read.0 (finds read.0 read.1)) s in
+    subst (λ (l : List Entry). StandsFor (file_of e) l) same (read_stand (file_of e) read.0 read.1)
+
+pub only_fault_of : (o : Option History) (fault : RecoverFault) → FindsFault o fault → GivesOnly o (Err fault)
+only_fault_of None fault told = tt
+only_fault_of (Some h) (Damaged place) told = λ entries s. told.1.1 entries s
+only_fault_of (Some h) DiskFault told = λ entries s. tt
+only_fault_of (Some h) Memory told = λ entries s. tt
 
 -- ---- the loop
 
@@ -202,26 +213,85 @@ fault_before r others (Damaged place) (inr bad) = absurd bad.1
 fault_before r others DiskFault told = absurd told
 fault_before r others Memory told = tt
 
--- the first records, so many, spell these entries
-abbrev pub SpelledFront : List RecordAt → ℕ → List EntryAt → Type 0
-SpelledFront records i xs = AllZip SpellsAt (map place_and_bytes (take i records)) xs
+-- The first of these records spell entries, and the others are ahead of the bytes at this place.
+pub record SpelledFront (records : List (List ℕ)) (place : ℕ) (rest : List ℕ) : Type 0 where
+  pub front : List Placed
+  pub list : List EntryAt
+  pub others : List (List ℕ)
+  pub split : placed 8 records ≡ front ++ placed place others
+  pub spelled : AllZip SpellsAt front list
+  pub ahead : AreAhead place rest others
+
+pub spelled_none : (records : List (List ℕ)) (place : ℕ) (rest : List ℕ) → place ≡ 8 → AreAhead place rest records → SpelledFront records place rest
+spelled_none records place rest first ahead =
+    record { front = []; list = []; others = records; split = ap (λ (n : ℕ). placed n records) (sym first); spelled = tt; ahead = ahead }
+
+-- behind the first record of those ahead are the others
+next_placed : (place : ℕ) (records : List (List ℕ)) (bytes : List ℕ) (next : ℕ) (rest : List ℕ) (n : IsNext place records bytes next rest) → placed place records ≡ (place, bytes) ∷ placed next n.others
+next_placed place records bytes next rest n =
+    ap (placed place) n.split ∙ ap (λ (k : ℕ). (place, bytes) ∷ placed k n.others) (sym n.behind)
 
 -- one more record
-pub spelled_more : (records : List RecordAt) (i : ℕ) (r : RecordAt) (xs : List EntryAt) (x : EntryAt) → i < length records → r ≡ get_or records i r
-    → SpelledFront records i xs → SpellsAt (place_and_bytes r) x → SpelledFront records (i + 1) (xs ++ x ∷ [])
-spelled_more records i r xs x inside is all here =
-    let longer : map place_and_bytes (take (i + 1) records) ≡ map place_and_bytes (take i records) ++ place_and_bytes r ∷ [] =
-    map_more place_and_bytes records i r inside ∙ ap (λ (y : RecordAt). map place_and_bytes (take i records) ++ place_and_bytes y ∷ []) (sym is) in
-    subst (λ (l : List Placed). AllZip SpellsAt l (xs ++ x ∷ [])) (sym longer) (AllZip-more SpellsAt (map place_and_bytes (take i records)) xs (place_and_bytes r) x all here)
+pub spelled_more : (records : List (List ℕ)) (place : ℕ) (rest bytes : List ℕ) (x : EntryAt) (next : ℕ) (more : List ℕ) (f : SpelledFront records place rest) → IsNext place f.others bytes next more
+    → SpellsAt (place, bytes) x → SpelledFront records next more
+spelled_more records place rest bytes x next more f n here = record {
+  front = f.front ++ (place, bytes) ∷ [];
+  list = f.list ++ x ∷ [];
+  others = n.others;
+  split = f.split ∙ ap (λ (l : List Placed). f.front ++ l) (next_placed place f.others bytes next more n) ∙ sym (append_assoc f.front ((place, bytes) ∷ []) (placed next n.others));
+  spelled = AllZip-more SpellsAt f.front f.list (place, bytes) x f.spelled here;
+  ahead = n.ahead;
+}
 
 -- the fault of the first record that is bad is that of all
-pub fault_at : (records : List RecordAt) (i : ℕ) (r : RecordAt) (xs : List EntryAt) (fault : RecoverFault) → i < length records → r ≡ get_or records i r
-    → SpelledFront records i xs → IsFaultAmong (place_and_bytes r ∷ []) fault → IsFaultAmong (map place_and_bytes records) fault
-fault_at records i r xs fault inside is all told =
-    let behind : List Placed = map place_and_bytes (drop (i + 1) records) in
-    let rest : drop i records ≡ r ∷ drop (i + 1) records = drop_more records i r inside ∙ ap (λ (y : RecordAt). y ∷ drop (i + 1) records) (sym is) in
-    let whole : take i records ++ (r ∷ drop (i + 1) records) ≡ records = ap (λ (l : List RecordAt). take i records ++ l) (sym rest) ∙ take-append-drop i records in
-    let split : map place_and_bytes (take i records) ++ (place_and_bytes r ∷ behind) ≡ map place_and_bytes records =
-    sym (map-append place_and_bytes (take i records) (r ∷ drop (i + 1) records)) ∙ ap (map place_and_bytes) whole in
-    subst (λ (l : List Placed). IsFaultAmong l fault) split
-    (fault_behind (map place_and_bytes (take i records)) (place_and_bytes r ∷ behind) xs fault all (fault_before (place_and_bytes r) behind fault told))
+pub spelled_fault : (records : List (List ℕ)) (place : ℕ) (rest bytes : List ℕ) (next : ℕ) (more : List ℕ) (fault : RecoverFault) (f : SpelledFront records place rest) → IsNext place f.others bytes next more
+    → IsFaultAmong ((place, bytes) ∷ []) fault → IsFaultAmong (placed 8 records) fault
+spelled_fault records place rest bytes next more fault f n told =
+    let behind = placed next n.others in
+    let split : placed 8 records ≡ f.front ++ ((place, bytes) ∷ behind) = f.split ∙ ap (λ (l : List Placed). f.front ++ l) (next_placed place f.others bytes next more n) in
+    subst (λ (l : List Placed). IsFaultAmong l fault) (sym split) (fault_behind f.front ((place, bytes) ∷ behind) f.list fault f.spelled (fault_before (place, bytes) behind fault told))
+
+-- where none is ahead, all spell entries
+pub spelled_all : (records : List (List ℕ)) (place : ℕ) (rest : List ℕ) (f : SpelledFront records place rest) → f.others ≡ [] → AreSpelled (placed 8 records)
+spelled_all records place rest f none =
+    let split : placed 8 records ≡ f.front = f.split ∙ ap (λ (l : List (List ℕ)). f.front ++ placed place l) none ∙ append-nil f.front in
+    (f.list, subst (λ (l : List Placed). AllZip SpellsAt l f.list) (sym split) f.spelled)
+
+-- ---- the entries that are left
+
+-- of entries that are left, the first is the one that the next record spells
+pub left_next : (place : ℕ) (records : List (List ℕ)) (bytes : List ℕ) (list : List EntryAt) (x : EntryAt) (reader : EntryReader) → IsNext place records bytes reader.records.at reader.records.rest.now → AllZip SpellsAt (placed place records) list
+    → SpellsAt (place, bytes) x → IsNextOf list reader (Some x)
+left_next place records bytes list x reader n spelled here =
+    by_first list (subst (λ (l : List Placed). AllZip SpellsAt l list) (next_placed place records bytes reader.records.at reader.records.rest.now n) spelled)
+  where
+    by_first : (l : List EntryAt) → AllZip SpellsAt ((place, bytes) ∷ placed reader.records.at n.others) l → IsNextOf l reader (Some x)
+    by_first [] all = absurd all
+    by_first (y ∷ ys) all =
+        let same : y ∷ ys ≡ x ∷ ys = ap (λ (l : List EntryAt). l ++ ys) (same_items ((place, bytes) ∷ []) (y ∷ []) (x ∷ []) (all.0, tt) (here, tt)) in
+        (ys, same, (n.others, n.ahead, all.1))
+
+-- and it spells some
+pub left_spelled : (place : ℕ) (records : List (List ℕ)) (bytes : List ℕ) (list : List EntryAt) (next : ℕ) (rest : List ℕ) (fault : RecoverFault) → IsNext place records bytes next rest → AllZip SpellsAt (placed place records) list
+    → IsFaultAmong ((place, bytes) ∷ []) fault → fault ≡ Memory
+left_spelled place records bytes list next rest Memory n spelled told = refl
+left_spelled place records bytes list next rest DiskFault n spelled told = absurd told
+left_spelled place records bytes list next rest (Damaged at) n spelled (inr bad) = absurd bad.1
+left_spelled place records bytes list next rest (Damaged at) n spelled (inl bad) =
+    by_first list (subst (λ (l : List Placed). AllZip SpellsAt l list) (next_placed place records bytes next rest n) spelled)
+  where
+    by_first : (l : List EntryAt) → AllZip SpellsAt ((place, bytes) ∷ placed next n.others) l → Damaged at ≡ Memory
+    by_first [] all = absurd all
+    by_first (y ∷ ys) all = absurd (bad.0 (y.entry, all.0.1))
+
+-- where no record is ahead, no entry is left
+pub left_none : (place : ℕ) (records : List (List ℕ)) (list : List EntryAt) → records ≡ [] → AllZip SpellsAt (placed place records) list → list ≡ []
+left_none place [] [] none spelled = refl
+left_none place [] (x ∷ list) none spelled = absurd spelled
+left_none place (r ∷ records) list none spelled = absurd (omega (arith, ap length none))
+
+-- all entries are left at the first record
+pub left_all : (file : List ℕ) (list : List EntryAt) (reader : EntryReader) → reader.records.at ≡ 8 → ((records : List (List ℕ)) → Holds file records → AreAhead reader.records.at reader.records.rest.now records)
+    → IsRead file list → AreLeft reader list
+left_all file list reader first ahead read =
+    (read.0, ahead read.0 read.1, subst (λ (n : ℕ). AllZip SpellsAt (placed n read.0) list) (sym first) read.2)

@@ -1,22 +1,30 @@
 -- What is read of a disk's journal.
-use Rattle.std.specs.Prelude.{◌≡◌, ◌⊎◌, ℕ, List, map, Option, Some, None, Result, Ok, Err}
+use Rattle.std.specs.Prelude.{◌≡◌, ◌⊎◌, ℕ, ◌+◌, List, [], ◌∷◌, length, map, Option, Some, None, Result, Ok, Err}
 use Rattle.command_types.specs.declared.ask.Entry.{Entry}
+use Rattle.std.specs.List.{AllZip}
+use Rattle.command_types.specs.Sizes.{frames_size}
 use Rattle.command_types.specs.Spelling.{Spells}
 use Rattle.outside.specs.Disk.{History}
 use Rattle.journal_core.specs.Holds.{Holds}
-use Rattle.journal_core.specs.Walk.{IsDamaged}
-use Rattle.recovery.specs.StandsFor.{SpellAll, StandsFor, gates, IsFirstBad, IsUnreadable}
+use Rattle.journal_core.specs.Records.{AreAhead}
+use Rattle.journal_core.specs.Walk.{placed, bytes_of, IsDamaged}
+use Rattle.recovery.specs.StandsFor.{StandsFor, IsFirstBad, IsUnreadable}
 use Rattle.recovery.specs.declared.entries.Entries.{Entries}
 use Rattle.recovery.specs.declared.entries.EntryAt.{EntryAt}
+use Rattle.recovery.specs.declared.reader.EntryReader.{EntryReader}
 use Rattle.recovery.specs.declared.fault.RecoverFault.{RecoverFault}
 use Rattle.recovery.specs.declared.fault.RecoverFault.TheVariants.{Damaged, DiskFault, Memory}
 
--- the entries that were read, and the places of their gates
-abbrev pub entries_of : Entries → List Entry
-entries_of e = map (λ (x : EntryAt). x.entry) e.list.items
+-- the bytes that were read, and the place just past the gate behind their records
+abbrev pub file_of : Entries → List ℕ
+file_of e = bytes_of e.walked
 
-abbrev pub gates_of : Entries → List ℕ
-gates_of e = map (λ (x : EntryAt). x.at) e.list.items
+abbrev pub ends_at : Entries → ℕ
+ends_at e = e.walked.end
+
+-- entries without the places of their gates
+abbrev pub entries_in : List EntryAt → List Entry
+entries_in list = map (λ (x : EntryAt). x.entry) list
 
 -- the record has its gate where the entry has it, and spells the entry
 abbrev pub SpellsAt : ℕ × List ℕ → EntryAt → Type 0
@@ -28,9 +36,31 @@ IsFaultAmong records (Damaged place) = IsFirstBad records place
 IsFaultAmong records DiskFault = ⊥
 IsFaultAmong records Memory = Unit {0}
 
--- the file holds some records, they spell the entries that were read, and their gates are at the places that were read
-abbrev pub IsRead : List ℕ → Entries → Type 0
-IsRead file e = (records : List (List ℕ)) × Holds file records × SpellAll records (entries_of e) × (gates_of e ≡ gates records)
+-- some entries are spelled by these records
+abbrev pub AreSpelled : List (ℕ × List ℕ) → Type 0
+AreSpelled records = (list : List EntryAt) × AllZip SpellsAt records list
+
+-- the file holds some records, and each has its gate where its entry has it, and spells that
+abbrev pub IsRead : List ℕ → List EntryAt → Type 0
+IsRead file list = (records : List (List ℕ)) × Holds file records × AllZip SpellsAt (placed 8 records) list
+
+-- some entries are read of the file, and the place that is told is where these end
+abbrev pub HasRead : Entries → Type 0
+HasRead e = (list : List EntryAt) × IsRead (file_of e) list × (ends_at e ≡ 9 + frames_size (entries_in list))
+
+-- the entries that are still to be read, of which the first has its gate where the reader stands
+abbrev pub AreLeft : EntryReader → List EntryAt → Type 0
+AreLeft reader list =
+    (records : List (List ℕ)) × AreAhead reader.records.at reader.records.rest.now records × AllZip SpellsAt (placed reader.records.at records) list
+
+-- how many bytes are still to be read
+abbrev pub bytes_left : EntryReader → ℕ
+bytes_left reader = length reader.records.rest.now
+
+-- the entry is the first of these, and the others are still to be read; where there is none, there was none
+abbrev pub IsNext : List EntryAt → EntryReader → Option EntryAt → Type 0
+IsNext list reader None = list ≡ []
+IsNext list reader (Some x) = (others : List EntryAt) × (list ≡ x ∷ others) × AreLeft reader others
 
 -- damage is told at the place where the file is damaged as a journal, or, where it holds records, at the gate of the
 -- first of them that spells no change
@@ -45,19 +75,19 @@ IsOnlyFault file (Damaged place) = ((other : ℕ) → IsFault file (Damaged othe
 IsOnlyFault file DiskFault = Unit {0}
 IsOnlyFault file Memory = Unit {0}
 
--- the answer is these entries, or the disk failed, or there was no memory
+-- the answer is a file that stands for these entries, or the disk failed, or there was no memory
 abbrev pub IsAnswer : Result Entries RecoverFault → List Entry → Type 0
-IsAnswer (Ok e) entries = entries_of e ≡ entries
+IsAnswer (Ok e) entries = StandsFor (file_of e) entries
 IsAnswer (Err (Damaged place)) entries = ⊥
 IsAnswer (Err DiskFault) entries = Unit {0}
 IsAnswer (Err Memory) entries = Unit {0}
 
 -- Each fact below says nothing where the disk tells nothing.
 
--- these are the entries that the disk's content stands for, with the places of their gates
+-- what is read of the file is read of the disk's content
 abbrev pub FindsEntries : Option History → Entries → Type 0
 FindsEntries None e = Unit {0}
-FindsEntries (Some h) e = IsRead h.content e
+FindsEntries (Some h) e = (list : List EntryAt) → IsRead (file_of e) list → IsRead h.content list
 
 -- whatever entries the disk's content stands for are the answer
 abbrev pub GivesOnly : Option History → Result Entries RecoverFault → Type 0

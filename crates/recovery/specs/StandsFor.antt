@@ -1,5 +1,5 @@
 -- The entries that a journal's file stands for.
-use Rattle.std.specs.Prelude.{◌≡◌, ◌⊎◌, ℕ, List, [], ◌∷◌, map}
+use Rattle.std.specs.Prelude.{◌≡◌, ◌⊎◌, ℕ, List, [], ◌∷◌}
 use Rattle.std.specs.List.{AllZip}
 use Rattle.command_types.specs.declared.ask.Entry.{Entry}
 use Rattle.command_types.specs.Spelling.{Spells}
@@ -13,10 +13,6 @@ SpellAll records entries = AllZip Spells records entries
 -- the file holds some records, and they spell these entries
 abbrev pub StandsFor : List ℕ → List Entry → Type 0
 StandsFor file entries = (records : List (List ℕ)) × Holds file records × SpellAll records entries
-
--- the places of the gates of a file's records
-abbrev pub gates : List (List ℕ) → List ℕ
-gates records = map (λ (r : ℕ × List ℕ). r.0) (placed 8 records)
 
 -- the bytes spell some change
 abbrev pub SpellsSome : List ℕ → Type 0

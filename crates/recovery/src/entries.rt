@@ -1,6 +1,10 @@
-//! The entries that are read of a journal.
+//! The entries that a journal's file stands for.
+ghost use Rattle.std.specs.Prelude.{◌≡◌, ◌<◌, ◌^◌, List};
+ghost use Rattle.recovery.specs.declared.entries.EntryAt.{EntryAt};
 
+use crate::EntryReader;
 use command_types::Entry;
+use journal_core::Walked;
 
 /// An entry, and the place of its record's gate in the file.
 #[derive(Drop)]
@@ -9,9 +13,29 @@ pub struct EntryAt {
     pub entry: Entry,
 }
 
-/// The entries that a file stands for, and the place just past the gate behind their records.
+/// A file whose records all spell entries. The entries are made one at a time, as they are read.
 #[derive(Drop)]
 pub struct Entries {
-    pub list: Vec<EntryAt>,
-    pub end: u64,
+    pub(crate) walked: Walked,
+}
+
+impl Entries {
+    ghost use Rattle.recovery.specs.Reading.{file_of, ends_at, bytes_left, IsRead, AreLeft};
+
+    /// The place just past the gate behind their records.
+    pub fn end(&self) -> u64
+        ensures { result ≡ ends_at self.now }
+    {
+        self.walked.end
+    }
+
+    /// A reader of them, at the first.
+    pub fn reader(&self) -> EntryReader<'_>
+        ensures few { bytes_left result < 2 ^ 63 }
+        ensures all { (list : List EntryAt) → IsRead (file_of self.now) list → AreLeft result list }
+    {
+        EntryReader {
+            records: self.walked.records(),
+        }
+    }
 }

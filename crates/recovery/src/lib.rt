@@ -4,9 +4,11 @@
 pub mod entries;
 pub mod fault;
 mod laws;
+pub mod reader;
 mod reading;
 
 pub use entries::{Entries, EntryAt};
 pub use fault::RecoverFault;
 pub use laws::files_stand_for_one_list;
+pub use reader::EntryReader;
 pub use reading::read_entries;

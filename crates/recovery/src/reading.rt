@@ -1,54 +1,36 @@
 //! The entries of a disk's journal.
-ghost use Rattle.std.specs.Prelude.{◌≡◌, ◌+◌, ◌≤◌, [], ◌∷◌, map, Err, IfOk, IfErr};
-ghost use Rattle.std.specs.List.{AllZip};
-ghost use Rattle.command_types.specs.Sizes.{frames_size};
+ghost use Rattle.std.specs.Prelude.{◌≡◌, ◌≤◌, List, ℕ, Err, IfOk, IfErr};
 ghost use Rattle.outside.specs.Faults.{Rose};
-ghost use Rattle.journal_core.specs.Walk.{place_and_bytes, EndsAt};
-ghost use Rattle.recovery.specs.Reading.{entries_of, SpellsAt, IsFaultAmong, FindsEntries, GivesOnly, FindsFault};
+ghost use Rattle.journal_core.specs.Holds.{Holds};
+ghost use Rattle.journal_core.specs.Walk.{bytes_of, placed, EndsAt};
+ghost use Rattle.recovery.specs.Reading.{ends_at, AreSpelled, HasRead, IsFaultAmong, FindsEntries, GivesOnly, FindsFault};
 
-use crate::{Entries, EntryAt, RecoverFault};
-use journal_core::{RecordAt, walk};
+use crate::reader::read_entry;
+use crate::{Entries, RecoverFault};
+use journal_core::{Walked, walk};
 use outside::Disk;
-use record_codec::{DecodeFault, decode};
 use std::alloc::Global;
 
-// The entry that a record spells.
-fn read_entry(alloc: Global, record_at: &RecordAt) -> Result<EntryAt, RecoverFault>
-    ensures found { IfOk result (SpellsAt (place_and_bytes record_at.now)) }
-    ensures fault { IfErr result (IsFaultAmong (place_and_bytes record_at.now ∷ [])) }
+// Goes over a file's records, and fails at the first that spells no entry.
+fn read_all(alloc: Global, walked: &Walked) -> Result<(), RecoverFault>
+    ensures spelled { (records : List (List ℕ)) → Holds (bytes_of walked.now) records → IfOk result (λ _. AreSpelled (placed 8 records)) }
+    ensures fault { (records : List (List ℕ)) → Holds (bytes_of walked.now) records → IfErr result (IsFaultAmong (placed 8 records)) }
 {
-    match decode(alloc, &record_at.bytes) {
-        Ok(entry) => Ok(EntryAt {
-            at: record_at.at,
-            entry,
-        }),
-        Err(DecodeFault::BadRecord { .. }) => Err(RecoverFault::Damaged {
-            offset: record_at.at,
-        }),
-        Err(DecodeFault::Memory) => Err(RecoverFault::Memory),
+    let mut records = walked.records();
+    while let Some(found) = records.next() {
+        read_entry(alloc, &found)?;
     }
+    Ok(())
 }
 
-// The entries that the records spell.
-fn read_all(alloc: Global, records: &[RecordAt]) -> Result<Vec<EntryAt>, RecoverFault>
-    ensures found { IfOk result (λ list. AllZip SpellsAt (map place_and_bytes records.now) list.items) }
-    ensures fault { IfErr result (IsFaultAmong (map place_and_bytes records.now)) }
-{
-    let mut list = Vec::with_capacity(alloc, records.len())?;
-    for record_at in records {
-        list.push(read_entry(alloc, record_at)?)?;
-    }
-    Ok(list)
-}
-
-/// The entries that a journal's file stands for, with the places of their gates, and the place just past the gate behind
+/// The entries that a journal's file stands for, to be read one after another, and the place just past the gate behind
 /// their records. `Damaged` comes only where it stands for none, with the one place that is told: the place at which it
 /// is damaged as a journal of byte records, or else the gate of the first record that spells no change. It writes
-/// nothing.
+/// nothing, and keeps no entry.
 pub fn read_entries<D: Disk>(alloc: Global, disk: &mut D) -> Result<Entries, RecoverFault>
+    ensures read { IfOk result HasRead }
     ensures found { IfOk result (FindsEntries (D.history disk.old)) }
-    ensures ends { IfOk result (λ e. EndsAt (D.history disk.old) e.end) }
-    ensures size { IfOk result (λ e. e.end ≡ 9 + frames_size (entries_of e)) }
+    ensures ends { IfOk result (λ e. EndsAt (D.history disk.old) (ends_at e)) }
     ensures only { GivesOnly (D.history disk.old) result }
     ensures fault { IfErr result (FindsFault (D.history disk.old)) }
     ensures same { D.history disk.new ≡ D.history disk.old }
@@ -56,9 +38,6 @@ pub fn read_entries<D: Disk>(alloc: Global, disk: &mut D) -> Result<Entries, Rec
     ensures failed { result ≡ Err RecoverFault.DiskFault → Rose (D.fault_count disk.old) (D.fault_count disk.new) }
 {
     let walked = walk(alloc, disk)?;
-    let list = read_all(alloc, &walked.records)?;
-    Ok(Entries {
-        list,
-        end: walked.end,
-    })
+    read_all(alloc, &walked)?;
+    Ok(Entries { walked })
 }

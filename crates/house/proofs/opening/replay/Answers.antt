@@ -1,38 +1,68 @@
-use Rattle.std.proofs.Common.{◌≡◌, ◌∙◌, List, [], Err, IfErr, rules, sym, subst}
+use Rattle.std.proofs.Common.{◌≡◌, ◌<◌, List, Err, Option, Some, None, IfErr, IfSome, rules, sym, subst}
 use Rattle.recovery.specs.declared.entries.EntryAt.{EntryAt}
+use Rattle.recovery.specs.declared.reader.EntryReader.{EntryReader}
+use Rattle.recovery.specs.Reading.{file_of, bytes_left, AreLeft, IsNext}
 use Rattle.cycle_states.proofs.CycleFacts.{young_of}
+use Rattle.house.specs.Faults.{fault_of_reading}
 use Rattle.house.specs.Opening.{IsReplayFault}
-use Rattle.house.proofs.OpeningFacts.{IsFrontReplayed, front_none, front_more, front_fault, front_all}
+use Rattle.house.proofs.OpeningFacts.{so_far_none, so_far_more, so_far_room, so_far_fault, so_far_all, so_far_memory}
 use Rattle.house.proofs.opening.replay.Goals as goal
 
 pub loop-item-init : goal.loop-item-init
 loop-item-init c =
+    so_far_none c.args.machine.now.state (file_of c.args.read.now) c.reader-reader.result c.new-past.result c.requires c.new-past.ensures c.reader-reader.ensures.few c.reader-reader.ensures.all
+
+pub returns-in_err-item-clause-fault : goal.returns-in_err-item-clause-fault
+returns-in_err-item-clause-fault c = λ list read.
     let s = c.args.machine.now.state in
-    subst (λ (rest : List EntryAt). IsFrontReplayed s c.args.list.items [] rest s c.in_ok-entries.entries.items) (sym c.into_iter-item-iterator.ensures.into_iter_gives.0)
-    (front_none s c.args.list.items c.in_ok-entries.entries.items c.requires c.in_ok-entries.ensures.items)
+    let fault = c.in_err-item.field-0.0 in
+    let is : c.from_residual.result ≡ Err (fault_of_reading fault) = search rules in
+    subst (λ r. IfErr r (IsReplayFault s list)) (sym is)
+    (so_far_memory s (file_of c.args.read.now) list c.loop-item.reader c.loop-item.machine.state c.loop-item.past fault c.loop-item.invariant read c.in_err-item.ensures.fault)
 
 pub accept-requires : goal.accept-requires
-accept-requires c = young_of c.loop-item.machine.state c.loop-item.entries.items c.loop-item.invariant.replayed (search rules)
+accept-requires c = young_of c.loop-item.machine.state c.loop-item.past c.loop-item.invariant.replayed (search rules)
 
-pub returns-in_err-accept-clause-fault : goal.returns-in_err-accept-clause-fault
-returns-in_err-accept-clause-fault c =
-    let is : c.from_residual-in_err-accept.result ≡ Err c.in_err-accept.field-0.0 = search rules in
-    let told = front_fault c.args.machine.now.state c.args.list.items c.loop-item.yielded c.loop-item.item-iterator.rest.items c.next.new.self.rest.items c.in-Some.item c.loop-item.machine.state c.loop-item.entries.items
-    c.in_err-accept.field-0.0 c.requires c.loop-item.invariant c.in-Some.ensures.steps.0 c.in_err-accept.ensures.fault in
-    subst (λ r. IfErr r (IsReplayFault c.args.machine.now.state c.args.list.items)) (sym is) told
+pub push-requires : goal.push-requires
+push-requires c =
+    let shorter : bytes_left c.next.new.self < bytes_left c.loop-item.reader =
+    subst (λ (o : Option EntryAt). IfSome o (λ _. bytes_left c.next.new.self < bytes_left c.loop-item.reader)) c.in-Some.is c.in_ok-item.ensures.shorter in
+    so_far_room c.args.machine.now.state (file_of c.args.read.now) c.loop-item.reader c.next.new.self c.loop-item.machine.state c.loop-item.past c.loop-item.invariant shorter
+
+pub returns-in_err-entry-clause-fault : goal.returns-in_err-entry-clause-fault
+returns-in_err-entry-clause-fault c = λ list read.
+    let s = c.args.machine.now.state in
+    let fault = c.in_err-entry.field-0.0 in
+    let next : EntryReader = c.next.new.self in
+    let here : (l : List EntryAt) → AreLeft c.loop-item.reader l → IsNext l next (Some c.in-Some.item) =
+    λ l left. subst (λ (o : Option EntryAt). IsNext l next o) c.in-Some.is (c.in_ok-item.ensures.next l left) in
+    let is : c.from_residual-in_err-entry.result ≡ Err fault = search rules in
+    subst (λ r. IfErr r (IsReplayFault s list)) (sym is)
+    (so_far_fault s (file_of c.args.read.now) list c.loop-item.reader next c.loop-item.machine.state c.loop-item.past c.in-Some.item fault c.requires c.loop-item.invariant read here c.in_err-entry.ensures.fault)
+
+pub loop-item-preserved-in_ok-entry : goal.loop-item-preserved-in_ok-entry
+loop-item-preserved-in_ok-entry c =
+    let next : EntryReader = c.next.new.self in
+    let shorter : bytes_left next < bytes_left c.loop-item.reader =
+    subst (λ (o : Option EntryAt). IfSome o (λ _. bytes_left next < bytes_left c.loop-item.reader)) c.in-Some.is c.in_ok-item.ensures.shorter in
+    let here : (l : List EntryAt) → AreLeft c.loop-item.reader l → IsNext l next (Some c.in-Some.item) =
+    λ l left. subst (λ (o : Option EntryAt). IsNext l next o) c.in-Some.is (c.in_ok-item.ensures.next l left) in
+    so_far_more c.args.machine.now.state (file_of c.args.read.now) c.loop-item.reader next c.loop-item.machine.state c.accept.new.machine.state c.loop-item.past c.push.new.self c.in-Some.item c.in_ok-entry.entry
+    c.loop-item.invariant shorter here c.in_ok-entry.ensures.entry c.in_ok-entry.ensures.accepted c.in_ok-entry.ensures.state c.push.ensures
 
 pub loop-item-preserved : goal.loop-item-preserved
 loop-item-preserved c =
-    front_more c.args.machine.now.state c.args.list.items c.loop-item.yielded c.loop-item.item-iterator.rest.items c.next.new.self.rest.items c.in-Some.item c.loop-item.machine.state c.accept.new.machine.state
-    c.loop-item.entries.items c.push.new.self.items c.in_ok-accept.field-0 c.loop-item.invariant c.in-Some.ensures.steps.0 c.in_ok-accept.ensures.entry c.in_ok-accept.ensures.accepted c.in_ok-accept.ensures.state c.in_ok-push.ensures.items
+    let next : EntryReader = c.next.new.self in
+    let shorter : bytes_left next < bytes_left c.loop-item.reader =
+    subst (λ (o : Option EntryAt). IfSome o (λ _. bytes_left next < bytes_left c.loop-item.reader)) c.in-Some.is c.in_ok-item.ensures.shorter in
+    let here : (l : List EntryAt) → AreLeft c.loop-item.reader l → IsNext l next (Some c.in-Some.item) =
+    λ l left. subst (λ (o : Option EntryAt). IsNext l next o) c.in-Some.is (c.in_ok-item.ensures.next l left) in
+    so_far_more c.args.machine.now.state (file_of c.args.read.now) c.loop-item.reader next c.loop-item.machine.state c.accept.new.machine.state c.loop-item.past c.push.new.self c.in-Some.item c.in_ok-entry.entry
+    c.loop-item.invariant shorter here c.in_ok-entry.ensures.entry c.in_ok-entry.ensures.accepted c.in_ok-entry.ensures.state c.push.ensures
 
 pub returns-clause-entries : goal.returns-clause-entries
-returns-clause-entries c =
-    let rest = c.loop-item.item-iterator.rest in
-    front_all c.args.machine.now.state c.args.list.items c.loop-item.yielded rest.items c.loop-item.machine.state c.loop-item.entries.items c.loop-item.invariant (sym rest.ok.0 ∙ c.in-None.ensures.steps.0)
-
-pub returns-clause-replayed : goal.returns-clause-replayed
-returns-clause-replayed c = c.loop-item.invariant.replayed
-
-pub returns-clause-roster : goal.returns-clause-roster
-returns-clause-roster c = c.loop-item.invariant.roster
+returns-clause-entries c = λ list read.
+    let next : EntryReader = c.next.new.self in
+    let none : c.in_ok-item.field-0 ≡ None = search rules in
+    so_far_all c.args.machine.now.state (file_of c.args.read.now) list c.loop-item.reader next c.loop-item.machine.state c.loop-item.past c.loop-item.invariant read
+    (λ l left. subst (λ (o : Option EntryAt). IsNext l next o) none (c.in_ok-item.ensures.next l left))

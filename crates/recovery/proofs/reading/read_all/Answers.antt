@@ -1,18 +1,44 @@
-use Rattle.std.proofs.Common.{◌≡◌, ◌+◌, Err, IfErr, map, sym, subst, rules}
-use Rattle.journal_core.specs.Walk.{place_and_bytes}
-use Rattle.recovery.specs.Reading.{IsFaultAmong}
-use Rattle.recovery.proofs.EntryFacts.{SpelledFront, spelled_more, fault_at}
+use Rattle.std.proofs.Common.{◌≡◌, ◌∷◌, [], ℕ, Err, IfErr, sym, subst, rules}
+use Rattle.journal_core.specs.Walk.{placed}
+use Rattle.recovery.specs.Reading.{SpellsAt, IsFaultAmong}
+use Rattle.recovery.proofs.EntryFacts.{spelled_none, spelled_more, spelled_fault, spelled_all}
 use Rattle.recovery.proofs.reading.read_all.Goals as goal
 
-pub loop-record_at-preserved : goal.loop-record_at-preserved
-loop-record_at-preserved c =
-    let more = spelled_more c.args.records.now c.loop-record_at.record_at-index c.record_at-item.result c.loop-record_at.list.items c.in_ok-read_entry.field-0 c.loop-record_at-test.true c.record_at-item.is c.loop-record_at.invariant
-    c.in_ok-read_entry.ensures.found in
-    subst (SpelledFront c.args.records.now (c.loop-record_at.record_at-index + 1)) (sym c.in_ok-push.ensures.items) more
+pub loop-found-init : goal.loop-found-init
+loop-found-init c = λ records holds.
+    let r = c.records-records.result in spelled_none records r.at r.rest.now c.records-records.ensures.first (c.records-records.ensures.all records holds)
 
 pub returns-in_err-read_entry-clause-fault : goal.returns-in_err-read_entry-clause-fault
-returns-in_err-read_entry-clause-fault c =
-    let is : c.from_residual-in_err-read_entry.result ≡ Err c.in_err-read_entry.field-0.0 = search rules in
-    let told = fault_at c.args.records.now c.loop-record_at.record_at-index c.record_at-item.result c.loop-record_at.list.items c.in_err-read_entry.field-0.0 c.loop-record_at-test.true c.record_at-item.is c.loop-record_at.invariant
-    c.in_err-read_entry.ensures.fault in
-    subst (λ r. IfErr r (IsFaultAmong (map place_and_bytes c.args.records.now))) (sym is) told
+returns-in_err-read_entry-clause-fault c = λ records holds.
+    let r = c.loop-found.records in
+    let b = c.in-Some.found.bytes.now in
+    let fault = c.in_err-read_entry.field-0.0 in
+    let so_far = c.loop-found.invariant records holds in
+    let is : c.from_residual.result ≡ Err fault = search rules in
+    let told : IsFaultAmong ((r.at, b) ∷ []) fault = subst (λ (n : ℕ). IsFaultAmong ((n, b) ∷ []) fault) c.in-Some.ensures.place c.in_err-read_entry.ensures.fault in
+    subst (λ e. IfErr e (IsFaultAmong (placed 8 records))) (sym is)
+    (spelled_fault records r.at r.rest.now b c.next.new.self.at c.next.new.self.rest.now fault so_far (c.in-Some.ensures.some so_far.others so_far.ahead) told)
+
+pub loop-found-preserved-in_ok-read_entry : goal.loop-found-preserved-in_ok-read_entry
+loop-found-preserved-in_ok-read_entry c = λ records holds.
+    let r = c.loop-found.records in
+    let b = c.in-Some.found.bytes.now in
+    let x = c.in_ok-read_entry.field-0 in
+    let so_far = c.loop-found.invariant records holds in
+    let here : SpellsAt (r.at, b) x = subst (λ (n : ℕ). SpellsAt (n, b) x) c.in-Some.ensures.place c.in_ok-read_entry.ensures.found in
+    spelled_more records r.at r.rest.now b x c.next.new.self.at c.next.new.self.rest.now so_far (c.in-Some.ensures.some so_far.others so_far.ahead) here
+
+pub loop-found-preserved : goal.loop-found-preserved
+loop-found-preserved c = λ records holds.
+    let r = c.loop-found.records in
+    let b = c.in-Some.found.bytes.now in
+    let x = c.in_ok-read_entry.field-0 in
+    let so_far = c.loop-found.invariant records holds in
+    let here : SpellsAt (r.at, b) x = subst (λ (n : ℕ). SpellsAt (n, b) x) c.in-Some.ensures.place c.in_ok-read_entry.ensures.found in
+    spelled_more records r.at r.rest.now b x c.next.new.self.at c.next.new.self.rest.now so_far (c.in-Some.ensures.some so_far.others so_far.ahead) here
+
+pub returns-clause-spelled : goal.returns-clause-spelled
+returns-clause-spelled c = λ records holds.
+    let r = c.loop-found.records in
+    let so_far = c.loop-found.invariant records holds in
+    spelled_all records r.at r.rest.now so_far (c.in_default.ensures.none so_far.others so_far.ahead)

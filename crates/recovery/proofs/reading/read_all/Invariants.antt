@@ -1,5 +1,11 @@
+use Rattle.std.proofs.Common.{List, ℕ, length}
+use Rattle.journal_core.specs.Holds.{Holds}
+use Rattle.journal_core.specs.Walk.{bytes_of}
 use Rattle.recovery.proofs.EntryFacts.{SpelledFront}
 use Rattle.recovery.proofs.reading.read_all.Given as goal
 
-abbrev pub invariant-loop-record_at : goal.invariant-loop-record_at
-invariant-loop-record_at l = SpelledFront l.records l.record_at-index l.list.items
+abbrev pub invariant-loop-found : goal.invariant-loop-found
+invariant-loop-found l = (records : List (List ℕ)) → Holds (bytes_of l.walked) records → SpelledFront records l.records.at l.records.rest.now
+
+abbrev pub decreases-loop-found : goal.decreases-loop-found
+decreases-loop-found l = length l.records.rest.now

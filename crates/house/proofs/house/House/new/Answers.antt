@@ -23,21 +23,21 @@ invariant_of-result g c =
     let was = g.D.Disk.history c.args.disk in
     let read = g.D.Disk.history c.recover.new.disk in
     let journal = c.in-Ok-start.journal in
-    let entries = c.in-Ok.recovered.entries.items in
+    let entries = c.in-Ok.recovered.past in
     let same = c.recover.ensures.same in
     let stands = subst (λ (o : Option History). ContentStandsFor o entries) (sym same) c.in-Ok.ensures.stands in
     let ends = subst (λ (o : Option History). EndsAt o c.in-Ok.recovered.end) (sym same) c.in-Ok.ensures.ends in
     let now = g.D.Disk.history (disk_of journal) in
     let first_moment = ap (λ d. moment_of (g.D.Disk.history d)) c.of-taken.ensures ∙ ap moment_of (sym same) in
     let moment = ap (λ j. moment_of (g.D.Disk.history (disk_of j))) c.of.ensures in
-    let all : c.len.result ≡ length entries = omega arith in
+    let all : c.count.result ≡ length entries = omega arith in
     let tells = ap (λ d. is_some (g.D.Disk.history d)) c.of-taken.ensures ∙ ap (λ (o : Option History). is_some o) (sym same) in
     let leaves = start_leaves read now entries c.in-Ok-start.ensures.any_moment stands in
     let stored = subst (λ (n : ℕ). AreStored now n entries) (sym c.in-Ok-start.ensures.end) (start_stores read now c.in-Ok.recovered.end entries c.in-Ok-start.ensures.any_moment c.in-Ok-start.ensures.at_rest ends stands) in
     let size = c.in-Ok-start.ensures.end ∙ c.in-Ok.ensures.size in
     let figures : JournalFigures =
-    journal_of (size_of c.of.result.value) (g.D.Disk.fault_count (disk_of c.of.result.value)) (g.D.Disk.history c.of-taken.result.value) (g.D.Disk.history (disk_of c.of.result.value)) (take c.len.result entries) in
-    opened_house c.in-Ok.recovered.machine.state entries c.len.result (size_of journal) figures read now (g.D.Disk.fault_count (disk_of journal)) c.in-Ok.ensures.replayed all
+    journal_of (size_of c.of.result.value) (g.D.Disk.fault_count (disk_of c.of.result.value)) (g.D.Disk.history c.of-taken.result.value) (g.D.Disk.history (disk_of c.of.result.value)) (take c.count.result entries) in
+    opened_house c.in-Ok.recovered.machine.state entries c.count.result (size_of journal) figures read now (g.D.Disk.fault_count (disk_of journal)) c.in-Ok.ensures.replayed all
     (ap (λ j. size_of j) c.of.ensures) (ap (λ j. g.D.Disk.fault_count (disk_of j)) c.of.ensures) refl first_moment moment tells size leaves stored
 
 pub returns-in-Ok-start-clause-keeps : goal.returns-in-Ok-start-clause-keeps
@@ -60,5 +60,5 @@ returns-in-Err-start-clause-any_moment_failed g c = λ entries stands.
 -- a file of which a legal history was found is none that stands for none
 pub returns-in-Err-start-clause-untouched : goal.returns-in-Err-start-clause-untouched
 returns-in-Err-start-clause-untouched g c = λ none.
-    let legal = subst (λ (rows : Rows). IsLegalFrom (empty_state rows) c.in-Ok.recovered.entries.items) c.in-Ok.ensures.roster c.in-Ok.ensures.replayed.legal in
-    absurd (none c.in-Ok.recovered.entries.items c.in-Ok.ensures.stands legal)
+    let legal = subst (λ (rows : Rows). IsLegalFrom (empty_state rows) c.in-Ok.recovered.past) c.in-Ok.ensures.roster c.in-Ok.ensures.replayed.legal in
+    absurd (none c.in-Ok.recovered.past c.in-Ok.ensures.stands legal)

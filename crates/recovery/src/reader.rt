@@ -1,0 +1,48 @@
+//! A file's entries, read one after another.
+ghost use Rattle.std.specs.Prelude.{◌≡◌, ◌<◌, ◌∷◌, [], List, IfOk, IfErr, IfSome};
+ghost use Rattle.recovery.specs.declared.entries.EntryAt.{EntryAt};
+ghost use Rattle.recovery.specs.declared.fault.RecoverFault.TheVariants.{Memory};
+ghost use Rattle.recovery.specs.Reading.{SpellsAt, IsFaultAmong};
+
+use crate::{EntryAt, RecoverFault};
+use journal_core::{RecordAt, Records};
+use record_codec::{DecodeFault, decode};
+use std::alloc::Global;
+
+// The entry that a record spells.
+pub(crate) fn read_entry(alloc: Global, found: &RecordAt<'_>) -> Result<EntryAt, RecoverFault>
+    ensures found { IfOk result (SpellsAt (found.now.at, found.now.bytes.now)) }
+    ensures fault { IfErr result (IsFaultAmong ((found.now.at, found.now.bytes.now) ∷ [])) }
+{
+    match decode(alloc, found.bytes) {
+        Ok(entry) => Ok(EntryAt {
+            at: found.at,
+            entry,
+        }),
+        Err(DecodeFault::BadRecord { .. }) => Err(RecoverFault::Damaged { offset: found.at }),
+        Err(DecodeFault::Memory) => Err(RecoverFault::Memory),
+    }
+}
+
+/// Reads the entries of a file whose records all spell some.
+#[derive(Drop)]
+pub struct EntryReader<'a> {
+    pub(crate) records: Records<'a>,
+}
+
+impl<'a> EntryReader<'a> {
+    ghost use Rattle.recovery.specs.Reading.{AreLeft, IsNext, bytes_left};
+
+    /// The next entry, if there is one. The only fault is want of memory.
+    pub fn next(&mut self, alloc: Global) -> Result<Option<EntryAt>, RecoverFault>
+        ensures next { (list : List EntryAt) → AreLeft self.old list → IfOk result (IsNext list self.new) }
+        ensures fault { (list : List EntryAt) → AreLeft self.old list → IfErr result (λ e. e ≡ Memory) }
+        ensures shorter { IfOk result (λ o. IfSome o (λ _. bytes_left self.new < bytes_left self.old)) }
+    {
+        let Some(found) = self.records.next() else {
+            return Ok(None);
+        };
+        let item = read_entry(alloc, &found)?;
+        Ok(Some(item))
+    }
+}
