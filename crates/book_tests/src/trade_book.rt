@@ -2,6 +2,7 @@
 
 mod executions;
 mod freezes;
+mod kept_sums;
 mod lives;
 mod networks;
 

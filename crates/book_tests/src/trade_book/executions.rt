@@ -73,7 +73,16 @@ fn fall_to(alloc: Global, lines: &[Line], out: u64, back: u64) -> Result<bool, A
         PlanRow::End { trade: 4 },
     ]);
     let sums = (book.pair_sum(P, A, B), book.pair_sum(P, B, A));
-    Ok(has_lines(&book, lines) && sums == (out, back))
+    let kept = (
+        book.product_sum(P),
+        book.position(P, A).sold,
+        book.position(P, B).sold,
+    );
+    Ok(
+        has_lines(&book, lines)
+            && sums == (out, back)
+            && kept == (out.wrapping_add(back), out, back),
+    )
 }
 
 #[test]
