@@ -81,8 +81,8 @@ fn clear(sums: &mut Vec<u64>)
 }
 
 // The sum at a place; 0 where there is none.
-fn sum_at(sums: &Vec<u64>, at: usize) -> u64
-    ensures { result ≡ slice_index sums.now.items at }
+fn sum_at(sums: &[u64], at: usize) -> u64
+    ensures { result ≡ slice_index sums.now at }
 {
     match sums.get(at) {
         Some(sum) => *sum,
