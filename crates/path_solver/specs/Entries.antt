@@ -1,5 +1,5 @@
 -- From where arcs with room lead to a member.
-use Rattle.std.specs.Prelude.{◌≡◌, ◌↔◌, ◌==◌, ◌&&◌, ◌||◌, nat_lt, if◌then◌else◌, ℕ, ◌+◌, ◌<◌, Bool, true, List, length, slice_index, slice_index_or}
+use Rattle.std.specs.Prelude.{◌≡◌, ◌≢◌, ◌↔◌, ◌==◌, ◌&&◌, ◌||◌, nat_lt, if◌then◌else◌, ℕ, ◌+◌, ◌<◌, Bool, true, List, length, slice_index, slice_index_or}
 use Rattle.member_set.specs.declared.set.MemberSet.{MemberSet}
 use Rattle.member_set.specs.Members.{has, no_members}
 use Rattle.residual_graph.specs.declared.flow.Flow.{Flow}
@@ -58,3 +58,11 @@ pub record AreOpenTo (r : ResidualData) (p levels : List ℕ) (here : ℕ) (near
 -- the members that are not reached
 abbrev pub AreFree : List ℕ → MemberSet → Type 0
 AreFree levels free = (u : ℕ) → (has free u ≡ true) ↔ ((u < length levels) × (slice_index levels u ≡ 65535))
+
+-- the members below a number
+abbrev pub AreAll : ℕ → MemberSet → Type 0
+AreAll members set = (u : ℕ) → (has set u ≡ true) ↔ (u < members)
+
+-- none of the first n of a queue is this member
+abbrev pub IsNoneOf : ℕ → List ℕ → ℕ → Type 0
+IsNoneOf n queue u = (x : ℕ) → x < n → slice_index queue x ≢ u

@@ -1,8 +1,8 @@
 //! Breadth first from the members that have to receive, back along open arcs.
 
-ghost use Rattle.std.specs.Prelude.{◌≡◌, ℕ, ◌+◌, ◌<◌, ◌≤◌, true, false, length, slice_index, OnOk, IfOk, IfSome, IsSome, IsTrue};
+ghost use Rattle.std.specs.Prelude.{◌≡◌, ◌↔◌, ℕ, ◌+◌, ◌<◌, ◌≤◌, true, false, length, slice_index, OnOk, IfOk, IfSome, IsSome, IsTrue};
 ghost use Rattle.member_set.specs.Members.{has};
-ghost use Rattle.path_solver.specs.Entries.{AreEntries, AreOpenTo, AreFree, is_open_to};
+ghost use Rattle.path_solver.specs.Entries.{AreEntries, AreOpenTo, AreAll, IsNoneOf, is_open_to};
 ghost use Rattle.path_solver.specs.Groups.{AreGroups};
 ghost use Rattle.path_solver.specs.Rests.{AreApart};
 ghost use Rattle.path_solver.specs.Levels.{IsReached, IsSearch, IsLayered, AreUpTo};
@@ -26,10 +26,12 @@ pub fn layer(
     surplus: &[u64],
     lack: &[u64],
     groups: &[MemberSet],
+    everyone: &MemberSet,
     levels: &mut [u16],
     queue: &mut Vec<u16>,
 ) -> Result<Option<u16>, AllocError>
     requires entries { AreEntries residual.now entries.now }
+    requires everyone { AreAll residual.now.members everyone.now }
     requires low { (v : ℕ) → slice_index prices.now v ≤ residual.now.members }
     requires groups { length groups.now ≡ residual.now.members + 3 }
     requires sorted { AreGroups prices.now groups.now }
@@ -42,7 +44,7 @@ pub fn layer(
 {
     let _members = residual.members();
     start(residual, prices, lack, levels, queue)?;
-    let mut free = free_of(levels);
+    let mut free = free_of(everyone, queue);
     let mut found = None;
     let mut done = 0;
     while done < queue.len() {
@@ -51,6 +53,10 @@ pub fn layer(
             break;
         }
         let near = open_to(entries, groups, prices[here as usize], here).and(&free);
+        if near.is_empty() {
+            done += 1;
+            continue;
+        }
         let nearest = enter(residual, prices, surplus, lack, here, near, levels, queue)?;
         free = free.without(&near);
         found = found.or(nearest);
@@ -98,16 +104,14 @@ fn start(
     Ok(())
 }
 
-/// The members that are not reached.
-fn free_of(levels: &[u16]) -> MemberSet
-    requires { length levels.now ≤ 256 }
-    ensures { AreFree levels.now result }
+/// All but the members in the queue.
+fn free_of(everyone: &MemberSet, queue: &[u16]) -> MemberSet
+    requires { (x : ℕ) → x < length queue.now → slice_index queue.now x < 256 }
+    ensures { (u : ℕ) → (has result u ≡ true) ↔ ((has everyone.now u ≡ true) × IsNoneOf (length queue.now) queue.now u) }
 {
-    let mut free = MemberSet::new();
-    for member in 0..levels.len() {
-        if levels[member] == UNREACHED {
-            free.put(member as u16);
-        }
+    let mut free = *everyone;
+    for member in queue {
+        free.drop_member(*member);
     }
     free
 }

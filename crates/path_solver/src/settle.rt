@@ -1,6 +1,7 @@
 //! Phases, until nothing is left to send.
 
-ghost use Rattle.std.specs.Prelude.{◌≡◌, ℕ, ◌<◌, length, slice_index, replicate, IfOk, IsTrue, false, All};
+ghost use Rattle.std.specs.Prelude.{◌≡◌, ℕ, ◌<◌, ◌≤◌, length, slice_index, replicate, IfOk, IsTrue, false, All};
+ghost use Rattle.path_solver.specs.Entries.{AreAll};
 ghost use Rattle.path_solver.specs.Rests.{IsFeasible, AreApart};
 ghost use Rattle.path_solver.specs.Phases.{IsSettled};
 
@@ -23,6 +24,18 @@ pub fn all_of<T: Copy>(alloc: Global, members: u16, value: T) -> Result<Vec<T>, 
         values.push(value)?;
     }
     Ok(values)
+}
+
+/// The members below a number.
+fn everyone(members: u16) -> MemberSet
+    requires { members ≤ 256 }
+    ensures { AreAll members result }
+{
+    let mut all = MemberSet::new();
+    for member in 0..members {
+        all.put(member);
+    }
+    all
 }
 
 /// Whether some member has to send.
@@ -55,6 +68,7 @@ pub fn settle(
     let members = residual.members();
     let exits = Exits::of(alloc, residual)?;
     let mut entries = entries_of(alloc, residual)?;
+    let everyone = everyone(members);
     let mut groups = all_of(alloc, members + 3, MemberSet::new())?;
     let mut prices = all_of(alloc, members, 0u16)?;
     sort_by_price(&prices, &mut groups);
@@ -71,6 +85,7 @@ pub fn settle(
             surplus,
             lack,
             &groups,
+            &everyone,
             &mut levels,
             &mut queue,
         )? {
