@@ -11,6 +11,8 @@ mod figures;
 #[cfg(test)]
 mod files;
 #[cfg(test)]
+mod generated;
+#[cfg(test)]
 mod least;
 #[cfg(test)]
 mod networks;

@@ -37,3 +37,16 @@ fn the_most_gross_is_taken(rt: HostRuntime) -> Result<(), Fail> {
     assert!(rt; has_rows(&network, &[(0, 1, 1), (1, 0, 999_999_999_999_999_999)]));
     Ok(())
 }
+
+/// What was added before counts no more, and no member keeps a buyer.
+#[test]
+fn a_cleared_table_starts_anew(rt: HostRuntime) -> Result<(), Fail> {
+    let mut table = PairTable::new(rt.alloc(), 256)?;
+    table.add(MemberNo(255), MemberNo(0), 4);
+    table.add(MemberNo(255), MemberNo(254), 5);
+    table.clear();
+    assert!(rt; has_rows(&table.network()?, &[]));
+    table.add(MemberNo(255), MemberNo(254), 6);
+    assert!(rt; has_rows(&table.network()?, &[(255, 254, 6)]));
+    Ok(())
+}

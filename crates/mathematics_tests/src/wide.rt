@@ -1,8 +1,8 @@
-//! Amounts from 1 to 10^15 in one market, on which the solver by paths has to end at once; and markets of 256 members.
+//! Amounts from 1 to 10^15 in one market, on which both solvers have to end at once; and markets of 256 members.
 
 use crate::networks::{Bound, Market, Sale, unbounded};
 use crate::problems::problem_of;
-use crate::solvers::{Found, both_find, paths_certify};
+use crate::solvers::{Found, both_find, gross_is_same, paths_certify};
 use std::alloc::{AllocError, Global};
 use std::test::Fail;
 
@@ -49,7 +49,7 @@ fn no_growth(alloc: Global, sales: &[Sale]) -> Result<Vec<Bound>, AllocError> {
     Ok(bounds)
 }
 
-/// Whether the least gross of this market is found to be 2k.
+/// Whether both solvers find that the least gross of this market is 2k.
 fn is_solved(alloc: Global, sales: &[Sale], k: u64) -> Result<bool, Fail> {
     let sales = in_order(alloc, sales)?;
     let bounds = no_growth(alloc, &sales)?;
@@ -59,7 +59,7 @@ fn is_solved(alloc: Global, sales: &[Sale], k: u64) -> Result<bool, Fail> {
         bounds: &bounds,
     };
     let problem = problem_of(alloc, market)?;
-    paths_certify(alloc, &problem, k.saturating_mul(2))
+    Ok(paths_certify(alloc, &problem, k.saturating_mul(2))? && gross_is_same(alloc, &problem)?)
 }
 
 const SIZES: [u64; 4] = [1, 1_000, 1_000_000_000, 1_000_000_000_000_000];
