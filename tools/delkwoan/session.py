@@ -5,9 +5,11 @@
         trade = session.trade("A", "B", "P", 10, "2026-03-02").trade
         print(session.nets("P").net)
 
-A session talks over a link, which sends lines and gives lines; a ScriptLink drives a `script` process.
+A session talks over a link, which sends lines and gives lines: a ScriptLink drives a `script` process, and a TcpLink is
+a connection to a `serve`, by `Session.connect("127.0.0.1", 7000)`.
 """
 
+import socket
 import subprocess
 from pathlib import Path
 from typing import Any, Protocol
@@ -70,6 +72,40 @@ class ScriptLink:
         return self.process.wait(), errors.decode(errors="replace").strip()
 
 
+CONNECTION_LOST = (14, "connection lost")
+"""The status and the line of a connection that ended while a reply was due."""
+
+
+class TcpLink:
+    """A connection to a `serve`. Where it can't be had in these seconds, that is an OSError; each reply may take as long."""
+
+    def __init__(self, host: str, port: int, seconds: float | None = None) -> None:
+        self.socket = socket.create_connection((host, port), seconds)
+        self.socket.setsockopt(socket.IPPROTO_TCP, socket.TCP_NODELAY, 1)
+        self.replies = self.socket.makefile("rb")
+        self.is_lost = False
+
+    def send(self, line: bytes) -> None:
+        try:
+            self.socket.sendall(line)
+        except OSError:
+            pass  # the end is told where the reply is missing
+
+    def give(self) -> bytes:
+        try:
+            line = self.replies.readline()
+        except OSError:
+            line = b""
+        self.is_lost = not line.endswith(b"\n")
+        return line
+
+    def close(self) -> tuple[int, str]:
+        """Ends the connection."""
+        self.replies.close()
+        self.socket.close()
+        return CONNECTION_LOST if self.is_lost else (0, "")
+
+
 class Session:
     """A session over a link. Commands raise Refused where they are refused, and LinkClosed where the link has ended."""
 
@@ -81,6 +117,11 @@ class Session:
     def script(cls, program: str | Path, roster: str | Path, journal: str | Path) -> "Session":
         """A session with a `script` process of its own."""
         return cls(ScriptLink(program, roster, journal))
+
+    @classmethod
+    def connect(cls, host: str, port: int, seconds: float | None = None) -> "Session":
+        """A session with a `serve` that listens there. A wait of more than these seconds loses the connection."""
+        return cls(TcpLink(host, port, seconds))
 
     def __enter__(self) -> "Session":
         return self

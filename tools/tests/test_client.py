@@ -283,6 +283,11 @@ class Shells(InFolder):
             ["--what", ROSTER, "j"],
             [ROSTER, "-j"],
             ["--program"],
+            ["--connect"],
+            ["--connect", "127.0.0.1:1"],
+            ["--connect", "127.0.0.1:1", ROSTER, "j"],
+            ["--connect", "127.0.0.1", ROSTER],
+            ["--connect", "127.0.0.1:1", "--program", "p", ROSTER],
         ]
         for words in cases:
             with self.subTest(words=words):

@@ -1,0 +1,67 @@
+"""A `serve` of the program that was built, for the tests."""
+
+import os
+import socket
+import subprocess
+import tempfile
+import unittest
+from pathlib import Path
+
+from running import EXAMPLES, TOOLS, Ran, program, run
+
+ROSTER = EXAMPLES / "roster.csv"
+
+
+def serving_program() -> Path:
+    """The program; where it has no form `serve`, skips."""
+    built = program()
+    if run([built, "serve", "/none", "/none", "127.0.0.1:0"]).status == 2:
+        raise unittest.SkipTest("the program has no serve")
+    return built
+
+
+def free_port() -> int:
+    with socket.socket() as unbound:
+        unbound.bind(("127.0.0.1", 0))
+        return unbound.getsockname()[1]
+
+
+class InService(unittest.TestCase):
+    """Tests with a folder of their own, and a service in it from `start` on, which ends with the test."""
+
+    @classmethod
+    def setUpClass(cls) -> None:
+        cls.program = serving_program()
+
+    def setUp(self) -> None:
+        folder = tempfile.TemporaryDirectory()
+        self.addCleanup(folder.cleanup)
+        self.folder = Path(folder.name)
+        self.journal = self.folder / "journal"
+        self.port = free_port()
+        self.service: subprocess.Popen[bytes] | None = None
+        self.addCleanup(self.kill)
+
+    @property
+    def address(self) -> str:
+        return f"127.0.0.1:{self.port}"
+
+    def words(self, journal: Path | None = None) -> list[str | Path]:
+        return [self.program, "serve", ROSTER, journal or self.journal, self.address]
+
+    def start(self) -> None:
+        """Starts a service over the journal, and waits until it takes connections."""
+        pipes = {"stdout": subprocess.PIPE, "stderr": subprocess.PIPE}
+        self.service = subprocess.Popen(self.words(), stdin=subprocess.DEVNULL, **pipes)
+        self.assertEqual(run([TOOLS / "wait-ready", self.address, "30"]), Ran(0, b"", b""))
+
+    def kill(self) -> None:
+        if self.service is not None:
+            self.service.kill()
+            self.service.communicate()
+            self.service = None
+
+    def client(self, *words: str | Path, input: bytes = b"") -> Ran:
+        environ = {**os.environ, "COMPRESS_CLI": str(self.program)}
+        done = subprocess.run([TOOLS / "client", *words], input=input, capture_output=True, env=environ, timeout=60)
+        return Ran(done.returncode, done.stdout, done.stderr)
