@@ -12,10 +12,14 @@ from running import EXAMPLES, TOOLS, Ran, program, run
 ROSTER = EXAMPLES / "roster.csv"
 
 
+def has_serve(built: Path) -> bool:
+    return run([built, "serve", "/none", "/none", "127.0.0.1:0"]).status != 2
+
+
 def serving_program() -> Path:
     """The program; where it has no form `serve`, skips."""
     built = program()
-    if run([built, "serve", "/none", "/none", "127.0.0.1:0"]).status == 2:
+    if not has_serve(built):
         raise unittest.SkipTest("the program has no serve")
     return built
 

@@ -1,4 +1,4 @@
-"""What is under packaging/: manual pages, completion, `make install` and `make deb`, each in a fresh folder tree."""
+"""What is under packaging/: manual pages, completion, the unit, `make install` and `make deb`, each in a fresh tree."""
 
 import os
 import re
@@ -9,22 +9,29 @@ import unittest
 from pathlib import Path
 
 from running import EXAMPLES, ROOT, Ran, program, run
+from serving import InService, has_serve
 from test_journal import ONE, WHOLE
 
 PACKAGING = ROOT / "packaging"
 PAGES = sorted((PACKAGING / "man").iterdir())
 HUB = [str(EXAMPLES / "hub-roster.csv"), str(EXAMPLES / "hub-trades.csv"), "hybrid", str(EXAMPLES / "hub-proposal.txt")]
-COMMANDS = ["compress-check-proposal", "compress-client", "compress-journal", "compress-report", "compress_cli"]
+COMMANDS = ["compress-check-proposal", "compress-client", "compress-journal", "compress-report", "compress-wait-ready"]
+COMMANDS += ["compress_cli"]
 
 TYPED: list[tuple[list[str], list[str]]] = [
-    (["compress_cli", ""], ["check", "script", "solve"]),
-    (["compress_cli", "s"], ["script", "solve"]),
+    (["compress_cli", ""], ["check", "script", "serve", "solve"]),
+    (["compress_cli", "s"], ["script", "serve", "solve"]),
+    (["compress_cli", "serve", "a", "hub-r"], ["hub-roster.csv"]),
+    (["compress_cli", "serve", "a", "b", ""], []),
     (["compress_cli", "solve", "hub-r"], ["hub-roster.csv"]),
     (["compress_cli", "check", "a", "b", ""], ["conservative", "hybrid"]),
     (["compress_cli", "check", "a", "b", "hybrid", "hub-p"], ["hub-proposal.txt"]),
     (["compress_cli", "check", "a", "b", "hybrid", "c", ""], []),
     (["compress_cli", "what", ""], []),
-    (["compress-client", "-"], ["--program", "--raw"]),
+    (["compress-client", "-"], ["--connect", "--program", "--raw"]),
+    (["compress-client", "--connect", ""], []),
+    (["compress-client", "--connect", "127.0.0.1:7000", "rost"], ["roster.csv"]),
+    (["compress-wait-ready", ""], []),
     (["compress-client", "--program", "hub-r"], ["hub-roster.csv"]),
     (["compress-client", "--program", "x", "--raw", "hub-r"], ["hub-roster.csv"]),
     (["compress-report", "--product", "P", "hub-r"], ["hub-roster.csv"]),
@@ -84,6 +91,7 @@ class InFolder(unittest.TestCase):
         journal.write_bytes(ONE)
         self.assertEqual(run([root / "bin/compress-journal", journal]), WHOLE)
         self.assertEqual(run([root / "bin/compress-report"]), Ran(2, b"", b"bad words\n"))
+        self.assertEqual(run([root / "bin/compress-wait-ready"]), Ran(2, b"", b"bad words\n"))
         without = {name: value for name, value in os.environ.items() if name != "COMPRESS_CLI"}
         words = [root / "bin/compress-client", EXAMPLES / "roster.csv", journal]
         done = subprocess.run(words, input=b"BYE\n", capture_output=True, env=without)
@@ -119,6 +127,54 @@ class Install(InFolder):
         self.assertEqual(run(["dpkg-deb", "-x", package, tree]).status, 0)
         self.assert_works(tree / "usr")
         self.assertIn(b" root/root ", run(["dpkg-deb", "-c", package]).output)
+
+
+def settings_of(unit: Path, name: str) -> list[str]:
+    return [line.removeprefix(name + "=") for line in unit.read_text().splitlines() if line.startswith(name + "=")]
+
+
+class Unit(InFolder):
+    def setUp(self) -> None:
+        super().setUp()
+        self.root = self.folder / "root"
+        self.assertEqual(self.make("install", f"PREFIX={self.root}", f"PROGRAM={self.program}").status, 0)
+        self.unit = self.root / "lib/systemd/system/delkwoan.service"
+
+    def test_systemd_finds_nothing(self) -> None:
+        need("systemd-analyze")
+        self.assertEqual(run(["systemd-analyze", "verify", "--man=no", self.unit]), Ran(0, b"", b""))
+
+    def test_statuses_are_those_of_the_table(self) -> None:
+        """No other start where a person is wanted: statuses of the operator's table, and that of a missing credential."""
+        (kept,) = settings_of(self.unit, "RestartPreventExitStatus")
+        table = (ROOT / "docs/OPERATIONS.md").read_text()
+        for status in kept.split():
+            self.assertTrue(f"\n| {status} | `" in table or status == "243", status)
+
+
+class UnitServes(InService):
+    """The unit's commands, as systemd would make them, with the program that was built."""
+
+    def test_its_commands(self) -> None:
+        need("make")
+        root, state, credentials = (self.folder / name for name in ("root", "state", "credentials"))
+        state.mkdir()
+        credentials.mkdir()
+        shutil.copyfile(EXAMPLES / "roster.csv", credentials / "roster")
+        made = run(["make", "-s", "-C", PACKAGING, "install", f"PREFIX={root}", f"PROGRAM={self.program}"])
+        self.assertEqual(made, Ran(0, b"", b""))
+        unit = root / "lib/systemd/system/delkwoan.service"
+        values = {"CREDENTIALS_DIRECTORY": credentials, "STATE_DIRECTORY": state, "ADDRESS": self.address}
+
+        def words(name: str) -> list[str]:
+            (line,) = settings_of(unit, name)
+            return [re.sub(r"\$\{(\w+)\}", lambda found: str(values[found[1]]), word) for word in line.split()]
+
+        self.service = subprocess.Popen(words("ExecStart"), stdout=subprocess.PIPE, stderr=subprocess.PIPE)
+        self.assertEqual(run(words("ExecStartPost")), Ran(0, b"", b""))
+        self.assertEqual([path.name for path in state.iterdir()], ["journal"])
+        self.service.terminate()
+        self.assertEqual(self.service.communicate(timeout=30), (b"", b""))
 
 
 class Completion(InFolder):
@@ -158,9 +214,10 @@ class Completion(InFolder):
     def test_the_forms_are_the_programs(self) -> None:
         """Each form of the table is read by the program, which then can't read its files; with a word less it is bad."""
         built = program()
+        is_serving = has_serve(built)
         for line in (PACKAGING / "forms").read_text().splitlines():
             name, *words = line.split(" ")
-            if name != "compress_cli":
+            if name != "compress_cli" or (words[0] == "serve" and not is_serving):
                 continue
             for mode in ("conservative", "hybrid"):
                 typed = [{"FILE": "none", "MODE": mode}.get(word, word) for word in words]
