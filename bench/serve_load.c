@@ -1,0 +1,105 @@
+// A load client for `serve`, and for any server that answers each line by one line.
+//
+//     serve_load PORT CONNECTIONS LINES AHEAD LINE
+//
+// Each connection greets as A, all start together, and each sends LINE that many times, AHEAD of them in one write, and
+// reads as many replies before it sends more. It writes the seconds from the start to the last reply. A reply to LINE that
+// begins with `no` ends it with status 1.
+#include <arpa/inet.h>
+#include <netinet/tcp.h>
+#include <pthread.h>
+#include <stdio.h>
+#include <stdlib.h>
+#include <string.h>
+#include <sys/socket.h>
+#include <time.h>
+#include <unistd.h>
+
+static int port, lines, ahead;
+static char *block;
+static size_t line_length;
+static pthread_barrier_t barrier;
+
+static void stop(const char *what) {
+    perror(what);
+    exit(1);
+}
+
+static int connected(void) {
+    struct sockaddr_in address = {.sin_family = AF_INET, .sin_port = htons(port)};
+    address.sin_addr.s_addr = htonl(INADDR_LOOPBACK);
+    int connection = socket(AF_INET, SOCK_STREAM, 0), one = 1;
+    if (connection < 0 || connect(connection, (struct sockaddr *)&address, sizeof address) != 0) stop("connect");
+    setsockopt(connection, IPPROTO_TCP, TCP_NODELAY, &one, sizeof one);
+    return connection;
+}
+
+// Reads until this many lines have come.
+static void read_lines(int connection, int count) {
+    char bytes[65536];
+    char last = '\n';
+    while (count > 0) {
+        ssize_t length = recv(connection, bytes, sizeof bytes, 0);
+        if (length <= 0) stop("recv");
+        for (ssize_t at = 0; at < length; at++) {
+            if (last == '\n' && bytes[at] == 'n') {
+                fprintf(stderr, "refused: %.*s", (int)(length - at), bytes + at);
+                exit(1);
+            }
+            count -= bytes[at] == '\n';
+            last = bytes[at];
+        }
+    }
+}
+
+static void send_all(int connection, const char *bytes, size_t length) {
+    while (length > 0) {
+        ssize_t sent = send(connection, bytes, length, 0);
+        if (sent <= 0) stop("send");
+        bytes += sent;
+        length -= sent;
+    }
+}
+
+static void *client(void *unused) {
+    int connection = connected();
+    send_all(connection, "HELLO A KA\n", 11);
+    read_lines(connection, 1);
+    pthread_barrier_wait(&barrier);
+    for (int left = lines; left > 0; left -= ahead) {
+        int count = left < ahead ? left : ahead;
+        send_all(connection, block, line_length * count);
+        read_lines(connection, count);
+    }
+    close(connection);
+    return unused;
+}
+
+static double now(void) {
+    struct timespec time;
+    clock_gettime(CLOCK_MONOTONIC, &time);
+    return time.tv_sec + time.tv_nsec * 1e-9;
+}
+
+int main(int count, char **words) {
+    if (count != 6) {
+        fputs("bad words\n", stderr);
+        return 2;
+    }
+    int connections = atoi(words[2]);
+    port = atoi(words[1]);
+    lines = atoi(words[3]);
+    ahead = atoi(words[4]);
+    line_length = strlen(words[5]) + 1;
+    block = malloc(line_length * ahead + 1);
+    for (int at = 0; at < ahead; at++) sprintf(block + line_length * at, "%s\n", words[5]);
+    pthread_t threads[connections];
+    pthread_barrier_init(&barrier, NULL, connections + 1);
+    for (int at = 0; at < connections; at++)
+        if (pthread_create(&threads[at], NULL, client, NULL) != 0) stop("pthread_create");
+    pthread_barrier_wait(&barrier);
+    double begin = now();
+    for (int at = 0; at < connections; at++) pthread_join(threads[at], NULL);
+    printf("%.6f\n", now() - begin);
+    return 0;
+}
