@@ -126,6 +126,9 @@ class Install(InFolder):
         self.assertEqual(told, b"Package: delkwoan\nDepends: libc6, python3 (>= 3.11)\n")
         self.assertEqual(run(["dpkg-deb", "-x", package, tree]).status, 0)
         self.assert_works(tree / "usr")
+        unit = (tree / "usr/lib/systemd/system/delkwoan.service").read_text()
+        self.assertIn("\nExecStart=/usr/bin/compress_cli serve ", unit)
+        self.assertNotIn("@", unit.replace("@system-service", "").replace("@privileged @resources", ""))
         self.assertIn(b" root/root ", run(["dpkg-deb", "-c", package]).output)
 
 

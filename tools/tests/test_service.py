@@ -80,22 +80,34 @@ class Service(InService):
         self.assertEqual(ran, Ran(1, told, b""))
 
     def test_an_end_of_the_service_while_a_client_waits(self) -> None:
-        """Four sessions have the seats, so that a fifth waits unanswered; then the service ends."""
+        """The service is held before the client's second line, and then ends."""
         self.start()
-        seated = [self.session("A") for _ in range(4)]
+        assert self.service is not None
         words = [TOOLS / "client", "--connect", self.address, ROSTER]
         waiting = subprocess.Popen(words, stdin=subprocess.PIPE, stdout=subprocess.PIPE, stderr=subprocess.PIPE)
-        assert waiting.stdin is not None and self.service is not None
+        assert waiting.stdin is not None and waiting.stdout is not None
         waiting.stdin.write(b"HELLO B KB\n")
+        waiting.stdin.flush()
+        self.assertEqual(waiting.stdout.readline(), b"[0]  hello  NAME B\n")
+        self.service.send_signal(signal.SIGSTOP)
+        waiting.stdin.write(b"NETS P\n")
         waiting.stdin.flush()
         with self.assertRaises(subprocess.TimeoutExpired):
             waiting.wait(0.5)
-        self.service.terminate()
+        self.service.kill()
         self.assertEqual(waiting.communicate(timeout=30), (b"", b"connection lost\n"))
         self.assertEqual(waiting.returncode, 14)
-        for session in seated:
+
+    def test_an_end_of_the_service_while_a_fifth_waits(self) -> None:
+        """Four sessions have the seats, so that a fifth waits unanswered; then the service ends."""
+        self.start()
+        assert self.service is not None
+        sessions = [*(self.session("A") for _ in range(4)), self.session()]
+        timer = threading.Timer(0.5, self.service.terminate)
+        timer.start()
+        for session in reversed(sessions):
             with self.assertRaises(LinkClosed) as caught:
-                session.nets("P")
+                session.hello("B", "KB")
             self.assertEqual((caught.exception.status, caught.exception.errors), (14, "connection lost"))
 
     def test_one_that_waits_is_served_next(self) -> None:
@@ -125,6 +137,8 @@ class Service(InService):
             session = self.session()
             place = session.hello("A", "KA").position
             self.assertIn(place - max(acknowledged, default=0), (0, 1))
+            amount += 1
+            acknowledged[session.trade("A", "B", "P", amount, "2026-03-02").position] = amount
             timer = threading.Timer(0.3, self.service.send_signal, [end])
             timer.start()
             with self.assertRaises(LinkClosed):
