@@ -78,17 +78,18 @@ class Known:
 
 def operators_lines(known: Known) -> list[str]:
     cycle, version = known.cycle, known.version
-    lines = [f"BEGIN {cycle} hybrid", f"POST {cycle} {version}", f"CANCEL {cycle}"]
-    lines += [f"FREEZE 2026-0{3 + cycle % 6}-15", f"FREEZE 2026-0{3 + cycle % 6}-15", "TRADE A B P 1 2026-03-02"]
-    return lines + 3 * [f"PROPOSE {cycle} hybrid", f"PROPOSE {cycle} conservative", "LIMITS P", "NETS P", f"PLAN {cycle}"]
+    proposals = [f"PROPOSE {cycle} hybrid", f"PROPOSE {cycle} conservative"]
+    lines = [f"BEGIN {cycle} hybrid", f"POST {cycle} {version}", f"CANCEL {cycle}", "TRADE A B P 1 2026-03-02"]
+    lines += 2 * [f"FREEZE 2026-0{3 + cycle % 6}-15"]
+    return lines + 3 * [*proposals, "LIMITS P", "NETS P", f"PLAN {cycle}"]
 
 
 def members_lines(known: Known, chance: random.Random, speaker: str) -> list[str]:
     cycle, version, other = known.cycle, known.version, chance.choice("ABC")
     trade, amount = max(1, known.trades - chance.randint(-1, 8)), chance.randint(1, 50)
     lines = [f"TRADE {speaker} {other} P {amount} 2026-03-02", f"TRADE {other} {speaker} P {amount} 2026-03-02"]
-    lines += [f"DECLINE {cycle} {version}", f"HOLD {trade}", f"FREE {trade}", f"END {trade}", "STATEMENT", f"PLAN {cycle}", "WHAT"]
-    lines += [f"TOL {other} P {chance.choice(['out', 'in'])} 0 {chance.choice(['-', '40', '0'])}", "FREEZE 2026-03-31"]
+    lines += [f"HOLD {trade}", f"FREE {trade}", f"END {trade}", "STATEMENT", f"PLAN {cycle}", "WHAT"]
+    lines += [f"DECLINE {cycle} {version}", f"TOL {other} P {chance.choice(['out', 'in'])} 0 {chance.choice(['-', '40', '0'])}"]
     return lines + 3 * [f"AFFIRM {trade}", "NETS P"] + 8 * [f"ACCEPT {cycle} {version}"]
 
 
