@@ -89,7 +89,8 @@ def members_lines(known: Known, chance: random.Random, speaker: str) -> list[str
     trade, amount = max(1, known.trades - chance.randint(-1, 8)), chance.randint(1, 50)
     lines = [f"TRADE {speaker} {other} P {amount} 2026-03-02", f"TRADE {other} {speaker} P {amount} 2026-03-02"]
     lines += [f"HOLD {trade}", f"FREE {trade}", f"END {trade}", "STATEMENT", f"PLAN {cycle}", "WHAT"]
-    lines += [f"DECLINE {cycle} {version}", f"TOL {other} P {chance.choice(['out', 'in'])} 0 {chance.choice(['-', '40', '0'])}"]
+    lines += [f"TOL {other} P {chance.choice(['out', 'in'])} 0 {chance.choice(['-', '40', '0'])}"]
+    lines += [f"DECLINE {cycle} {version}"]
     return lines + 3 * [f"AFFIRM {trade}", "NETS P"] + 8 * [f"ACCEPT {cycle} {version}"]
 
 
