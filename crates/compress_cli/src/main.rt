@@ -1,7 +1,8 @@
-//! The program: the service over the system's files and streams.
+//! The program: the service over the system's files, streams and sockets.
 #![tactic(auto)]
 
 use compress_server::run;
+use doors::SocketListener;
 use outside::sink::write_all;
 use outside::{FileDisk, StreamSink, StreamSource, SystemFiles};
 use parallel_solver::OpenGate;
@@ -55,6 +56,7 @@ fn main(rt: HostRuntime) -> ExitCode {
                 &mut output,
                 &mut errors,
                 FileDisk::new(rt),
+                &mut SocketListener::new(&rt),
                 &OpenGate,
             );
             ExitCode::from(status)

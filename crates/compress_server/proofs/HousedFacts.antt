@@ -1,5 +1,5 @@
 -- What a script comes to over its disk.
-use Rattle.std.proofs.Common.{◌≡◌, ◌∙◌, ◌⊎◌, inl, inr, refl, sym, subst, ap, ℕ, ◌≤◌, Bool, true, false, List, Option, Some, None, is_some, arith}
+use Rattle.std.proofs.Common.{◌≡◌, ◌∙◌, ◌⊎◌, inr, refl, sym, subst, ap, ℕ, ◌≤◌, Bool, true, false, List, Option, Some, None, is_some, arith}
 use Rattle.outside.specs.Disk.{History, IsSettled}
 use Rattle.outside.specs.Faults.{Rose}
 use Rattle.outside.specs.Flow.{Flow}
@@ -21,7 +21,6 @@ use Rattle.house.proofs.JournalFacts.{stored_stand}
 use Rattle.house.proofs.OpeningFacts.{still_standing}
 use Rattle.session.specs.declared.serve.SessionEnd.{SessionEnd}
 use Rattle.session.specs.declared.serve.SessionEnd.TheVariants.{Ended, SourceFault, SinkFault, Limit, Memory}
-use Rattle.compress_server.specs.declared.ending.End.{End}
 use Rattle.compress_server.specs.declared.ending.End.TheVariants as script
 use Rattle.compress_server.specs.Housed.{DiskState, disk_of, AtAnyMoment, IsHoused, IsUnopened, IsDamaged}
 use Rattle.compress_server.specs.Script.{ScriptEnds, script_end}
@@ -54,7 +53,7 @@ journal_in other None = other
 journal_in other (Some journal) = journal
 
 -- A house was opened with these rows on a disk, and came back with the same figures.
-module _ (rows : Rows) (o now : Option History) (before after count : ℕ) (roster : IsRoster rows) (v w : HouseView) (is : IsOpened rows o after v) (never_fell : before ≤ after)
+module _ (rows : Rows) (o now : Option History) (before count : ℕ) (roster : IsRoster rows) (v w : HouseView) (is : IsOpened rows o before v)
     (first : Keeps v) (last : Keeps w) (figures : figures_of w ≡ figures_of v) (disk : now ≡ w.disk) (faults : count ≡ w.faults) where
   same_journal : w.journal ≡ v.journal
   same_journal = ap (λ (f : Figures). journal_in w.journal f.journal) figures
@@ -82,11 +81,11 @@ module _ (rows : Rows) (o now : Option History) (before after count : ℕ) (rost
   faults_rose stopped =
       let counted : w.journal.faults ≡ v.faults = ap (λ (j : JournalFigures). j.faults) same_journal ∙ is.counted.1 in
       let later : Rose v.faults w.faults = subst (λ n. Rose n w.faults) counted (last.stopped stopped) in
-      subst (λ n. Rose before n) (sym faults) (rose_later before v.faults w.faults (omega (arith, never_fell, is.counted.0)) later)
+      subst (λ n. Rose before n) (sym faults) (rose_later before v.faults w.faults is.counted.0 later)
 
-  housed : IsOpened rows o before v → IsHoused rows (disk_of o before) (disk_of now count) v w
-  housed opened = record {
-    opened = opened;
+  pub housed : IsHoused rows (disk_of o before) (disk_of now count) v w
+  housed = record {
+    opened = is;
     figures = figures;
     legal_first = first.legal;
     legal = last.legal;
@@ -116,7 +115,7 @@ module _ (rows copy : Rows) (o mid : Option History) (before after : ℕ) (copie
   }
 
   -- one was opened, as on the disk that came in
-  opened_later : (v : HouseView) → IsOpened copy mid after v → IsOpened rows o after v
+  pub opened_later : (v : HouseView) → IsOpened copy mid after v → IsOpened rows o before v
   opened_later v is = record {
     base = (subst (λ (r : Rows). IsOpened r mid after v) copied is).base;
     opening = is.opening;
@@ -126,24 +125,8 @@ module _ (rows copy : Rows) (o mid : Option History) (before after : ℕ) (copie
     tells = is.tells ∙ ap (λ (d : Option History). is_some d) same;
     first_moment = is.first_moment ∙ ap (λ (d : Option History). moment_of d) same;
     moment = is.moment;
-    counted = is.counted;
+    counted = (omega (arith, never_fell, is.counted.0), is.counted.1);
   }
-
-  -- and came back
-  pub housed_later : IsRoster rows → (v w : HouseView) (now : Option History) (count : ℕ) → IsOpened copy mid after v → Keeps v → Keeps w → figures_of w ≡ figures_of v → now ≡ w.disk → count ≡ w.faults → IsHoused rows (disk_of o before) (disk_of now count) v w
-  housed_later roster v w now count is first last figures disk faults =
-      let opened = opened_later v is in
-      housed rows o now before after count roster v w opened never_fell first last figures disk faults (record {
-        base = opened.base;
-        opening = opened.opening;
-        stands = opened.stands;
-        running = opened.running;
-        size = opened.size;
-        tells = opened.tells;
-        first_moment = opened.first_moment;
-        moment = opened.moment;
-        counted = (omega (arith, never_fell, is.counted.0), is.counted.1);
-      })
 
 -- A house that was just opened: its history ends where it was opened, it has the rows, and it runs.
 module _ (rows : Rows) (o : Option History) (count : ℕ) (v : HouseView) (is : IsOpened rows o count v) where

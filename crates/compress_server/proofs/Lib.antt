@@ -3,3 +3,6 @@ pub mod RunFacts
 pub mod EndFacts
 pub mod CycleFacts
 pub mod HousedFacts
+pub mod ServeFacts
+pub mod PlaceFacts
+pub mod ServiceFacts

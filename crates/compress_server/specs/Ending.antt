@@ -1,5 +1,6 @@
 -- What was read and what was written, by the end of a form.
 use Rattle.std.specs.Prelude.{◌≡◌, ◌⊎◌, ℕ, true, false, List, Option, Some, None}
+use Rattle.doors.specs.Visits.{Visits}
 use Rattle.outside.specs.Files.{Folder}
 use Rattle.outside.specs.Faults.{Rose}
 use Rattle.outside.specs.Flow.{Flow, Takes, TakesFront}
@@ -15,7 +16,7 @@ use Rattle.compress_server.specs.declared.load.FileRole.{FileRole}
 use Rattle.compress_server.specs.declared.load.LoadFault.{LoadFault}
 use Rattle.compress_server.specs.declared.load.LoadFault.TheVariants.{Files, Faulty, Memory as NoMemory}
 use Rattle.compress_server.specs.declared.ending.End.{End}
-use Rattle.compress_server.specs.declared.ending.End.TheVariants.{Done, No, BadWords, Unloaded, Damaged, DiskFault, Stopped, SourceFault, SinkFault, Limit, Memory}
+use Rattle.compress_server.specs.declared.ending.End.TheVariants.{Done, No, BadWords, Unloaded, Damaged, DiskFault, Stopped, ListenerFault, SourceFault, SinkFault, Limit, Memory}
 use Rattle.compress_server.specs.Words.{Market, Form}
 use Rattle.house.specs.House.{is_stopped}
 use Rattle.compress_server.specs.Housed.{DiskState, OverHouse, IsDamaged, IsUnopened}
@@ -23,6 +24,8 @@ use Rattle.compress_server.specs.Files.{SaysRoster, IsRosterFault, IsMarketFault
 use Rattle.compress_server.specs.Run.{IsWhole, IsStopped, IsAtLimit, IsUnwritten}
 use Rattle.compress_server.specs.Check.{SaysYes, SaysNo, SaysFront}
 use Rattle.compress_server.specs.Solve.{Proposes, ProposesFront}
+use Rattle.compress_server.specs.Seen.{Seen, IsOnlyOutput}
+use Rattle.compress_server.specs.Serve.{ServiceRuns}
 
 -- a fault among the files is the first one, and where the files failed this holds of the role
 abbrev pub IsFault : (FileRole → FileFault → Type 0) → (FileRole → Type 0) → LoadFault → Type 0
@@ -40,6 +43,7 @@ JournalRuns rows opened flow begun taken disk left (Damaged place) = (flow ≡ o
 JournalRuns rows opened flow begun taken disk left DiskFault = (flow ≡ opened) × (taken ≡ begun) × IsUnopened rows disk left × Rose disk.faults left.faults
 JournalRuns rows opened flow begun taken disk left Stopped =
     OverHouse rows disk left (λ v w. (is_stopped w ≡ true) × IsWhole v w opened flow begun taken) × Rose disk.faults left.faults
+JournalRuns rows opened flow begun taken disk left ListenerFault = ⊥
 JournalRuns rows opened flow begun taken disk left SourceFault = OverHouse rows disk left (λ v w. IsStopped v w opened flow begun taken)
 JournalRuns rows opened flow begun taken disk left SinkFault = OverHouse rows disk left (λ v w. IsUnwritten v w opened flow begun taken)
 JournalRuns rows opened flow begun taken disk left Limit = OverHouse rows disk left (λ v w. IsAtLimit v w opened flow begun taken)
@@ -69,6 +73,7 @@ IsTold rows mode trades parts begun taken (Unloaded fault) = ⊥
 IsTold rows mode trades parts begun taken (Damaged place) = ⊥
 IsTold rows mode trades parts begun taken DiskFault = ⊥
 IsTold rows mode trades parts begun taken Stopped = ⊥
+IsTold rows mode trades parts begun taken ListenerFault = ⊥
 IsTold rows mode trades parts begun taken SourceFault = ⊥
 IsTold rows mode trades parts begun taken Limit = ⊥
 
@@ -81,6 +86,7 @@ CheckRuns folder market proposal begun taken (Unloaded fault) = (taken ≡ begun
 CheckRuns folder market proposal begun taken (Damaged place) = ⊥
 CheckRuns folder market proposal begun taken DiskFault = ⊥
 CheckRuns folder market proposal begun taken Stopped = ⊥
+CheckRuns folder market proposal begun taken ListenerFault = ⊥
 CheckRuns folder market proposal begun taken SourceFault = ⊥
 CheckRuns folder market proposal begun taken SinkFault = SaysFront folder begun taken market proposal
 CheckRuns folder market proposal begun taken Limit = ⊥
@@ -95,19 +101,31 @@ SolveRuns folder market begun taken (Unloaded fault) = (taken ≡ begun) × IsFa
 SolveRuns folder market begun taken (Damaged place) = ⊥
 SolveRuns folder market begun taken DiskFault = ⊥
 SolveRuns folder market begun taken Stopped = ⊥
+SolveRuns folder market begun taken ListenerFault = ⊥
 SolveRuns folder market begun taken SourceFault = ⊥
 SolveRuns folder market begun taken SinkFault = ProposesFront folder begun taken market
 SolveRuns folder market begun taken Limit = ⊥
 SolveRuns folder market begun taken Memory = taken ≡ begun
 
--- by the end of the program
-abbrev pub Runs : Option Folder → Option Form → Option Flow → Option Flow → Option (List ℕ) → Option (List ℕ) → DiskState → DiskState → End → Type 0
-Runs folder None opened flow begun taken disk left end = (end ≡ BadWords) × (flow ≡ opened) × (taken ≡ begun) × (left ≡ disk)
-Runs folder (Some (Form.Script roster journal)) opened flow begun taken disk left end = ScriptRuns folder roster opened flow begun taken disk left end
-Runs folder (Some (Form.Check market proposal)) opened flow begun taken disk left end = (flow ≡ opened) × (left ≡ disk) × CheckRuns folder market proposal begun taken end
-Runs folder (Some (Form.Solve market)) opened flow begun taken disk left end = (flow ≡ opened) × (left ≡ disk) × SolveRuns folder market begun taken end
+-- by the end of a service: the roster could not be had, and nothing else was asked; or what came over its rows
+abbrev pub ServeRuns : {D : Type 0} → (D → Option Visits) → Option Folder → List ℕ → Seen → Seen → End → Type 0
+ServeRuns visits folder roster before after end =
+    ((fault : LoadFault) × (end ≡ Unloaded fault) × (after ≡ before) × IsFault (IsRosterFault folder roster) ReadBeforeRoster fault)
+    ⊎ OverRoster folder roster (λ rows. ServiceRuns visits rows before after end)
 
--- where the files, the input or the output failed, its count rose; a fault of the disk is counted in what a script comes to
+-- by the end of the program: only a script reads the input, and only a service asks the listener
+abbrev pub Runs : {D : Type 0} → (D → Option Visits) → Option Folder → Option Form → Option Flow → Option Flow → Seen → Seen → End → Type 0
+Runs visits folder None opened flow before after end = (end ≡ BadWords) × (flow ≡ opened) × (after ≡ before)
+Runs visits folder (Some (Form.Script roster journal)) opened flow before after end =
+    (after.listener ≡ before.listener) × ScriptRuns folder roster opened flow before.output.taken after.output.taken before.disk after.disk end
+Runs visits folder (Some (Form.Serve roster journal address)) opened flow before after end =
+    (flow ≡ opened) × ServeRuns visits folder roster before after end
+Runs visits folder (Some (Form.Check market proposal)) opened flow before after end =
+    (flow ≡ opened) × IsOnlyOutput before after × CheckRuns folder market proposal before.output.taken after.output.taken end
+Runs visits folder (Some (Form.Solve market)) opened flow before after end =
+    (flow ≡ opened) × IsOnlyOutput before after × SolveRuns folder market before.output.taken after.output.taken end
+
+-- where the files, the input or the output failed, its count rose; a fault of the disk or of the listener is counted in what a script or a service comes to
 abbrev pub IsCounted : Type 0 → Type 0 → Type 0 → End → Type 0
 IsCounted files input output Done = Unit {0}
 IsCounted files input output No = Unit {0}
@@ -118,6 +136,7 @@ IsCounted files input output (Unloaded NoMemory) = Unit {0}
 IsCounted files input output (Damaged place) = Unit {0}
 IsCounted files input output DiskFault = Unit {0}
 IsCounted files input output Stopped = Unit {0}
+IsCounted files input output ListenerFault = Unit {0}
 IsCounted files input output SourceFault = input
 IsCounted files input output SinkFault = output
 IsCounted files input output Limit = Unit {0}

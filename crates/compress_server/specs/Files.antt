@@ -1,5 +1,5 @@
 -- What the program's files say, and the first of them that has a fault.
-use Rattle.std.specs.Prelude.{◌≡◌, ℕ, List, Option, Some, None, Result, Ok, Err}
+use Rattle.std.specs.Prelude.{◌≡◌, ℕ, List, Option, Result, Ok, Err}
 use Rattle.outside.specs.Files.{Folder, IsFront}
 use Rattle.command_types.specs.declared.file_fault.FileFault.{FileFault}
 use Rattle.command_types.specs.Roster.{Rows}
@@ -12,7 +12,7 @@ use Rattle.compress_server.specs.declared.load.FileRole.{FileRole}
 use Rattle.compress_server.specs.declared.load.FileRole.TheVariants.{Roster, Trades, Proposal}
 use Rattle.compress_server.specs.declared.load.LoadFault.{LoadFault}
 use Rattle.compress_server.specs.declared.load.LoadFault.TheVariants.{Files, Faulty, Memory}
-use Rattle.compress_server.specs.Words.{Market, Form}
+use Rattle.compress_server.specs.Words.{Market}
 
 -- as many bytes of a file as are read: one more than a file may have
 abbrev pub file_front : ℕ
@@ -55,14 +55,7 @@ IsCheckFault folder market proposal Trades fault = IsMarketFault folder market T
 IsCheckFault folder market proposal Proposal fault =
     (rows : Rows) × (trades : List FileTrade) × SaysMarket folder market rows trades × Reads folder proposal (proposal_of rows) (Err fault)
 
--- of the files of a form, the first that has a fault has this one, which is its first
-abbrev pub IsFirstFault : Option Folder → Option Form → FileRole → FileFault → Type 0
-IsFirstFault folder None role fault = ⊥
-IsFirstFault folder (Some (Form.Script roster journal)) role fault = IsRosterFault folder roster role fault
-IsFirstFault folder (Some (Form.Check market proposal)) role fault = IsCheckFault folder market proposal role fault
-IsFirstFault folder (Some (Form.Solve market)) role fault = IsMarketFault folder market role fault
-
--- a script reads its roster first
+-- a script and a service read their roster first
 abbrev pub ReadBeforeRoster : FileRole → Type 0
 ReadBeforeRoster Roster = Unit {0}
 ReadBeforeRoster Trades = ⊥
@@ -79,13 +72,6 @@ abbrev pub ReadBeforeCheck : Option Folder → Market → FileRole → Type 0
 ReadBeforeCheck folder market Roster = ReadBeforeMarket folder market Roster
 ReadBeforeCheck folder market Trades = ReadBeforeMarket folder market Trades
 ReadBeforeCheck folder market Proposal = (rows : Rows) × (trades : List FileTrade) × SaysMarket folder market rows trades
-
--- of the files of a form, those before the one in this role say what they should
-abbrev pub AreReadBefore : Option Folder → Option Form → FileRole → Type 0
-AreReadBefore folder None role = ⊥
-AreReadBefore folder (Some (Form.Script roster journal)) role = ReadBeforeRoster role
-AreReadBefore folder (Some (Form.Check market proposal)) role = ReadBeforeCheck folder market role
-AreReadBefore folder (Some (Form.Solve market)) role = ReadBeforeMarket folder market role
 
 -- why the file in this role could not be had: its first fault, or the files, or memory
 abbrev pub IsLoadFault : {A : Type 0} → Option Folder → List ℕ → FileRole → (List ℕ → Result A FileFault) → LoadFault → Type 0

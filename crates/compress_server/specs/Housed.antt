@@ -10,6 +10,8 @@ use Rattle.recovery.specs.StandsFor.{StandsFor}
 use Rattle.house.specs.House.{HouseView, figures_of, is_stopped}
 use Rattle.house.specs.Opening.{IsOpened, FindsFault, StandsForNone}
 use Rattle.house.specs.Storing.{ContentStandsFor, LeavesEntries, StandsForFront, StandsForKept}
+use Rattle.compress_server.specs.declared.ending.End.{End}
+use Rattle.compress_server.specs.declared.ending.End.TheVariants.{Done, No, BadWords, Unloaded, Damaged, DiskFault, Stopped, ListenerFault, SourceFault, SinkFault, Limit, Memory}
 use Rattle.compress_server.specs.Cycles.{KeepsLaws}
 use Rattle.house.specs.declared.fault.OpenFault.TheVariants as opens
 
@@ -52,6 +54,21 @@ pub record IsDamaged (rows : Rows) (disk left : DiskState) (place : ℕ) : Type 
   pub found : FindsFault rows disk.history (opens.Damaged place)
   pub unopened : IsUnopened rows disk left
   pub same : left.history ≡ disk.history
+
+-- no house could be opened, by the end that tells why
+abbrev pub OpeningFails : Rows → DiskState → DiskState → End → Type 0
+OpeningFails rows disk left (Damaged place) = IsDamaged rows disk left place
+OpeningFails rows disk left DiskFault = IsUnopened rows disk left × Rose disk.faults left.faults
+OpeningFails rows disk left Memory = IsUnopened rows disk left
+OpeningFails rows disk left Done = ⊥
+OpeningFails rows disk left No = ⊥
+OpeningFails rows disk left BadWords = ⊥
+OpeningFails rows disk left (Unloaded fault) = ⊥
+OpeningFails rows disk left Stopped = ⊥
+OpeningFails rows disk left ListenerFault = ⊥
+OpeningFails rows disk left SourceFault = ⊥
+OpeningFails rows disk left SinkFault = ⊥
+OpeningFails rows disk left Limit = ⊥
 
 -- a house was opened, and came back, and of the two this holds
 abbrev pub OverHouse : Rows → DiskState → DiskState → (HouseView → HouseView → Type 0) → Type 0

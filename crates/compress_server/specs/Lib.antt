@@ -3,6 +3,9 @@ pub mod Files
 pub mod Faults
 pub mod Cycles
 pub mod Housed
+pub mod Seen
+pub mod Serve
+pub mod Runs
 pub mod Run
 pub mod Script
 pub mod Check

@@ -86,7 +86,8 @@ status_line status =
     else (if status == 6 then codes "disk fault\n"
     else (if status == 8 then codes "session limit\n"
     else (if status == 9 then codes "memory\n"
-    else (if status == 11 then codes "file fault\n" else []))))))
+    else (if status == 10 then codes "listener fault\n"
+    else (if status == 11 then codes "file fault\n" else [])))))))
 
 -- The line was written, or a front of it up to a fault of its sink.
 abbrev pub IsReported : Option (List ℕ) → Option (List ℕ) → ℕ → ℕ → List ℕ → Type 0

@@ -2,7 +2,7 @@
 use Rattle.std.specs.Prelude.{◌≡◌, ◌⊎◌, ℕ, List, Option}
 use Rattle.compress_server.specs.declared.load.LoadFault.TheVariants.{Files, Faulty, Memory as NoMemory}
 use Rattle.compress_server.specs.declared.ending.End.{End}
-use Rattle.compress_server.specs.declared.ending.End.TheVariants.{Done, No, BadWords, Unloaded, Damaged, DiskFault, Stopped, SourceFault, SinkFault, Limit, Memory}
+use Rattle.compress_server.specs.declared.ending.End.TheVariants.{Done, No, BadWords, Unloaded, Damaged, DiskFault, Stopped, ListenerFault, SourceFault, SinkFault, Limit, Memory}
 use Rattle.compress_server.specs.Faults.{fault_line, damage_line}
 use Rattle.compress_server.specs.Run.{status_line, IsReported}
 
@@ -26,6 +26,7 @@ TellsEnd begun taken before after (Unloaded NoMemory) status = IsStatus begun ta
 TellsEnd begun taken before after (Damaged place) status = IsLine begun taken before after 7 (damage_line place) status
 TellsEnd begun taken before after DiskFault status = IsStatus begun taken before after 6 status
 TellsEnd begun taken before after Stopped status = IsStatus begun taken before after 6 status
+TellsEnd begun taken before after ListenerFault status = IsStatus begun taken before after 10 status
 TellsEnd begun taken before after SourceFault status = IsStatus begun taken before after 4 status
 TellsEnd begun taken before after SinkFault status = IsStatus begun taken before after 5 status
 TellsEnd begun taken before after Limit status = IsStatus begun taken before after 8 status

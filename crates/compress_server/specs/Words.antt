@@ -17,6 +17,7 @@ pub record Market : Type 0 where
 -- what the program is to do, with the names of its files
 pub data Form : Type 0 where
   Script : (roster journal : List ℕ) → Form
+  Serve : (roster journal address : List ℕ) → Form
   Check : (market : Market) (proposal : List ℕ) → Form
   Solve : (market : Market) → Form
 
@@ -36,51 +37,17 @@ with_mode roster trades (Some mode) = Some (record { roster = roster; trades = t
 abbrev pub market_of : List ℕ → List ℕ → List ℕ → Option Market
 market_of roster trades mode = if are_plain (roster ∷ trades ∷ []) then with_mode roster trades (mode_word mode) else None
 
--- `script ROSTER JOURNAL`, `solve ROSTER TRADES MODE` or `check ROSTER TRADES MODE PROPOSAL`; all other words are out of form
+-- `script ROSTER JOURNAL`, `serve ROSTER JOURNAL ADDRESS`, `solve ROSTER TRADES MODE` or `check ROSTER TRADES MODE PROPOSAL`; all other words are out of form
 abbrev pub form_of : List (List ℕ) → Option Form
 form_of (verb ∷ roster ∷ journal ∷ []) =
     if bytes_eq verb (codes "script") && are_plain (roster ∷ journal ∷ []) then Some (Form.Script roster journal) else None
-form_of (verb ∷ roster ∷ trades ∷ mode ∷ []) =
-    if bytes_eq verb (codes "solve") then option_map (λ market. Form.Solve market) (market_of roster trades mode) else None
+form_of (verb ∷ roster ∷ second ∷ third ∷ []) =
+    if bytes_eq verb (codes "solve") then option_map (λ market. Form.Solve market) (market_of roster second third)
+    else (if bytes_eq verb (codes "serve") && are_plain (roster ∷ second ∷ third ∷ []) then Some (Form.Serve roster second third) else None)
 form_of (verb ∷ roster ∷ trades ∷ mode ∷ proposal ∷ []) =
     if bytes_eq verb (codes "check") && are_plain (proposal ∷ [])
     then option_map (λ market. Form.Check market proposal) (market_of roster trades mode) else None
 form_of words = None
-
--- the form is a script, and this holds of its roster's name
-abbrev pub IsScriptAnd : Option Form → (List ℕ → Type 0) → Type 0
-IsScriptAnd None P = ⊥
-IsScriptAnd (Some (Form.Script roster journal)) P = P roster
-IsScriptAnd (Some (Form.Check market proposal)) P = ⊥
-IsScriptAnd (Some (Form.Solve market)) P = ⊥
-
--- the form is a check, and this holds of its market and its proposal's name
-abbrev pub IsCheckAnd : Option Form → (Market → List ℕ → Type 0) → Type 0
-IsCheckAnd None P = ⊥
-IsCheckAnd (Some (Form.Script roster journal)) P = ⊥
-IsCheckAnd (Some (Form.Check market proposal)) P = P market proposal
-IsCheckAnd (Some (Form.Solve market)) P = ⊥
-
--- this holds of a script's roster's name, where the form is a script
-abbrev pub OnScript : Option Form → (List ℕ → Type 0) → Type 0
-OnScript None P = Unit {0}
-OnScript (Some (Form.Script roster journal)) P = P roster
-OnScript (Some (Form.Check market proposal)) P = Unit {0}
-OnScript (Some (Form.Solve market)) P = Unit {0}
-
--- this holds of a check's market and its proposal's name, where the form is a check
-abbrev pub OnCheck : Option Form → (Market → List ℕ → Type 0) → Type 0
-OnCheck None P = Unit {0}
-OnCheck (Some (Form.Script roster journal)) P = Unit {0}
-OnCheck (Some (Form.Check market proposal)) P = P market proposal
-OnCheck (Some (Form.Solve market)) P = Unit {0}
-
--- this holds of the market to be solved, where the form is a solve
-abbrev pub OnSolve : Option Form → (Market → Type 0) → Type 0
-OnSolve None P = Unit {0}
-OnSolve (Some (Form.Script roster journal)) P = Unit {0}
-OnSolve (Some (Form.Check market proposal)) P = Unit {0}
-OnSolve (Some (Form.Solve market)) P = P market
 
 -- the market of the code's words
 abbrev pub read_market : MarketFiles → Market
@@ -89,5 +56,6 @@ read_market market = record { roster = market.roster.now; trades = market.trades
 -- the form of the code's words
 abbrev pub read_form : ReadForm → Form
 read_form (read.Script roster journal) = Form.Script roster.now journal.now
+read_form (read.Serve roster journal address) = Form.Serve roster.now journal.now address.now
 read_form (read.Check market proposal) = Form.Check (read_market market) proposal.now
 read_form (read.Solve market) = Form.Solve (read_market market)

@@ -17,8 +17,10 @@ pub enum End {
     Damaged(u64),
     /// The disk failed before a house was opened.
     DiskFault,
-    /// A fault of the disk stopped the house; the session ended whole.
+    /// A fault of the disk stopped the house; the session, or all seats, ended whole.
     Stopped,
+    /// The listener or one of its doors failed.
+    ListenerFault,
     /// The input failed.
     SourceFault,
     /// The output failed.

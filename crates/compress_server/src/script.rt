@@ -13,9 +13,10 @@ ghost use Rattle.compress_server.specs.Ending.{JournalRuns, ScriptRuns};
 
 use crate::ending::End;
 use crate::load::{LoadFault, load_roster};
+use crate::opening::open_house;
 use command_types::Roster;
 use cycle_lock::Turns;
-use house::{House, OpenFault};
+use house::House;
 use outside::{Disk, Files, Sink, Source};
 use parallel_solver::Gate;
 use path_solver::PathSolver;
@@ -96,18 +97,9 @@ fn run_journal<R: Threads + Wait + Sync, S: Source, K: Sink, D: Disk + Send, G: 
     ensures source_fault { result.0 ≡ End.SourceFault → Rose (S.faults input.old) (S.faults input.new) }
     ensures sink_fault { result.0 ≡ End.SinkFault → Rose (K.faults output.old) (K.faults output.new) }
 {
-    let mut disk = disk;
-    if disk.attach(journal).is_err() {
-        return (End::DiskFault, disk);
-    }
-    let Ok(copy) = roster.copy() else {
-        return (End::Memory, disk);
-    };
-    let house = match House::new(alloc, copy, disk) {
+    let house = match open_house(alloc, roster, journal, disk) {
         Ok(house) => house,
-        Err((OpenFault::Damaged { offset }, disk)) => return (End::Damaged(offset), disk),
-        Err((OpenFault::DiskFault, disk)) => return (End::DiskFault, disk),
-        Err((OpenFault::Memory, disk)) => return (End::Memory, disk),
+        Err(failed) => return failed,
     };
     let (end, house) = serve_house(rt, alloc, roster, house, input, output, gate);
     let stopped = house.is_stopped();

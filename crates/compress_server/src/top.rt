@@ -9,6 +9,7 @@ ghost use Rattle.compress_server.specs.Words.{form_of};
 ghost use Rattle.compress_server.specs.Faults.{fault_line, damage_line};
 ghost use Rattle.compress_server.specs.Run.{IsReported};
 ghost use Rattle.compress_server.specs.Housed.{disk_of};
+ghost use Rattle.compress_server.specs.Seen.{output_of, listener_of, seen_of};
 ghost use Rattle.compress_server.specs.Ending.{Runs, IsCounted};
 ghost use Rattle.compress_server.specs.Telling.{IsLine, TellsEnd};
 
@@ -17,9 +18,11 @@ use crate::ending::End;
 use crate::faults::{damage_line, fault_line};
 use crate::load::{FileRole, LoadFault};
 use crate::script::{WORKERS, run_script};
+use crate::serve::{ServiceWords, run_serve};
 use crate::solve::run_solve;
 use crate::words::{Form, read_words};
 use command_types::FileFault;
+use doors::Listener;
 use file_market::Workers;
 use outside::sink::write_all;
 use outside::{Disk, Files, Sink, Source};
@@ -71,6 +74,7 @@ fn tell_end<E: Sink>(alloc: Global, errors: &mut E, end: End) -> u8
         End::Damaged(place) => tell_damage(alloc, errors, place),
         End::DiskFault => tell(errors, 6, b"disk fault\n"),
         End::Stopped => tell(errors, 6, b"disk fault\n"),
+        End::ListenerFault => tell(errors, 10, b"listener fault\n"),
         End::SourceFault => tell(errors, 4, b"source fault\n"),
         End::SinkFault => tell(errors, 5, b"sink fault\n"),
         End::Limit => tell(errors, 8, b"session limit\n"),
@@ -79,7 +83,15 @@ fn tell_end<E: Sink>(alloc: Global, errors: &mut E, end: End) -> u8
 }
 
 // Does what the words ask for.
-fn run_form<R: Threads + Wait + Sync, F: Files, S: Source, K: Sink, D: Disk + Send, G: Gate>(
+fn run_form<
+    R: Threads + Wait + Sync,
+    F: Files,
+    S: Source,
+    K: Sink,
+    D: Disk + Send,
+    L: Listener,
+    G: Gate,
+>(
     rt: &R,
     alloc: Global,
     words: &[String],
@@ -87,10 +99,13 @@ fn run_form<R: Threads + Wait + Sync, F: Files, S: Source, K: Sink, D: Disk + Se
     input: &mut S,
     output: &mut K,
     disk: D,
+    listener: &mut L,
     gate: &G,
 ) -> (End, D)
     requires { IsSettled (D.history disk) }
-    ensures runs { Runs (F.folder files.old) (form_of (map string_bytes words.now)) (S.flow input.old) (S.flow input.new) (K.taken output.old) (K.taken output.new) (disk_of (D.history disk) (D.fault_count disk)) (disk_of (D.history result.1) (D.fault_count result.1)) result.0 }
+    ensures runs { Runs L.Door.visits (F.folder files.old) (form_of (map string_bytes words.now)) (S.flow input.old) (S.flow input.new)
+        (seen_of (output_of (K.taken output.old) (K.faults output.old)) (disk_of (D.history disk) (D.fault_count disk)) (listener_of (L.doors listener.old) (L.faults listener.old)))
+        (seen_of (output_of (K.taken output.new) (K.faults output.new)) (disk_of (D.history result.1) (D.fault_count result.1)) (listener_of (L.doors listener.new) (L.faults listener.new))) result.0 }
     ensures stays { F.folder files.new ≡ F.folder files.old }
     ensures source_fault { result.0 ≡ End.SourceFault → Rose (S.faults input.old) (S.faults input.new) }
     ensures sink_fault { result.0 ≡ End.SinkFault → Rose (K.faults output.old) (K.faults output.new) }
@@ -100,6 +115,20 @@ fn run_form<R: Threads + Wait + Sync, F: Files, S: Source, K: Sink, D: Disk + Se
         None => (End::BadWords, disk),
         Some(Form::Script { roster, journal }) => {
             run_script(rt, alloc, files, roster, journal, input, output, disk, gate)
+        }
+        Some(
+            Form::Serve {
+                roster,
+                journal,
+                address,
+            },
+        ) => {
+            let words = ServiceWords {
+                roster,
+                journal,
+                address,
+            };
+            run_serve(rt, alloc, files, &words, output, disk, listener, gate)
         }
         Some(Form::Check { market, proposal }) => {
             (run_check(alloc, files, &market, proposal, output), disk)
@@ -115,6 +144,8 @@ fn run_form<R: Threads + Wait + Sync, F: Files, S: Source, K: Sink, D: Disk + Se
 ///
 /// - `script ROSTER JOURNAL`: one session, under seat 0, over the roster of a file, on the history that the journal keeps;
 ///   each of its changes is in the journal before it is answered.
+/// - `serve ROSTER JOURNAL ADDRESS`: four seats, under the numbers 1 to 4, beside one another over the same; each serves
+///   the connections of a door at the address, one after another. In the end `history N` tells the history's length.
 /// - `check ROSTER TRADES MODE PROPOSAL`: whether a proposal is right for a market; `yes`, or `no`, the first product
 ///   that fails and why.
 /// - `solve ROSTER TRADES MODE`: a proposal for a market.
@@ -130,10 +161,12 @@ fn run_form<R: Threads + Wait + Sync, F: Files, S: Source, K: Sink, D: Disk + Se
 /// - 3: a file has a fault, and the files before it have none;
 /// - 4: the input of a script failed; its whole lines up to there are replied to;
 /// - 5: the output failed; a front of what was to be written is there;
-/// - 6: the disk failed: at the opening, and nothing was read or written; or in the session, which ended as with 0;
+/// - 6: the disk failed: at the opening, and nothing was read or written; or later, and the session or all seats ended as
+///   with 0;
 /// - 7: the journal is damaged at a place that is told, and stays as it is;
 /// - 8: a script's session took 2^30 bytes; its whole lines up to there are replied to;
-/// - 9: memory was not to be had;
+/// - 9: memory was not to be had; where a seat found none, the others served on;
+/// - 10: the listener failed, and no seat began; or the door of a seat, and the others served on;
 /// - 11: the files failed at one of them, and the files before it have no fault.
 ///
 /// At 2, 3, 7, 9 and 11 nothing was read from the input or written to the output. A check and a solve read no input, and
@@ -145,6 +178,7 @@ pub fn run<
     K: Sink,
     E: Sink,
     D: Disk + Send,
+    L: Listener,
     G: Gate,
 >(
     rt: &R,
@@ -155,14 +189,17 @@ pub fn run<
     output: &mut K,
     errors: &mut E,
     disk: D,
+    listener: &mut L,
     gate: &G,
 ) -> (u8, D)
     requires { IsSettled (D.history disk) }
-    ensures ends { (end : Ending) × Runs (F.folder files.old) (form_of (map string_bytes words.now)) (S.flow input.old) (S.flow input.new) (K.taken output.old) (K.taken output.new) (disk_of (D.history disk) (D.fault_count disk)) (disk_of (D.history result.1) (D.fault_count result.1)) end
+    ensures ends { (end : Ending) × Runs L.Door.visits (F.folder files.old) (form_of (map string_bytes words.now)) (S.flow input.old) (S.flow input.new)
+        (seen_of (output_of (K.taken output.old) (K.faults output.old)) (disk_of (D.history disk) (D.fault_count disk)) (listener_of (L.doors listener.old) (L.faults listener.old)))
+        (seen_of (output_of (K.taken output.new) (K.faults output.new)) (disk_of (D.history result.1) (D.fault_count result.1)) (listener_of (L.doors listener.new) (L.faults listener.new))) end
         × TellsEnd (E.taken errors.old) (E.taken errors.new) (E.faults errors.old) (E.faults errors.new) end result.0
         × IsCounted (Rose (F.faults files.old) (F.faults files.new)) (Rose (S.faults input.old) (S.faults input.new)) (Rose (K.faults output.old) (K.faults output.new)) end }
     ensures files { F.folder files.new ≡ F.folder files.old }
 {
-    let (end, disk) = run_form(rt, alloc, words, files, input, output, disk, gate);
+    let (end, disk) = run_form(rt, alloc, words, files, input, output, disk, listener, gate);
     (tell_end(alloc, errors, end), disk)
 }

@@ -1,7 +1,8 @@
-//! The words that the program is called with: `script ROSTER JOURNAL`, `solve ROSTER TRADES MODE` or
-//! `check ROSTER TRADES MODE PROPOSAL`. No name of a file begins with a dash.
+//! The words that the program is called with: `script ROSTER JOURNAL`, `serve ROSTER JOURNAL ADDRESS`,
+//! `solve ROSTER TRADES MODE` or `check ROSTER TRADES MODE PROPOSAL`. No name of a file begins with a dash, nor does an
+//! address.
 
-ghost use Rattle.std.specs.Prelude.{◌≡◌, map, string_bytes, option_map};
+ghost use Rattle.std.specs.Prelude.{◌≡◌, [], ◌∷◌, map, string_bytes, option_map};
 ghost use Rattle.command_types.specs.Grammar.{mode_word};
 ghost use Rattle.compress_server.specs.Words.{begins_with_dash, market_of, form_of, read_market, read_form};
 
@@ -22,6 +23,12 @@ pub enum Form<'a> {
     Script {
         roster: &'a str,
         journal: &'a str,
+    },
+    /// Seats at an address, over a roster and a journal.
+    Serve {
+        roster: &'a str,
+        journal: &'a str,
+        address: &'a str,
     },
     /// Whether a proposal is right for a market.
     Check {
@@ -70,6 +77,28 @@ fn read_market<'a>(roster: &'a str, trades: &'a str, mode: &str) -> Option<Marke
     })
 }
 
+// What four words ask for.
+fn read_four<'a>(verb: &str, roster: &'a str, second: &'a str, third: &'a str) -> Option<Form<'a>>
+    ensures { option_map read_form result ≡ form_of (verb.now ∷ roster.now ∷ second.now ∷ third.now ∷ []) }
+{
+    if verb == "solve" {
+        let market = read_market(roster, second, third)?;
+        return Some(Form::Solve { market });
+    }
+    if verb != "serve"
+        || is_dashed(roster.as_bytes())
+        || is_dashed(second.as_bytes())
+        || is_dashed(third.as_bytes())
+    {
+        return None;
+    }
+    Some(Form::Serve {
+        roster,
+        journal: second,
+        address: third,
+    })
+}
+
 /// What the words ask for; none exactly where they are out of form.
 pub fn read_words(words: &[String]) -> Option<Form<'_>>
     ensures { option_map read_form result ≡ form_of (map string_bytes words.now) }
@@ -86,12 +115,13 @@ pub fn read_words(words: &[String]) -> Option<Form<'_>>
             }
             Some(Form::Script { roster, journal })
         }
-        [verb, roster, trades, mode] => {
-            if verb.as_str() != "solve" {
-                return None;
-            }
-            let market = read_market(roster.as_str(), trades.as_str(), mode.as_str())?;
-            Some(Form::Solve { market })
+        [verb, roster, second, third] => {
+            read_four(
+                verb.as_str(),
+                roster.as_str(),
+                second.as_str(),
+                third.as_str(),
+            )
         }
         [verb, roster, trades, mode, proposal] => {
             let proposal = proposal.as_str();

@@ -50,7 +50,7 @@ told_after start f flow t taken now SinkFault (bytes, gives, inr (at_end, short,
 told_after start f flow t taken now Memory (same, none_taken, desk) =
     record { gave = []; left = f.left; took = t; flow_is = same ∙ (λ i. Some (record { given = sym (append-nil f.given) i; left = f.left })); all = refl; taken_is = none_taken }
 
-rose_from_none : (before after : ℕ) → before ≡ 0 → Rose before after → 0 < after
+pub rose_from_none : (before after : ℕ) → before ≡ 0 → Rose before after → 0 < after
 rose_from_none before after none (inl lt) = omega (arith, none, lt)
 rose_from_none before after none (inr e) = subst (λ (n : ℕ). 0 < n) (sym e) (omega arith)
 

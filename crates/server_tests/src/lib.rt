@@ -38,9 +38,15 @@ mod program;
 #[cfg(test)]
 mod proposals;
 #[cfg(test)]
+mod served;
+#[cfg(test)]
+mod served_seats;
+#[cfg(test)]
 mod sessions;
 #[cfg(test)]
 mod sizes;
+#[cfg(test)]
+mod sockets;
 #[cfg(test)]
 mod solves;
 #[cfg(test)]

@@ -1,6 +1,6 @@
 //! A lock for sessions of the tests.
 
-ghost use Rattle.std.specs.Prelude.{◌≡◌, ◌≤◌, IfOk};
+ghost use Rattle.std.specs.Prelude.{◌≡◌, ◌+◌, ◌^◌, ◌≤◌, IfOk};
 ghost use Rattle.cycle_lock.specs.Passes.{IsPassOf, seen, may_split};
 
 use command_types::Roster;
@@ -13,6 +13,7 @@ pub fn opened(alloc: Global, roster: &Roster) -> Result<(Turns<PlainDesk>, Pass)
     ensures own { IfOk result (λ r. IsPassOf r.0 r.1) }
     ensures roster { IfOk result (λ r. roster.now ≡ (seen r.1).base.state.roster) }
     ensures left { IfOk result (λ r. 1 ≤ may_split r.1) }
+    ensures first { IfOk result (λ r. may_split r.1 + 1 ≡ 2 ^ 32) }
 {
     let machine = Machine::new(alloc, roster.copy()?)?;
     match Turns::new(alloc, PlainDesk::new(alloc, machine)) {

@@ -1,6 +1,6 @@
 //! Streams that keep step with one another, and with a gate, by one word that counts what has come.
 
-ghost use Rattle.std.specs.Prelude.{◌≡◌};
+ghost use Rattle.std.specs.Prelude.{◌≡◌, IfOk};
 
 use outside::{Failed, MemorySink, Sink, Source};
 use parallel_solver::Gate;
@@ -97,7 +97,9 @@ pub struct CountingSink<'a> {
 }
 
 impl<'a> CountingSink<'a> {
-    pub fn new(alloc: Global, steps: &'a Steps) -> Result<CountingSink<'a>, AllocError> {
+    pub fn new(alloc: Global, steps: &'a Steps) -> Result<CountingSink<'a>, AllocError>
+        ensures { IfOk result (λ s. s.sink.faults ≡ 0) }
+    {
         Ok(CountingSink {
             sink: MemorySink::new(alloc, 4096)?,
             steps,

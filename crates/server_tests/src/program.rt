@@ -4,6 +4,7 @@ ghost use Rattle.std.specs.Prelude.{Some, IfOk};
 ghost use Rattle.outside.specs.Disk.{IsSettled};
 
 use compress_server::run;
+use doors::{Listener, MemoryListener};
 use outside::{MemoryDisk, MemoryFiles, MemorySink, MemorySource, Sink, Source};
 use parallel_solver::{Gate, OpenGate};
 use std::alloc::{AllocError, AllocGlobal, Global};
@@ -49,14 +50,22 @@ pub fn empty_disk(alloc: Global) -> Result<MemoryDisk, AllocError>
 /// What a run over a disk left: the status, what was told on the errors, and the disk.
 pub type Left = (u8, MemorySink, MemoryDisk);
 
-/// Runs these words over these files, each by its name, over these streams, over this disk, and through this gate.
-pub fn run_through<R: Threads + Wait + Sync + AllocGlobal, S: Source, K: Sink, G: Gate>(
+/// Runs these words over these files, each by its name, over these streams, over this disk, at this listener, and through
+/// this gate.
+pub fn run_at<
+    R: Threads + Wait + Sync + AllocGlobal,
+    S: Source,
+    K: Sink,
+    L: Listener,
+    G: Gate,
+>(
     rt: &R,
     of: &[&str],
     contents: &[(&str, &[u8])],
     source: &mut S,
     output: &mut K,
     disk: MemoryDisk,
+    listener: &mut L,
     gate: &G,
 ) -> Result<Left, AllocError>
     requires { IsSettled (Some disk.history) }
@@ -79,9 +88,26 @@ pub fn run_through<R: Threads + Wait + Sync + AllocGlobal, S: Source, K: Sink, G
         output,
         &mut errors,
         disk,
+        listener,
         gate,
     );
     Ok((status, errors, disk))
+}
+
+/// Runs these words over these files, each by its name, over these streams, over this disk, and through this gate.
+pub fn run_through<R: Threads + Wait + Sync + AllocGlobal, S: Source, K: Sink, G: Gate>(
+    rt: &R,
+    of: &[&str],
+    contents: &[(&str, &[u8])],
+    source: &mut S,
+    output: &mut K,
+    disk: MemoryDisk,
+    gate: &G,
+) -> Result<Left, AllocError>
+    requires { IsSettled (Some disk.history) }
+{
+    let mut listener = MemoryListener::new(rt.alloc());
+    run_at(rt, of, contents, source, output, disk, &mut listener, gate)
 }
 
 /// Runs these words over these files, each by its name, over these streams, and over this disk.

@@ -1,0 +1,156 @@
+-- What a service does: its seats, their doors, and the line that it writes in the end.
+use Rattle.std.specs.Prelude.{◌≡◌, ◌⊎◌, ℕ, ◌+◌, ◌≤◌, ◌<◌, Bool, true, false, List, [], ◌∷◌, ◌++◌, length, map, All, Option, Some, None, codes, decimal, if◌then◌else◌}
+use Rattle.std.specs.List.{list_any}
+use Rattle.outside.specs.Faults.{Rose}
+use Rattle.outside.specs.Flow.{Takes, TakesFront}
+use Rattle.outside.specs.declared.trouble.Trouble.{Trouble}
+use Rattle.outside.specs.declared.trouble.Trouble.TheVariants as trouble
+use Rattle.doors.specs.Visits.{Visits, Doors, IsNew, TakesBack}
+use Rattle.command_types.specs.History.{end_of, entries_of_seat}
+use Rattle.command_types.specs.Roster.{Rows}
+use Rattle.cycle_lock.specs.Passes.{LockId, Continues}
+use Rattle.house.specs.House.{HouseView, figures_of, is_stopped}
+use Rattle.session.specs.Serving.{Seat}
+use Rattle.seats.specs.declared.seat.SeatEnd.{SeatEnd}
+use Rattle.seats.specs.declared.seat.SeatEnd.TheVariants as seat_end
+use Rattle.seats.specs.Final.{Final, AreServed}
+use Rattle.compress_server.specs.declared.ending.End.{End}
+use Rattle.compress_server.specs.declared.ending.End.TheVariants.{Done, ListenerFault, Stopped, SinkFault, Memory}
+use Rattle.compress_server.specs.Housed.{OverHouse, OpeningFails}
+use Rattle.compress_server.specs.Seen.{OutputState, ListenerState, Seen}
+
+-- how many seats serve, and how many connections each of them at most
+abbrev pub seat_count : ℕ
+seat_count = 4
+
+abbrev pub most_connections : ℕ
+most_connections = 1000000
+
+-- the line that tells the length of the history in the end
+abbrev pub history_line : ℕ → List ℕ
+history_line n = codes "history " ++ decimal n ++ codes "\n"
+
+-- what a seat with this number sees in a house that was just opened
+abbrev pub seat_at : LockId → HouseView → ℕ → Seat
+seat_at lock v number = record { lock = lock; figures = figures_of v; number = number; splits = 0 }
+
+abbrev pub final_of : HouseView → Final
+final_of w = record { history = w.history; stopped = is_stopped w }
+
+-- A seat's door when it was taken back: all connections that it gave were given back, and they are the seat's sessions, one after another, from the opening on, in the history of the house that came back. The seat ended where no connection was to come, where it had served as many as it may, where the door failed or for want of memory.
+pub record IsSeat (lock : LockId) (v w : HouseView) (number : ℕ) (door : Visits) (end : SeatEnd) : Type 0 where
+  pub none_out : door.out ≡ 0
+  pub few : length door.back ≤ most_connections
+  pub most : end ≡ seat_end.Most → length door.back ≡ most_connections
+  pub over : end ≡ seat_end.Over → door.coming ≡ []
+  pub served : AreServed (final_of w) (seat_at lock v number) (end_of v.history) false door.back end
+
+-- the same of a door that may tell nothing
+abbrev pub IsSeatAt : LockId → HouseView → HouseView → ℕ → Option Visits → SeatEnd → Type 0
+IsSeatAt lock v w number None end = Unit {0}
+IsSeatAt lock v w number (Some door) end = IsSeat lock v w number door end
+
+-- whether a seat ended for want of memory, and whether its door failed
+abbrev pub had_no_memory : SeatEnd → Bool
+had_no_memory seat_end.Over = false
+had_no_memory seat_end.Most = false
+had_no_memory seat_end.DoorFault = false
+had_no_memory seat_end.Memory = true
+
+abbrev pub had_door_fault : SeatEnd → Bool
+had_door_fault seat_end.Over = false
+had_door_fault seat_end.Most = false
+had_door_fault seat_end.DoorFault = true
+had_door_fault seat_end.Memory = false
+
+-- the end of a service whose listener was in trouble
+abbrev pub trouble_end : Trouble → End
+trouble_end trouble.Failed = ListenerFault
+trouble_end trouble.Memory = Memory
+
+-- the end of a service: whether a seat had no memory, a door failed, a fault of the disk stopped the house, and the line was written whole
+abbrev pub service_end : Bool → Bool → Bool → Bool → End
+service_end no_memory door_fault stopped written =
+    if no_memory then Memory
+    else (if door_fault then ListenerFault
+    else (if stopped then Stopped
+    else (if written then Done else SinkFault)))
+
+-- The line was written whole, or a front of it up to a fault of the output.
+abbrev pub IsWritten : OutputState → OutputState → List ℕ → Bool → Type 0
+IsWritten before after line true = Takes before.taken after.taken line
+IsWritten before after line false = TakesFront before.taken after.taken line × Rose before.faults after.faults
+
+-- so many doors of a listener were handed out
+abbrev pub LendsMany : ℕ → Option Doors → Option Doors → Type 0
+LendsMany n None after = after ≡ None
+LendsMany n (Some doors) after = after ≡ Some (record { lent = doors.lent + n; back = doors.back })
+
+-- so many doors of a listener at least are not back yet
+abbrev pub AreLent : ℕ → Option Doors → Type 0
+AreLent n None = Unit {0}
+AreLent n (Some doors) = n ≤ doors.lent
+
+-- a seat's door when it was taken back, and how the seat ended
+pub record SeatRun (D : Type 0) : Type 0 where
+  pub door : D
+  pub end : SeatEnd
+
+-- No house was opened, and nothing else was asked.
+pub record IsUnhoused (rows : Rows) (before after : Seen) (end : End) : Type 0 where
+  pub opening : OpeningFails rows before.disk after.disk end
+  pub output : after.output ≡ before.output
+  pub listener : after.listener ≡ before.listener
+
+module _ {D : Type 0} (visits : D → Option Visits) where
+  -- these doors were taken back, one after another
+  abbrev pub TakesBackAll : Option Doors → Option Doors → List D → Type 0
+  TakesBackAll before after [] = after ≡ before
+  TakesBackAll before after (door ∷ doors) = (mid : Option Doors) × TakesBack before mid (visits door) × TakesBackAll mid after doors
+
+  -- from before to after, these doors were handed out and taken back, in order
+  abbrev pub Returned : Option Doors → Option Doors → List D → Type 0
+  Returned before after doors = (mid : Option Doors) × LendsMany (length doors) before mid × TakesBackAll mid after doors
+
+  -- these seats, the first with this number and the next with the one above, are what came of the house v, which is then w
+  abbrev pub AreSeats : LockId → HouseView → HouseView → ℕ → List (SeatRun D) → Type 0
+  AreSeats lock v w number [] = Unit {0}
+  AreSeats lock v w number (seat ∷ seats) = IsSeatAt lock v w number (visits seat.door) seat.end × AreSeats lock v w (number + 1) seats
+
+  -- The seats served beside one another, over the house v, which is then w. Its history has grown, and each new entry is of one of them.
+  pub record HaveServed (v w : HouseView) (seats : List (SeatRun D)) : Type 0 where
+    pub count : length seats ≡ seat_count
+    pub goes_on : Continues w.history v.history
+    pub others : (n : ℕ) → seat_count < n → entries_of_seat w.history n (end_of v.history) ≡ []
+    pub none : entries_of_seat w.history 0 (end_of v.history) ≡ []
+    pub lock : LockId
+    pub each : AreSeats lock v w 1 seats
+
+  -- The seats could not begin, and the history is what it was. Doors that were handed out are back, and none was asked for a connection.
+  pub record IsUnbegun (v w : HouseView) (output output' : OutputState) (listener listener' : ListenerState) (end : End) : Type 0 where
+    pub same : w ≡ v
+    pub none_written : output' ≡ output
+    pub doors : List D
+    pub returned : Returned listener.doors listener'.doors doors
+    pub unserved : All (λ (door : D). IsNew (visits door)) doors
+    pub why : (end ≡ Memory) ⊎ ((end ≡ ListenerFault) × Rose listener.faults listener'.faults)
+
+  -- The seats served, the line of the history's length was written, and the doors were taken back.
+  pub record IsService (v w : HouseView) (output output' : OutputState) (listener listener' : ListenerState) (end : End) : Type 0 where
+    pub seats : List (SeatRun D)
+    pub served : HaveServed v w seats
+    pub returned : Returned listener.doors listener'.doors (map (λ (seat : SeatRun D). seat.door) seats)
+    pub written : Bool
+    pub wrote : IsWritten output output' (history_line (end_of w.history)) written
+    pub told : end ≡ service_end (list_any (λ seat. had_no_memory seat.end) seats) (list_any (λ seat. had_door_fault seat.end) seats) (is_stopped w) written
+    pub counted : end ≡ ListenerFault → Rose listener.faults listener'.faults
+
+  -- by the end of a service over a house that was just opened
+  abbrev pub HouseServes : HouseView → HouseView → OutputState → OutputState → ListenerState → ListenerState → End → Type 0
+  HouseServes v w output output' listener listener' end = IsUnbegun v w output output' listener listener' end ⊎ IsService v w output output' listener listener' end
+
+  -- by the end of a service over these rows
+  abbrev pub ServiceRuns : Rows → Seen → Seen → End → Type 0
+  ServiceRuns rows before after end =
+      IsUnhoused rows before after end
+      ⊎ OverHouse rows before.disk after.disk (λ v w. HouseServes v w before.output after.output before.listener after.listener end)

@@ -1,0 +1,208 @@
+//! The form `serve`: seats that serve connections beside one another, over a roster and a journal.
+//!
+//!     roster -> house -> bind -> doors -> lock -> seats, each at its door -> passes joined, lock closed
+//!            -> doors taken back, in order -> `history N` -> the disk
+//!
+//! A step that fails ends the call there, with the house's disk handed back.
+
+ghost use Rattle.std.specs.Prelude.{◌≡◌, ◌<◌, All, length, false, IfOk, IfErr, OnOk, OnErr};
+ghost use Rattle.std.specs.List.{list_any};
+ghost use Rattle.outside.specs.Disk.{IsSettled};
+ghost use Rattle.outside.specs.Faults.{Rose};
+ghost use Rattle.command_types.specs.History.{end_of};
+ghost use Rattle.house.specs.House.{figures_of, is_stopped};
+ghost use Rattle.compress_server.specs.declared.load.FileRole.{FileRole as Role};
+ghost use Rattle.compress_server.specs.Housed.{disk_of};
+ghost use Rattle.compress_server.specs.Seen.{output_of, listener_of, seen_of};
+ghost use Rattle.doors.specs.Visits.{IsNew};
+ghost use Rattle.compress_server.specs.Serve.{seat_count, IsWritten, history_line, had_no_memory, had_door_fault, trouble_end, service_end, HaveServed, HouseServes};
+ghost use Rattle.compress_server.specs.Ending.{ServeRuns};
+ghost use Rattle.compress_server.specs.Runs.{runs_of};
+
+use crate::ending::End;
+use crate::load::{LoadFault, load_roster};
+use crate::opening::open_house;
+use crate::places::{SEATS, give_back, has_door_fault, has_no_memory, take_places};
+use crate::script::WORKERS;
+use command_types::Roster;
+use cycle_lock::Turns;
+use doors::{Door, Listener};
+use house::House;
+use itoa::Buffer;
+use outside::{Disk, Files, Gate, Sink, Trouble, write_all};
+use path_solver::PathSolver;
+use seats::{Place, SeatEnd, Service};
+use std::alloc::Global;
+use std::sync::Wait;
+use std::thread::Threads;
+
+/// The words of the form, behind its verb.
+#[derive(Clone, Copy)]
+pub struct ServiceWords<'a> {
+    pub roster: &'a str,
+    pub journal: &'a str,
+    pub address: &'a str,
+}
+
+/// How many connections a seat serves at most.
+const MOST_CONNECTIONS: u64 = 1_000_000;
+
+// Writes the line that tells the length of the history, and says whether it was written whole. It takes no memory.
+fn tell_history<K: Sink>(output: &mut K, length: u64) -> bool
+    ensures { IsWritten (output_of (K.taken output.old) (K.faults output.old)) (output_of (K.taken output.new) (K.faults output.new)) (history_line length) result }
+{
+    if write_all(output, b"history ").is_err() {
+        return false;
+    }
+    let mut digits = Buffer::new();
+    if write_all(output, digits.format(length).as_bytes()).is_err() {
+        return false;
+    }
+    write_all(output, b"\n").is_ok()
+}
+
+// The end of a service.
+fn end_of_service<C: Door + Drop>(places: &[Place<C>], stopped: bool, written: bool) -> End
+    ensures { result ≡ service_end (list_any (λ place. had_no_memory place.end) places.now) (list_any (λ place. had_door_fault place.end) places.now) stopped written }
+{
+    if has_no_memory(places) {
+        End::Memory
+    } else if has_door_fault(places) {
+        End::ListenerFault
+    } else if stopped {
+        End::Stopped
+    } else if written {
+        End::Done
+    } else {
+        End::SinkFault
+    }
+}
+
+/// What all seats have in common: what they run on, the desk's roster, and the gate that a worker passes before it solves
+/// a problem of a PROPOSE.
+#[derive(Drop)]
+pub struct Seating<'a, R: Threads + Wait + Sync, G: Gate> {
+    pub rt: &'a R,
+    pub alloc: Global,
+    pub roster: &'a Roster,
+    pub gate: &'a G,
+}
+
+impl<'a, R: Threads + Wait + Sync, G: Gate> Seating<'a, R, G> {
+    // Has the seats serve over a house that was just opened. Where there is no memory for the lock, none begins.
+    fn serve_house<D: Disk + Send, C: Door + Drop>(
+        &self,
+        house: House<D>,
+        places: &mut [Place<C>],
+    ) -> Result<House<D>, House<D>>
+        requires opened { end_of house.history ≡ house.opening }
+        requires roster { self.now.roster.now ≡ house.history.base.state.roster }
+        requires running { is_stopped house ≡ false }
+        requires count { length places.old ≡ seat_count }
+        requires new { All (λ place. IsNew (C.visits place.door) × (C.faults place.door ≡ 0)) places.old }
+        ensures served { IfOk result (λ w. HaveServed C.visits house w (runs_of places.new)) }
+        ensures figures { IfOk result (λ w. figures_of w ≡ figures_of house) }
+        ensures counted { OnOk result (All (λ place. place.end ≡ SeatEnd.DoorFault → 0 < C.faults place.door) places.new) }
+        ensures refused { IfErr result (λ w. w ≡ house) }
+        ensures untouched { OnErr result (places.new ≡ places.old) }
+    {
+        let (turns, pass) = match Turns::new(self.alloc, house) {
+            Ok(lock) => lock,
+            Err(house) => return Err(house),
+        };
+        let service = Service {
+            rt: self.rt,
+            alloc: self.alloc,
+            workers: WORKERS,
+            solver: &PathSolver::new(self.alloc),
+            gate: self.gate,
+            roster: self.roster,
+            most: MOST_CONNECTIONS,
+        };
+        Ok(service.serve(turns, pass, places))
+    }
+
+    // Has the listener hand out doors, the seats serve at them over a house that was just opened, and the history's length told.
+    fn serve_at<D: Disk + Send, L: Listener, K: Sink>(
+        &self,
+        house: House<D>,
+        address: &str,
+        listener: &mut L,
+        output: &mut K,
+    ) -> (End, House<D>)
+        requires opened { end_of house.history ≡ house.opening }
+        requires roster { self.now.roster.now ≡ house.history.base.state.roster }
+        requires running { is_stopped house ≡ false }
+        ensures serves { HouseServes L.Door.visits house result.1 (output_of (K.taken output.old) (K.faults output.old)) (output_of (K.taken output.new) (K.faults output.new)) (listener_of (L.doors listener.old) (L.faults listener.old)) (listener_of (L.doors listener.new) (L.faults listener.new)) result.0 }
+        ensures figures { figures_of result.1 ≡ figures_of house }
+    {
+        let Ok(mut places) = Vec::with_capacity(self.alloc, SEATS) else {
+            return (End::Memory, house);
+        };
+        if let Err(trouble) = listener.bind(address) {
+            return (end_of_trouble(trouble), house);
+        }
+        if let Err(trouble) = take_places(listener, &mut places) {
+            give_back(listener, places);
+            return (end_of_trouble(trouble), house);
+        }
+        match self.serve_house(house, &mut places) {
+            Ok(house) => {
+                let written = tell_history(output, house.length());
+                let end = end_of_service(&places, house.is_stopped(), written);
+                give_back(listener, places);
+                (end, house)
+            }
+            Err(house) => {
+                give_back(listener, places);
+                (End::Memory, house)
+            }
+        }
+    }
+}
+
+// The end of a service whose listener was in trouble.
+fn end_of_trouble(trouble: Trouble) -> End
+    ensures { result ≡ trouble_end trouble }
+{
+    match trouble {
+        Trouble::Failed => End::ListenerFault,
+        Trouble::Memory => End::Memory,
+    }
+}
+
+/// Reads the roster of the file with this name, opens the journal with that one, and has seats serve at the address. No
+/// file changes but the journal, whose disk comes back.
+pub fn run_serve<R: Threads + Wait + Sync, F: Files, K: Sink, D: Disk + Send, L: Listener, G: Gate>(
+    rt: &R,
+    alloc: Global,
+    files: &mut F,
+    words: &ServiceWords<'_>,
+    output: &mut K,
+    disk: D,
+    listener: &mut L,
+    gate: &G,
+) -> (End, D)
+    requires { IsSettled (D.history disk) }
+    ensures runs { ServeRuns L.Door.visits (F.folder files.old) words.now.roster.now (seen_of (output_of (K.taken output.old) (K.faults output.old)) (disk_of (D.history disk) (D.fault_count disk)) (listener_of (L.doors listener.old) (L.faults listener.old))) (seen_of (output_of (K.taken output.new) (K.faults output.new)) (disk_of (D.history result.1) (D.fault_count result.1)) (listener_of (L.doors listener.new) (L.faults listener.new))) result.0 }
+    ensures stays { F.folder files.new ≡ F.folder files.old }
+    ensures sink_fault { result.0 ≡ End.SinkFault → Rose (K.faults output.old) (K.faults output.new) }
+    ensures file_fault { (role : Role) → result.0 ≡ End.Unloaded (LoadFault.Files role) → Rose (F.faults files.old) (F.faults files.new) }
+{
+    let roster = match load_roster(alloc, files, words.roster) {
+        Ok(roster) => roster,
+        Err(fault) => return (End::Unloaded(fault), disk),
+    };
+    let house = match open_house(alloc, &roster, words.journal, disk) {
+        Ok(house) => house,
+        Err(failed) => return failed,
+    };
+    let seating = Seating {
+        rt,
+        alloc,
+        roster: &roster,
+        gate,
+    };
+    let (end, house) = seating.serve_at(house, words.address, listener, output);
+    (end, house.end())
+}

@@ -1,0 +1,223 @@
+//! The program as a service: seats at the doors of a listener, over one journal.
+
+ghost use Rattle.std.specs.Prelude.{Some};
+ghost use Rattle.outside.specs.Disk.{IsSettled};
+
+use crate::program::{ROSTER, empty_disk, run_at};
+use crate::served_seats::{FIRST, FIRST_REPLIES, SECOND, SECOND_REPLIES, connection};
+use doors::{Listener, MemoryListener};
+use outside::{MemoryDisk, MemorySink, MemorySource};
+use parallel_solver::OpenGate;
+use std::alloc::{AllocError, AllocGlobal};
+use std::sync::Wait;
+use std::test::Fail;
+use std::thread::Threads;
+
+const WORDS: &[&str] = &["serve", "T", "j", "a"];
+
+// What a service left.
+#[derive(Drop)]
+struct Service {
+    status: u8,
+    output: MemorySink,
+    errors: MemorySink,
+    disk: MemoryDisk,
+}
+
+// Runs a service of the roster at this listener, over this disk, with room for so many bytes of output.
+fn serve_at<R: Threads + Wait + Sync + AllocGlobal, L: Listener>(
+    rt: &R,
+    listener: &mut L,
+    disk: MemoryDisk,
+    room: usize,
+) -> Result<Service, AllocError>
+    requires { IsSettled (Some disk.history) }
+{
+    let alloc = rt.alloc();
+    let mut source = MemorySource::new(alloc, b"HELLO A KA\n")?;
+    let mut output = MemorySink::new(alloc, room)?;
+    let (status, errors, disk) = run_at(
+        rt,
+        WORDS,
+        &[("T", ROSTER.as_bytes())],
+        &mut source,
+        &mut output,
+        disk,
+        listener,
+        &OpenGate,
+    )?;
+    Ok(Service {
+        status,
+        output,
+        errors,
+        disk,
+    })
+}
+
+// A service: what comes to its first door, which call of that door and of the listener fails, 0 for none, the room of the
+// output, the status, what was told, the output, and the replies.
+#[derive(Clone, Copy)]
+struct Case {
+    texts: &'static [&'static str],
+    door_call: u64,
+    listener_call: u64,
+    room: usize,
+    status: u8,
+    errors: &'static str,
+    output: &'static str,
+    replies: &'static [&'static str],
+}
+
+const WHOLE: Case = Case {
+    texts: &[FIRST, SECOND],
+    door_call: 0,
+    listener_call: 0,
+    room: 64,
+    status: 0,
+    errors: "",
+    output: "history 2\n",
+    replies: &[FIRST_REPLIES, SECOND_REPLIES],
+};
+
+const CASES: &[Case] = &[
+    WHOLE,
+    Case {
+        texts: &[],
+        output: "history 0\n",
+        replies: &[],
+        ..WHOLE
+    },
+    // The second call of the door fails: the first connection was served, and so were the other seats.
+    Case {
+        door_call: 2,
+        status: 10,
+        errors: "listener fault\n",
+        replies: &[FIRST_REPLIES],
+        ..WHOLE
+    },
+    // The output takes a front of the line.
+    Case {
+        room: 9,
+        status: 5,
+        errors: "sink fault\n",
+        output: "history 2",
+        ..WHOLE
+    },
+    // The door's fault comes before the output's.
+    Case {
+        door_call: 2,
+        room: 3,
+        status: 10,
+        errors: "listener fault\n",
+        output: "his",
+        replies: &[FIRST_REPLIES],
+        ..WHOLE
+    },
+];
+
+// Whether the connections that the listener's first door gave back took these replies.
+fn took(listener: &MemoryListener, replies: &[&str]) -> bool {
+    let Some(door) = listener.back().first() else {
+        return false;
+    };
+    let back = door.back();
+    back.len() == replies.len()
+        && back
+            .iter()
+            .zip(replies)
+            .all(|(connection, text)| connection.output.bytes() == text.as_bytes())
+}
+
+fn is_case<R: Threads + Wait + Sync + AllocGlobal>(rt: &R, case: &Case) -> Result<bool, AllocError> {
+    let alloc = rt.alloc();
+    let mut listener = MemoryListener::new(alloc);
+    for text in case.texts {
+        listener.add(0, connection(alloc, text)?)?;
+    }
+    if case.door_call > 0 {
+        listener.fail_door_at(0, case.door_call)?;
+    }
+    let disk = empty_disk(alloc)?;
+    let left = serve_at(rt, &mut listener, disk, case.room)?;
+    Ok(left.status == case.status
+        && left.errors.bytes() == case.errors.as_bytes()
+        && left.output.bytes() == case.output.as_bytes()
+        && listener.back().len() == 4
+        && took(&listener, case.replies))
+}
+
+fn are_cases<R: Threads + Wait + Sync + AllocGlobal>(
+    rt: &R,
+    cases: &[Case],
+) -> Result<bool, AllocError> {
+    for case in cases {
+        if !is_case(rt, case)? {
+            return Ok(false);
+        }
+    }
+    Ok(true)
+}
+
+#[test]
+fn a_service_ends_as_its_seats_its_disk_and_its_output_do(rt: HostRuntime) -> Result<(), Fail> {
+    let are = are_cases(&rt, CASES)?;
+    assert!(rt; are);
+    Ok(())
+}
+
+// Whether a listener of which this call fails ends the service before a seat begins, with the doors handed out back.
+fn does_not_begin<R: Threads + Wait + Sync + AllocGlobal>(
+    rt: &R,
+    call: u64,
+    doors: usize,
+) -> Result<bool, AllocError> {
+    let alloc = rt.alloc();
+    let mut listener = MemoryListener::new(alloc);
+    listener.add(0, connection(alloc, FIRST)?)?;
+    listener.fail_at(call)?;
+    let disk = empty_disk(alloc)?;
+    let left = serve_at(rt, &mut listener, disk, 64)?;
+    Ok(left.status == 10
+        && left.errors.bytes() == b"listener fault\n".as_slice()
+        && left.output.bytes().is_empty()
+        && listener.back().len() == doors)
+}
+
+fn never_begins<R: Threads + Wait + Sync + AllocGlobal>(rt: &R) -> Result<bool, AllocError> {
+    for k in 0..5 {
+        if !does_not_begin(rt, k + 1, (k as usize).saturating_sub(1))? {
+            return Ok(false);
+        }
+    }
+    Ok(true)
+}
+
+#[test]
+fn a_listener_that_fails_ends_a_service_before_it_begins(rt: HostRuntime) -> Result<(), Fail> {
+    let never = never_begins(&rt)?;
+    assert!(rt; never);
+    Ok(())
+}
+
+// A service of the first text, and then one of the second over the disk that it left.
+fn goes_on<R: Threads + Wait + Sync + AllocGlobal>(rt: &R) -> Result<bool, AllocError> {
+    let alloc = rt.alloc();
+    let mut first = MemoryListener::new(alloc);
+    first.add(3, connection(alloc, FIRST)?)?;
+    let disk = empty_disk(alloc)?;
+    let left = serve_at(rt, &mut first, disk, 64)?;
+    let mut second = MemoryListener::new(alloc);
+    second.add(0, connection(alloc, SECOND)?)?;
+    let then = serve_at(rt, &mut second, left.disk.crash(), 64)?;
+    Ok(left.status == 0
+        && then.status == 0
+        && then.output.bytes() == b"history 2\n".as_slice()
+        && took(&second, &[SECOND_REPLIES]))
+}
+
+#[test]
+fn a_service_goes_on_from_what_its_journal_keeps(rt: HostRuntime) -> Result<(), Fail> {
+    let on = goes_on(&rt)?;
+    assert!(rt; on);
+    Ok(())
+}
