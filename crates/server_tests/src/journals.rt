@@ -176,6 +176,9 @@ fn a_journal_that_is_cut_is_told_its_damage_and_stays(rt: HostRuntime) -> Result
     Ok(())
 }
 
+const TWO_CHANGES: &str =
+    "HELLO A KA\nTRADE A B P 10 2026-03-02\nTRADE A B P 10 2026-03-02\nNETS P\n";
+
 // Whether a script of two changes, whose disk fails at that call, ends so, and the next finds so much where a crash loses
 // what no sync followed, and where it keeps all.
 fn fails_at<R: Threads + Wait + Sync + AllocGlobal>(
@@ -186,8 +189,7 @@ fn fails_at<R: Threads + Wait + Sync + AllocGlobal>(
 ) -> Result<(), Fail> {
     let mut disk = empty_disk(rt.alloc())?;
     disk.fail_at(call)?;
-    let lines = "HELLO A KA\nTRADE A B P 10 2026-03-02\nTRADE A B P 10 2026-03-02\nNETS P\n";
-    let mut disk = left_by(rt, disk, lines, end)?;
+    let mut disk = left_by(rt, disk, TWO_CHANGES, end)?;
     let all = kept(rt.alloc(), &mut disk)?;
     let _ = left_by(rt, all, "HELLO A KA\n", (0, found.1, ""))?;
     let _ = left_by(rt, crashed(disk), "HELLO A KA\n", (0, found.0, ""))?;
@@ -228,8 +230,26 @@ fn each_call_fails<R: Threads + Wait + Sync + AllocGlobal>(rt: &R) -> Result<(),
             (FOUND[1], at_most),
         )?;
     }
-    // The script makes no further call.
-    fails_at(rt, 16, (0, UNSTOPPED, ""), (FOUND[2], FOUND[2]))
+    Ok(())
+}
+
+// A script of two changes makes fourteen calls: the next one, which fails, is the test's own.
+fn no_call_is_left<R: Threads + Wait + Sync + AllocGlobal>(rt: &R) -> Result<bool, Fail> {
+    let mut disk = empty_disk(rt.alloc())?;
+    disk.fail_at(15)?;
+    let mut disk = left_by(rt, disk, TWO_CHANGES, (0, UNSTOPPED, ""))?;
+    let is_the_next = disk.faults() == 0 && disk.length().is_err();
+    let all = kept(rt.alloc(), &mut disk)?;
+    let _ = left_by(rt, all, "HELLO A KA\n", (0, FOUND[2], ""))?;
+    let _ = left_by(rt, crashed(disk), "HELLO A KA\n", (0, FOUND[2], ""))?;
+    Ok(is_the_next)
+}
+
+#[test]
+fn a_script_makes_no_call_of_its_disk_behind_its_changes(rt: HostRuntime) -> Result<(), Fail> {
+    let is_none_left = no_call_is_left(&rt)?;
+    assert!(rt; is_none_left);
+    Ok(())
 }
 
 #[test]

@@ -54,6 +54,8 @@ mod sources;
 #[cfg(test)]
 mod stopped_cycles;
 #[cfg(test)]
+mod torn_cycles;
+#[cfg(test)]
 mod trades;
 #[cfg(test)]
 mod two_sessions;

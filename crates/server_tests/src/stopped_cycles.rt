@@ -39,7 +39,7 @@ fn joined<R: AllocGlobal>(rt: &R, texts: &[&str]) -> Result<String, AllocError> 
 
 // The last sync of the last vote fails, which is call 54.
 fn the_last_vote_fails<R: Threads + Wait + Sync + AllocGlobal>(rt: &R) -> Result<(), Fail> {
-    let lines = joined(rt, &[RING, UP_TO_TWO_VOTES, LAST_VOTE])?;
+    let lines = whole_cycle(rt)?;
     let replies = joined(
         rt,
         &[RING_REPLIES, UP_TO_TWO_VOTES_REPLIES, LAST_VOTE_FAILS],
@@ -78,10 +78,16 @@ const MARKETS: [&str; 13] = [
     "ok 12 hello OPS\nok 12 market 0 0 0 0\n",
 ];
 
-const MARKET: &str = "HELLO OPS KO\nNETS P\n";
+/// Asks for the operator's figures.
+pub const MARKET: &str = "HELLO OPS KO\nNETS P\n";
 
-// The disk that a script of these lines leaves when that call fails, if it is told so.
-fn left_by_fault<R: Threads + Wait + Sync + AllocGlobal>(
+/// The lines of a whole cycle.
+pub fn whole_cycle<R: AllocGlobal>(rt: &R) -> Result<String, AllocError> {
+    joined(rt, &[RING, UP_TO_TWO_VOTES, LAST_VOTE])
+}
+
+/// The disk that a script of these lines leaves when that call fails, if it is told so.
+pub fn left_by_fault<R: Threads + Wait + Sync + AllocGlobal>(
     rt: &R,
     call: u64,
     lines: &str,
@@ -99,8 +105,8 @@ fn left_by_fault<R: Threads + Wait + Sync + AllocGlobal>(
     Err(Fail::new("the fault was not told"))
 }
 
-// What is found after so many changes.
-fn market_after(changes: u64) -> &'static str {
+/// What is found after so many changes.
+pub fn market_after(changes: u64) -> &'static str {
     match MARKETS.get(changes as usize) {
         Some(market) => market,
         None => "",
@@ -117,7 +123,7 @@ fn found_after(call: u64) -> (&'static str, &'static str) {
 }
 
 fn each_call_fails<R: Threads + Wait + Sync + AllocGlobal>(rt: &R) -> Result<(), Fail> {
-    let lines = joined(rt, &[RING, UP_TO_TWO_VOTES, LAST_VOTE])?;
+    let lines = whole_cycle(rt)?;
     for call in 1..=54 {
         let (least, most) = found_after(call);
         let mut disk = left_by_fault(rt, call, lines.as_str())?;
