@@ -63,7 +63,10 @@ fn a_file_of_one_record_has_its_entry(rt: HostRuntime) -> Result<(), Fail> {
     for gate in [0, 7] {
         let mut file = ONE;
         file[38] = gate;
-        assert!(rt; are_one(rt.alloc(), &entries_of(rt.alloc(), &file)?)?, "gate {gate}");
+        assert!(rt;
+            are_one(rt.alloc(), &entries_of(rt.alloc(), &file)?)?,
+            "gate {gate}"
+        );
     }
     Ok(())
 }

@@ -52,13 +52,7 @@ pub type Left = (u8, MemorySink, MemoryDisk);
 
 /// Runs these words over these files, each by its name, over these streams, over this disk, at this listener, and through
 /// this gate.
-pub fn run_at<
-    R: Threads + Wait + Sync + AllocGlobal,
-    S: Source,
-    K: Sink,
-    L: Listener,
-    G: Gate,
->(
+pub fn run_at<R: Threads + Wait + Sync + AllocGlobal, S: Source, K: Sink, L: Listener, G: Gate>(
     rt: &R,
     of: &[&str],
     contents: &[(&str, &[u8])],

@@ -122,13 +122,14 @@ fn took(listener: &MemoryListener, replies: &[&str]) -> bool {
     };
     let back = door.back();
     back.len() == replies.len()
-        && back
-            .iter()
-            .zip(replies)
-            .all(|(connection, text)| connection.output.bytes() == text.as_bytes())
+        && back.iter().zip(replies).all(|(connection, text)| connection.output.bytes()
+            == text.as_bytes())
 }
 
-fn is_case<R: Threads + Wait + Sync + AllocGlobal>(rt: &R, case: &Case) -> Result<bool, AllocError> {
+fn is_case<R: Threads + Wait + Sync + AllocGlobal>(
+    rt: &R,
+    case: &Case,
+) -> Result<bool, AllocError> {
     let alloc = rt.alloc();
     let mut listener = MemoryListener::new(alloc);
     for text in case.texts {
@@ -139,11 +140,13 @@ fn is_case<R: Threads + Wait + Sync + AllocGlobal>(rt: &R, case: &Case) -> Resul
     }
     let disk = empty_disk(alloc)?;
     let left = serve_at(rt, &mut listener, disk, case.room)?;
-    Ok(left.status == case.status
-        && left.errors.bytes() == case.errors.as_bytes()
-        && left.output.bytes() == case.output.as_bytes()
-        && listener.back().len() == 4
-        && took(&listener, case.replies))
+    Ok(
+        left.status == case.status
+            && left.errors.bytes() == case.errors.as_bytes()
+            && left.output.bytes() == case.output.as_bytes()
+            && listener.back().len() == 4
+            && took(&listener, case.replies),
+    )
 }
 
 fn are_cases<R: Threads + Wait + Sync + AllocGlobal>(
@@ -177,10 +180,12 @@ fn does_not_begin<R: Threads + Wait + Sync + AllocGlobal>(
     listener.fail_at(call)?;
     let disk = empty_disk(alloc)?;
     let left = serve_at(rt, &mut listener, disk, 64)?;
-    Ok(left.status == 10
-        && left.errors.bytes() == b"listener fault\n".as_slice()
-        && left.output.bytes().is_empty()
-        && listener.back().len() == doors)
+    Ok(
+        left.status == 10
+            && left.errors.bytes() == b"listener fault\n".as_slice()
+            && left.output.bytes().is_empty()
+            && listener.back().len() == doors,
+    )
 }
 
 fn never_begins<R: Threads + Wait + Sync + AllocGlobal>(rt: &R) -> Result<bool, AllocError> {
@@ -209,10 +214,12 @@ fn goes_on<R: Threads + Wait + Sync + AllocGlobal>(rt: &R) -> Result<bool, Alloc
     let mut second = MemoryListener::new(alloc);
     second.add(0, connection(alloc, SECOND)?)?;
     let then = serve_at(rt, &mut second, left.disk.crash(), 64)?;
-    Ok(left.status == 0
-        && then.status == 0
-        && then.output.bytes() == b"history 2\n".as_slice()
-        && took(&second, &[SECOND_REPLIES]))
+    Ok(
+        left.status == 0
+            && then.status == 0
+            && then.output.bytes() == b"history 2\n".as_slice()
+            && took(&second, &[SECOND_REPLIES]),
+    )
 }
 
 #[test]

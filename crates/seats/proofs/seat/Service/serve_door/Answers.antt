@@ -15,7 +15,7 @@ returns-then-eq-clause-serves g c =
     let given = c.in-Ok-Some in
     let s = c.serve_session-end in
     let round = round_of (of_pass c.loop.pass) (of_pass s.result.1) (visits c.loop.door) (visits c.accept.new.self) (visits c.give_back.new.self) _ _ _ _ s.result.0 _ _ _ _ (some_holds _ _ _ given.field-0-is given.ensures.opens)
-        (some_holds _ _ _ given.field-0-is given.ensures.fresh) s.ensures.ends s.ensures.source_fault s.ensures.sink_fault c.give_back.ensures.returns in
+    (some_holds _ _ _ given.field-0-is given.ensures.fresh) s.ensures.ends s.ensures.source_fault s.ensures.sink_fault c.give_back.ensures.returns in
     serves_on _ _ _ _ _ _ _ _ c.loop.counter _ seat_end.Memory c.loop.invariant.serves round (omega (arith, c.loop-test.true)) (λ e. absurd cc) (λ e. absurd cc) (λ e. refl)
 
 pub loop-preserved : goal.loop-preserved
@@ -25,7 +25,7 @@ loop-preserved g c =
     let given = c.in-Ok-Some in
     let s = c.serve_session-end in
     let round = round_of (of_pass c.loop.pass) (of_pass s.result.1) (visits c.loop.door) (visits c.accept.new.self) (visits c.give_back.new.self) _ _ _ _ s.result.0 _ _ _ _ (some_holds _ _ _ given.field-0-is given.ensures.opens)
-        (some_holds _ _ _ given.field-0-is given.ensures.fresh) s.ensures.ends s.ensures.source_fault s.ensures.sink_fault c.give_back.ensures.returns in
+    (some_holds _ _ _ given.field-0-is given.ensures.fresh) s.ensures.ends s.ensures.source_fault s.ensures.sink_fault c.give_back.ensures.returns in
     let came = ends_grow (of_pass c.loop.pass) _ _ _ _ (of_pass c.serve_session-end.result.1) c.serve_session-end.result.0 c.serve_session-end.ensures.ends in
     record {
       own = c.serve_session-end.ensures.own;
