@@ -6,3 +6,4 @@ pub mod HousedFacts
 pub mod ServeFacts
 pub mod PlaceFacts
 pub mod ServiceFacts
+pub mod StatusFacts

@@ -12,3 +12,4 @@ pub mod Check
 pub mod Solve
 pub mod Ending
 pub mod Telling
+pub mod Statuses

@@ -4,6 +4,7 @@
 mod check;
 mod ending;
 mod faults;
+mod laws;
 mod load;
 mod opening;
 mod places;
@@ -13,4 +14,5 @@ mod solve;
 mod top;
 mod words;
 
+pub use laws::statuses_tell_the_end;
 pub use top::run;

@@ -62,4 +62,6 @@ mod two_sessions;
 #[cfg(test)]
 mod unsolved;
 #[cfg(test)]
+mod waiting_seats;
+#[cfg(test)]
 mod words;

