@@ -73,14 +73,16 @@ static Market read(const char* roster_path, const char* trades_path) {
     return market;
 }
 
-// The pairs that may have an amount, in order: those that have one, and in hybrid mode those of two dealers, which may grow.
-static std::vector<Pair> pairs_of(const Market& market, const std::vector<i64>& sold, bool hybrid) {
+// The pairs that may have an amount, in order: those that have one, and those that may grow, in hybrid mode those of two
+// dealers, and in free mode all.
+static std::vector<Pair> pairs_of(const Market& market, const std::vector<i64>& sold, std::string_view mode) {
     std::vector<Pair> pairs;
     const int n = int(market.members.size());
     for (int s = 0; s < n; ++s)
         for (int b = 0; b < n; ++b) {
             const i64 now = sold[size_t(s) * n + b];
-            const bool grows = hybrid && s != b && market.is_dealer[s] && market.is_dealer[b];
+            const bool is_open = mode == "free" || (mode == "hybrid" && market.is_dealer[s] && market.is_dealer[b]);
+            const bool grows = s != b && is_open;
             if (now > 0 || grows) pairs.push_back({s, b, now, grows});
         }
     return pairs;
@@ -168,10 +170,9 @@ static void put_product(std::string& out, const Market& market, size_t product, 
 int main(int words, char** word) {
     if (words != 4) return 2;
     const Market market = read(word[1], word[2]);
-    const bool hybrid = std::string_view(word[3]) == "hybrid";
     std::string out;
     for (size_t p = 0; p < market.products.size(); ++p)
-        put_product(out, market, p, solve_pairs(int(market.members.size()), pairs_of(market, market.sold[p], hybrid)));
+        put_product(out, market, p, solve_pairs(int(market.members.size()), pairs_of(market, market.sold[p], word[3])));
     out += "end ";
     put(out, i64(market.products.size()));
     out += '\n';

@@ -1,7 +1,7 @@
 #!/usr/bin/env python3
 """Writes the markets of the bench into a folder: for each NAME the files NAME-roster.csv and NAME-trades.csv.
 
-    markets.py FOLDER
+    markets.py FOLDER [NAME..]
 
 genN        44 members, 14 of them dealers, 8 products, 3,000 trades between any two members; N from 1 to 8
 uniformP    256 members, 64 of them dealers, P products, 100,000 trades between any two members
@@ -81,7 +81,8 @@ def main():
     folder = pathlib.Path(sys.argv[1])
     folder.mkdir(parents=True, exist_ok=True)
     for market in MARKETS:
-        write(folder, *market)
+        if market[0] in (sys.argv[2:] or [market[0]]):
+            write(folder, *market)
 
 
 main()

@@ -3,7 +3,7 @@
 
     measure.py PROGRAM FUNCTION FOLDER [WORD..]
 
-PROGRAM is run as `PROGRAM [WORD..] ROSTER TRADES MODE` over each market that markets.py wrote into FOLDER, in both modes;
+PROGRAM is run as `PROGRAM [WORD..] ROSTER TRADES MODE` over each market that markets.py wrote into FOLDER, in each mode;
 FUNCTION is a part of the name by which callgrind shows the function.  Millions of instructions, a line for each.
 """
 
@@ -33,7 +33,7 @@ def count(program, function, roster, trades, mode, words):
 def main():
     program, function, folder, *words = sys.argv[1:]
     for market in MARKETS:
-        for mode in ["hybrid", "conservative"]:
+        for mode in ["hybrid", "conservative", "free"]:
             files = [str(pathlib.Path(folder) / f"{market}-{kind}.csv") for kind in ["roster", "trades"]]
             whole, part = count(program, function, *files, mode, words)
             print(f"{market} {mode} {part / 1e6:.2f} {whole / 1e6:.2f}", flush=True)

@@ -69,8 +69,8 @@ class Fields:
             raise BadField(self.at - 4, f"{what}: no day of the calendar")
         return f"{year:04}-{month:02}-{day:02}"
 
-    def choice(self, what: str, first: str, second: str) -> str:
-        return (first, second)[self.number(1, what, 0, 1)]
+    def choice(self, what: str, *words: str) -> str:
+        return words[self.number(1, what, 0, len(words) - 1)]
 
     def solution(self, place: int) -> list[str]:
         """The lines of a solution: its members and rows, each row, and the potentials."""
@@ -117,7 +117,7 @@ class Fields:
             return [self.day("the day")]
         number = str(self.number(8, "the trade" if tag in (2, 3, 4, 5) else "the cycle"))
         if tag == 8:
-            return [number, self.choice("the mode", "conservative", "hybrid")]
+            return [number, self.choice("the mode", "conservative", "hybrid", "free")]
         if tag in (9, 10, 11):
             return [number, str(self.number(8, "the version"))]
         return [number]

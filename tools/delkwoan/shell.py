@@ -60,7 +60,7 @@ class Names:
 
     def of_word(self, word: str) -> list[str]:
         """What can stand for a word of a command."""
-        choices = {"SIDE": ["out", "in"], "MODE": ["conservative", "hybrid"], "CEILING": ["-"], "NAME": self.speakers}
+        choices = {"SIDE": ["out", "in"], "MODE": ["conservative", "hybrid", "free"], "CEILING": ["-"], "NAME": self.speakers}
         choices |= {"PRODUCT": self.products} | {word: self.members for word in ("SELLER", "BUYER", "OTHER", "MEMBER")}
         return choices.get(word, [])
 

@@ -3,6 +3,8 @@
 ROSTER = b"name,role,key\nA,dealer,KA\nB,dealer,KB\nC,customer,KC\nOPS,operator,KO\nP,product,2031-06-30\n"
 TRADES = b"seller,buyer,product,amount\nA,B,P,10\nB,C,P,10\n"
 PROPOSAL = b"product P 20 20 10 20\nrow A B 10\nrow B C 10\npot A 2\npot B 1\npot C 0\nbound 20\nend 1\n"
+FREE = b"product P 20 10 10 20\nrow A C 10\npot A 1\npot B 0\npot C 0\nbound 10\nend 1\n"
+"""The middle steps out, though its neighbour is a customer: right in free mode alone."""
 LONG = b"x" * 67_108_865
 
 
@@ -109,6 +111,12 @@ RIGHT: list[tuple[bytes, bytes]] = [
 LINES: list[tuple[bytes, str, int, bytes, bytes]] = [
     (PROPOSAL, "conservative", 0, b"yes", b""),
     (PROPOSAL, "hybrid", 0, b"yes", b""),
+    (PROPOSAL, "free", 1, b"no P open A C", b""),
+    (FREE, "free", 0, b"yes", b""),
+    (FREE, "hybrid", 1, b"no P above A C", b""),
+    (FREE.replace(b"pot C 0", b"pot C 1"), "free", 1, b"no P slack A C", b""),
+    (FREE.replace(b"pot C 0", b"pot C -1"), "free", 1, b"no P open A C", b""),
+    (FREE.replace(b"10 20\n", b"10 19\n"), "free", 1, b"no P figures", b""),
     (PROPOSAL.replace(b"row A B 10", b"row A B 11"), "conservative", 1, b"no P above A B", b""),
     (PROPOSAL.replace(b"row A B 10", b"row A B 11"), "hybrid", 1, b"no P net A", b""),
     (PROPOSAL.replace(b"row B C 10", b"row B C 9"), "conservative", 1, b"no P net B", b""),

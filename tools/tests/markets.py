@@ -4,7 +4,7 @@ import random
 import re
 from typing import Callable, Iterator, NamedTuple
 
-MODES = ("conservative", "hybrid")
+MODES = ("conservative", "hybrid", "free")
 
 
 class Market(NamedTuple):

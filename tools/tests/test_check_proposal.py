@@ -72,7 +72,7 @@ class ByHand(Folder):
     def test_words_that_are_bad(self) -> None:
         self.write()
         right = ["roster", "trades", "hybrid", "proposal"]
-        bad: list[list[str]] = [[], right[:3], [*right, "x"], ["roster", "trades", "Hybrid", "proposal"]]
+        bad: list[list[str]] = [[], right[:3], [*right, "x"], ["roster", "trades", "Hybrid", "proposal"], ["roster", "trades", "loose", "proposal"]]
         bad += [[*right[:at], "-" + right[at], *right[at + 1 :]] for at in range(4)]
         for words in bad:
             with self.subTest(words=words):
@@ -100,9 +100,14 @@ class ByHand(Folder):
         self.assertEqual((done.returncode, done.stderr), (5, b"sink fault\n"))
 
     def test_examples(self) -> None:
-        names = [str(EXAMPLES / name) for name in ("hub-roster.csv", "hub-trades.csv", "hub-proposal.txt")]
-        self.assertEqual(self.check(*names[:2], "hybrid", names[2]), Ran(0, b"yes\n", b""))
-        self.assertEqual(self.check(*names[:2], "conservative", names[2]), Ran(1, b"no P above A B\n", b""))
+        for market, mode, status, answer in [
+            ("hub", "hybrid", 0, b"yes\n"),
+            ("hub", "conservative", 1, b"no P above A B\n"),
+            ("customer", "free", 0, b"yes\n"),
+            ("customer", "hybrid", 1, b"no P above A C\n"),
+        ]:
+            names = [str(EXAMPLES / f"{market}-{name}") for name in ("roster.csv", "trades.csv", "proposal.txt")]
+            self.assertEqual(self.check(*names[:2], mode, names[2]), Ran(status, answer, b""))
 
     def test_length(self) -> None:
         self.assertLess(len(CHECKER.read_text().splitlines()), 300)

@@ -125,6 +125,7 @@ class Values(unittest.TestCase):
             ("TRADE A B P ", "", []),
             ("TOL B P ", "", ["out ", "in "]),
             ("PROPOSE 1 ", "h", ["hybrid "]),
+            ("BEGIN 1 ", "f", ["free "]),
             ("HELLO ", "O", ["OPS "]),
             ("HELLO OPS ", "", []),
             ("BYE ", "", []),

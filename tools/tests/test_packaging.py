@@ -19,15 +19,22 @@ COMMANDS = ["compress-check-proposal", "compress-client", "compress-journal", "c
 COMMANDS += ["compress_cli"]
 
 TYPED: list[tuple[list[str], list[str]]] = [
-    (["compress_cli", ""], ["check", "script", "serve", "solve"]),
+    (["compress_cli", ""], ["check", "gen", "script", "serve", "solve"]),
+    (["compress_cli", "gen", ""], []),
     (["compress_cli", "s"], ["script", "serve", "solve"]),
     (["compress_cli", "serve", "a", "hub-r"], ["hub-roster.csv"]),
     (["compress_cli", "serve", "a", "b", ""], []),
     (["compress_cli", "solve", "hub-r"], ["hub-roster.csv"]),
-    (["compress_cli", "check", "a", "b", ""], ["conservative", "hybrid"]),
+    (["compress_cli", "check", "a", "b", ""], ["conservative", "free", "hybrid"]),
     (["compress_cli", "check", "a", "b", "hybrid", "hub-p"], ["hub-proposal.txt"]),
     (["compress_cli", "check", "a", "b", "hybrid", "c", ""], []),
     (["compress_cli", "what", ""], []),
+    (["compress_cli", "-"], []),
+    (["compress_cli", "script", "--w"], ["--workers"]),
+    (["compress_cli", "script", "--workers", ""], []),
+    (["compress_cli", "script", "--workers", "2", "rost"], ["roster.csv"]),
+    (["compress_cli", "serve", "a", "-"], ["--connections", "--seats", "--workers"]),
+    (["compress_cli", "serve", "a", "--seats", "2", "b", "--c"], ["--connections"]),
     (["compress-client", "-"], ["--connect", "--program", "--raw"]),
     (["compress-client", "--connect", ""], []),
     (["compress-client", "--connect", "127.0.0.1:7000", "rost"], ["roster.csv"]),
@@ -215,17 +222,20 @@ class Completion(InFolder):
                 self.assertEqual(told, ["FILE"] if any("." in word for word in due) else due)
 
     def test_the_forms_are_the_programs(self) -> None:
-        """Each form of the table is read by the program, which then can't read its files; with a word less it is bad."""
+        """Each form of the table is read by the program, which then can't read its files, if it has any; with a word less it is
+        bad."""
         built = program()
         is_serving = has_serve(built)
         for line in (PACKAGING / "forms").read_text().splitlines():
-            name, *words = line.split(" ")
+            name, *words = re.sub(r"\[.*\] ", "", line).split(" ")
             if name != "compress_cli" or (words[0] == "serve" and not is_serving):
                 continue
-            for mode in ("conservative", "hybrid"):
-                typed = [{"FILE": "none", "MODE": mode}.get(word, word) for word in words]
+            for mode in ("conservative", "hybrid", "free"):
+                typed = [{"FILE": "none", "MODE": mode, "NUMBER": "1"}.get(word, word) for word in words]
                 with self.subTest(typed=typed):
-                    self.assertEqual(run([built, *typed], folder=self.folder), Ran(11, b"", b"file fault\n"))
+                    ran = run([built, *typed], folder=self.folder)
+                    wanted = (11, b"file fault\n") if "FILE" in words else (0, b"")
+                    self.assertEqual((ran.status, ran.errors), wanted)
                     self.assertEqual(run([built, *typed[:-1]], folder=self.folder), Ran(2, b"", b"bad words\n"))
 
 

@@ -78,7 +78,7 @@ class Known:
 
 def operators_lines(known: Known) -> list[str]:
     cycle, version = known.cycle, known.version
-    proposals = [f"PROPOSE {cycle} hybrid", f"PROPOSE {cycle} conservative"]
+    proposals = [f"PROPOSE {cycle} {mode}" for mode in ("hybrid", "conservative", "free")]
     lines = [f"BEGIN {cycle} hybrid", f"POST {cycle} {version}", f"CANCEL {cycle}", "TRADE A B P 1 2026-03-02"]
     lines += 2 * [f"FREEZE 2026-0{3 + cycle % 6}-15"]
     return lines + 3 * [*proposals, "LIMITS P", "NETS P", f"PLAN {cycle}"]

@@ -7,7 +7,7 @@ ghost use Rattle.command_text.specs.ReadOf.{read_of};
 ghost use Rattle.command_text.specs.Reading.{taken_of};
 
 use crate::bad_line::BadLine;
-use crate::kinds::{amount_of, ceiling_of, level_of, mode_of, number_of, side_of, signed_of};
+use crate::kinds::{amount_of, ceiling_of, level_of, number_of, side_of, signed_of};
 use crate::words::Words;
 use command_types::{Level, Line, Mode, Side};
 use units_core::{Amount, Day, Name};
@@ -85,7 +85,7 @@ pub(crate) fn next_mode(words: &mut Words<'_>) -> Result<Mode, BadLine>
     let place = words.place();
     match words.next_word() {
         None => Err(BadLine { at: words.size() }),
-        Some(word) => mode_of(word).ok_or(BadLine { at: place }),
+        Some(word) => Mode::read(word).ok_or(BadLine { at: place }),
     }
 }
 

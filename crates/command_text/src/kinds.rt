@@ -1,9 +1,9 @@
 //! The kinds of words: what a word of each kind says, exactly where it is of the kind.
 
 ghost use Rattle.std.specs.Prelude.{◌≡◌};
-ghost use Rattle.command_types.specs.Grammar.{amount_word, number_word, signed_word, mode_word, side_word, ceiling_word};
+ghost use Rattle.command_types.specs.Grammar.{amount_word, number_word, signed_word, side_word, ceiling_word};
 
-use command_types::{Level, Mode, Side};
+use command_types::{Level, Side};
 use units_core::{Amount, read_number, read_signed};
 
 /// An amount, from 1 to 10^18.
@@ -35,19 +35,6 @@ pub(crate) fn signed_of(word: &[u8]) -> Option<i32>
     ensures { result ≡ signed_word word.now }
 {
     read_signed(word).ok()
-}
-
-/// `conservative` or `hybrid`.
-pub(crate) fn mode_of(word: &[u8]) -> Option<Mode>
-    ensures { result ≡ mode_word word.now }
-{
-    if word == b"conservative".as_slice() {
-        Some(Mode::Conservative)
-    } else if word == b"hybrid".as_slice() {
-        Some(Mode::Hybrid)
-    } else {
-        None
-    }
 }
 
 /// `out` or `in`.

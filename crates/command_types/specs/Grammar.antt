@@ -7,7 +7,7 @@ use Rattle.units_core.specs.Signed.{signed_of}
 use Rattle.units_core.specs.Day.{DayParts, day_of}
 use Rattle.units_core.specs.declared.number.NumberFault.{NumberFault}
 use Rattle.command_types.specs.declared.cycle.Mode.{Mode}
-use Rattle.command_types.specs.declared.cycle.Mode.TheVariants.{Conservative, Hybrid}
+use Rattle.command_types.specs.declared.cycle.Mode.TheVariants as modes
 use Rattle.command_types.specs.declared.trade.Side.{Side}
 use Rattle.command_types.specs.declared.trade.Side.TheVariants.{Out, In}
 use Rattle.command_types.specs.declared.line.Line.{Line}
@@ -52,8 +52,10 @@ day_word word = day_of word
 
 abbrev pub mode_word : List ℕ → Option Mode
 mode_word word =
-    if bytes_eq word (codes "conservative") then Some Conservative
-    else (if bytes_eq word (codes "hybrid") then Some Hybrid else None)
+    if bytes_eq word (codes "conservative") then Some modes.Conservative
+    else if bytes_eq word (codes "hybrid") then Some modes.Hybrid
+    else if bytes_eq word (codes "free") then Some modes.Free
+    else None
 
 abbrev pub side_word : List ℕ → Option Side
 side_word word = if bytes_eq word (codes "out") then Some Out else (if bytes_eq word (codes "in") then Some In else None)

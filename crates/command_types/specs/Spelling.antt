@@ -8,7 +8,7 @@ use Rattle.units_core.specs.Day.{DayParts, is_civil}
 use Rattle.network_laws.specs.declared.rows.Row.{Row}
 use Rattle.network_laws.specs.Solutions.{SolutionData, IsSolution}
 use Rattle.command_types.specs.declared.cycle.Mode.{Mode}
-use Rattle.command_types.specs.declared.cycle.Mode.TheVariants.{Conservative, Hybrid}
+use Rattle.command_types.specs.declared.cycle.Mode.TheVariants as modes
 use Rattle.command_types.specs.declared.trade.Side.{Side}
 use Rattle.command_types.specs.declared.trade.Side.TheVariants.{Out, In}
 use Rattle.command_types.specs.declared.ask.Entry.{Entry}
@@ -38,8 +38,9 @@ side_byte Out = 0
 side_byte In = 1
 
 abbrev pub mode_byte : Mode → ℕ
-mode_byte Conservative = 0
-mode_byte Hybrid = 1
+mode_byte modes.Conservative = 0
+mode_byte modes.Hybrid = 1
+mode_byte modes.Free = 2
 
 -- a byte that tells whether the ceiling is given, and the ceiling if it is
 abbrev pub ceiling_spelling : Option ℕ → List ℕ

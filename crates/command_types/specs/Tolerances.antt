@@ -4,7 +4,7 @@ use Rattle.network_laws.specs.declared.rows.LimitRow.{LimitRow}
 use Rattle.network_laws.specs.Networks.{NetworkData, at}
 use Rattle.network_laws.specs.Limits.{LimitsData}
 use Rattle.command_types.specs.declared.cycle.Mode.{Mode}
-use Rattle.command_types.specs.declared.cycle.Mode.TheVariants.{Conservative, Hybrid}
+use Rattle.command_types.specs.declared.cycle.Mode.TheVariants.{Conservative, Hybrid, Free}
 use Rattle.command_types.specs.declared.trade.Side.{Side}
 use Rattle.command_types.specs.declared.trade.Side.TheVariants.{Out, In}
 use Rattle.command_types.specs.declared.tolerance.ToleranceRow.{ToleranceRow}
@@ -64,14 +64,17 @@ abbrev pub is_dealer_row : Option MemberRow → Bool
 is_dealer_row None = false
 is_dealer_row (Some row) = is_dealer row.role
 
-abbrev pub is_hybrid : Mode → Bool
-is_hybrid Hybrid = true
-is_hybrid Conservative = false
+-- a pair of this seller and this buyer is open: no pair in conservative mode, one of two dealers in hybrid mode, every
+-- pair in free mode
+abbrev pub is_open : Mode → Option MemberRow → Option MemberRow → Bool
+is_open Conservative seller buyer = false
+is_open Hybrid seller buyer = is_dealer_row seller && is_dealer_row buyer
+is_open Free seller buyer = true
 
--- the pair may grow: two different dealers, in hybrid mode
+-- the pair may grow: two different members, whose pair is open
 abbrev pub may_grow : Mode → List MemberRow → ℕ → ℕ → Bool
 may_grow mode members seller buyer =
-    is_hybrid mode && not (seller == buyer) && is_dealer_row (slice_get members seller) && is_dealer_row (slice_get members buyer)
+    not (seller == buyer) && is_open mode (slice_get members seller) (slice_get members buyer)
 
 abbrev pub raised_to : ℕ → Option ℕ → Option ℕ
 raised_to now None = None

@@ -1,3 +1,4 @@
+pub mod PartingFacts
 pub mod OnlyFacts
 pub mod RunFacts
 pub mod EndFacts

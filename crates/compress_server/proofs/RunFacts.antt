@@ -6,7 +6,7 @@ use Rattle.command_types.specs.declared.ask.Entry.{Entry}
 use Rattle.command_types.specs.declared.figures.Figures.{Figures}
 use Rattle.command_types.specs.History.{IsLegal, longer, end_of, entries_of_seat}
 use Rattle.command_types.specs.Lines.{cut_of, lines_of}
-use Rattle.command_types.specs.Session.{Mark, IsTalk, IsAnswered}
+use Rattle.command_types.specs.Session.{Mark, Standing, IsSession, IsTalk}
 use Rattle.cycle_lock.specs.declared.pass.Pass.{Pass}
 use Rattle.cycle_lock.specs.Passes as passes
 use Rattle.house.specs.House.{HouseView, figures_of, is_stopped}
@@ -68,16 +68,21 @@ module _ (lock : passes.LockId) (v w : HouseView) (now : Sight) (closed : IsClos
       } in
       seen_whole [] grows ∙ ap (λ (s : Sight). s.history) there
 
+  -- a talk of the session is one in the history that was given back
+  abbrev session_of : (lines : List (List ℕ)) (text : List ℕ) (made : List Entry) (to : Standing) → Grows (first_sight lock v) now made → IsTalk (figures_of v) now.history 0 (at_first v) lines text made to →
+      IsSession (figures_of v) w.history 0 (at_first v) lines text
+  session_of lines text made to grows talk = record {
+    made = made;
+    to = to;
+    talk = subst (λ h. IsTalk (figures_of v) h 0 (at_first v) lines text made to) (sym (seen_whole made grows)) talk;
+    own = all_own made grows;
+  }
+
   module _ (begun taken : Option (List ℕ)) where
     abbrev replied : (lines : List (List ℕ)) → Written (first_sight lock v) begun taken now lines → IsReplied v w begun taken lines
     replied lines r = record {
       text = r.text;
-      session = record {
-        made = r.made;
-        to = r.to;
-        talk = subst (λ h. IsTalk (figures_of v) h 0 (at_first v) lines r.text r.made r.to) (sym (seen_whole r.made r.grows)) r.talk;
-        own = all_own r.made r.grows;
-      };
+      session = session_of lines r.text r.made r.to r.grows r.talk;
       all = all_made r.made r.grows;
       stops = λ stopped. closed.stop (sym (ap (λ (m : Mark). m.stopped) r.there) ∙ stopped);
       took = r.took;
@@ -96,27 +101,16 @@ module _ (lock : passes.LockId) (v w : HouseView) (now : Sight) (closed : IsClos
     }
 
     cut_off : (lines : List (List ℕ)) → CutOff (first_sight lock v) begun taken now lines → IsCutOff v w begun taken lines
-    cut_off lines r =
-        let same = sym (seen_whole (r.made ++ r.first) r.grows) in
-        record {
-          earlier = r.earlier;
-          line = r.line;
-          others = r.others;
-          order = r.order;
-          text = r.text;
-          last = r.last;
-          made = r.made;
-          first = r.first;
-          mid = r.mid;
-          to = r.to;
-          talk = subst (λ h. IsTalk (figures_of v) h 0 (at_first v) r.earlier r.text r.made r.mid) same r.talk;
-          answered = subst (λ h. IsAnswered (figures_of v) h 0 r.mid r.line r.last r.first r.to) same r.answered;
-          all = all_made (r.made ++ r.first) r.grows;
-          stops = λ stopped. closed.stop (sym (ap (λ (m : Mark). m.stopped) r.there) ∙ stopped);
-          written = r.written;
-          unfinished = r.unfinished;
-          took = r.took;
-        }
+    cut_off lines r = record {
+      said = r.said;
+      others = r.others;
+      order = r.order;
+      text = r.text;
+      session = session_of r.said r.text r.made r.to r.grows r.talk;
+      all = all_made r.made r.grows;
+      stops = λ stopped. closed.stop (sym (ap (λ (m : Mark). m.stopped) r.there) ∙ stopped);
+      took = r.took;
+    }
 
     module _ (flow : Option Flow) (bytes : List ℕ) (P Q : Type 0) where
       ended_either : (IsAtEnd flow × P × Written (first_sight lock v) begun taken now (lines_of bytes)) ⊎ (Q × Left (first_sight lock v) begun taken now (cut_of bytes).whole) →

@@ -10,21 +10,22 @@ use Rattle.cycle_lock.specs.declared.pass.Pass.{Pass}
 use Rattle.cycle_lock.specs.Passes as passes
 use Rattle.house.specs.House.{HouseView, figures_of}
 use Rattle.session.specs.Serving.{Sight, of_pass}
-use Rattle.session.proofs.PendingFacts.{pending_whole, pending_front, front_more}
+use Rattle.session.proofs.PendingFacts.{says_then_flushed, says_whole, front_waiting, front_more}
 use Rattle.seats.specs.declared.place.Place.{Place}
 use Rattle.seats.specs.declared.seat.SeatEnd.{SeatEnd}
 use Rattle.seats.specs.Final.{AreServed, HasServed, seated}
-use Rattle.compress_server.specs.Serve.{most_connections, seat_at, final_of, IsSeatAt, AreSeats, history_line, IsWritten}
+use Rattle.compress_server.specs.Serve.{seat_at, final_of, IsSeatAt, AreSeats, history_line, IsWritten}
 use Rattle.compress_server.specs.Seen.{OutputState}
 use Rattle.compress_server.specs.Runs.{runs_of}
 
 -- ---- two pieces, one after the other
 
 pub takes_both : (begun mid after : Option (List ℕ)) (first second : List ℕ) → Takes begun mid first → Takes mid after second → Takes begun after (first ++ second)
-takes_both begun mid after first second one two = pending_whole begun mid after second (first ++ second) two (record { written = first; took = one; order = refl })
+takes_both begun mid after first second one two =
+    says_whole begun after first [] second refl (says_then_flushed begun mid after first second second (record { written = first; took = one; order = refl }) two)
 
 pub takes_then_front : (begun mid after : Option (List ℕ)) (first second : List ℕ) → Takes begun mid first → TakesFront mid after second → TakesFront begun after (first ++ second)
-takes_then_front begun mid after first second one two = pending_front begun mid after second (first ++ second) two (record { written = first; took = one; order = refl })
+takes_then_front begun mid after first second one two = front_waiting begun mid after first second second (record { written = first; took = one; order = refl }) two
 
 -- ---- a seat
 
@@ -36,35 +37,35 @@ first_seen lock v number = record { seat = seat_at lock v number; history = v.hi
 pub seated_at : (v : HouseView) (pass : Pass) (number : ℕ) → passes.figures_of pass ≡ figures_of v → passes.seen pass ≡ v.history → passes.saw_stop pass ≡ false → seated (of_pass pass) number ≡ first_seen (passes.lock_of pass) v number
 seated_at v pass number figures history stop = λ i. record { seat = record { lock = passes.lock_of pass; figures = figures i; number = number; splits = 0 }; history = history i; stopped = stop i }
 
-module _ (lock : passes.LockId) (v w : HouseView) (number : ℕ) where
-  stands : (old new : Option Visits) (end : SeatEnd) → IsNew old → HasServed (final_of w) (first_seen lock v number) old new most_connections end → IsSeatAt lock v w number new end
-  stands None new end fresh none = subst (λ d. IsSeatAt lock v w number d end) (sym none) tt
+module _ (most_visits : ℕ) (lock : passes.LockId) (v w : HouseView) (number : ℕ) where
+  stands : (old new : Option Visits) (end : SeatEnd) → IsNew old → HasServed (final_of w) (first_seen lock v number) old new most_visits end → IsSeatAt most_visits lock v w number new end
+  stands None new end fresh none = subst (λ d. IsSeatAt most_visits lock v w number d end) (sym none) tt
   stands (Some o) None end fresh served = absurd served
   stands (Some o) (Some n) end fresh (visits, next, served) =
       let back : n.back ≡ visits = next.back ∙ ap (λ (vs : List Visit). vs ++ visits) fresh.1 in
       record {
         none_out = next.none_out ∙ fresh.0;
-        few = subst (λ (vs : List Visit). length vs ≤ most_connections) (sym back) next.few;
+        few = subst (λ (vs : List Visit). length vs ≤ most_visits) (sym back) next.few;
         most = λ is. ap length back ∙ next.all is;
         over = next.over;
         served = subst (λ (vs : List Visit). AreServed (final_of w) (seat_at lock v number) (end_of v.history) false vs end) (sym back) served;
       }
 
-  pub seat_stands : (start : Sight) (old new : Option Visits) (end : SeatEnd) → start ≡ first_seen lock v number → IsNew old → HasServed (final_of w) start old new most_connections end → IsSeatAt lock v w number new end
-  seat_stands start old new end is fresh served = stands old new end fresh (subst (λ (s : Sight). HasServed (final_of w) s old new most_connections end) is served)
+  pub seat_stands : (start : Sight) (old new : Option Visits) (end : SeatEnd) → start ≡ first_seen lock v number → IsNew old → HasServed (final_of w) start old new most_visits end → IsSeatAt most_visits lock v w number new end
+  seat_stands start old new end is fresh served = stands old new end fresh (subst (λ (s : Sight). HasServed (final_of w) s old new most_visits end) is served)
 
 none_more : (n : ℕ) → 0 + n ≡ n
 none_more n = omega arith
 
 -- the seats at these places, the first with this number
-pub seats_of : {D In Out : Type 0} (visits : D → Option Visits) (lock : passes.LockId) (v w : HouseView) (n : ℕ) (places : List (Place D In Out)) →
-    ((k : ℕ) (other : Place D In Out) → k < length places → IsSeatAt lock v w (k + n) (visits (slice_index_or places k other).door) (slice_index_or places k other).end) → AreSeats visits lock v w n (runs_of places)
-seats_of visits lock v w n [] each = tt
-seats_of visits lock v w n (place ∷ places) each = (
-  subst (λ m. IsSeatAt lock v w m (visits place.door) place.end) (none_more n) (each 0 place (omega arith)),
-  seats_of visits lock v w (n + 1) places (λ k other lt.
+pub seats_of : {D In Out : Type 0} (visits : D → Option Visits) (most_visits : ℕ) (lock : passes.LockId) (v w : HouseView) (n : ℕ) (places : List (Place D In Out)) →
+    ((k : ℕ) (other : Place D In Out) → k < length places → IsSeatAt most_visits lock v w (k + n) (visits (slice_index_or places k other).door) (slice_index_or places k other).end) → AreSeats visits most_visits lock v w n (runs_of places)
+seats_of visits most_visits lock v w n [] each = tt
+seats_of visits most_visits lock v w n (place ∷ places) each = (
+  subst (λ m. IsSeatAt most_visits lock v w m (visits place.door) place.end) (none_more n) (each 0 place (omega arith)),
+  seats_of visits most_visits lock v w (n + 1) places (λ k other lt.
       let up : suc k + n ≡ k + (n + 1) = omega arith in
-      subst (λ m. IsSeatAt lock v w m (visits (slice_index_or places k other).door) (slice_index_or places k other).end) up (each (suc k) other (omega (arith, lt)))),
+      subst (λ m. IsSeatAt most_visits lock v w m (visits (slice_index_or places k other).door) (slice_index_or places k other).end) up (each (suc k) other (omega (arith, lt)))),
 )
 
 -- ---- the line of the history's length, in three pieces

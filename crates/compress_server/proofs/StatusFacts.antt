@@ -1,12 +1,11 @@
 -- A status comes of its own ends alone.
-use Rattle.std.proofs.Common.{◌≡◌, ◌⊎◌, inl, inr, refl, sym, subst, ℕ, ◌≤◌, List, Option, arith}
+use Rattle.std.proofs.Common.{◌≡◌, ◌⊎◌, inl, inr, refl, sym, subst, ℕ, arith}
 use Rattle.command_types.specs.declared.file_fault.FileFault.{FileFault}
 use Rattle.compress_server.specs.declared.load.FileRole.{FileRole}
 use Rattle.compress_server.specs.declared.load.LoadFault.TheVariants.{Files, Faulty, Memory as NoMemory}
 use Rattle.compress_server.specs.declared.ending.End.{End}
 use Rattle.compress_server.specs.declared.ending.End.TheVariants.{Done, No, BadWords, Unloaded, Damaged, DiskFault, Stopped, ListenerFault, SourceFault, SinkFault, Limit, Memory}
-use Rattle.compress_server.specs.Telling.{TellsEnd}
-use Rattle.compress_server.specs.Statuses.{IsFaulty, IsDamagedEnd, IsStatusOf, StatusesTellTheEnd}
+use Rattle.compress_server.specs.Statuses.{IsStatusOf, StatusesTellTheEnd}
 
 of_done : IsStatusOf 0 Done
 of_done = record {

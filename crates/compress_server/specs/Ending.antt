@@ -24,8 +24,9 @@ use Rattle.compress_server.specs.Files.{SaysRoster, IsRosterFault, IsMarketFault
 use Rattle.compress_server.specs.Run.{IsWhole, IsStopped, IsAtLimit, IsUnwritten}
 use Rattle.compress_server.specs.Check.{SaysYes, SaysNo, SaysFront}
 use Rattle.compress_server.specs.Solve.{Proposes, ProposesFront}
+use Rattle.compress_server.specs.Gen.{Summarizes, SummarizesFront}
 use Rattle.compress_server.specs.Seen.{Seen, IsOnlyOutput}
-use Rattle.compress_server.specs.Serve.{ServiceRuns}
+use Rattle.compress_server.specs.Serve.{ServiceSize, ServiceRuns}
 
 -- a fault among the files is the first one, and where the files failed this holds of the role
 abbrev pub IsFault : (FileRole → FileFault → Type 0) → (FileRole → Type 0) → LoadFault → Type 0
@@ -107,23 +108,40 @@ SolveRuns folder market begun taken SinkFault = ProposesFront folder begun taken
 SolveRuns folder market begun taken Limit = ⊥
 SolveRuns folder market begun taken Memory = taken ≡ begun
 
+-- by the end of a gen, which reads nothing
+abbrev pub GenRuns : ℕ → Option (List ℕ) → Option (List ℕ) → End → Type 0
+GenRuns number begun taken Done = Summarizes begun taken number
+GenRuns number begun taken No = ⊥
+GenRuns number begun taken BadWords = ⊥
+GenRuns number begun taken (Unloaded fault) = ⊥
+GenRuns number begun taken (Damaged place) = ⊥
+GenRuns number begun taken DiskFault = ⊥
+GenRuns number begun taken Stopped = ⊥
+GenRuns number begun taken ListenerFault = ⊥
+GenRuns number begun taken SourceFault = ⊥
+GenRuns number begun taken SinkFault = SummarizesFront begun taken number
+GenRuns number begun taken Limit = ⊥
+GenRuns number begun taken Memory = taken ≡ begun
+
 -- by the end of a service: the roster could not be had, and nothing else was asked; or what came over its rows
-abbrev pub ServeRuns : {D : Type 0} → (D → Option Visits) → Option Folder → List ℕ → Seen → Seen → End → Type 0
-ServeRuns visits folder roster before after end =
+abbrev pub ServeRuns : {D : Type 0} → (D → Option Visits) → Option Folder → List ℕ → ServiceSize → Seen → Seen → End → Type 0
+ServeRuns visits folder roster size before after end =
     ((fault : LoadFault) × (end ≡ Unloaded fault) × (after ≡ before) × IsFault (IsRosterFault folder roster) ReadBeforeRoster fault)
-    ⊎ OverRoster folder roster (λ rows. ServiceRuns visits rows before after end)
+    ⊎ OverRoster folder roster (λ rows. ServiceRuns visits size rows before after end)
 
 -- by the end of the program: only a script reads the input, and only a service asks the listener
 abbrev pub Runs : {D : Type 0} → (D → Option Visits) → Option Folder → Option Form → Option Flow → Option Flow → Seen → Seen → End → Type 0
 Runs visits folder None opened flow before after end = (end ≡ BadWords) × (flow ≡ opened) × (after ≡ before)
-Runs visits folder (Some (Form.Script roster journal)) opened flow before after end =
+Runs visits folder (Some (Form.Script roster journal workers)) opened flow before after end =
     (after.listener ≡ before.listener) × ScriptRuns folder roster opened flow before.output.taken after.output.taken before.disk after.disk end
-Runs visits folder (Some (Form.Serve roster journal address)) opened flow before after end =
-    (flow ≡ opened) × ServeRuns visits folder roster before after end
+Runs visits folder (Some (Form.Serve roster journal address seats connections workers)) opened flow before after end =
+    (flow ≡ opened) × ServeRuns visits folder roster (record { seats = seats; connections = connections }) before after end
 Runs visits folder (Some (Form.Check market proposal)) opened flow before after end =
     (flow ≡ opened) × IsOnlyOutput before after × CheckRuns folder market proposal before.output.taken after.output.taken end
-Runs visits folder (Some (Form.Solve market)) opened flow before after end =
+Runs visits folder (Some (Form.Solve market workers)) opened flow before after end =
     (flow ≡ opened) × IsOnlyOutput before after × SolveRuns folder market before.output.taken after.output.taken end
+Runs visits folder (Some (Form.Gen number workers)) opened flow before after end =
+    (flow ≡ opened) × IsOnlyOutput before after × GenRuns number before.output.taken after.output.taken end
 
 -- where the files, the input or the output failed, its count rose; a fault of the disk or of the listener is counted in what a script or a service comes to
 abbrev pub IsCounted : Type 0 → Type 0 → Type 0 → End → Type 0

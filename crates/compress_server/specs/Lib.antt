@@ -1,3 +1,4 @@
+pub mod Parting
 pub mod Words
 pub mod Files
 pub mod Faults
@@ -10,6 +11,7 @@ pub mod Run
 pub mod Script
 pub mod Check
 pub mod Solve
+pub mod Gen
 pub mod Ending
 pub mod Telling
 pub mod Statuses

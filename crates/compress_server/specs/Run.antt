@@ -1,11 +1,10 @@
 -- What the program does with its input, its output and its errors.
-use Rattle.std.specs.Prelude.{◌≡◌, ◌⊎◌, ℕ, ◌==◌, true, false, List, [], ◌∷◌, ◌++◌, ◌<◌, ◌≤◌, take, length, Option, codes, if◌then◌else◌}
+use Rattle.std.specs.Prelude.{◌≡◌, ◌⊎◌, ℕ, ◌==◌, true, false, List, [], ◌++◌, ◌<◌, ◌≤◌, length, Option, codes, if◌then◌else◌}
 use Rattle.outside.specs.Faults.{Rose}
 use Rattle.outside.specs.Flow.{Flow, Gives, IsAtEnd, Takes, TakesFront}
-use Rattle.command_types.specs.declared.ask.Entry.{Entry}
 use Rattle.command_types.specs.History.{end_of, longer}
 use Rattle.command_types.specs.Lines.{cut_of, lines_of}
-use Rattle.command_types.specs.Session.{Standing, IsSession, IsTalk, IsAnswered, nobody}
+use Rattle.command_types.specs.Session.{Standing, IsSession, nobody}
 use Rattle.house.specs.House.{HouseView, figures_of, is_stopped}
 use Rattle.session.specs.Ending.{session_limit}
 
@@ -29,25 +28,16 @@ pub record IsLeft (v w : HouseView) (begun taken : Option (List ℕ)) (lines : L
   pub replied : IsReplied v w begun taken said
   pub over : replied.session.to.over ≡ true
 
--- The lines up to one of them were replied to, in one session of seat 0. The texts before that line's were written whole, and of its own a front that is not the whole. The history has grown by the changes of the lines up to that one, in order, and by no others.
+-- The first of the lines were replied to, in one session of seat 0, and of their text a front was written that is not the whole. The history has grown by the changes of these lines, in order, and by no others. A stop that was told is the house's.
 pub record IsCutOff (v w : HouseView) (begun taken : Option (List ℕ)) (lines : List (List ℕ)) : Type 0 where
-  pub earlier : List (List ℕ)
-  pub line : List ℕ
+  pub said : List (List ℕ)
   pub others : List (List ℕ)
-  pub order : lines ≡ earlier ++ line ∷ others
+  pub order : lines ≡ said ++ others
   pub text : List ℕ
-  pub last : List ℕ
-  pub made : List Entry
-  pub first : List Entry
-  pub mid : Standing
-  pub to : Standing
-  pub talk : IsTalk (figures_of v) w.history 0 (at_first v) earlier text made mid
-  pub answered : IsAnswered (figures_of v) w.history 0 mid line last first to
-  pub all : w.history ≡ longer v.history (made ++ first)
-  pub stops : to.stopped ≡ true → is_stopped w ≡ true
-  pub written : ℕ
-  pub unfinished : written < length last
-  pub took : Takes begun taken (text ++ take written last)
+  pub session : IsSession (figures_of v) w.history 0 (at_first v) said text
+  pub all : w.history ≡ longer v.history session.made
+  pub stops : session.to.stopped ≡ true → is_stopped w ≡ true
+  pub took : TakesFront begun taken text
 
 -- the input was read to its end and all its lines were replied to, or those up to an accepted BYE were
 abbrev pub IsWhole : HouseView → HouseView → Option Flow → Option Flow → Option (List ℕ) → Option (List ℕ) → Type 0
@@ -70,7 +60,7 @@ abbrev pub IsAtLimit : HouseView → HouseView → Option Flow → Option Flow �
 IsAtLimit v w opened flow begun taken =
     (bytes : List ℕ) × Gives opened flow bytes × (length bytes ≡ session_limit) × IsOpen v w begun taken (cut_of bytes).whole
 
--- the output failed at the reply to one of the whole lines, or to the last line of an input that was read to its end
+-- the output failed at the replies to the first of the whole lines, or of all lines of an input that was read to its end
 abbrev pub IsUnwritten : HouseView → HouseView → Option Flow → Option Flow → Option (List ℕ) → Option (List ℕ) → Type 0
 IsUnwritten v w opened flow begun taken =
     (bytes : List ℕ) × Gives opened flow bytes

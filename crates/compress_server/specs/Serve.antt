@@ -20,11 +20,9 @@ use Rattle.compress_server.specs.Housed.{OverHouse, OpeningFails}
 use Rattle.compress_server.specs.Seen.{OutputState, ListenerState, Seen}
 
 -- how many seats serve, and how many connections each of them at most
-abbrev pub seat_count : ℕ
-seat_count = 4
-
-abbrev pub most_connections : ℕ
-most_connections = 1000000
+pub record ServiceSize : Type 0 where
+  pub seats : ℕ
+  pub connections : ℕ
 
 -- the line that tells the length of the history in the end
 abbrev pub history_line : ℕ → List ℕ
@@ -37,18 +35,18 @@ seat_at lock v number = record { lock = lock; figures = figures_of v; number = n
 abbrev pub final_of : HouseView → Final
 final_of w = record { history = w.history; stopped = is_stopped w }
 
--- A seat's door when it was taken back: all connections that it gave were given back, and they are the seat's sessions, one after another, from the opening on, in the history of the house that came back. The seat ended where no connection was to come, where it had served as many as it may, where the door failed or for want of memory.
-pub record IsSeat (lock : LockId) (v w : HouseView) (number : ℕ) (door : Visits) (end : SeatEnd) : Type 0 where
+-- A seat's door when it was taken back, where it may serve at most so many connections: all connections that it gave were given back, and they are the seat's sessions, one after another, from the opening on, in the history of the house that came back. The seat ended where no connection was to come, where it had served as many as it may, where the door failed or for want of memory.
+pub record IsSeat (most_visits : ℕ) (lock : LockId) (v w : HouseView) (number : ℕ) (door : Visits) (end : SeatEnd) : Type 0 where
   pub none_out : door.out ≡ 0
-  pub few : length door.back ≤ most_connections
-  pub most : end ≡ seat_end.Most → length door.back ≡ most_connections
+  pub few : length door.back ≤ most_visits
+  pub most : end ≡ seat_end.Most → length door.back ≡ most_visits
   pub over : end ≡ seat_end.Over → door.coming ≡ []
   pub served : AreServed (final_of w) (seat_at lock v number) (end_of v.history) false door.back end
 
 -- the same of a door that may tell nothing
-abbrev pub IsSeatAt : LockId → HouseView → HouseView → ℕ → Option Visits → SeatEnd → Type 0
-IsSeatAt lock v w number None end = Unit {0}
-IsSeatAt lock v w number (Some door) end = IsSeat lock v w number door end
+abbrev pub IsSeatAt : ℕ → LockId → HouseView → HouseView → ℕ → Option Visits → SeatEnd → Type 0
+IsSeatAt most_visits lock v w number None end = Unit {0}
+IsSeatAt most_visits lock v w number (Some door) end = IsSeat most_visits lock v w number door end
 
 -- whether a seat ended for want of memory, and whether its door failed
 abbrev pub had_no_memory : SeatEnd → Bool
@@ -112,19 +110,19 @@ module _ {D : Type 0} (visits : D → Option Visits) where
   abbrev pub Returned : Option Doors → Option Doors → List D → Type 0
   Returned before after doors = (mid : Option Doors) × LendsMany (length doors) before mid × TakesBackAll mid after doors
 
-  -- these seats, the first with this number and the next with the one above, are what came of the house v, which is then w
-  abbrev pub AreSeats : LockId → HouseView → HouseView → ℕ → List (SeatRun D) → Type 0
-  AreSeats lock v w number [] = Unit {0}
-  AreSeats lock v w number (seat ∷ seats) = IsSeatAt lock v w number (visits seat.door) seat.end × AreSeats lock v w (number + 1) seats
+  -- these seats, the first with this number and the next with the one above, each of which may serve so many connections, are what came of the house v, which is then w
+  abbrev pub AreSeats : ℕ → LockId → HouseView → HouseView → ℕ → List (SeatRun D) → Type 0
+  AreSeats most_visits lock v w number [] = Unit {0}
+  AreSeats most_visits lock v w number (seat ∷ seats) = IsSeatAt most_visits lock v w number (visits seat.door) seat.end × AreSeats most_visits lock v w (number + 1) seats
 
-  -- The seats served beside one another, over the house v, which is then w. Its history has grown, and each new entry is of one of them.
-  pub record HaveServed (v w : HouseView) (seats : List (SeatRun D)) : Type 0 where
-    pub count : length seats ≡ seat_count
+  -- So many seats served beside one another, over the house v, which is then w. Its history has grown, and each new entry is of one of them.
+  pub record HaveServed (size : ServiceSize) (v w : HouseView) (seats : List (SeatRun D)) : Type 0 where
+    pub count : length seats ≡ size.seats
     pub goes_on : Continues w.history v.history
-    pub others : (n : ℕ) → seat_count < n → entries_of_seat w.history n (end_of v.history) ≡ []
+    pub others : (n : ℕ) → size.seats < n → entries_of_seat w.history n (end_of v.history) ≡ []
     pub none : entries_of_seat w.history 0 (end_of v.history) ≡ []
     pub lock : LockId
-    pub each : AreSeats lock v w 1 seats
+    pub each : AreSeats size.connections lock v w 1 seats
 
   -- The seats could not begin, and the history is what it was. Doors that were handed out are back, and none was asked for a connection.
   pub record IsUnbegun (v w : HouseView) (output output' : OutputState) (listener listener' : ListenerState) (end : End) : Type 0 where
@@ -136,9 +134,9 @@ module _ {D : Type 0} (visits : D → Option Visits) where
     pub why : (end ≡ Memory) ⊎ ((end ≡ ListenerFault) × Rose listener.faults listener'.faults)
 
   -- The seats served, the line of the history's length was written, and the doors were taken back.
-  pub record IsService (v w : HouseView) (output output' : OutputState) (listener listener' : ListenerState) (end : End) : Type 0 where
+  pub record IsService (size : ServiceSize) (v w : HouseView) (output output' : OutputState) (listener listener' : ListenerState) (end : End) : Type 0 where
     pub seats : List (SeatRun D)
-    pub served : HaveServed v w seats
+    pub served : HaveServed size v w seats
     pub returned : Returned listener.doors listener'.doors (map (λ (seat : SeatRun D). seat.door) seats)
     pub written : Bool
     pub wrote : IsWritten output output' (history_line (end_of w.history)) written
@@ -146,11 +144,11 @@ module _ {D : Type 0} (visits : D → Option Visits) where
     pub counted : end ≡ ListenerFault → Rose listener.faults listener'.faults
 
   -- by the end of a service over a house that was just opened
-  abbrev pub HouseServes : HouseView → HouseView → OutputState → OutputState → ListenerState → ListenerState → End → Type 0
-  HouseServes v w output output' listener listener' end = IsUnbegun v w output output' listener listener' end ⊎ IsService v w output output' listener listener' end
+  abbrev pub HouseServes : ServiceSize → HouseView → HouseView → OutputState → OutputState → ListenerState → ListenerState → End → Type 0
+  HouseServes size v w output output' listener listener' end = IsUnbegun v w output output' listener listener' end ⊎ IsService size v w output output' listener listener' end
 
   -- by the end of a service over these rows
-  abbrev pub ServiceRuns : Rows → Seen → Seen → End → Type 0
-  ServiceRuns rows before after end =
+  abbrev pub ServiceRuns : ServiceSize → Rows → Seen → Seen → End → Type 0
+  ServiceRuns size rows before after end =
       IsUnhoused rows before after end
-      ⊎ OverHouse rows before.disk after.disk (λ v w. HouseServes v w before.output after.output before.listener after.listener end)
+      ⊎ OverHouse rows before.disk after.disk (λ v w. HouseServes size v w before.output after.output before.listener after.listener end)

@@ -1,9 +1,8 @@
 -- The words that the program is called with, and what they ask for.
-use Rattle.std.specs.Prelude.{ℕ, ◌==◌, not, Bool, false, ◌&&◌, List, [], ◌∷◌, Option, Some, None, option_map, codes, if◌then◌else◌}
-use Rattle.std.specs.List.{list_all}
-use Rattle.std.specs.Str.{bytes_eq}
+use Rattle.std.specs.Prelude.{ℕ, ◌&&◌, Bool, List, [], ◌∷◌, Option, Some, None, option_map, option_and_then, unwrap_or, is_none, codes, bytes_eq, if◌then◌else◌}
 use Rattle.command_types.specs.declared.cycle.Mode.{Mode}
 use Rattle.command_types.specs.Grammar.{mode_word}
+use Rattle.compress_server.specs.Parting.{Options, Parts, most_connections, count_of, parts_of}
 use Rattle.compress_server.specs.declared.words.MarketFiles.{MarketFiles}
 use Rattle.compress_server.specs.declared.words.Form.{Form as ReadForm}
 use Rattle.compress_server.specs.declared.words.Form.TheVariants as read
@@ -14,40 +13,81 @@ pub record Market : Type 0 where
   pub trades : List ℕ
   pub mode : Mode
 
--- what the program is to do, with the names of its files
+-- what the program is to do, with the names of its files and the numbers of its options
 pub data Form : Type 0 where
-  Script : (roster journal : List ℕ) → Form
-  Serve : (roster journal address : List ℕ) → Form
+  Script : (roster journal : List ℕ) (workers : ℕ) → Form
+  Serve : (roster journal address : List ℕ) (seats connections workers : ℕ) → Form
   Check : (market : Market) (proposal : List ℕ) → Form
-  Solve : (market : Market) → Form
+  Solve : (market : Market) (workers : ℕ) → Form
+  Gen : (number workers : ℕ) → Form
 
-abbrev pub begins_with_dash : List ℕ → Bool
-begins_with_dash [] = false
-begins_with_dash (byte ∷ bytes) = byte == 45
+-- the numbers where the option is not given
+abbrev pub workers_of : Options → ℕ
+workers_of options = unwrap_or options.workers 4
 
--- none of the words begins with a dash
-abbrev pub are_plain : List (List ℕ) → Bool
-are_plain words = list_all (λ word. not (begins_with_dash word)) words
+abbrev pub seats_of : Options → ℕ
+seats_of options = unwrap_or options.seats 4
 
-abbrev pub with_mode : List ℕ → List ℕ → Option Mode → Option Market
-with_mode roster trades None = None
-with_mode roster trades (Some mode) = Some (record { roster = roster; trades = trades; mode = mode })
+abbrev pub connections_of : Options → ℕ
+connections_of options = unwrap_or options.connections most_connections
 
--- ROSTER TRADES MODE; none where a name begins with a dash, or the mode is none
+-- no option is given, but perhaps the workers
+abbrev pub has_workers_alone : Options → Bool
+has_workers_alone options = is_none options.seats && is_none options.connections
+
+abbrev pub has_none : Options → Bool
+has_none options = is_none options.workers && has_workers_alone options
+
+-- ROSTER TRADES MODE; none where the mode is none
 abbrev pub market_of : List ℕ → List ℕ → List ℕ → Option Market
-market_of roster trades mode = if are_plain (roster ∷ trades ∷ []) then with_mode roster trades (mode_word mode) else None
+market_of roster trades mode = option_map (λ mode. record { roster = roster; trades = trades; mode = mode }) (mode_word mode)
 
--- `script ROSTER JOURNAL`, `serve ROSTER JOURNAL ADDRESS`, `solve ROSTER TRADES MODE` or `check ROSTER TRADES MODE PROPOSAL`; all other words are out of form
+-- `script ROSTER JOURNAL [--workers W]`
+abbrev pub script_of : Options → List (List ℕ) → Option Form
+script_of options (roster ∷ journal ∷ []) = if has_workers_alone options then Some (Form.Script roster journal (workers_of options)) else None
+script_of options plain = None
+
+-- `serve ROSTER JOURNAL ADDRESS [--seats N] [--connections C] [--workers W]`
+abbrev pub serve_of : Options → List (List ℕ) → Option Form
+serve_of options (roster ∷ journal ∷ address ∷ []) = Some (Form.Serve roster journal address (seats_of options) (connections_of options) (workers_of options))
+serve_of options plain = None
+
+-- `check ROSTER TRADES MODE PROPOSAL`
+abbrev pub check_of : Options → List (List ℕ) → Option Form
+check_of options (roster ∷ trades ∷ mode ∷ proposal ∷ []) =
+    if has_none options then option_map (λ market. Form.Check market proposal) (market_of roster trades mode) else None
+check_of options plain = None
+
+-- `solve ROSTER TRADES MODE [--workers W]`
+abbrev pub solve_of : Options → List (List ℕ) → Option Form
+solve_of options (roster ∷ trades ∷ mode ∷ []) =
+    if has_workers_alone options then option_map (λ market. Form.Solve market (workers_of options)) (market_of roster trades mode) else None
+solve_of options plain = None
+
+-- the most that a market's number may be
+abbrev pub most_number : ℕ
+most_number = 1000000000000000000
+
+-- `gen NUMBER [--workers W]`
+abbrev pub gen_of : Options → List (List ℕ) → Option Form
+gen_of options (number ∷ []) =
+    if has_workers_alone options then option_map (λ n. Form.Gen n (workers_of options)) (count_of most_number number) else None
+gen_of options plain = None
+
+-- the form of this name, with these words behind it
+abbrev pub form_named : List ℕ → Parts → Option Form
+form_named name parts =
+    if bytes_eq name (codes "script") then script_of parts.options parts.plain
+    else (if bytes_eq name (codes "serve") then serve_of parts.options parts.plain
+    else (if bytes_eq name (codes "check") then check_of parts.options parts.plain
+    else (if bytes_eq name (codes "solve") then solve_of parts.options parts.plain
+    else (if bytes_eq name (codes "gen") then gen_of parts.options parts.plain
+    else None))))
+
+-- what the words ask for; none where they are out of form
 abbrev pub form_of : List (List ℕ) → Option Form
-form_of (verb ∷ roster ∷ journal ∷ []) =
-    if bytes_eq verb (codes "script") && are_plain (roster ∷ journal ∷ []) then Some (Form.Script roster journal) else None
-form_of (verb ∷ roster ∷ second ∷ third ∷ []) =
-    if bytes_eq verb (codes "solve") then option_map (λ market. Form.Solve market) (market_of roster second third)
-    else (if bytes_eq verb (codes "serve") && are_plain (roster ∷ second ∷ third ∷ []) then Some (Form.Serve roster second third) else None)
-form_of (verb ∷ roster ∷ trades ∷ mode ∷ proposal ∷ []) =
-    if bytes_eq verb (codes "check") && are_plain (proposal ∷ [])
-    then option_map (λ market. Form.Check market proposal) (market_of roster trades mode) else None
-form_of words = None
+form_of [] = None
+form_of (name ∷ words) = option_and_then (form_named name) (parts_of words)
 
 -- the market of the code's words
 abbrev pub read_market : MarketFiles → Market
@@ -55,7 +95,8 @@ read_market market = record { roster = market.roster.now; trades = market.trades
 
 -- the form of the code's words
 abbrev pub read_form : ReadForm → Form
-read_form (read.Script roster journal) = Form.Script roster.now journal.now
-read_form (read.Serve roster journal address) = Form.Serve roster.now journal.now address.now
+read_form (read.Script roster journal workers) = Form.Script roster.now journal.now workers.value
+read_form (read.Serve roster journal address seats connections workers) = Form.Serve roster.now journal.now address.now seats.value connections workers.value
 read_form (read.Check market proposal) = Form.Check (read_market market) proposal.now
-read_form (read.Solve market) = Form.Solve (read_market market)
+read_form (read.Solve market workers) = Form.Solve (read_market market) workers.value
+read_form (read.Gen number workers) = Form.Gen number workers.value

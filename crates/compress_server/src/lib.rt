@@ -2,11 +2,14 @@
 #![tactic(auto)]
 
 mod check;
+mod count;
 mod ending;
 mod faults;
+mod generated;
 mod laws;
 mod load;
 mod opening;
+mod parting;
 mod places;
 mod script;
 mod serve;

@@ -4,30 +4,28 @@ ghost use Rattle.std.specs.Prelude.{◌≡◌, ◌≤◌, nat_lt, true, [], All,
 ghost use Rattle.std.specs.List.{list_any};
 ghost use Rattle.outside.specs.Faults.{Rose};
 ghost use Rattle.doors.specs.Visits.{IsNew};
-ghost use Rattle.compress_server.specs.Serve.{seat_count, LendsMany, AreLent, TakesBackAll, had_no_memory, had_door_fault};
+ghost use Rattle.compress_server.specs.Serve.{LendsMany, AreLent, TakesBackAll, had_no_memory, had_door_fault};
 
 use doors::{Door, Listener};
 use outside::Trouble;
 use seats::{Place, SeatEnd};
 
-/// How many seats serve.
-pub const SEATS: usize = 4;
-
-/// Has a listener hand out a door for each seat, and puts their places into a vector with room for them. Those before one
-/// that can't be had are there.
+/// Has a listener hand out a door for each of so many seats, and puts their places into a vector with room for them. Those
+/// before one that can't be had are there.
 pub fn take_places<L: Listener>(
     listener: &mut L,
+    count: usize,
     places: &mut Vec<Place<L::Door>>,
 ) -> Result<(), Trouble>
     requires empty { places.old.items ≡ [] }
-    requires room { seat_count ≤ vec_capacity places.old }
+    requires room { count ≤ vec_capacity places.old }
     ensures lends { LendsMany (length places.new.items) (L.doors listener.old) (L.doors listener.new) }
     ensures new { All (λ place. IsNew (L.Door.visits place.door) × (L.Door.faults place.door ≡ 0)) places.new.items }
-    ensures all { OnOk result (length places.new.items ≡ seat_count) }
+    ensures all { OnOk result (length places.new.items ≡ count) }
     ensures never_falls { L.faults listener.old ≤ L.faults listener.new }
     ensures failed { result ≡ Err Trouble.Failed → Rose (L.faults listener.old) (L.faults listener.new) }
 {
-    for _ in 0..SEATS {
+    for _ in 0..count {
         let door = listener.door()?;
         places.push_reserved(Place::new(door));
     }

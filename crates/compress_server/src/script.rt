@@ -11,6 +11,7 @@ ghost use Rattle.compress_server.specs.declared.load.FileRole.{FileRole as Role}
 ghost use Rattle.compress_server.specs.Housed.{disk_of};
 ghost use Rattle.compress_server.specs.Ending.{JournalRuns, ScriptRuns};
 
+use crate::count::Count;
 use crate::ending::End;
 use crate::load::{LoadFault, load_roster};
 use crate::opening::open_house;
@@ -25,9 +26,6 @@ use std::alloc::Global;
 use std::sync::Wait;
 use std::thread::Threads;
 
-/// How many workers solve.
-pub const WORKERS: u32 = 4;
-
 // Serves one session under seat 0, over a house that was just opened. Where memory for the lock or the session's buffers
 // is not to be had, nothing is read or written.
 fn serve_house<R: Threads + Wait + Sync, D: Disk + Send, S: Source, K: Sink, G: Gate>(
@@ -37,6 +35,7 @@ fn serve_house<R: Threads + Wait + Sync, D: Disk + Send, S: Source, K: Sink, G: 
     house: House<D>,
     input: &mut S,
     output: &mut K,
+    workers: Count,
     gate: &G,
 ) -> (SessionEnd, House<D>)
     requires opened { end_of house.history ≡ house.opening }
@@ -55,7 +54,7 @@ fn serve_house<R: Threads + Wait + Sync, D: Disk + Send, S: Source, K: Sink, G: 
         rt,
         alloc,
         &turns,
-        WORKERS,
+        workers.value,
         &PathSolver::new(alloc),
         gate,
         roster,
@@ -89,6 +88,7 @@ fn run_journal<R: Threads + Wait + Sync, S: Source, K: Sink, D: Disk + Send, G: 
     input: &mut S,
     output: &mut K,
     disk: D,
+    workers: Count,
     gate: &G,
 ) -> (End, D)
     requires settled { IsSettled (D.history disk) }
@@ -101,9 +101,17 @@ fn run_journal<R: Threads + Wait + Sync, S: Source, K: Sink, D: Disk + Send, G: 
         Ok(house) => house,
         Err(failed) => return failed,
     };
-    let (end, house) = serve_house(rt, alloc, roster, house, input, output, gate);
+    let (end, house) = serve_house(rt, alloc, roster, house, input, output, workers, gate);
     let stopped = house.is_stopped();
     (end_of_script(end, stopped), house.end())
+}
+
+/// The words of the form.
+#[derive(Clone, Copy)]
+pub struct ScriptWords<'a> {
+    pub roster: &'a str,
+    pub journal: &'a str,
+    pub workers: Count,
 }
 
 /// Reads the roster of the file with this name, opens the journal with that one, and serves one session. No file changes but
@@ -112,22 +120,26 @@ pub fn run_script<R: Threads + Wait + Sync, F: Files, S: Source, K: Sink, D: Dis
     rt: &R,
     alloc: Global,
     files: &mut F,
-    roster: &str,
-    journal: &str,
+    words: &ScriptWords<'_>,
     input: &mut S,
     output: &mut K,
     disk: D,
     gate: &G,
 ) -> (End, D)
     requires { IsSettled (D.history disk) }
-    ensures runs { ScriptRuns (F.folder files.old) roster.now (S.flow input.old) (S.flow input.new) (K.taken output.old) (K.taken output.new) (disk_of (D.history disk) (D.fault_count disk)) (disk_of (D.history result.1) (D.fault_count result.1)) result.0 }
+    ensures runs { ScriptRuns (F.folder files.old) words.now.roster.now (S.flow input.old) (S.flow input.new) (K.taken output.old) (K.taken output.new) (disk_of (D.history disk) (D.fault_count disk)) (disk_of (D.history result.1) (D.fault_count result.1)) result.0 }
     ensures stays { F.folder files.new ≡ F.folder files.old }
     ensures source_fault { result.0 ≡ End.SourceFault → Rose (S.faults input.old) (S.faults input.new) }
     ensures sink_fault { result.0 ≡ End.SinkFault → Rose (K.faults output.old) (K.faults output.new) }
     ensures file_fault { (role : Role) → result.0 ≡ End.Unloaded (LoadFault.Files role) → Rose (F.faults files.old) (F.faults files.new) }
 {
-    match load_roster(alloc, files, roster) {
-        Ok(roster) => run_journal(rt, alloc, &roster, journal, input, output, disk, gate),
+    match load_roster(alloc, files, words.roster) {
+        Ok(roster) => {
+            let (journal, workers) = (words.journal, words.workers);
+            run_journal(
+                rt, alloc, &roster, journal, input, output, disk, workers, gate,
+            )
+        }
         Err(fault) => (End::Unloaded(fault), disk),
     }
 }

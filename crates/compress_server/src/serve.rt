@@ -15,15 +15,15 @@ ghost use Rattle.compress_server.specs.declared.load.FileRole.{FileRole as Role}
 ghost use Rattle.compress_server.specs.Housed.{disk_of};
 ghost use Rattle.compress_server.specs.Seen.{output_of, listener_of, seen_of};
 ghost use Rattle.doors.specs.Visits.{IsNew};
-ghost use Rattle.compress_server.specs.Serve.{seat_count, IsWritten, history_line, had_no_memory, had_door_fault, trouble_end, service_end, HaveServed, HouseServes};
+ghost use Rattle.compress_server.specs.Serve.{IsWritten, history_line, had_no_memory, had_door_fault, trouble_end, service_end, HaveServed, HouseServes};
 ghost use Rattle.compress_server.specs.Ending.{ServeRuns};
-ghost use Rattle.compress_server.specs.Runs.{runs_of};
+ghost use Rattle.compress_server.specs.Runs.{runs_of, size_of};
 
+use crate::count::Count;
 use crate::ending::End;
 use crate::load::{LoadFault, load_roster};
 use crate::opening::open_house;
-use crate::places::{SEATS, give_back, has_door_fault, has_no_memory, take_places};
-use crate::script::WORKERS;
+use crate::places::{give_back, has_door_fault, has_no_memory, take_places};
 use command_types::Roster;
 use cycle_lock::Turns;
 use doors::{Door, Listener};
@@ -36,16 +36,17 @@ use std::alloc::Global;
 use std::sync::Wait;
 use std::thread::Threads;
 
-/// The words of the form, behind its verb.
+/// The words of the form: how many seats serve, how many connections each of them at most, and how many workers solve for
+/// a seat.
 #[derive(Clone, Copy)]
 pub struct ServiceWords<'a> {
     pub roster: &'a str,
     pub journal: &'a str,
     pub address: &'a str,
+    pub seats: Count,
+    pub connections: u64,
+    pub workers: Count,
 }
-
-/// How many connections a seat serves at most.
-const MOST_CONNECTIONS: u64 = 1_000_000;
 
 // Writes the line that tells the length of the history, and says whether it was written whole. It takes no memory.
 fn tell_history<K: Sink>(output: &mut K, length: u64) -> bool
@@ -78,14 +79,15 @@ fn end_of_service<C: Door + Drop>(places: &[Place<C>], stopped: bool, written: b
     }
 }
 
-/// What all seats have in common: what they run on, the desk's roster, and the gate that a worker passes before it solves
-/// a problem of a PROPOSE.
+/// What all seats have in common: what they run on, the desk's roster, the gate that a worker passes before it solves a
+/// problem of a PROPOSE, and the form's words.
 #[derive(Drop)]
 pub struct Seating<'a, R: Threads + Wait + Sync, G: Gate> {
     pub rt: &'a R,
     pub alloc: Global,
     pub roster: &'a Roster,
     pub gate: &'a G,
+    pub words: &'a ServiceWords<'a>,
 }
 
 impl<'a, R: Threads + Wait + Sync, G: Gate> Seating<'a, R, G> {
@@ -98,9 +100,9 @@ impl<'a, R: Threads + Wait + Sync, G: Gate> Seating<'a, R, G> {
         requires opened { end_of house.history ≡ house.opening }
         requires roster { self.now.roster.now ≡ house.history.base.state.roster }
         requires running { is_stopped house ≡ false }
-        requires count { length places.old ≡ seat_count }
+        requires count { length places.old ≡ self.now.words.now.seats.value }
         requires new { All (λ place. IsNew (C.visits place.door) × (C.faults place.door ≡ 0)) places.old }
-        ensures served { IfOk result (λ w. HaveServed C.visits house w (runs_of places.new)) }
+        ensures served { IfOk result (λ w. HaveServed C.visits (size_of self.now.words.now) house w (runs_of places.new)) }
         ensures figures { IfOk result (λ w. figures_of w ≡ figures_of house) }
         ensures counted { OnOk result (All (λ place. place.end ≡ SeatEnd.DoorFault → 0 < C.faults place.door) places.new) }
         ensures refused { IfErr result (λ w. w ≡ house) }
@@ -113,11 +115,11 @@ impl<'a, R: Threads + Wait + Sync, G: Gate> Seating<'a, R, G> {
         let service = Service {
             rt: self.rt,
             alloc: self.alloc,
-            workers: WORKERS,
+            workers: self.words.workers.value,
             solver: &PathSolver::new(self.alloc),
             gate: self.gate,
             roster: self.roster,
-            most: MOST_CONNECTIONS,
+            most: self.words.connections,
         };
         Ok(service.serve(turns, pass, places))
     }
@@ -126,23 +128,23 @@ impl<'a, R: Threads + Wait + Sync, G: Gate> Seating<'a, R, G> {
     fn serve_at<D: Disk + Send, L: Listener, K: Sink>(
         &self,
         house: House<D>,
-        address: &str,
         listener: &mut L,
         output: &mut K,
     ) -> (End, House<D>)
         requires opened { end_of house.history ≡ house.opening }
         requires roster { self.now.roster.now ≡ house.history.base.state.roster }
         requires running { is_stopped house ≡ false }
-        ensures serves { HouseServes L.Door.visits house result.1 (output_of (K.taken output.old) (K.faults output.old)) (output_of (K.taken output.new) (K.faults output.new)) (listener_of (L.doors listener.old) (L.faults listener.old)) (listener_of (L.doors listener.new) (L.faults listener.new)) result.0 }
+        ensures serves { HouseServes L.Door.visits (size_of self.now.words.now) house result.1 (output_of (K.taken output.old) (K.faults output.old)) (output_of (K.taken output.new) (K.faults output.new)) (listener_of (L.doors listener.old) (L.faults listener.old)) (listener_of (L.doors listener.new) (L.faults listener.new)) result.0 }
         ensures figures { figures_of result.1 ≡ figures_of house }
     {
-        let Ok(mut places) = Vec::with_capacity(self.alloc, SEATS) else {
+        let count = self.words.seats.value as usize;
+        let Ok(mut places) = Vec::with_capacity(self.alloc, count) else {
             return (End::Memory, house);
         };
-        if let Err(trouble) = listener.bind(address) {
+        if let Err(trouble) = listener.bind(self.words.address) {
             return (end_of_trouble(trouble), house);
         }
-        if let Err(trouble) = take_places(listener, &mut places) {
+        if let Err(trouble) = take_places(listener, count, &mut places) {
             give_back(listener, places);
             return (end_of_trouble(trouble), house);
         }
@@ -184,7 +186,7 @@ pub fn run_serve<R: Threads + Wait + Sync, F: Files, K: Sink, D: Disk + Send, L:
     gate: &G,
 ) -> (End, D)
     requires { IsSettled (D.history disk) }
-    ensures runs { ServeRuns L.Door.visits (F.folder files.old) words.now.roster.now (seen_of (output_of (K.taken output.old) (K.faults output.old)) (disk_of (D.history disk) (D.fault_count disk)) (listener_of (L.doors listener.old) (L.faults listener.old))) (seen_of (output_of (K.taken output.new) (K.faults output.new)) (disk_of (D.history result.1) (D.fault_count result.1)) (listener_of (L.doors listener.new) (L.faults listener.new))) result.0 }
+    ensures runs { ServeRuns L.Door.visits (F.folder files.old) words.now.roster.now (size_of words.now) (seen_of (output_of (K.taken output.old) (K.faults output.old)) (disk_of (D.history disk) (D.fault_count disk)) (listener_of (L.doors listener.old) (L.faults listener.old))) (seen_of (output_of (K.taken output.new) (K.faults output.new)) (disk_of (D.history result.1) (D.fault_count result.1)) (listener_of (L.doors listener.new) (L.faults listener.new))) result.0 }
     ensures stays { F.folder files.new ≡ F.folder files.old }
     ensures sink_fault { result.0 ≡ End.SinkFault → Rose (K.faults output.old) (K.faults output.new) }
     ensures file_fault { (role : Role) → result.0 ≡ End.Unloaded (LoadFault.Files role) → Rose (F.faults files.old) (F.faults files.new) }
@@ -202,7 +204,8 @@ pub fn run_serve<R: Threads + Wait + Sync, F: Files, K: Sink, D: Disk + Send, L:
         alloc,
         roster: &roster,
         gate,
+        words,
     };
-    let (end, house) = seating.serve_at(house, words.address, listener, output);
+    let (end, house) = seating.serve_at(house, listener, output);
     (end, house.end())
 }

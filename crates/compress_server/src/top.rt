@@ -16,8 +16,9 @@ ghost use Rattle.compress_server.specs.Telling.{IsLine, TellsEnd};
 use crate::check::run_check;
 use crate::ending::End;
 use crate::faults::{damage_line, fault_line};
+use crate::generated::run_gen;
 use crate::load::{FileRole, LoadFault};
-use crate::script::{WORKERS, run_script};
+use crate::script::{ScriptWords, run_script};
 use crate::serve::{ServiceWords, run_serve};
 use crate::solve::run_solve;
 use crate::words::{Form, read_words};
@@ -113,54 +114,81 @@ fn run_form<
 {
     match read_words(words) {
         None => (End::BadWords, disk),
-        Some(Form::Script { roster, journal }) => {
-            run_script(rt, alloc, files, roster, journal, input, output, disk, gate)
+        Some(
+            Form::Script {
+                roster,
+                journal,
+                workers,
+            },
+        ) => {
+            let words = ScriptWords {
+                roster,
+                journal,
+                workers,
+            };
+            run_script(rt, alloc, files, &words, input, output, disk, gate)
         }
         Some(
             Form::Serve {
                 roster,
                 journal,
                 address,
+                seats,
+                connections,
+                workers,
             },
         ) => {
             let words = ServiceWords {
                 roster,
                 journal,
                 address,
+                seats,
+                connections,
+                workers,
             };
             run_serve(rt, alloc, files, &words, output, disk, listener, gate)
         }
         Some(Form::Check { market, proposal }) => {
             (run_check(alloc, files, &market, proposal, output), disk)
         }
-        Some(Form::Solve { market }) => {
-            let workers = Workers::new(rt, WORKERS, gate);
+        Some(Form::Solve { market, workers }) => {
+            let workers = Workers::new(rt, workers.value, gate);
             (run_solve(alloc, files, &market, output, &workers), disk)
+        }
+        Some(Form::Gen { number, workers }) => {
+            let workers = Workers::new(rt, workers.value, gate);
+            (run_gen(alloc, number, output, &workers), disk)
         }
     }
 }
 
 /// Runs the program by its words:
 ///
-/// - `script ROSTER JOURNAL`: one session, under seat 0, over the roster of a file, on the history that the journal keeps;
-///   each of its changes is in the journal before it is answered.
-/// - `serve ROSTER JOURNAL ADDRESS`: four seats, under the numbers 1 to 4, beside one another over the same; each serves
-///   the connections of a door at the address, one after another. In the end `history N` tells the history's length.
+/// - `script ROSTER JOURNAL [--workers W]`: one session, under seat 0, over the roster of a file, on the history that the
+///   journal keeps; each of its changes is in the journal before it is answered.
+/// - `serve ROSTER JOURNAL ADDRESS [--seats N] [--connections C] [--workers W]`: N seats, under the numbers 1 to N, beside
+///   one another over the same; each serves the connections of a door at the address, one after another, at most C of them.
+///   In the end `history N` tells the history's length.
 /// - `check ROSTER TRADES MODE PROPOSAL`: whether a proposal is right for a market; `yes`, or `no`, the first product
 ///   that fails and why.
-/// - `solve ROSTER TRADES MODE`: a proposal for a market.
+/// - `solve ROSTER TRADES MODE [--workers W]`: a proposal for a market.
+/// - `gen NUMBER [--workers W]`: the summary of the market of a number from 1 to 10^18, solved in the hybrid mode.
 ///
-/// MODE is `conservative` or `hybrid`, and no other word begins with a dash. The files are read in the order of the
-/// words of the form, the proposal last, and the first that can't be had ends the call. The disk, which a script attaches to
-/// its journal, has to be settled: a crash now would leave what a read gives. It is handed back in each case. A worker passes
-/// the gate before it solves a problem of a PROPOSE. It answers the status:
+/// MODE is `conservative`, `hybrid` or `free`. W workers solve, from 1 to 64; N is from 1 to 64, and C from 1 to 1,000,000. Where the
+/// option is not given, W and N are 4, and C is 1,000,000. An option is `--name V` or `--name=V`, at any place behind the
+/// form's name, at most once; `--` ends the options.
+///
+/// The files are read in the order of the words of the form, the proposal last, and the first that can't be had ends the
+/// call. The disk, which a script attaches to its journal, has to be settled: a crash now would leave what a read gives. It is
+/// handed back in each case. A worker passes the gate before it solves a problem. It answers the status:
 ///
 /// - 0: all was done and written: a script's input was read to its end, or a BYE was accepted; a check says yes;
 /// - 1: a check says no;
 /// - 2: the words are out of form;
 /// - 3: a file has a fault, and the files before it have none;
 /// - 4: the input of a script failed; its whole lines up to there are replied to;
-/// - 5: the output failed; a front of what was to be written is there;
+/// - 5: the output failed; a front of what was to be written is there. Lines of a script whose replies are not may be
+///   answered, and their changes made, if they were read together with one whose reply was cut off;
 /// - 6: the disk failed: at the opening, and nothing was read or written; or later, and the session or all seats ended as
 ///   with 0;
 /// - 7: the journal is damaged at a place that is told, and stays as it is;
@@ -169,8 +197,8 @@ fn run_form<
 /// - 10: the listener failed, and no seat began; or the door of a seat, and the others served on;
 /// - 11: the files failed at one of them, and the files before it have no fault.
 ///
-/// At 2, 3, 7, 9 and 11 nothing was read from the input or written to the output. A check and a solve read no input, and
-/// leave the disk alone. For each status but 0 and 1 one line goes to the errors.
+/// At 2, 3, 7, 9 and 11 nothing was read from the input or written to the output. A check, a solve and a gen read no
+/// input, and leave the disk alone. For each status but 0 and 1 one line goes to the errors.
 pub fn run<
     R: Threads + Wait + Sync,
     F: Files,

@@ -1,12 +1,16 @@
-//! The words that the program is called with: `script ROSTER JOURNAL`, `serve ROSTER JOURNAL ADDRESS`,
-//! `solve ROSTER TRADES MODE` or `check ROSTER TRADES MODE PROPOSAL`. No name of a file begins with a dash, nor does an
-//! address.
+//! The words that the program is called with: a form's name, and behind it the names of its files and its options, as
+//! `specs/Words` has them.
 
-ghost use Rattle.std.specs.Prelude.{◌≡◌, [], ◌∷◌, map, string_bytes, option_map};
-ghost use Rattle.command_types.specs.Grammar.{mode_word};
-ghost use Rattle.compress_server.specs.Words.{begins_with_dash, market_of, form_of, read_market, read_form};
+ghost use Rattle.std.specs.Prelude.{◌≡◌, map, string_bytes, option_map};
+ghost use Rattle.compress_server.specs.Words.{market_of, script_of, serve_of, check_of, solve_of, gen_of, workers_of, seats_of, connections_of, has_none, has_workers_alone, form_named, form_of, read_market, read_form};
+ghost use Rattle.compress_server.specs.Parting.{read_options, read_parts};
 
+use crate::count::Count;
+use crate::parting::{MOST_CONNECTIONS, Options, Parts, count_of, parts_of};
 use command_types::Mode;
+
+/// The most that a market's number may be.
+const MOST_NUMBER: u64 = 1_000_000_000_000_000_000;
 
 /// The names of a market's two files, and the mode in which it is compressed.
 #[derive(Clone, Copy)]
@@ -16,19 +20,23 @@ pub struct MarketFiles<'a> {
     pub mode: Mode,
 }
 
-/// What the program is to do, with the names of its files.
+/// What the program is to do, with the names of its files and the numbers of its options.
 #[derive(Clone, Copy)]
 pub enum Form<'a> {
     /// One session over a roster and a journal.
     Script {
         roster: &'a str,
         journal: &'a str,
+        workers: Count,
     },
     /// Seats at an address, over a roster and a journal.
     Serve {
         roster: &'a str,
         journal: &'a str,
         address: &'a str,
+        seats: Count,
+        connections: u64,
+        workers: Count,
     },
     /// Whether a proposal is right for a market.
     Check {
@@ -38,38 +46,53 @@ pub enum Form<'a> {
     /// A proposal for a market.
     Solve {
         market: MarketFiles<'a>,
+        workers: Count,
+    },
+    /// The summary of the market of a number.
+    Gen {
+        number: u64,
+        workers: Count,
     },
 }
 
-fn is_dashed(word: &[u8]) -> bool
-    ensures { result ≡ begins_with_dash word.now }
-{
-    match word.first() {
-        None => false,
-        Some(byte) => *byte == b'-',
+impl Options {
+    fn workers(&self) -> Count
+        ensures { result.value ≡ workers_of (read_options self.now) }
+    {
+        self.workers.unwrap_or(Count { value: 4 })
+    }
+
+    fn seats(&self) -> Count
+        ensures { result.value ≡ seats_of (read_options self.now) }
+    {
+        self.seats.unwrap_or(Count { value: 4 })
+    }
+
+    fn connections(&self) -> u64
+        ensures { result ≡ connections_of (read_options self.now) }
+    {
+        self.connections.unwrap_or(MOST_CONNECTIONS)
+    }
+
+    // Whether no option is given, but perhaps the workers.
+    fn has_workers_alone(&self) -> bool
+        ensures { result ≡ has_workers_alone (read_options self.now) }
+    {
+        self.seats.is_none() && self.connections.is_none()
+    }
+
+    fn has_none(&self) -> bool
+        ensures { result ≡ has_none (read_options self.now) }
+    {
+        self.workers.is_none() && self.has_workers_alone()
     }
 }
 
-fn mode_of(word: &str) -> Option<Mode>
-    ensures { result ≡ mode_word word.now }
-{
-    if word == "conservative" {
-        Some(Mode::Conservative)
-    } else if word == "hybrid" {
-        Some(Mode::Hybrid)
-    } else {
-        None
-    }
-}
-
-// The market of these words; none where a name begins with a dash, or the mode is none.
+// The market of these words; none where the mode is none.
 fn read_market<'a>(roster: &'a str, trades: &'a str, mode: &str) -> Option<MarketFiles<'a>>
     ensures { option_map read_market result ≡ market_of roster.now trades.now mode.now }
 {
-    if is_dashed(roster.as_bytes()) || is_dashed(trades.as_bytes()) {
-        return None;
-    }
-    let mode = mode_of(mode)?;
+    let mode = Mode::read(mode.as_bytes())?;
     Some(MarketFiles {
         roster,
         trades,
@@ -77,26 +100,97 @@ fn read_market<'a>(roster: &'a str, trades: &'a str, mode: &str) -> Option<Marke
     })
 }
 
-// What four words ask for.
-fn read_four<'a>(verb: &str, roster: &'a str, second: &'a str, third: &'a str) -> Option<Form<'a>>
-    ensures { option_map read_form result ≡ form_of (verb.now ∷ roster.now ∷ second.now ∷ third.now ∷ []) }
+fn read_script<'a>(options: &Options, plain: &[&'a str]) -> Option<Form<'a>>
+    ensures { option_map read_form result ≡ script_of (read_options options.now) (map (λ word. word.now) plain.now) }
 {
-    if verb == "solve" {
-        let market = read_market(roster, second, third)?;
-        return Some(Form::Solve { market });
+    match plain {
+        [roster, journal] if options.has_workers_alone() => {
+            Some(Form::Script {
+                roster,
+                journal,
+                workers: options.workers(),
+            })
+        }
+        _ => None,
     }
-    if verb != "serve"
-        || is_dashed(roster.as_bytes())
-        || is_dashed(second.as_bytes())
-        || is_dashed(third.as_bytes())
-    {
-        return None;
+}
+
+fn read_serve<'a>(options: &Options, plain: &[&'a str]) -> Option<Form<'a>>
+    ensures { option_map read_form result ≡ serve_of (read_options options.now) (map (λ word. word.now) plain.now) }
+{
+    match plain {
+        [roster, journal, address] => {
+            Some(Form::Serve {
+                roster,
+                journal,
+                address,
+                seats: options.seats(),
+                connections: options.connections(),
+                workers: options.workers(),
+            })
+        }
+        _ => None,
     }
-    Some(Form::Serve {
-        roster,
-        journal: second,
-        address: third,
-    })
+}
+
+fn read_check<'a>(options: &Options, plain: &[&'a str]) -> Option<Form<'a>>
+    ensures { option_map read_form result ≡ check_of (read_options options.now) (map (λ word. word.now) plain.now) }
+{
+    match plain {
+        [roster, trades, mode, proposal] if options.has_none() => {
+            let market = read_market(roster, trades, mode)?;
+            Some(Form::Check { market, proposal })
+        }
+        _ => None,
+    }
+}
+
+fn read_solve<'a>(options: &Options, plain: &[&'a str]) -> Option<Form<'a>>
+    ensures { option_map read_form result ≡ solve_of (read_options options.now) (map (λ word. word.now) plain.now) }
+{
+    match plain {
+        [roster, trades, mode] if options.has_workers_alone() => {
+            let market = read_market(roster, trades, mode)?;
+            Some(Form::Solve {
+                market,
+                workers: options.workers(),
+            })
+        }
+        _ => None,
+    }
+}
+
+fn read_gen<'a>(options: &Options, plain: &[&'a str]) -> Option<Form<'a>>
+    ensures { option_map read_form result ≡ gen_of (read_options options.now) (map (λ word. word.now) plain.now) }
+{
+    match plain {
+        [number] if options.has_workers_alone() => {
+            let number = count_of(MOST_NUMBER, number.as_bytes())?;
+            let workers = options.workers();
+            Some(Form::Gen { number, workers })
+        }
+        _ => None,
+    }
+}
+
+// The form of this name, with these words behind it.
+fn form_named<'a>(name: &str, parts: &Parts<'a>) -> Option<Form<'a>>
+    ensures { option_map read_form result ≡ form_named name.now (read_parts parts.now) }
+{
+    let plain = parts.plain.as_slice();
+    if name == "script" {
+        read_script(&parts.options, plain)
+    } else if name == "serve" {
+        read_serve(&parts.options, plain)
+    } else if name == "check" {
+        read_check(&parts.options, plain)
+    } else if name == "solve" {
+        read_solve(&parts.options, plain)
+    } else if name == "gen" {
+        read_gen(&parts.options, plain)
+    } else {
+        None
+    }
 }
 
 /// What the words ask for; none exactly where they are out of form.
@@ -104,33 +198,7 @@ pub fn read_words(words: &[String]) -> Option<Form<'_>>
     ensures { option_map read_form result ≡ form_of (map string_bytes words.now) }
 {
     match words {
-        [verb, roster, journal] => {
-            let roster = roster.as_str();
-            let journal = journal.as_str();
-            if verb.as_str() != "script"
-                || is_dashed(roster.as_bytes())
-                || is_dashed(journal.as_bytes())
-            {
-                return None;
-            }
-            Some(Form::Script { roster, journal })
-        }
-        [verb, roster, second, third] => {
-            read_four(
-                verb.as_str(),
-                roster.as_str(),
-                second.as_str(),
-                third.as_str(),
-            )
-        }
-        [verb, roster, trades, mode, proposal] => {
-            let proposal = proposal.as_str();
-            if verb.as_str() != "check" || is_dashed(proposal.as_bytes()) {
-                return None;
-            }
-            let market = read_market(roster.as_str(), trades.as_str(), mode.as_str())?;
-            Some(Form::Check { market, proposal })
-        }
-        _ => None,
+        [] => None,
+        [name, rest @ ..] => form_named(name.as_str(), &parts_of(rest)?),
     }
 }

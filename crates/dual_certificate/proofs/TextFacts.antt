@@ -7,7 +7,8 @@ use Rattle.network_laws.specs.declared.rows.Row.{Row}
 use Rattle.network_laws.specs.Networks.{NetworkData}
 use Rattle.network_laws.specs.Solutions.{SolutionData}
 use Rattle.command_types.specs.Roster.{Rows}
-use Rattle.dual_certificate.specs.ProposalText.{row_text, rows_text, pot_text, pots_text, part_text, part_of, parts_below}
+use Rattle.dual_certificate.specs.ProposalText.{product_text, row_text, rows_text, pot_text, pots_text, part_text, part_of, parts_below}
+use Rattle.dual_certificate.specs.SummaryText.{summary_line, summary_below}
 
 -- what was written behind what was written
 pub behind : (a b c x y : List ℕ) → b ≡ a ++ x → c ≡ b ++ y → c ≡ a ++ (x ++ y)
@@ -39,3 +40,16 @@ parts_more roster olds news n before old new b in_olds in_news is_old is_new =
     ∙ ap (λ o. parts_below roster olds news n ++ part_of roster n o (Some new)) (sym first)
     ∙ ap (λ o. parts_below roster olds news n ++ part_of roster n (slice_get olds n) o) (sym second)
     ∙ ap (parts_below roster olds news) (sym one)
+
+-- the summary's line of one product more
+pub summary_more : (roster : Rows) (olds : List NetworkData) (news : List SolutionData) (n : ℕ) (before : List ℕ) (old : NetworkData) (new : SolutionData)
+    → before ≡ summary_below roster olds news n → n < length olds → n < length news → old ≡ get_or olds n old → new ≡ get_or news n new
+    → before ++ product_text roster n old new.network ≡ summary_below roster olds news (n + 1)
+summary_more roster olds news n before old new b in_olds in_news is_old is_new =
+    let first : slice_get olds n ≡ Some old = slice_get_read olds (length olds) n old refl in_olds is_old in
+    let second : slice_get news n ≡ Some new = slice_get_read news (length news) n new refl in_news is_new in
+    let one : n + 1 ≡ suc n = add-one n in
+    ap (λ t. t ++ product_text roster n old new.network) b
+    ∙ ap (λ o. summary_below roster olds news n ++ summary_line roster n o (Some new)) (sym first)
+    ∙ ap (λ o. summary_below roster olds news n ++ summary_line roster n (slice_get olds n) o) (sym second)
+    ∙ ap (summary_below roster olds news) (sym one)

@@ -1,5 +1,5 @@
-//! The certificate of a network of least gross: whether potentials certify it, and the dual bound; and the text of a
-//! proposal, which has such networks with their potentials.
+//! The certificate of a network of least gross: whether potentials certify it, and the dual bound; the text of a proposal,
+//! which has such networks with their potentials; and that of a summary, which has their figures.
 //!
 //! The test and the bound go by the duality of minimum-cost flow (Ahuja, Magnanti and Orlin, *Network Flows*), and
 //! take no memory. The test walks the rows of limits and network in step: its time is linear in the number of rows. The
@@ -21,6 +21,7 @@ mod proposal_line;
 mod proposal_part;
 mod proposal_reader;
 mod proposal_writer;
+mod summary_writer;
 
 pub use checker::check;
 pub use dual::bound;
@@ -28,3 +29,4 @@ pub use laws::what_is_written_reads_back;
 pub use proposal_part::ProposalPart;
 pub use proposal_reader::read_proposal;
 pub use proposal_writer::write_proposal;
+pub use summary_writer::write_summary;

@@ -12,8 +12,8 @@ use network_laws::{Network, Row, Solution};
 use std::alloc::{AllocError, Global};
 use units_core::{print_i128, print_u128};
 
-// Puts bytes and a number behind them.
-fn put_number(out: &mut Vec<u8>, bytes: &[u8], number: u64) -> Result<(), AllocError>
+/// Puts bytes and a number behind them.
+pub(crate) fn put_number(out: &mut Vec<u8>, bytes: &[u8], number: u64) -> Result<(), AllocError>
     ensures { OnOk result (out.new.items ≡ out.old.items ++ bytes.now ++ decimal number) }
 {
     out.extend_from_slice(bytes)?;
@@ -52,7 +52,8 @@ fn put_product(
     out.extend_from_slice(name.text())
 }
 
-fn put_head(
+/// Puts the line of a product with its figures: those of its original network, and the gross of its new one.
+pub(crate) fn put_head(
     out: &mut Vec<u8>,
     roster: &Roster,
     product: usize,

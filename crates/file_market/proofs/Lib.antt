@@ -4,3 +4,4 @@ pub mod PassFacts
 pub mod OneNetwork
 pub mod YesFacts
 pub mod SolvedFacts
+pub mod SummaryFacts

@@ -2,4 +2,5 @@ pub mod Market
 pub mod Check
 pub mod Verdict
 pub mod Solve
+pub mod Summary
 pub mod Laws

@@ -1,6 +1,6 @@
 //! The laws of the check, each the contract of a function that does nothing.
 
-ghost use Rattle.file_market.specs.Laws.{NothingFailsWhereAllPass, YesWhereAllAreLeast, WhatIsSolvedPasses};
+ghost use Rattle.file_market.specs.Laws.{NothingFailsWhereAllPass, YesWhereAllAreLeast, WhatIsSolvedPasses, SummariesAreOne};
 
 /// No product fails exactly where every part of the proposal is certified and its figures are right.
 pub fn nothing_fails_where_all_pass()
@@ -16,4 +16,9 @@ pub fn yes_where_all_are_least()
 /// What is written of a market that was solved reads as parts, and a check of them says yes.
 pub fn what_is_solved_passes()
     ensures { WhatIsSolvedPasses }
+{}
+
+/// A market has one summary: whatever solves it, and however often, every byte is the same.
+pub fn summaries_are_one()
+    ensures { SummariesAreOne }
 {}

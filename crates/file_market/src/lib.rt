@@ -7,12 +7,16 @@ mod failing;
 mod laws;
 mod limits;
 mod solving;
+mod summing;
 mod verdict_text;
 mod workers;
 
 pub use checking::check;
 pub use failing::{Failing, Failure};
-pub use laws::{nothing_fails_where_all_pass, what_is_solved_passes, yes_where_all_are_least};
+pub use laws::{
+    nothing_fails_where_all_pass, summaries_are_one, what_is_solved_passes, yes_where_all_are_least,
+};
 pub use solving::solve;
+pub use summing::summarize;
 pub use verdict_text::verdict;
 pub use workers::Workers;

@@ -50,8 +50,8 @@ fn problems_of(
     Ok(problems)
 }
 
-// A solution for each product, by the workers.
-fn solutions_of<R: Threads + Sync, G: Gate>(
+/// A solution for each product, by the workers.
+pub(crate) fn solutions_of<R: Threads + Sync, G: Gate>(
     alloc: Global,
     roster: &Roster,
     mode: Mode,

@@ -76,6 +76,20 @@ fn fields_of_a_tolerance(rt: HostRuntime) -> Result<(), Fail> {
 }
 
 #[test]
+fn the_mode_of_a_beginning(rt: HostRuntime) -> Result<(), Fail> {
+    let free = [0, 0, 0, 0, 1, 0x41, 8, 1, 0, 0, 0, 0, 0, 0, 0, 2];
+    let cases = [
+        (free, None),
+        (with(free, 15, 3), Some(15)),
+        (with(free, 15, 255), Some(15)),
+    ];
+    for (record, offset) in cases {
+        assert!(rt; is_told(rt.alloc(), &record, offset), "{offset:?}");
+    }
+    Ok(())
+}
+
+#[test]
 fn cut_fields_and_a_byte_too_many(rt: HostRuntime) -> Result<(), Fail> {
     let long = [0, 0, 0, 0, 1, 0x42, 2, 1, 0, 0, 0, 0, 0, 0, 0, 0, 0];
     let cases = [

@@ -93,15 +93,20 @@ fn a_tolerance_is_written(rt: HostRuntime) -> Result<(), Fail> {
     Ok(())
 }
 
+/// The modes, each with its byte.
+const MODES: [(Mode, u8); 3] = [(Mode::Conservative, 0), (Mode::Hybrid, 1), (Mode::Free, 2)];
+
 #[test]
 fn a_freeze_and_a_beginning_are_written(rt: HostRuntime) -> Result<(), Fail> {
     let alloc = rt.alloc();
     let day = Day::new(2026, 12, 31).ok_or("a day")?;
     let frozen = [0, 0, 0, 0, 1, 0x41, 7, 0xea, 0x07, 12, 31];
     assert!(rt; is_written(alloc, 0, b"A", What::Freeze { day }, &frozen)?);
-    let (cycle, mode) = (1, Mode::Hybrid);
-    let begun = [0, 0, 0, 0, 1, 0x41, 8, 1, 0, 0, 0, 0, 0, 0, 0, 1];
-    assert!(rt; is_written(alloc, 0, b"A", What::Begin { cycle, mode }, &begun)?);
+    for (mode, byte) in MODES {
+        let begun = [0, 0, 0, 0, 1, 0x41, 8, 1, 0, 0, 0, 0, 0, 0, 0, byte];
+        assert!(rt; is_written(alloc, 0, b"A", What::Begin { cycle: 1, mode }, &begun)?);
+        assert!(rt; is_spelled(alloc, &begun, 0, b"A", (8, [1, u64::from(byte), 0, 0, 0]))?);
+    }
     Ok(())
 }
 
@@ -125,8 +130,12 @@ fn told_of(what: &What) -> (u8, [u64; 5]) {
         }
         What::Freeze { day } => (7, dated(0, day)),
         What::Begin { cycle, mode } => {
-            let is_hybrid = u64::from(matches!(mode, Mode::Hybrid));
-            (8, [*cycle, is_hybrid, 0, 0, 0])
+            let byte = match mode {
+                Mode::Conservative => 0,
+                Mode::Hybrid => 1,
+                Mode::Free => 2,
+            };
+            (8, [*cycle, byte, 0, 0, 0])
         }
         What::Accept { cycle, version } => (10, [*cycle, *version, 0, 0, 0]),
         What::Decline { cycle, version } => (11, [*cycle, *version, 0, 0, 0]),

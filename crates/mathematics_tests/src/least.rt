@@ -74,5 +74,6 @@ fn no_network_of_three_members_has_less_gross(rt: HostRuntime) -> Result<(), Fai
     assert!(rt; are_least(&rt, dealers, Mode::Conservative, Growing::Nobody)?);
     assert!(rt; are_least(&rt, with_customer, Mode::Hybrid, Growing::AAndB)?);
     assert!(rt; are_least(&rt, dealers, Mode::Hybrid, Growing::All)?);
+    assert!(rt; are_least(&rt, with_customer, Mode::Free, Growing::All)?);
     Ok(())
 }

@@ -31,6 +31,8 @@ mod solved;
 #[cfg(test)]
 mod solvers;
 #[cfg(test)]
+mod summaries;
+#[cfg(test)]
 mod threes;
 #[cfg(test)]
 mod tolerances;

@@ -3,7 +3,7 @@
 use crate::files::{FIVE_DEALERS, FileMarket, THREE_DEALERS, TWO_AND_TWO, is_told, solved};
 use command_types::Mode;
 use dual_certificate::read_proposal;
-use std::alloc::AllocGlobal;
+use std::alloc::{AllocGlobal, Global};
 use std::test::Fail;
 use std::thread::Threads;
 use trade_file::read_roster;
@@ -104,13 +104,20 @@ fn the_first_potential_of_a_chain_is_1_above_the_others(rt: HostRuntime) -> Resu
     Ok(())
 }
 
-/// Whether what is solved passes the check, in both modes.
+/// Whether what is solved has the gross of its floor, for each product.
+fn reaches_floor(alloc: Global, parties: &str, text: &[u8]) -> Result<bool, Fail> {
+    let roster = read_roster(alloc, parties.as_bytes())?;
+    let parts = read_proposal(alloc, text, &roster)?;
+    Ok(parts.iter().all(|part| part.least == part.floor_m))
+}
+
+/// Whether what is solved passes the check, in each mode, and has the gross of its floor in free mode.
 fn passes<R: Threads + Sync + AllocGlobal>(
     rt: &R,
     parties: &str,
     trades: &str,
 ) -> Result<bool, Fail> {
-    for mode in [Mode::Conservative, Mode::Hybrid] {
+    for mode in [Mode::Conservative, Mode::Hybrid, Mode::Free] {
         let market = FileMarket {
             parties,
             trades,
@@ -118,6 +125,9 @@ fn passes<R: Threads + Sync + AllocGlobal>(
         };
         let text = solved(rt, market)?;
         if !is_told(rt.alloc(), market, &text, "yes\n")? {
+            return Ok(false);
+        }
+        if mode == Mode::Free && !reaches_floor(rt.alloc(), parties, &text)? {
             return Ok(false);
         }
     }

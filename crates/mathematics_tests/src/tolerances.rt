@@ -140,6 +140,38 @@ fn dealers_grow_in_hybrid_mode_and_customers_do_not(rt: HostRuntime) -> Result<(
 }
 
 #[test]
+fn every_pair_grows_in_free_mode(rt: HostRuntime) -> Result<(), Fail> {
+    let case = Case {
+        settings: &[],
+        mode: Mode::Free,
+        held: 4,
+        pairs: 6,
+        bounds: &[
+            (0, 1, 4, None),
+            (1, 0, 0, None),
+            (1, 2, 4, None),
+            (2, 1, 0, None),
+            (2, 2, 0, Some(0)),
+        ],
+    };
+    assert!(rt; gives(rt.alloc(), case)?);
+    Ok(())
+}
+
+#[test]
+fn a_ceiling_holds_in_free_mode(rt: HostRuntime) -> Result<(), Fail> {
+    let case = Case {
+        settings: &[(Side::In, 3, Some(20), true)],
+        mode: Mode::Free,
+        held: 0,
+        pairs: 6,
+        bounds: &[(0, 1, 3, Some(20)), (1, 2, 0, None)],
+    };
+    assert!(rt; gives(rt.alloc(), case)?);
+    Ok(())
+}
+
+#[test]
 fn the_larger_floor_and_the_smaller_ceiling_count(rt: HostRuntime) -> Result<(), Fail> {
     let case = Case {
         settings: &[

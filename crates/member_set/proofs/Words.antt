@@ -182,3 +182,13 @@ module _ (words : List ℕ) (k : ℕ) (place : k < 4) (below : (j : ℕ) → j <
       ] in
       false_from_ne_true (has_bit words m)
       (λ has. omega (arith, off, eqb-true (bit words m) 1 (and_parts (ltb m 256) (eqb (bit words m) 1) has).1))
+
+  pub lowest_out : k < length words → (m : ℕ) → has_bit (set words k (bit_and (get_or words k 0) (bit_not w64 (1 * 2 ^ trailing_zeros w64 (get_or words k 0) % 2 ^ 64)))) m ≡ (not (eqb m (64 * k + trailing_zeros w64 (get_or words k 0))) && has_bit words m)
+  lowest_out inside m =
+      let low = bit_at-trailing_zeros w64 (get_or words k 0) some fits in
+      let zeros : ℕ = trailing_zeros w64 (get_or words k 0) in
+      let few : zeros < 64 = low.0 in
+      let at_word : (64 * k + zeros) / 64 ≡ k = omega arith in
+      let at_bit : (64 * k + zeros) % 64 ≡ zeros = omega arith in
+      let out = taken_out words (64 * k + zeros) (omega arith) (omega (arith, at_word, inside)) m in
+      rw (at_word, at_bit) at out

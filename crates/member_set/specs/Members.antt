@@ -1,5 +1,5 @@
 -- Which members a set has.
-use Rattle.std.specs.Prelude.{ℕ, ◌/◌, ◌%◌, ◌==◌, ◌&&◌, nat_lt, Bool, List, [], slice_index}
+use Rattle.std.specs.Prelude.{ℕ, zero, suc, ◌+◌, if◌then◌else◌, ◌/◌, ◌%◌, ◌==◌, ◌&&◌, nat_lt, Bool, List, [], slice_index}
 use Rattle.std.specs.Int.{bit_at}
 use Rattle.member_set.specs.declared.set.MemberSet.{MemberSet}
 
@@ -10,6 +10,15 @@ has_bit words m = nat_lt m 256 && (bit_at (slice_index words (m / 64)) (m % 64) 
 -- whether the set has the member
 unfoldable pub has : MemberSet → ℕ → Bool
 has set m = has_bit set.words m
+
+-- how many of the numbers below n a test takes
+unfoldable pub size_to : (ℕ → Bool) → ℕ → ℕ
+size_to f zero = 0
+size_to f (suc n) = size_to f n + (if f n then 1 else 0)
+
+-- how many members the set has
+unfoldable pub size : MemberSet → ℕ
+size set = size_to (has set) 256
 
 -- what a reader of a list of sets takes for the sets behind its end
 abbrev pub no_members : MemberSet

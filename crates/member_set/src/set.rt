@@ -1,7 +1,7 @@
 //! A set of members.
 
 ghost use Rattle.std.specs.Prelude.{◌≡◌, ◌↔◌, ℕ, ◌<◌, ◌==◌, ◌&&◌, ◌||◌, not, true, false, IsTrue, IsNone, IfSome};
-ghost use Rattle.member_set.specs.Members.{has};
+ghost use Rattle.member_set.specs.Members.{has, size};
 
 const WORDS: usize = 4;
 
@@ -21,7 +21,8 @@ impl MemberSet {
 
     /// Whether it has no member.
     pub fn is_empty(&self) -> bool
-        ensures { IsTrue result ↔ ((m : ℕ) → has self.now m ≡ false) }
+        ensures none { IsTrue result ↔ ((m : ℕ) → has self.now m ≡ false) }
+        ensures some { result ≡ false → (m : ℕ) × (has self.now m ≡ true) }
     {
         self.lowest().is_none()
     }
@@ -61,6 +62,27 @@ impl MemberSet {
             let word = self.words[place];
             if word != 0 {
                 return Some(64 * place as u16 + word.trailing_zeros() as u16);
+            }
+        }
+        None
+    }
+
+    /// Takes out its member with the lowest number.
+    pub fn take_lowest(&mut self) -> Option<u16>
+        ensures none { IsNone result → (m : ℕ) → has self.old m ≡ false }
+        ensures member { IfSome result (λ l. has self.old l ≡ true) }
+        ensures least { IfSome result (λ l. (m : ℕ) → m < l → has self.old m ≡ false) }
+        ensures within { IfSome result (λ l. l < 256) }
+        ensures others { IfSome result (λ l. (m : ℕ) → has self.new m ≡ (not (m == l) && has self.old m)) }
+        ensures fewer { IfSome result (λ _. size self.new < size self.old) }
+        ensures empty { IsNone result → self.new ≡ self.old }
+    {
+        for place in 0..WORDS {
+            let word = self.words[place];
+            if word != 0 {
+                let bit = word.trailing_zeros();
+                self.words[place] = word & !(1u64 << bit);
+                return Some(64 * place as u16 + bit as u16);
             }
         }
         None

@@ -5,11 +5,12 @@ pub mod SentAlong
 pub mod Cuts
 pub mod Pigeons
 pub mod OneMoreExit
-pub mod Searches
-pub mod Layered
+pub mod Twins
+pub mod Spreads
 pub mod TakenBack
 pub mod Phased
 pub mod Certifying
 pub mod Noted
 pub mod NotedOne
 pub mod Near
+pub mod Raised

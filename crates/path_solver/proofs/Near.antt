@@ -1,6 +1,6 @@
 -- The members from which open arcs lead to one.
-use Rattle.std.proofs.Common.{◌≡◌, ℕ, ◌+◌, ◌*◌, ◌/◌, ◌%◌, ◌<◌, Bool, true, false, not, eqb, ◌&&◌, List, length, get_or, refl, sym, ap, ◌∙◌, subst, inl, inr, arith, true≢false}
-use Rattle.std.proofs.lemmas.Bool.{cases_Bool, ltb-true, lt-ltb, eq-eqb, ne_eqb, and_parts, and_from, not-true, or_cases, or_left, or_right}
+use Rattle.std.proofs.Common.{◌≡◌, ℕ, ◌+◌, ◌*◌, ◌/◌, ◌%◌, ◌<◌, Bool, true, false, eqb, ◌&&◌, List, length, get_or, refl, sym, ap, ◌∙◌, subst, inl, inr, arith}
+use Rattle.std.proofs.lemmas.Bool.{ltb-true, lt-ltb, eq-eqb, ne_eqb, and_parts, and_from, or_cases, or_left, or_right}
 use Rattle.member_set.specs.declared.set.MemberSet.{MemberSet}
 use Rattle.member_set.specs.Members.{has}
 use Rattle.residual_graph.specs.declared.flow.Flow.{Flow}
@@ -9,11 +9,8 @@ use Rattle.residual_graph.specs.Arcs.{arc_count, pair, is_forward, no_flow, flow
 use Rattle.residual_graph.proofs.Kept.{pair_below}
 use Rattle.path_solver.specs.declared.entries.Entry.{Entry}
 use Rattle.path_solver.specs.Prices.{IsTight, IsOpen, twin_room}
-use Rattle.path_solver.specs.Entries.{entry_at, AreEntries, IsOpenTwin, is_open_to, AreOpenTo, AreFree}
+use Rattle.path_solver.specs.Entries.{entry_at, AreEntries, IsOpenTwin, is_open_to}
 use Rattle.path_solver.specs.Groups.{group_at, AreGroups}
-use Rattle.path_solver.specs.Levels.{IsReached}
-use Rattle.path_solver.specs.Growth.{IsEntered}
-use Rattle.path_solver.proofs.OneMoreExit.{ends_in}
 
 -- the arc of a pair that leaves its buyer
 record Back (flows : List Flow) (k : ℕ) : Type 0 where
@@ -110,38 +107,3 @@ module _ (r : ResidualData) (p : List ℕ) (entries : List Entry) (groups : List
   -- and who has such an arc is one of them
   pub open_near : (a : ℕ) → a < arc_count r.flows → IsOpen r.flows p a → head r.flows a ≡ here → is_open_to entries groups (get_or p here 0) here (tail r.flows a) ≡ true
   open_near a l is_open ends = in_case (pair a) (is_forward a) (pair_below a (length r.flows) l) is_open.0 is_open.1 ends
-
-  module _ (levels : List ℕ) (free near opens : MemberSet) (all : length levels ≡ r.members) (are_free : AreFree levels free) (is_opens : (u : ℕ) → has opens u ≡ is_open_to entries groups (get_or p here 0) here u) (both : (u : ℕ) → has near u ≡ (has opens u && has free u)) where
-    pub near_members : AreOpenTo r p levels here near
-    near_members = record {
-      member = λ u on. let parts = and_parts (has opens u) (has free u) (sym (both u) ∙ on) in omega (arith, ((are_free u).0 parts.1).0, all);
-      free = λ u on. let parts = and_parts (has opens u) (has free u) (sym (both u) ∙ on) in ((are_free u).0 parts.1).1;
-      is_open = λ u on. let parts = and_parts (has opens u) (has free u) (sym (both u) ∙ on) in near_open u (sym (is_opens u) ∙ parts.0);
-    }
-
-    pub near_entered : (new : List ℕ) → ((u : ℕ) → has near u ≡ true → IsReached new u) → ((u : ℕ) → has near u ≡ false → get_or new u 0 ≡ get_or levels u 0) → IsEntered r.flows p new here
-    near_entered new reached others a l is_open ends =
-        elim (cases_Bool (has near (tail r.flows a))) [
-          | inl on ↦ reached (tail r.flows a) on
-          | inr off ↦ λ e.
-              let was : get_or levels (tail r.flows a) 0 ≡ 65535 = sym (others (tail r.flows a) off) ∙ e in
-              let inside = (ends_in r residual a l).0 in
-              let is_free : has free (tail r.flows a) ≡ true = (are_free (tail r.flows a)).1 (omega (arith, inside, all), was) in
-              let opened : has opens (tail r.flows a) ≡ true = is_opens (tail r.flows a) ∙ open_near a l is_open ends in
-              true≢false (sym (both (tail r.flows a) ∙ and_from (has opens (tail r.flows a)) (has free (tail r.flows a)) opened is_free) ∙ off)
-        ]
-
--- the members that are still not reached
-pub free_left : (old new : List ℕ) (free near rest : MemberSet) → length new ≡ length old → AreFree old free → ((u : ℕ) → has rest u ≡ (has free u && not (has near u)))
-    → ((u : ℕ) → has near u ≡ true → IsReached new u) → ((u : ℕ) → has near u ≡ false → get_or new u 0 ≡ get_or old u 0) → AreFree new rest
-free_left old new free near rest same are_free rests reached others u = (
-  λ on.
-      let parts = and_parts (has free u) (not (has near u)) (sym (rests u) ∙ on) in
-      let was = (are_free u).0 parts.0 in
-      (omega (arith, was.0, same), others u (not-true (has near u) parts.1) ∙ was.1),
-  λ both.
-      elim (cases_Bool (has near u)) [
-        | inl on ↦ absurd (reached u on both.1)
-        | inr off ↦ rests u ∙ and_from (has free u) (not (has near u)) ((are_free u).1 (omega (arith, both.0, same), sym (others u off) ∙ both.1)) (ap not off)
-      ],
-)

@@ -1,5 +1,5 @@
 -- From where arcs with room lead to a member.
-use Rattle.std.specs.Prelude.{◌≡◌, ◌≢◌, ◌↔◌, ◌==◌, ◌&&◌, ◌||◌, nat_lt, if◌then◌else◌, ℕ, ◌+◌, ◌<◌, Bool, true, List, length, slice_index, slice_index_or}
+use Rattle.std.specs.Prelude.{◌≡◌, ◌==◌, ◌&&◌, ◌||◌, nat_lt, if◌then◌else◌, ℕ, ◌+◌, ◌<◌, Bool, true, List, length, slice_index, slice_index_or}
 use Rattle.member_set.specs.declared.set.MemberSet.{MemberSet}
 use Rattle.member_set.specs.Members.{has, no_members}
 use Rattle.residual_graph.specs.declared.flow.Flow.{Flow}
@@ -49,20 +49,7 @@ abbrev pub IsOpenTwin : ResidualData → List ℕ → ℕ → ℕ → ℕ → Ty
 IsOpenTwin r p here u a =
     (a < arc_count r.flows) × (tail r.flows a ≡ here) × (head r.flows a ≡ u) × IsTwinOpen r.flows p a
 
--- members that are not reached, from each of which an open arc leads here
-pub record AreOpenTo (r : ResidualData) (p levels : List ℕ) (here : ℕ) (near : MemberSet) : Type 0 where
-  pub member : (u : ℕ) → has near u ≡ true → u < r.members
-  pub free : (u : ℕ) → has near u ≡ true → slice_index levels u ≡ 65535
-  pub is_open : (u : ℕ) → has near u ≡ true → (a : ℕ) × IsOpenTwin r p here u a
-
--- the members that are not reached
-abbrev pub AreFree : List ℕ → MemberSet → Type 0
-AreFree levels free = (u : ℕ) → (has free u ≡ true) ↔ ((u < length levels) × (slice_index levels u ≡ 65535))
-
--- the members below a number
-abbrev pub AreAll : ℕ → MemberSet → Type 0
-AreAll members set = (u : ℕ) → (has set u ≡ true) ↔ (u < members)
-
--- none of the first n of a queue is this member
-abbrev pub IsNoneOf : ℕ → List ℕ → ℕ → Type 0
-IsNoneOf n queue u = (x : ℕ) → x < n → slice_index queue x ≢ u
+-- an open arc leads from this member to one of the set
+abbrev pub IsOpenInto : List Entry → List MemberSet → List ℕ → MemberSet → ℕ → Type 0
+IsOpenInto entries groups p set u =
+    (h : ℕ) × (has set h ≡ true) × (is_open_to entries groups (slice_index p h) h u ≡ true)

@@ -1,7 +1,6 @@
 -- Levels: how many open arcs a search went back from a member that has to receive.
-use Rattle.std.specs.Prelude.{◌≡◌, ◌≢◌, ◌==◌, ℕ, Bool, ◌+◌, ◌<◌, ◌≤◌, List, length, slice_index, count_by, Option, Some, None}
+use Rattle.std.specs.Prelude.{◌≡◌, ◌≢◌, ℕ, ◌+◌, ◌<◌, List, length, slice_index, Option, Some, None}
 use Rattle.residual_graph.specs.declared.flow.Flow.{Flow}
-use Rattle.residual_graph.specs.Residual.{ResidualData}
 use Rattle.residual_graph.specs.Arcs.{arc_count, pair, flow_at, tail, head, room}
 use Rattle.path_solver.specs.Prices.{IsTight, IsOpen}
 
@@ -43,21 +42,3 @@ pub record IsSource (surplus levels : List ℕ) (s : ℕ) : Type 0 where
 abbrev pub IsLayered : List Flow → List ℕ → List ℕ → List ℕ → List ℕ → Option ℕ → Type 0
 IsLayered flows p surplus lack levels None = AreCut flows p surplus lack levels
 IsLayered flows p surplus lack levels (Some s) = IsSource surplus levels s × AreLevels flows p lack levels
-
--- levels are at most `most`
-abbrev pub AreUpTo : ℕ → List ℕ → Type 0
-AreUpTo most levels = (v : ℕ) → v < length levels → IsReached levels v → slice_index levels v ≤ most
-
--- whether a level is none
-abbrev pub is_unreached : ℕ → Bool
-is_unreached level = level == 65535
-
--- the members that are reached, each once in the queue
-pub record IsSearch (r : ResidualData) (p lack levels queue : List ℕ) : Type 0 where
-  pub one_each : length levels ≡ r.members
-  pub queued : (x : ℕ) → x < length queue → (slice_index queue x < r.members) × IsReached levels (slice_index queue x)
-  pub reached : (v : ℕ) → v < r.members → IsReached levels v → (x : ℕ) × (x < length queue) × (slice_index queue x ≡ v)
-  pub count : length queue + count_by is_unreached levels ≡ r.members
-  pub lowest : (v : ℕ) → v < r.members → slice_index levels v ≡ 0 → 0 < slice_index lack v
-  pub receivers : (v : ℕ) → v < r.members → 0 < slice_index lack v → IsReached levels v
-  pub down : (v : ℕ) → v < r.members → IsReached levels v → 0 < slice_index levels v → (a : ℕ) × LeadsDown r.flows p levels v a

@@ -1,6 +1,8 @@
 -- What members still have to send and to receive, beside the pairs.
-use Rattle.std.specs.Prelude.{◌≡◌, ℕ, ◌+◌, ◌<◌, ◌≤◌, List, length, slice_index, sum, ℤ, pos, ◌+ℤ◌, ◌-ℤ◌}
+use Rattle.std.specs.Prelude.{◌≡◌, ◌↔◌, true, ℕ, ◌+◌, ◌<◌, ◌≤◌, List, length, slice_index, sum, ℤ, pos, ◌+ℤ◌, ◌-ℤ◌}
 use Rattle.network_laws.specs.Networks.{sold_in, bought_in}
+use Rattle.member_set.specs.declared.set.MemberSet.{MemberSet}
+use Rattle.member_set.specs.Members.{has}
 use Rattle.residual_graph.specs.declared.flow.Flow.{Flow}
 use Rattle.residual_graph.specs.Residual.{ResidualData, flow_rows}
 use Rattle.residual_graph.specs.Arcs.{flow_at}
@@ -43,3 +45,7 @@ pub record IsSentAlong (p : List ℕ) (old new : ResidualData) (surplus lack mor
   pub senders : (v : ℕ) → 0 < slice_index more_surplus v → 0 < slice_index surplus v
   pub receivers : (v : ℕ) → 0 < slice_index more_lack v → 0 < slice_index lack v
   pub less : sum more_surplus ≤ sum surplus
+
+-- the members of the set are those with an amount
+abbrev pub HaveSome : List ℕ → MemberSet → Type 0
+HaveSome amounts set = (v : ℕ) → (has set v ≡ true) ↔ (0 < slice_index amounts v)

@@ -1,7 +1,8 @@
 //! The members by their prices, as sets.
 
-ghost use Rattle.std.specs.Prelude.{◌≡◌, ℕ, ◌+◌, ◌<◌, ◌≤◌, length, slice_index, slice_set};
-ghost use Rattle.path_solver.specs.Groups.{AreGroups};
+ghost use Rattle.std.specs.Prelude.{◌≡◌, ℕ, ◌+◌, ◌-◌, ◌<◌, ◌≤◌, ◌&&◌, ◌||◌, not, false, length, slice_index};
+ghost use Rattle.member_set.specs.Members.{has};
+ghost use Rattle.path_solver.specs.Groups.{AreGroups, group_at};
 
 use member_set::MemberSet;
 
@@ -20,18 +21,18 @@ pub fn sort_by_price(prices: &[u16], groups: &mut [MemberSet])
     }
 }
 
-/// Raises the price of a member by 1, and moves it to the group of that price.
-pub fn move_up(prices: &mut [u16], groups: &mut [MemberSet], member: u16)
-    requires few { length prices.old ≤ 256 }
-    requires member { member < length prices.old }
-    requires price { slice_index prices.old member < 65535 }
-    requires room { slice_index prices.old member + 3 ≤ length groups.old }
-    requires sorted { AreGroups prices.old groups.old }
-    ensures prices { prices.new ≡ slice_set prices.old member (slice_index prices.old member + 1) }
-    ensures sorted { AreGroups prices.new groups.new }
+/// Moves all but the members that stay to the next group. No member is in a group behind `most`.
+pub fn move_up(groups: &mut [MemberSet], stay: &MemberSet, most: usize)
+    requires room { most + 1 < length groups.old }
+    requires none { (v : ℕ) → has (group_at groups.old 0) v ≡ false }
+    ensures moved { (g v : ℕ) → 0 < g → g ≤ most + 1 → has (group_at groups.new g) v ≡ ((has (group_at groups.old g) v && has stay.now v) || (has (group_at groups.old (g - 1)) v && not (has stay.now v))) }
+    ensures lowest { group_at groups.new 0 ≡ group_at groups.old 0 }
+    ensures others { (g : ℕ) → most + 1 < g → group_at groups.new g ≡ group_at groups.old g }
 {
-    let place = prices[member as usize] as usize + 1;
-    groups[place].drop_member(member);
-    groups[place + 1].put(member);
-    prices[member as usize] += 1;
+    let mut leaving = MemberSet::new();
+    for place in 1..most + 2 {
+        let here = groups[place];
+        groups[place] = here.and(stay).or(&leaving);
+        leaving = here.without(stay);
+    }
 }

@@ -1,24 +1,22 @@
-//! Breadth first from the members that have to receive, back along open arcs.
+//! Breadth first from the members that have to receive, back along open arcs, a level at a time.
 
-ghost use Rattle.std.specs.Prelude.{◌≡◌, ◌↔◌, ℕ, ◌+◌, ◌<◌, ◌≤◌, true, false, length, slice_index, OnOk, IfOk, IfSome, IsSome, IsTrue};
+ghost use Rattle.std.specs.Prelude.{◌≡◌, ◌↔◌, ℕ, ◌+◌, ◌<◌, ◌≤◌, true, false, length, slice_index, IsNone};
 ghost use Rattle.member_set.specs.Members.{has};
-ghost use Rattle.path_solver.specs.Entries.{AreEntries, AreOpenTo, AreAll, IsNoneOf, is_open_to};
+ghost use Rattle.path_solver.specs.Entries.{AreEntries, IsOpenInto, is_open_to};
 ghost use Rattle.path_solver.specs.Groups.{AreGroups};
-ghost use Rattle.path_solver.specs.Rests.{AreApart};
-ghost use Rattle.path_solver.specs.Levels.{IsReached, IsSearch, IsLayered, AreUpTo};
-ghost use Rattle.path_solver.specs.Growth.{IsGrown, FindsNew, first_to_send};
+ghost use Rattle.path_solver.specs.Rests.{AreApart, HaveSome};
+ghost use Rattle.path_solver.specs.Levels.{IsReached, IsLayered};
 
 use crate::entries::Entry;
 use member_set::MemberSet;
 use residual_graph::Residual;
-use std::alloc::AllocError;
 
 /// The level of a member from which no open arcs lead to one that has to receive. Else the level tells how
 /// many such arcs the search went back.
 pub const UNREACHED: u16 = u16::MAX;
 
-/// Finds the levels, and the first member that has to send to be reached. Where there is one, members
-/// behind its level may stay unreached.
+/// Finds the levels, and a member that has to send on the first level that has one. The last level then
+/// has those alone, and other members on it or behind it stay unreached.
 pub fn layer(
     residual: &Residual,
     entries: &[Entry],
@@ -26,12 +24,14 @@ pub fn layer(
     surplus: &[u64],
     lack: &[u64],
     groups: &[MemberSet],
-    everyone: &MemberSet,
+    senders: &MemberSet,
+    receivers: &MemberSet,
     levels: &mut [u16],
-    queue: &mut Vec<u16>,
-) -> Result<Option<u16>, AllocError>
+    reached: &mut MemberSet,
+) -> Option<u16>
     requires entries { AreEntries residual.now entries.now }
-    requires everyone { AreAll residual.now.members everyone.now }
+    requires senders { HaveSome surplus.now senders.now }
+    requires receivers { HaveSome lack.now receivers.now }
     requires low { (v : ℕ) → slice_index prices.now v ≤ residual.now.members }
     requires groups { length groups.now ≡ residual.now.members + 3 }
     requires sorted { AreGroups prices.now groups.now }
@@ -40,80 +40,74 @@ pub fn layer(
     requires lack { residual.now.members ≡ length lack.now }
     requires levels { residual.now.members ≡ length levels.old }
     requires apart { AreApart surplus.now lack.now }
-    ensures { IfOk result (IsLayered residual.now.flows prices.now surplus.now lack.now levels.new) }
+    ensures layered { IsLayered residual.now.flows prices.now surplus.now lack.now levels.new result }
+    ensures reached { IsNone result → (v : ℕ) → (has reached.new v ≡ true) ↔ ((v < residual.now.members) × IsReached levels.new v) }
 {
     let _members = residual.members();
-    start(residual, prices, lack, levels, queue)?;
-    let mut free = free_of(everyone, queue);
-    let mut found = None;
-    let mut done = 0;
-    while done < queue.len() {
-        let here = queue[done];
-        if is_behind(levels, found, here) {
-            break;
+    forget(levels);
+    *reached = MemberSet::new();
+    let mut now = *receivers;
+    let mut level = 0u16;
+    while !now.is_empty() {
+        let met = now.and(senders);
+        if let Some(source) = met.lowest() {
+            mark(met, level, levels);
+            return Some(source);
         }
-        let near = open_to(entries, groups, prices[here as usize], here).and(&free);
-        if near.is_empty() {
-            done += 1;
-            continue;
-        }
-        let nearest = enter(residual, prices, surplus, lack, here, near, levels, queue)?;
-        free = free.without(&near);
-        found = found.or(nearest);
-        done += 1;
+        *reached = reached.or(&now);
+        let near = visit(entries, groups, prices, now, level, levels);
+        now = near.without(reached);
+        level += 1;
     }
-    Ok(found)
+    None
 }
 
-/// Whether a member is not above the level of the one that was found, if one was.
-fn is_behind(levels: &[u16], found: Option<u16>, here: u16) -> bool
-    requires here { here < length levels.now }
-    requires found { IfSome found (λ s. s < length levels.now) }
-    ensures { IsTrue result → IsSome found }
+/// No member is reached.
+fn forget(levels: &mut [u16])
+    ensures { (v : ℕ) → v < length levels.old → slice_index levels.new v ≡ 65535 }
 {
-    match found {
-        Some(source) => levels[here as usize] >= levels[source as usize],
-        None => false,
+    for level in levels.iter_mut() {
+        *level = UNREACHED;
     }
 }
 
-/// The members that have to receive are at level 0.
-fn start(
-    residual: &Residual,
+/// Puts members on a level.
+fn mark(members: MemberSet, level: u16, levels: &mut [u16])
+    requires { (v : ℕ) → has members v ≡ true → v < length levels.old }
+    ensures marked { (v : ℕ) → has members v ≡ true → slice_index levels.new v ≡ level }
+    ensures others { (v : ℕ) → has members v ≡ false → slice_index levels.new v ≡ slice_index levels.old v }
+{
+    let mut left = members;
+    while let Some(here) = left.take_lowest() {
+        levels[here as usize] = level;
+    }
+}
+
+/// Puts members on a level, and tells from which members open arcs lead to one of them.
+fn visit(
+    entries: &[Entry],
+    groups: &[MemberSet],
     prices: &[u16],
-    lack: &[u64],
+    members: MemberSet,
+    level: u16,
     levels: &mut [u16],
-    queue: &mut Vec<u16>,
-) -> Result<(), AllocError>
-    requires lack { residual.now.members ≡ length lack.now }
-    requires levels { residual.now.members ≡ length levels.old }
-    ensures search { OnOk result (IsSearch residual.now prices.now lack.now levels.new queue.new.items) }
-    ensures lowest { OnOk result (AreUpTo 0 levels.new) }
-    ensures receivers { OnOk result ((v : ℕ) → v < length levels.new → IsReached levels.new v → 0 < slice_index lack.now v) }
+) -> MemberSet
+    requires levels { (v : ℕ) → has members v ≡ true → v < length levels.old }
+    requires entries { length entries.now ≡ length levels.old }
+    requires prices { length prices.now ≡ length levels.old }
+    requires low { (v : ℕ) → slice_index prices.now v + 3 ≤ length groups.now }
+    ensures marked { (v : ℕ) → has members v ≡ true → slice_index levels.new v ≡ level }
+    ensures others { (v : ℕ) → has members v ≡ false → slice_index levels.new v ≡ slice_index levels.old v }
+    ensures near { (u : ℕ) → has result u ≡ true → IsOpenInto entries.now groups.now prices.now members u }
+    ensures all { (h u : ℕ) → has members h ≡ true → is_open_to entries.now groups.now (slice_index prices.now h) h u ≡ true → has result u ≡ true }
 {
-    let members = residual.members();
-    queue.clear();
-    for member in 0..members {
-        if lack[member as usize] > 0 {
-            levels[member as usize] = 0;
-            queue.push(member)?;
-        } else {
-            levels[member as usize] = UNREACHED;
-        }
+    let mut near = MemberSet::new();
+    let mut left = members;
+    while let Some(here) = left.take_lowest() {
+        levels[here as usize] = level;
+        near = near.or(&open_to(entries, groups, prices[here as usize], here));
     }
-    Ok(())
-}
-
-/// All but the members in the queue.
-fn free_of(everyone: &MemberSet, queue: &[u16]) -> MemberSet
-    requires { (x : ℕ) → x < length queue.now → slice_index queue.now x < 256 }
-    ensures { (u : ℕ) → (has result u ≡ true) ↔ ((has everyone.now u ≡ true) × IsNoneOf (length queue.now) queue.now u) }
-{
-    let mut free = *everyone;
-    for member in queue {
-        free.drop_member(*member);
-    }
-    free
+    near
 }
 
 /// The members from which an open arc leads here.
@@ -122,58 +116,8 @@ fn open_to(entries: &[Entry], groups: &[MemberSet], price: u16, here: u16) -> Me
     requires price { price + 3 ≤ length groups.now }
     ensures { (u : ℕ) → has result u ≡ is_open_to entries.now groups.now price here u }
 {
-    let entry = entries[here as usize];
+    let entry = &entries[here as usize];
     let sellers = entry.sellers.and(&groups[price as usize + 2]);
     let buyers = entry.buyers.and(&groups[price as usize]);
     sellers.or(&buyers)
-}
-
-/// Reaches members that were not reached, from each of which an open arc leads here, and tells the lowest
-/// of them that has to send.
-fn enter(
-    residual: &Residual,
-    prices: &[u16],
-    surplus: &[u64],
-    lack: &[u64],
-    here: u16,
-    near: MemberSet,
-    levels: &mut [u16],
-    queue: &mut Vec<u16>,
-) -> Result<Option<u16>, AllocError>
-    requires prices { residual.now.members ≡ length prices.now }
-    requires surplus { residual.now.members ≡ length surplus.now }
-    requires here { here < residual.now.members }
-    requires reached { IsReached levels.old here }
-    requires search { IsSearch residual.now prices.now lack.now levels.old queue.old.items }
-    requires small { AreUpTo 256 levels.old }
-    requires near { AreOpenTo residual.now prices.now levels.old here near }
-    ensures search { OnOk result (IsSearch residual.now prices.now lack.now levels.new queue.new.items) }
-    ensures most { OnOk result ((most : ℕ) → AreUpTo most levels.old → AreUpTo (most + 1) levels.new) }
-    ensures grown { OnOk result (IsGrown levels.old levels.new queue.old.items queue.new.items) }
-    ensures reached { OnOk result ((u : ℕ) → has near u ≡ true → IsReached levels.new u) }
-    ensures others { OnOk result ((u : ℕ) → has near u ≡ false → slice_index levels.new u ≡ slice_index levels.old u) }
-    ensures found { IfOk result (FindsNew surplus.now levels.old levels.new) }
-{
-    let level = levels[here as usize] + 1;
-    let mut found = None;
-    let mut left = near;
-    while let Some(member) = left.lowest() {
-        left.drop_member(member);
-        levels[member as usize] = level;
-        queue.push(member)?;
-        found = first_to_send(found, member, surplus);
-    }
-    Ok(found)
-}
-
-/// The member that was found, else this one, where it has to send.
-fn first_to_send(found: Option<u16>, member: u16, surplus: &[u64]) -> Option<u16>
-    requires { member < length surplus.now }
-    ensures { result ≡ first_to_send found member surplus.now }
-{
-    match found {
-        Some(first) => Some(first),
-        None if surplus[member as usize] > 0 => Some(member),
-        None => None,
-    }
 }

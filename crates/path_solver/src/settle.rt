@@ -1,8 +1,8 @@
 //! Phases, until nothing is left to send.
 
-ghost use Rattle.std.specs.Prelude.{◌≡◌, ℕ, ◌<◌, ◌≤◌, length, slice_index, replicate, IfOk, IsTrue, false, All};
-ghost use Rattle.path_solver.specs.Entries.{AreAll};
-ghost use Rattle.path_solver.specs.Rests.{IsFeasible, AreApart};
+ghost use Rattle.std.specs.Prelude.{◌≡◌, ℕ, ◌<◌, ◌≤◌, length, slice_index, replicate, IfOk, true, All};
+ghost use Rattle.member_set.specs.Members.{has};
+ghost use Rattle.path_solver.specs.Rests.{IsFeasible, AreApart, HaveSome};
 ghost use Rattle.path_solver.specs.Phases.{IsSettled};
 
 use crate::entries::entries_of;
@@ -26,29 +26,34 @@ pub fn all_of<T: Copy>(alloc: Global, members: u16, value: T) -> Result<Vec<T>, 
     Ok(values)
 }
 
-/// The members below a number.
-fn everyone(members: u16) -> MemberSet
-    requires { members ≤ 256 }
-    ensures { AreAll members result }
+/// The members with an amount.
+fn those_with(amounts: &[u64]) -> MemberSet
+    requires { length amounts.now ≤ 256 }
+    ensures { HaveSome amounts.now result }
 {
-    let mut all = MemberSet::new();
-    for member in 0..members {
-        all.put(member);
-    }
-    all
-}
-
-/// Whether some member has to send.
-fn is_left(surplus: &[u64]) -> bool
-    ensures some { IsTrue result → (v : ℕ) × (0 < slice_index surplus.now v) }
-    ensures none { result ≡ false → (v : ℕ) → slice_index surplus.now v ≡ 0 }
-{
-    for amount in surplus {
-        if *amount > 0 {
-            return true;
+    let mut some = MemberSet::new();
+    for member in 0..amounts.len() {
+        if amounts[member] > 0 {
+            some.put(member as u16);
         }
     }
-    false
+    some
+}
+
+/// The members of the set that still have an amount.
+fn still_with(amounts: &[u64], members: MemberSet) -> MemberSet
+    requires small { (v : ℕ) → has members v ≡ true → v < length amounts.now }
+    requires all { (v : ℕ) → 0 < slice_index amounts.now v → has members v ≡ true }
+    ensures { HaveSome amounts.now result }
+{
+    let mut some = members;
+    let mut left = members;
+    while let Some(member) = left.take_lowest() {
+        if amounts[member as usize] == 0 {
+            some.drop_member(member);
+        }
+    }
+    some
 }
 
 /// Sends everything that is to be sent, and answers the prices.
@@ -68,16 +73,17 @@ pub fn settle(
     let members = residual.members();
     let exits = Exits::of(alloc, residual)?;
     let mut entries = entries_of(alloc, residual)?;
-    let everyone = everyone(members);
     let mut groups = all_of(alloc, members + 3, MemberSet::new())?;
     let mut prices = all_of(alloc, members, 0u16)?;
     sort_by_price(&prices, &mut groups);
     let mut levels = all_of(alloc, members, UNREACHED)?;
     let mut current = all_of(alloc, members, 0usize)?;
-    let mut queue = Vec::new(alloc);
     let mut path = Vec::new(alloc);
+    let mut senders = those_with(surplus);
+    let mut receivers = those_with(lack);
+    let mut reached = MemberSet::new();
     let mut top = 0u16;
-    'phases: while is_left(surplus) {
+    'phases: while !senders.is_empty() {
         match layer(
             residual,
             &entries,
@@ -85,12 +91,13 @@ pub fn settle(
             surplus,
             lack,
             &groups,
-            &everyone,
+            &senders,
+            &receivers,
             &mut levels,
-            &mut queue,
-        )? {
+            &mut reached,
+        ) {
             None => {
-                raise(&mut prices, &mut groups, &levels);
+                raise(&mut prices, &mut groups, &levels, &reached, top);
                 top += 1;
             }
             Some(source) => {
@@ -106,6 +113,8 @@ pub fn settle(
                     &mut path,
                     source,
                 )?;
+                senders = still_with(surplus, senders);
+                receivers = still_with(lack, receivers);
             }
         }
     }

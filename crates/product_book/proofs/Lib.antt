@@ -7,3 +7,4 @@ pub mod ExecutionFacts
 pub mod FrozenFacts
 pub mod KeptFacts
 pub mod SumFacts
+pub mod ChainFacts

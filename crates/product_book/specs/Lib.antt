@@ -3,3 +3,4 @@ pub mod Freezes
 pub mod Networks
 pub mod Execution
 pub mod Kept
+pub mod Chains

@@ -9,6 +9,7 @@ ghost use Rattle.command_types.specs.Execution.{IsExecutable};
 ghost use Rattle.product_book.specs.Freezes.{rows_by_choice, frozen_among, FrozenCount};
 ghost use Rattle.product_book.specs.Networks.{network_of, AllCount};
 
+use crate::chains::Chains;
 use crate::kept::KeptSums;
 use crate::networks::{self, Which};
 use crate::row::{append, ended_by, live, put_row, row_at, with_hold};
@@ -45,6 +46,7 @@ pub struct Position {
 pub struct Book {
     rows: Vec<TradeRow>,
     sums: KeptSums,
+    chains: Chains,
     products: u16,
     submitted: u64,
 }
@@ -52,13 +54,13 @@ pub struct Book {
 impl Model for Book {
     ghost use Rattle.std.specs.Prelude.{◌-◌, vec_len, vec_capacity};
     ghost use Rattle.product_book.specs.Book.{BookView};
-    ghost use Rattle.product_book.specs.Kept.{IsSummedBook};
+    ghost use Rattle.product_book.specs.Chains.{IsChainedBook};
 
     ghost Value = { BookView };
 
-    ghost view = { λ b. record { rows = b.rows.items; spare = vec_capacity b.rows - vec_len b.rows; members = b.sums.members; products = b.products } };
+    ghost view = { λ b. record { rows = b.rows.items; spare = b.chains.spare; members = b.sums.members; products = b.products } };
 
-    ghost invariant = { λ b. IsSummedBook b.sums.members b.products b.submitted b.sums.products.items b.sums.sold.items b.sums.bought.items b.rows.items };
+    ghost invariant = { λ b. IsChainedBook b.sums.members b.products b.submitted b.sums.products.items b.sums.sold.items b.sums.bought.items b.rows.items b.chains (vec_capacity b.rows - vec_len b.rows) };
 }
 
 impl Book {
@@ -73,6 +75,7 @@ impl Book {
         Ok(Book {
             rows: Vec::new(alloc),
             sums: KeptSums::new(alloc, members, products)?,
+            chains: Chains::new(alloc, products)?,
             products,
             submitted: 0,
         })
@@ -85,7 +88,8 @@ impl Book {
         ensures room { OnOk result (trades ≤ self.new.spare) }
         ensures err { OnErr result (self.new ≡ self.old) }
     {
-        make_room(&mut self.rows, trades as usize)
+        make_room(&mut self.rows, trades as usize)?;
+        self.chains.reserve(trades)
     }
 
     /// How many trades there are. It takes no memory.
@@ -180,7 +184,14 @@ impl Book {
         ensures { IfOk result (λ network. network ≡ network_of which self.now.members product self.now.rows) }
     {
         let alloc = *self.rows.allocator();
-        networks::network_of(alloc, &self.rows, self.sums.members, product, which)
+        networks::network_of(
+            alloc,
+            &self.rows,
+            &self.chains,
+            self.sums.members,
+            product,
+            which,
+        )
     }
 
     /// How many of the trades a party submitted. It takes no memory.
@@ -227,6 +238,7 @@ impl Book {
         self.submitted += 1;
         self.sums.enter(&row);
         append(&mut self.rows, row);
+        self.chains.push(product);
         number
     }
 
@@ -302,5 +314,6 @@ impl Book {
     {
         execution::execute(&mut self.rows, plan);
         self.sums.recount(&self.rows);
+        self.chains.rechain(&self.rows);
     }
 }

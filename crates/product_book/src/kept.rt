@@ -70,8 +70,8 @@ fn move_sum(sums: &mut Vec<u64>, at: usize, less: u64, more: u64)
     sums[at] = sums[at] - less + more;
 }
 
-// Makes each sum 0.
-fn clear(sums: &mut Vec<u64>)
+/// Makes each sum 0.
+pub(super) fn clear(sums: &mut Vec<u64>)
     ensures count { length sums.new.items ≡ length sums.old.items }
     ensures zeros { (n : ℕ) → slice_index sums.new.items n ≡ 0 }
 {
@@ -80,8 +80,8 @@ fn clear(sums: &mut Vec<u64>)
     }
 }
 
-// The sum at a place; 0 where there is none.
-fn sum_at(sums: &[u64], at: usize) -> u64
+/// The sum at a place; 0 where there is none.
+pub(super) fn sum_at(sums: &[u64], at: usize) -> u64
     ensures { result ≡ slice_index sums.now at }
 {
     match sums.get(at) {

@@ -2,6 +2,7 @@
 #![tactic(auto)]
 
 mod book;
+mod chains;
 mod execution;
 mod freezes;
 mod kept;

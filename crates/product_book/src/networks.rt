@@ -2,8 +2,10 @@
 ghost use Rattle.std.specs.Prelude.{◌≡◌, ◌≤◌, All, IfOk};
 ghost use Rattle.command_types.specs.Trades.{gross_of};
 ghost use Rattle.product_book.specs.Book.{gross_limit};
+ghost use Rattle.product_book.specs.Chains.{products_of};
 ghost use Rattle.product_book.specs.Networks.{is_among, network_of, AllCount, HasParties};
 
+use crate::chains::Chains;
 use command_types::{TradeRow, TradeState};
 use network_laws::Network;
 use pair_table::PairTable;
@@ -31,25 +33,30 @@ fn is_among(which: Which, trade: &TradeRow) -> bool
     }
 }
 
-/// The network of a product's trades.
+/// The network of a product's trades. It goes over the product's trades alone.
 pub(super) fn network_of(
     alloc: Global,
     trades: &[TradeRow],
+    chains: &Chains,
     members: u16,
     product: ProductNo,
     which: Which,
 ) -> Result<Network, AllocError>
     requires few { members ≤ 256 }
     requires parties { All (HasParties members) trades.now }
+    requires chained { chains.now.products ≡ products_of trades.now }
     requires count { AllCount which trades.now }
     requires bound { gross_of product trades.now ≤ gross_limit }
     ensures { IfOk result (λ network. network ≡ network_of which members product trades.now) }
 {
     let mut table = PairTable::new(alloc, members)?;
-    for trade in trades {
-        if trade.product == product && is_among(which, trade) {
+    let mut at = chains.last_of(product);
+    while at > 0 {
+        let trade = trades[(at - 1) as usize];
+        if is_among(which, &trade) {
             table.add(trade.seller, trade.buyer, trade.amount.get());
         }
+        at = chains.before(at);
     }
     table.network()
 }

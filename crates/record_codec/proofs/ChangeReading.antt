@@ -1,11 +1,11 @@
 -- The fields of each change: what is read is spelled so, and what is spelled so is read.
-use Rattle.std.proofs.Common.{◌≡◌, ℕ, ◌≤◌, Bool, true, false, cond, eqb, List, [], ◌∷◌, ◌++◌, length, flat_map, Option, Ok, refl, sym, ap, subst, ◌∙◌, ◌⊎◌, inl, inr, append_assoc, arith, eqb-true}
+use Rattle.std.proofs.Common.{◌≡◌, ℕ, ◌≤◌, Bool, true, false, cond, eqb, List, [], ◌∷◌, ◌++◌, length, flat_map, Option, Some, Ok, refl, sym, ap, subst, ◌∙◌, ◌⊎◌, inl, inr, append_assoc, arith, eqb-true}
 use Rattle.std.specs.Int.{w16, to_le_bytes}
 use Rattle.std.proofs.lemmas.List.Elements.{All-from_recursion, recursion_from_All}
 use Rattle.units_core.specs.Day.{DayParts}
 use Rattle.network_laws.specs.Solutions.{SolutionData, IsSolution}
 use Rattle.command_types.specs.declared.cycle.Mode.{Mode}
-use Rattle.command_types.specs.declared.cycle.Mode.TheVariants.{Conservative, Hybrid}
+use Rattle.command_types.specs.declared.cycle.Mode.TheVariants as modes
 use Rattle.command_types.specs.declared.trade.Side.{Side}
 use Rattle.command_types.specs.declared.trade.Side.TheVariants.{Out, In}
 use Rattle.command_types.specs.declared.ask.What.{What}
@@ -13,7 +13,7 @@ use Rattle.command_types.specs.declared.ask.What.TheVariants.{Hello, Trade, Affi
 use Rattle.command_types.specs.Spelling.{most_solutions, number_spelling, name_spelling, day_spelling, ceiling_spelling, side_byte, mode_byte, solution_spelling, fields_spelling, IsNumber, AreFields}
 use Rattle.record_codec.specs.Reading.{Read, ◌>>=◌, number_at, count_at, name_at, amount_at, level_at, day_at, side_at, mode_at, ceiling_at, trade_fields, tolerance_fields, freeze_fields, begin_fields, numbered_fields, versioned_fields, post_fields, solutions_at, fields_at, change_at}
 use Rattle.record_codec.proofs.FieldFacts.{IsBytes, IsBytes-rest, Takes, Takes-then, IsFormat, bind_ok, ok_is, seq_takes, seq_again}
-use Rattle.record_codec.proofs.KindFacts.{number_format, count_format, name_format, amount_format, level_format, day_format, ceiling_format, bit_format}
+use Rattle.record_codec.proofs.KindFacts.{number_format, count_format, name_format, amount_format, level_format, day_format, ceiling_format, bit_format, three_way, three_format}
 use Rattle.record_codec.proofs.SolutionReading.{solutions_take, solutions_again}
 
 -- ---- sides and modes
@@ -25,12 +25,13 @@ which_side In = inr refl
 side_format : IsFormat side_at (λ s. side_byte s ∷ []) (λ s. Unit {0})
 side_format = bit_format Out In side_byte refl refl which_side
 
-which_mode : (m : Mode) → (Conservative ≡ m) ⊎ (Hybrid ≡ m)
-which_mode Conservative = inl refl
-which_mode Hybrid = inr refl
+mode_again : (m : Mode) → three_way modes.Conservative modes.Hybrid modes.Free (mode_byte m ∷ []) ≡ Some m
+mode_again modes.Conservative = refl
+mode_again modes.Hybrid = refl
+mode_again modes.Free = refl
 
 mode_format : IsFormat mode_at (λ m. mode_byte m ∷ []) (λ m. Unit {0})
-mode_format = bit_format Conservative Hybrid mode_byte refl refl which_mode
+mode_format = three_format modes.Conservative modes.Hybrid modes.Free mode_byte refl refl refl mode_again
 
 -- ---- what was read, behind its tag
 

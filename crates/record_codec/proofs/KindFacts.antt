@@ -153,6 +153,32 @@ bit_format {A} x y byte at_x at_y which = format_of 1 (two_way x y) (λ a. byte 
   sized = λ a is. refl;
 })
 
+-- ---- one byte that is 0, 1 or 2
+
+one_of_three : {A : Type 0} (b c d : Bool) (x y z a : A) → cond b (Some x) (cond c (Some y) (cond d (Some z) None)) ≡ some a → ((b ≡ true) × (x ≡ a)) ⊎ (((c ≡ true) × (y ≡ a)) ⊎ ((d ≡ true) × (z ≡ a)))
+one_of_three true c d x y z a e = inl (refl, cc)
+one_of_three false c d x y z a e = inr (one_of c d y z a e)
+
+abbrev pub three_way : {A : Type 0} → A → A → A → List ℕ → Option A
+three_way x y z text = cond (eqb (get_or text 0 0) 0) (Some x) (cond (eqb (get_or text 0 0) 1) (Some y) (cond (eqb (get_or text 0 0) 2) (Some z) None))
+
+three_back : {A : Type 0} (x y z : A) (byte : A → ℕ) → byte x ≡ 0 → byte y ≡ 1 → byte z ≡ 2 → (text : List ℕ) (a : A) → length text ≡ 1 → three_way x y z text ≡ Some a → text ≡ byte a ∷ []
+three_back x y z byte at_x at_y at_z text a len e =
+    let first = get_or text 0 0 in
+    let here = single text len in
+    elim (one_of_three (eqb first 0) (eqb first 1) (eqb first 2) x y z a e) [
+      | inl p ↦ here ∙ ap (λ (n : ℕ). n ∷ []) (eqb-true _ _ p.0 ∙ sym at_x ∙ ap byte p.1)
+      | inr (inl p) ↦ here ∙ ap (λ (n : ℕ). n ∷ []) (eqb-true _ _ p.0 ∙ sym at_y ∙ ap byte p.1)
+      | inr (inr p) ↦ here ∙ ap (λ (n : ℕ). n ∷ []) (eqb-true _ _ p.0 ∙ sym at_z ∙ ap byte p.1)
+    ]
+
+pub three_format : {A : Type 0} (x y z : A) (byte : A → ℕ) → byte x ≡ 0 → byte y ≡ 1 → byte z ≡ 2 → ((a : A) → three_way x y z (byte a ∷ []) ≡ Some a) → IsFormat (field 1 (three_way x y z)) (λ a. byte a ∷ []) (λ a. Unit {0})
+three_format x y z byte at_x at_y at_z again = format_of 1 (three_way x y z) (λ a. byte a ∷ []) (λ a. Unit {0}) (record {
+  back = λ text a len fits e. (three_back x y z byte at_x at_y at_z text a len e, tt);
+  again = λ a is. again a;
+  sized = λ a is. refl;
+})
+
 -- ---- names
 
 name_takes : (bytes : List ℕ) (x : List ℕ × List ℕ) → IsBytes bytes → name_at bytes ≡ Ok x → Takes bytes (name_spelling x.0) x.1 × IsTrue (is_name x.0)

@@ -8,7 +8,7 @@ use Rattle.network_laws.specs.declared.rows.Row.{Row}
 use Rattle.network_laws.specs.Networks.{place}
 use Rattle.network_laws.specs.Solutions.{SolutionData}
 use Rattle.command_types.specs.declared.cycle.Mode.{Mode}
-use Rattle.command_types.specs.declared.cycle.Mode.TheVariants.{Conservative, Hybrid}
+use Rattle.command_types.specs.declared.cycle.Mode.TheVariants as modes
 use Rattle.command_types.specs.declared.trade.Side.{Side}
 use Rattle.command_types.specs.declared.trade.Side.TheVariants.{Out, In}
 use Rattle.command_types.specs.declared.ask.Entry.{Entry}
@@ -60,7 +60,10 @@ side_in text = if slice_index text 0 == 0 then Some Out else (if slice_index tex
 
 abbrev pub mode_in : List ℕ → Option Mode
 mode_in text =
-    if slice_index text 0 == 0 then Some Conservative else (if slice_index text 0 == 1 then Some Hybrid else None)
+    if slice_index text 0 == 0 then Some modes.Conservative
+    else if slice_index text 0 == 1 then Some modes.Hybrid
+    else if slice_index text 0 == 2 then Some modes.Free
+    else None
 
 -- whether a ceiling is given
 abbrev pub given_in : List ℕ → Option Bool

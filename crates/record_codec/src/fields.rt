@@ -156,6 +156,7 @@ impl<'a> Unread<'a> {
         let (mode, rest) = match self.rest {
             [0, rest @ ..] => (Mode::Conservative, rest),
             [1, rest @ ..] => (Mode::Hybrid, rest),
+            [2, rest @ ..] => (Mode::Free, rest),
             _ => return Err(self.bad()),
         };
         self.rest = rest;

@@ -81,6 +81,7 @@ fn byte_of_mode(mode: Mode) -> u8
     match mode {
         Mode::Conservative => 0,
         Mode::Hybrid => 1,
+        Mode::Free => 2,
     }
 }
 

@@ -24,7 +24,7 @@ pub fn flows_of(
     ensures small { IfOk result (λ flows. All IsSmall flows.items) }
 {
     let sales = network.rows();
-    let mut flows = Vec::new(alloc);
+    let mut flows = Vec::with_capacity(alloc, rows.len())?;
     let mut at = 0;
     for row in rows {
         at = cursor_from(sales, at, *row);

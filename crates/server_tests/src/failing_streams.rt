@@ -73,9 +73,10 @@ fn a_source_that_gives_one_byte_at_a_time_is_read_to_its_end(rt: HostRuntime) ->
     Ok(())
 }
 
+// Lines that come one by one: each reply is a write of its own.
 fn stops_at_each_write<R: Threads + Wait + Sync + AllocGlobal>(rt: &R) -> Result<bool, AllocError> {
     for written in 0..5usize {
-        let mut source = MemorySource::new(rt.alloc(), SESSION.as_bytes())?;
+        let mut source = Trickle::new(rt.alloc(), SESSION.as_bytes())?;
         let mut output = MemorySink::new(rt.alloc(), 256)?;
         output.fail_at((written as u64).saturating_add(1))?;
         let ran = script(rt, ROSTER, &mut source, output)?;

@@ -16,7 +16,13 @@ mod failing_streams;
 #[cfg(test)]
 mod file_faults;
 #[cfg(test)]
+mod free_mode;
+#[cfg(test)]
 mod gates;
+#[cfg(test)]
+mod gathering;
+#[cfg(test)]
+mod generated_markets;
 #[cfg(test)]
 mod in_step;
 #[cfg(test)]

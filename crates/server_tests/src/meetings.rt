@@ -26,6 +26,17 @@ const MEETINGS: &[(&[&str], &str, &str)] = &[
         "\nbound 0\nend 2\n",
     ),
     (&["script", "T", "j"], SCRIPT, "\nok 15 proposed 1 1 51 0\n"),
+    // Two are enough.
+    (
+        &["solve", "T", "t", "conservative", "--workers", "2"],
+        "",
+        "\nbound 0\nend 2\n",
+    ),
+    (
+        &["script", "--workers=2", "T", "j"],
+        SCRIPT,
+        "\nok 15 proposed 1 1 51 0\n",
+    ),
 ];
 
 fn all_meet<R: Threads + Wait + Sync + AllocGlobal>(rt: &R) -> Result<bool, Fail> {

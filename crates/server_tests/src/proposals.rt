@@ -213,7 +213,7 @@ const REFUSED: &[Session<'static>] = &[
     (
         ROSTER,
         &[
-            "HELLO OPS KO\nPROPOSE\nPROPOSE 1\nPROPOSE x hybrid\nPROPOSE 1 free\nPROPOSE 1 hybrid 2\n",
+            "HELLO OPS KO\nPROPOSE\nPROPOSE 1\nPROPOSE x hybrid\nPROPOSE 1 loose\nPROPOSE 1 hybrid 2\n",
         ],
         &[
             "ok 0 hello OPS\nno 0 3 bad-line 7\nno 0 3 bad-line 9\nno 0 3 bad-line 8\nno 0 3 bad-line 10\nno 0 3 bad-line 17\n",

@@ -13,7 +13,8 @@ use std::sync::Wait;
 use std::test::Fail;
 use std::thread::Threads;
 
-const WORDS: &[&str] = &["serve", "T", "j", "a"];
+/// A service with the numbers that no option gives.
+pub const WORDS: &[&str] = &["serve", "T", "j", "a"];
 
 /// What a service left.
 #[derive(Drop)]
@@ -33,9 +34,10 @@ impl Service {
     }
 }
 
-/// Runs a service of the roster at this listener, over this disk, with room for so many bytes of output.
+/// Runs a service by these words, of the roster at this listener, over this disk, with room for so many bytes of output.
 pub fn serve_at<R: Threads + Wait + Sync + AllocGlobal, L: Listener>(
     rt: &R,
+    words: &[&str],
     listener: &mut L,
     disk: MemoryDisk,
     room: usize,
@@ -47,7 +49,7 @@ pub fn serve_at<R: Threads + Wait + Sync + AllocGlobal, L: Listener>(
     let mut output = MemorySink::new(alloc, room)?;
     let (status, errors, disk) = run_at(
         rt,
-        WORDS,
+        words,
         &[("T", ROSTER.as_bytes())],
         &mut source,
         &mut output,
@@ -63,10 +65,12 @@ pub fn serve_at<R: Threads + Wait + Sync + AllocGlobal, L: Listener>(
     })
 }
 
-// A service: what comes to its first door, which call of that door and of the listener fails, 0 for none, the room of the
-// output, the status, what was told, the output, and the replies.
+// A service: its words, how many doors it has, what comes to the first, which call of that door and of the listener fails, 0
+// for none, the room of the output, the status, what was told, the output, and the replies.
 #[derive(Clone, Copy)]
 struct Case {
+    words: &'static [&'static str],
+    doors: usize,
     texts: &'static [&'static str],
     door_call: u64,
     listener_call: u64,
@@ -78,6 +82,8 @@ struct Case {
 }
 
 const WHOLE: Case = Case {
+    words: WORDS,
+    doors: 4,
     texts: &[FIRST, SECOND],
     door_call: 0,
     listener_call: 0,
@@ -94,6 +100,27 @@ const CASES: &[Case] = &[
         texts: &[],
         output: "history 0\n",
         replies: &[],
+        ..WHOLE
+    },
+    // So many seats.
+    Case {
+        words: &["serve", "T", "j", "a", "--seats", "1"],
+        doors: 1,
+        ..WHOLE
+    },
+    Case {
+        words: &["serve", "--seats=64", "T", "j", "--workers", "64", "a"],
+        doors: 64,
+        ..WHOLE
+    },
+    // So many connections of each.
+    Case {
+        words: &["serve", "T", "j", "--connections=2", "--", "a"],
+        ..WHOLE
+    },
+    Case {
+        words: &["serve", "T", "j", "a", "--connections", "1"],
+        replies: &[FIRST_REPLIES],
         ..WHOLE
     },
     // The second call of the door fails: the first connection was served, and so were the other seats.
@@ -158,10 +185,10 @@ fn is_case<R: Threads + Wait + Sync + AllocGlobal>(
     let alloc = rt.alloc();
     let mut listener = listener_with(alloc, case.texts, case.door_call)?;
     let disk = empty_disk(alloc)?;
-    let left = serve_at(rt, &mut listener, disk, case.room)?;
+    let left = serve_at(rt, case.words, &mut listener, disk, case.room)?;
     Ok(
         left.is(case.status, case.output, case.errors)
-            && listener.back().len() == 4
+            && listener.back().len() == case.doors
             && took(&listener, case.replies),
     )
 }
@@ -196,7 +223,7 @@ fn does_not_begin<R: Threads + Wait + Sync + AllocGlobal>(
     listener.add(0, connection(alloc, FIRST)?)?;
     listener.fail_at(call)?;
     let disk = empty_disk(alloc)?;
-    let left = serve_at(rt, &mut listener, disk, 64)?;
+    let left = serve_at(rt, WORDS, &mut listener, disk, 64)?;
     Ok(left.is(10, "", "listener fault\n") && listener.back().len() == doors)
 }
 
@@ -222,10 +249,10 @@ fn goes_on<R: Threads + Wait + Sync + AllocGlobal>(rt: &R) -> Result<bool, Alloc
     let mut first = MemoryListener::new(alloc);
     first.add(3, connection(alloc, FIRST)?)?;
     let disk = empty_disk(alloc)?;
-    let left = serve_at(rt, &mut first, disk, 64)?;
+    let left = serve_at(rt, WORDS, &mut first, disk, 64)?;
     let mut second = MemoryListener::new(alloc);
     second.add(0, connection(alloc, SECOND)?)?;
-    let then = serve_at(rt, &mut second, left.disk.crash(), 64)?;
+    let then = serve_at(rt, WORDS, &mut second, left.disk.crash(), 64)?;
     Ok(left.status == 0 && then.is(0, "history 2\n", "") && took(&second, &[SECOND_REPLIES]))
 }
 

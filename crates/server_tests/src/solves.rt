@@ -2,6 +2,7 @@
 
 use crate::market_files::{DEALERS, PROPOSAL, TRADES, checked, ran_over};
 use crate::program::ROSTER;
+use crate::trades::CUSTOMER;
 use std::alloc::{AllocError, AllocGlobal};
 use std::sync::Wait;
 use std::test::Fail;
@@ -43,6 +44,21 @@ const MARKETS: &[Case<'static>] = &[
         CHAIN,
         "product P 17 17 10 17\nrow A B 10\nrow B C 7\npot A ",
         "\nbound 17\nend 1\n",
+    ),
+    // Where a neighbour is a customer, it does so in free mode alone.
+    (
+        "hybrid",
+        CUSTOMER,
+        CHAIN,
+        "product P 17 17 10 17\nrow A B 10\nrow B C 7\npot A ",
+        "\nbound 17\nend 1\n",
+    ),
+    (
+        "free",
+        CUSTOMER,
+        CHAIN,
+        "product P 17 10 10 17\nrow A B 3\nrow A C 7\npot A ",
+        "\nbound 10\nend 1\n",
     ),
     (
         "hybrid",
@@ -114,8 +130,8 @@ fn the_potentials_of_a_chain_differ_by_one_where_a_sale_is_left(
     Ok(())
 }
 
-// Whether these words, over each room that is too small, leave a front of the text.
-fn fronts_are_kept<R: Threads + Wait + Sync + AllocGlobal>(
+/// Whether these words, over each room that is smaller than this front of what they write, leave a front of it.
+pub fn fronts_are_kept<R: Threads + Wait + Sync + AllocGlobal>(
     rt: &R,
     words: &[&str],
     text: &[u8],

@@ -4,7 +4,7 @@ ghost use Rattle.std.specs.Prelude.{◌≡◌, IfOk};
 
 use crate::paced::{MANY_LOOKS, PacedSource, Piece, Steps};
 use crate::program::empty_disk;
-use crate::served::serve_at;
+use crate::served::{WORDS, serve_at};
 use crate::served_seats::{FIRST, FIRST_REPLIES, SECOND, SECOND_REPLIES, history_served};
 use doors::{Door, Listener};
 use outside::{Failed, MemorySink, Sink, Source, Trouble};
@@ -227,7 +227,7 @@ fn wait_in_a_service<R: Threads + Wait + Sync + AllocGlobal>(rt: &R) -> Result<b
         alloc,
     };
     let disk = empty_disk(alloc)?;
-    let left = serve_at(rt, &mut listener, disk, 64)?;
+    let left = serve_at(rt, WORDS, &mut listener, disk, 64)?;
     Ok(left.is(0, "history 2\n", "") && steps.are(7))
 }
 

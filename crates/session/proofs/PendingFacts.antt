@@ -1,40 +1,54 @@
 -- A text on its way into a sink.
 use Rattle.std.proofs.Common.{◌≡◌, ℕ, ◌+◌, ◌≤◌, List, [], ◌++◌, length, take, Option, refl, sym, ap, subst, ◌∙◌, append_assoc, arith}
-use Rattle.std.proofs.lemmas.List.{length-append, take-append-le}
+use Rattle.std.proofs.lemmas.List.{length-append, append-nil, take-append-le}
 use Rattle.std.proofs.Math.Seq.{take-append-add}
 use Rattle.outside.specs.Flow.{Takes, TakesFront}
 use Rattle.outside.proofs.FlowFacts.{takes_both}
-use Rattle.session.specs.Pending.{IsPending}
+use Rattle.session.specs.Pending.{Says}
 use Rattle.session.proofs.StreamFacts.{takes_none}
 
--- nothing was said before
-pub pending_none : (taken : Option (List ℕ)) (waiting : List ℕ) → IsPending taken taken waiting waiting
-pending_none taken waiting = record { written = []; took = takes_none taken; order = refl }
+-- nothing was said
+pub says_none : (taken : Option (List ℕ)) (waiting : List ℕ) → Says taken taken waiting waiting []
+says_none taken waiting = record { written = []; took = takes_none taken; order = append-nil waiting }
 
--- more is said
-pub pending_more : (begun taken : Option (List ℕ)) (waiting next said more : List ℕ) → next ≡ waiting ++ more → IsPending begun taken waiting said → IsPending begun taken next (said ++ more)
-pending_more begun taken waiting next said more is p =
-    record { written = p.written; took = p.took; order = ap (λ t. t ++ more) p.order ∙ append_assoc p.written waiting more ∙ ap (λ t. p.written ++ t) (sym is) }
+-- a text goes behind what waits
+pub says_behind : (taken : Option (List ℕ)) (waited waits text : List ℕ) → waits ≡ waited ++ text → Says taken taken waited waits text
+says_behind taken waited waits text is = record { written = []; took = takes_none taken; order = sym is }
 
--- what waited was taken, and more is said
-pub pending_flushed : (begun taken after : Option (List ℕ)) (waiting next said more : List ℕ) → Takes taken after waiting → next ≡ more → IsPending begun taken waiting said → IsPending begun after next (said ++ more)
-pending_flushed begun taken after waiting next said more took is p =
-    record { written = p.written ++ waiting; took = takes_both begun taken after p.written waiting p.took took; order = ap (λ t. t ++ more) p.order ∙ ap (λ t. (p.written ++ waiting) ++ t) (sym is) }
+-- what waited was taken, and a text comes behind it
+pub says_after : (begun taken : Option (List ℕ)) (waited between waits text : List ℕ) → Takes begun taken waited → between ≡ [] → waits ≡ between ++ text → Says begun taken waited waits text
+says_after begun taken waited between waits text took none is =
+    record { written = waited; took = took; order = ap (λ t. waited ++ t) (sym (is ∙ ap (λ b. b ++ text) none)) }
 
--- what waited was taken, so all that was said
-pub pending_whole : (begun taken after : Option (List ℕ)) (waiting said : List ℕ) → Takes taken after waiting → IsPending begun taken waiting said → Takes begun after said
-pending_whole begun taken after waiting said took p =
-    let P : List ℕ → Type 0 = λ t. Takes begun after t in
-    subst P (sym p.order) (takes_both begun taken after p.written waiting p.took took)
+-- what waited was taken
+pub says_flushed : (begun taken : Option (List ℕ)) (waited waits : List ℕ) → Takes begun taken waited → waits ≡ [] → Says begun taken waited waits []
+says_flushed begun taken waited waits took none = record { written = waited; took = took; order = ap (λ t. waited ++ t) (sym none) }
 
--- a front of what waited was taken
-pub pending_front : (begun taken after : Option (List ℕ)) (waiting said : List ℕ) → TakesFront taken after waiting → IsPending begun taken waiting said → TakesFront begun after said
-pending_front begun taken after waiting said front p =
-    let n = front.0 in
-    let size = ap length p.order ∙ length-append p.written waiting in
-    let cut : take (length p.written + n) said ≡ p.written ++ take n waiting = ap (take (length p.written + n)) p.order ∙ take-append-add p.written waiting n in
-    let P : List ℕ → Type 0 = λ t. Takes begun after t in
-    (length p.written + n, omega (arith, size, front.1), subst P (sym cut) (takes_both begun taken after p.written (take n waiting) p.took front.2))
+-- a text, and then what waits was taken
+pub says_then_flushed : (a b c : Option (List ℕ)) (x y p : List ℕ) → Says a b x y p → Takes b c y → Says a c x [] p
+says_then_flushed a b c x y p s took = record {
+  written = s.written ++ y;
+  took = takes_both a b c s.written y s.took took;
+  order = s.order ∙ sym (append-nil (s.written ++ y));
+}
+
+-- the same text
+pub says_as : (begun taken : Option (List ℕ)) (waited waits text same : List ℕ) → text ≡ same → Says begun taken waited waits text → Says begun taken waited waits same
+says_as begun taken waited waits text same is s = record { written = s.written; took = s.took; order = ap (λ t. waited ++ t) (sym is) ∙ s.order }
+
+-- one text and then another
+pub says_both : (a b c : Option (List ℕ)) (x y z p q : List ℕ) → Says a b x y p → Says b c y z q → Says a c x z (p ++ q)
+says_both a b c x y z p q first then = record {
+  written = first.written ++ then.written;
+  took = takes_both a b c first.written then.written first.took then.took;
+  order = sym (append_assoc x p q) ∙ ap (λ t. t ++ q) first.order ∙ append_assoc first.written y q ∙ ap (λ t. first.written ++ t) then.order ∙ sym (append_assoc first.written then.written z);
+}
+
+-- where nothing waits, all that was said was taken
+pub says_whole : (begun taken : Option (List ℕ)) (waited waits text : List ℕ) → waits ≡ [] → Says begun taken waited waits text → Takes begun taken (waited ++ text)
+says_whole begun taken waited waits text none s =
+    let P : List ℕ → Type 0 = λ t. Takes begun taken t in
+    subst P (sym (s.order ∙ ap (λ t. s.written ++ t) none ∙ append-nil s.written)) s.took
 
 -- a front of a text is one of each longer text
 pub front_more : (begun after : Option (List ℕ)) (said more : List ℕ) → TakesFront begun after said → TakesFront begun after (said ++ more)
@@ -43,3 +57,23 @@ front_more begun after said more front =
     let short : n ≤ length said = omega (arith, front.1) in
     let P : List ℕ → Type 0 = λ t. Takes begun after t in
     (n, omega (arith, front.1, length-append said more), subst P (sym (take-append-le n said more short)) front.2)
+
+-- a front behind what was taken
+front_behind : (a b c : Option (List ℕ)) (written rest : List ℕ) → Takes a b written → TakesFront b c rest → TakesFront a c (written ++ rest)
+front_behind a b c written rest took front =
+    let n = front.0 in
+    let P : List ℕ → Type 0 = λ t. Takes a c t in
+    (length written + n, omega (arith, length-append written rest, front.1), subst P (sym (take-append-add written rest n)) (takes_both a b c written (take n rest) took front.2))
+
+-- a text, and then a front of what waits and of the next text
+pub front_after : (a b c : Option (List ℕ)) (x y p q : List ℕ) → Says a b x y p → TakesFront b c (y ++ q) → TakesFront a c (x ++ (p ++ q))
+front_after a b c x y p q s front =
+    let P : List ℕ → Type 0 = λ t. TakesFront a c t in
+    let order : x ++ (p ++ q) ≡ s.written ++ (y ++ q) = sym (append_assoc x p q) ∙ ap (λ t. t ++ q) s.order ∙ append_assoc s.written y q in
+    subst P (sym order) (front_behind a b c s.written (y ++ q) s.took front)
+
+-- a text, and then a front of what waits
+pub front_waiting : (a b c : Option (List ℕ)) (x y p : List ℕ) → Says a b x y p → TakesFront b c y → TakesFront a c (x ++ p)
+front_waiting a b c x y p s front =
+    let P : List ℕ → Type 0 = λ t. TakesFront a c t in
+    subst P (sym s.order) (front_behind a b c s.written y s.took front)

@@ -10,9 +10,7 @@ use Rattle.command_types.specs.Details.{lines_text, reply_text}
 use Rattle.statements.specs.declared.details.DetailRow.{DetailRow}
 use Rattle.statements.specs.Details.{row_text, details_of}
 use Rattle.statements.proofs.DetailFacts.{details_by_row}
-use Rattle.session.specs.Pending.{IsPending}
 use Rattle.session.proofs.PendingFacts.{front_more}
-use Rattle.session.proofs.StreamFacts.{takes_none}
 
 lines_both : {T : Type 0} (line : T → List ℕ) (xs ys : List T) → lines_text line (xs ++ ys) ≡ lines_text line xs ++ lines_text line ys
 lines_both line [] ys = refl
@@ -41,16 +39,17 @@ text_split rows reply n =
     (sym (lines_both (row_text rows) (take n details) (drop n details)) ∙ ap (lines_text (row_text rows)) (take-append-drop n details) ∙ sym (details_by_row rows reply.answer))
 
 -- a front of the text before a place is a front of the whole
-pub front_of_reply : (begun after : Option (List ℕ)) (rows : Rows) (reply : Reply) (n : ℕ) → TakesFront begun after (text_before rows reply n) → TakesFront begun after (reply_text rows reply)
-front_of_reply begun after rows reply n front =
+pub front_of_reply : (begun after : Option (List ℕ)) (waited : List ℕ) (rows : Rows) (reply : Reply) (n : ℕ) → TakesFront begun after (waited ++ text_before rows reply n) → TakesFront begun after (waited ++ reply_text rows reply)
+front_of_reply begun after waited rows reply n front =
+    let rest = lines_text (row_text rows) (drop n (details_of reply.answer)) in
     let P : List ℕ → Type 0 = λ text. TakesFront begun after text in
-    subst P (text_split rows reply n) (front_more begun after (text_before rows reply n) (lines_text (row_text rows) (drop n (details_of reply.answer))) front)
+    subst P (append_assoc waited (text_before rows reply n) rest ∙ ap (λ text. waited ++ text) (text_split rows reply n)) (front_more begun after (waited ++ text_before rows reply n) rest front)
 
 -- behind the last row the text is whole
 pub text_whole : (rows : Rows) (reply : Reply) (n : ℕ) → length (details_of reply.answer) ≤ n → text_before rows reply n ≡ reply_text rows reply
 text_whole rows reply n past =
     ap (λ text. head_text rows reply.at reply.answer ++ text) (ap (lines_text (row_text rows)) (take_all n (details_of reply.answer) past) ∙ sym (details_by_row rows reply.answer))
 
--- the head line waits
-pub head_pending : (taken : Option (List ℕ)) (waiting head : List ℕ) → waiting ≡ head → IsPending taken taken waiting (head ++ [])
-head_pending taken waiting head is = record { written = []; took = takes_none taken; order = append-nil head ∙ sym is }
+-- the head line is the text before the first row
+pub text_head : (rows : Rows) (reply : Reply) → head_text rows reply.at reply.answer ≡ text_before rows reply 0
+text_head rows reply = sym (append-nil (head_text rows reply.at reply.answer))

@@ -4,7 +4,7 @@ pub mod Kept
 pub mod KeptDraft
 pub mod KeptSpeaker
 pub mod Places
+pub mod Pending
 pub mod Serving
 pub mod Proposing
 pub mod Ending
-pub mod Pending

@@ -2,8 +2,8 @@
 use Rattle.std.specs.Prelude.{◌≡◌, ℕ, List, ◌++◌, Option}
 use Rattle.outside.specs.Flow.{Takes}
 
--- Of what was said, the sink took all but what waits.
-pub record IsPending (begun taken : Option (List ℕ)) (waiting said : List ℕ) : Type 0 where
+-- A text came behind what waited. Of both the sink took a front, and the rest waits.
+pub record Says (begun taken : Option (List ℕ)) (waited waits text : List ℕ) : Type 0 where
   pub written : List ℕ
   pub took : Takes begun taken written
-  pub order : said ≡ written ++ waiting
+  pub order : waited ++ text ≡ written ++ waits

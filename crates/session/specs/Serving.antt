@@ -1,6 +1,6 @@
 -- How far a session has come.
-use Rattle.std.specs.Prelude.{◌≡◌, ℕ, ◌<◌, Bool, true, false, List, ◌∷◌, ◌++◌, take, length, filter, ◌==◌, Option, Result, if◌then◌else◌}
-use Rattle.outside.specs.Flow.{Takes}
+use Rattle.std.specs.Prelude.{◌≡◌, ℕ, Bool, true, false, List, [], ◌++◌, take, filter, ◌==◌, Option, Result, if◌then◌else◌}
+use Rattle.outside.specs.Flow.{Takes, TakesFront}
 use Rattle.command_types.specs.declared.ask.Ask.{Ask}
 use Rattle.command_types.specs.declared.ask.Entry.{Entry}
 use Rattle.command_types.specs.declared.line.Line.{Line}
@@ -16,7 +16,8 @@ use Rattle.cycle_lock.specs.declared.pass.Pass.{Pass}
 use Rattle.cycle_lock.specs.Passes.{LockId, lock_of, seat_of, figures_of, seen, saw_stop, may_split}
 use Rattle.session.specs.declared.serve.Step.{Step}
 use Rattle.session.specs.declared.serve.Step.TheVariants.{On, Over}
-use Rattle.command_types.specs.Session.{is_bye, Speaker, nobody, what_or_fault, speaker_after, Standing, Mark, mark_of, IsAsked, IsReplied, IsAnswered, IsTalk}
+use Rattle.command_types.specs.Session.{is_bye, Speaker, nobody, what_or_fault, speaker_after, Standing, Mark, mark_of, IsAsked, IsReplied, IsTalk}
+use Rattle.session.specs.Pending.{Says}
 
 -- what stays while a session asks: the lock that the desk is in, what the desk was when it was made, the number of the session's seat, and how many passes may be split off for others
 pub record Seat : Type 0 where
@@ -83,27 +84,26 @@ Answers old new before after line reply = AnswersRead old new before after (line
 abbrev pub step_of : Answer → Step
 step_of answer = if is_bye answer then Over else On
 
--- A line is replied to, and the reply is written.
-pub record RepliesWhole (old new : Sight) (before after : Speaker) (line : List ℕ) (taken then_taken : Option (List ℕ)) (step : Step) : Type 0 where
+-- A line is replied to, and the reply comes behind what waited for the sink. Behind the reply to a BYE nothing waits.
+pub record RepliesWhole (old new : Sight) (before after : Speaker) (line : List ℕ) (taken then_taken : Option (List ℕ)) (waited waits : List ℕ) (step : Step) : Type 0 where
   pub reply : Reply
   pub answers : Answers old new before after line reply
-  pub took : Takes taken then_taken (reply_text (roster_of old) reply)
+  pub said : Says taken then_taken waited waits (reply_text (roster_of old) reply)
   pub next : step ≡ step_of reply.answer
+  pub flushed : step ≡ Over → waits ≡ []
 
--- A line is replied to, and a front of the reply is written that is not the whole.
-pub record RepliesInPart (old new : Sight) (before after : Speaker) (line : List ℕ) (taken then_taken : Option (List ℕ)) : Type 0 where
+-- A line is replied to, and of what waited and the reply a front is written that is not the whole.
+pub record RepliesInPart (old new : Sight) (before after : Speaker) (line : List ℕ) (taken then_taken : Option (List ℕ)) (waited : List ℕ) : Type 0 where
   pub reply : Reply
   pub answers : Answers old new before after line reply
-  pub written : ℕ
-  pub unfinished : written < length (reply_text (roster_of old) reply)
-  pub took : Takes taken then_taken (take written (reply_text (roster_of old) reply))
+  pub took : TakesFront taken then_taken (waited ++ reply_text (roster_of old) reply)
 
--- All whole lines of these bytes are replied to, the replies are written, and the begun line is kept, as far as it counts.
-pub record Served (start : Sight) (begun taken : Option (List ℕ)) (now : Sight) (speaker : Speaker) (kept bytes : List ℕ) : Type 0 where
+-- All whole lines of these bytes are replied to, the replies are written but for what waits, and the begun line is kept, as far as it counts.
+pub record Served (start : Sight) (begun taken : Option (List ℕ)) (waits : List ℕ) (now : Sight) (speaker : Speaker) (kept bytes : List ℕ) : Type 0 where
   pub text : List ℕ
   pub made : List Entry
   pub grows : Grows start now made
-  pub took : Takes begun taken text
+  pub said : Says begun taken [] waits text
   pub talk : IsTalk start.seat.figures now.history start.seat.number (standing start nobody false) (cut_of bytes).whole text made (standing now speaker false)
   pub line : kept ≡ take 4097 (cut_of bytes).rest
 
@@ -125,22 +125,15 @@ pub record Left (start : Sight) (begun taken : Option (List ℕ)) (now : Sight) 
   pub written : Written start begun taken now said
   pub over : written.to.over ≡ true
 
--- The first of these lines are replied to, and the replies are written but for the last, of which a front is written.
+-- The first of these lines are replied to, and of their text a front is written that is not the whole.
 pub record CutOff (start : Sight) (begun taken : Option (List ℕ)) (now : Sight) (lines : List (List ℕ)) : Type 0 where
-  pub earlier : List (List ℕ)
-  pub line : List ℕ
+  pub said : List (List ℕ)
   pub others : List (List ℕ)
-  pub order : lines ≡ earlier ++ line ∷ others
+  pub order : lines ≡ said ++ others
   pub text : List ℕ
-  pub last : List ℕ
   pub made : List Entry
-  pub first : List Entry
-  pub mid : Standing
   pub to : Standing
   pub there : mark_of to ≡ mark now
-  pub grows : Grows start now (made ++ first)
-  pub talk : IsTalk start.seat.figures now.history start.seat.number (standing start nobody false) earlier text made mid
-  pub answered : IsAnswered start.seat.figures now.history start.seat.number mid line last first to
-  pub written : ℕ
-  pub unfinished : written < length last
-  pub took : Takes begun taken (text ++ take written last)
+  pub grows : Grows start now made
+  pub took : TakesFront begun taken text
+  pub talk : IsTalk start.seat.figures now.history start.seat.number (standing start nobody false) said text made to

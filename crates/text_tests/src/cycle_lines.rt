@@ -61,6 +61,12 @@ fn says_course() -> bool {
             mode: Mode::Hybrid
         })
     ) && matches!(
+        read("BEGIN 1 free"),
+        Some(Line::Begin {
+            cycle: 1,
+            mode: Mode::Free
+        })
+    ) && matches!(
         read("POST 1 2"),
         Some(Line::Post {
             cycle: 1,

@@ -6,6 +6,8 @@ mod cycle_lines;
 #[cfg(test)]
 mod details;
 #[cfg(test)]
+mod generated_markets;
+#[cfg(test)]
 mod heads;
 #[cfg(test)]
 mod lines;

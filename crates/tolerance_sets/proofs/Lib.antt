@@ -3,3 +3,4 @@ pub mod PairRows
 pub mod PairLimits
 pub mod SettingOrder
 pub mod Passed
+pub mod ModeLaws

@@ -1,8 +1,8 @@
 -- The limits of a product, pair by pair.
-use Rattle.std.proofs.Common.{◌≡◌, ◌≢◌, ℕ, ◌+◌, ◌*◌, ◌<◌, ◌≤◌, ◌++◌, ◌==◌, ◌&&◌, not, max, Bool, true, false, List, [], length, slice_get, Option, Some, None, refl, sym, ap, ◌∙◌, subst, arith}
+use Rattle.std.proofs.Common.{◌≡◌, ◌≢◌, ℕ, ◌+◌, ◌*◌, ◌<◌, ◌≤◌, ◌++◌, max, Bool, true, false, List, [], length, Option, Some, None, refl, sym, ap, ◌∙◌, subst, arith}
 use Rattle.std.specs.Prelude.{All}
 use Rattle.std.proofs.Math.Nat.{min-le_left, le-min, le-max_left, le-max_right}
-use Rattle.std.proofs.lemmas.Bool.{both_ways, eqb-true, eq-eqb, and_left, and_right}
+use Rattle.std.proofs.lemmas.Bool.{both_ways, eqb-true, eq-eqb}
 use Rattle.std.proofs.lemmas.List.{append-nil}
 use Rattle.std.proofs.lemmas.List.Elements.{All-nil, All-cons}
 use Rattle.network_laws.specs.declared.rows.LimitRow.{LimitRow}
@@ -13,7 +13,7 @@ use Rattle.network_laws.proofs.RowOrder.{amount_none}
 use Rattle.command_types.specs.declared.cycle.Mode.{Mode}
 use Rattle.command_types.specs.declared.roster.MemberRow.{MemberRow}
 use Rattle.command_types.specs.declared.tolerance.ToleranceRow.{ToleranceRow}
-use Rattle.command_types.specs.Tolerances.{is_hybrid, is_dealer_row, may_grow, is_zero_bound, limit_row, pair_limit, pair_floor, pair_ceiling, pair_lower, pair_upper, limits_of}
+use Rattle.command_types.specs.Tolerances.{may_grow, is_zero_bound, limit_row, pair_limit, pair_floor, pair_ceiling, pair_lower, pair_upper, limits_of}
 use Rattle.tolerance_sets.specs.Laws.{NetworkIsWithin, HeldIsKept, BoundsAreThePairs, LimitsAreGood}
 use Rattle.tolerance_sets.proofs.PairRows.{IsOfPair, same_pair, AreBefore, MayFollow, one_more, before_later, rows_of_pairs}
 
@@ -74,10 +74,7 @@ module _ (mode : Mode) (members : List MemberRow) (settings : List ToleranceRow)
 
   -- a pair of one member has no row
   not_own : (i : ℕ) → may_grow mode members i i ≡ false
-  not_own i =
-      let different = and_right (is_hybrid mode) (not (i == i)) (rw (eq-eqb i i refl) refl) in
-      let dealer = is_dealer_row (slice_get members i) in
-      and_left (is_hybrid mode && not (i == i) && dealer) dealer (and_left (is_hybrid mode && not (i == i)) dealer different)
+  not_own i = rw (eq-eqb i i refl) refl
 
 pub network_is_within : NetworkIsWithin
 network_is_within mode members settings product network held same = record {

@@ -1,25 +1,25 @@
--- Settings in rising order: what is found at a place, and a setting put at its place.
-use Rattle.std.proofs.Common.{◌≡◌, ◌≢◌, ℕ, zero, suc, ◌<◌, ◌≤◌, ◌==◌, ◌&&◌, Bool, true, false, List, [], ◌∷◌, length, get_or, set, Option, None, refl, sym, ap, ◌∙◌, subst, arith, ⊎_elim, ltb}
-use Rattle.std.specs.Prelude.{All, insert}
-use Rattle.std.specs.List.Sorted.{IsPartitionPoint, IsNonDecreasingBy}
-use Rattle.std.proofs.lemmas.Bool.{cases_eq, cases_lt, eqb-true, eq-eqb, ne_eqb, lt-ltb, le-ltb, ltb-true, ltb-false, and_parts, false_from_ne_true}
-use Rattle.std.proofs.lemmas.List.Elements.{All-nil, All-cons, All-head, All-tail, All-weaker}
-use Rattle.std.proofs.lemmas.List.Kept.{AllPairs-cons}
+-- Settings that are kept by their places: what is found at a place, and what a setting that is put at its place comes to.
+use Rattle.std.proofs.Common.{◌≡◌, ◌≢◌, ℕ, ◌+◌, ◌*◌, ◌<◌, ◌≤◌, ◌==◌, ◌&&◌, Bool, true, false, cond, List, [], ◌∷◌, length, Option, None, Some, refl, sym, ap, ◌∙◌, arith, ⊎_elim}
+use Rattle.std.specs.Prelude.{nat_eq}
+use Rattle.std.specs.Map.{lookup}
+use Rattle.std.proofs.lemmas.Bool.{cases_eq, cases_lt, eqb-true, eq-eqb, ne_eqb, eqb-false, lt-ltb, le-ltb, and_parts, false_from_ne_true}
+use Rattle.indexmap.specs.IndexMap.{insert_entry}
 use Rattle.command_types.specs.declared.tolerance.ToleranceRow.{ToleranceRow}
 use Rattle.command_types.specs.declared.trade.Side.{Side}
+use Rattle.command_types.specs.declared.trade.Side.TheVariants.{Out, In}
 use Rattle.command_types.specs.Tolerances.{side_place, setting_place, is_setting_of, floor_in, ceiling_in, with_setting}
-use Rattle.tolerance_sets.specs.Settings.{AreSettings, IsSettingCursor, place_of}
+use Rattle.tolerance_sets.specs.Settings.{place_of, settings_of, IsKeptBy, AreKept}
 
-pub not_falling : (rows : List ToleranceRow) → AreSettings rows → IsNonDecreasingBy setting_place rows
-not_falling rows h i j d le l =
-    ⊎_elim (λ (q : i ≡ j). omega (arith, ap (λ x. setting_place (get_or rows x d)) q)) (λ (q : i ≢ j). omega (arith, h i j d (omega arith) l)) (cases_eq i j)
+-- two numbers of two parts each
+half_parts : (x y c d : ℕ) → c ≤ 1 → d ≤ 1 → x * 2 + c ≡ y * 2 + d → (x ≡ y) × (c ≡ d)
+half_parts x y c d l l' e = (omega (arith, l, l', e), omega (arith, l, l', e))
 
--- where a search by place stopped is a cursor
-pub cursor_from_point : (rows : List ToleranceRow) (m w : ℕ) → m ≤ length rows → IsPartitionPoint (λ y. ltb (setting_place y) w ≡ true) (λ y. ltb (setting_place y) w ≡ false) rows m → IsSettingCursor rows m w
-cursor_from_point rows m w le point = record {
-  before = λ k d lk. ltb-true _ _ (point.0 k d (omega arith) lk);
-  behind = λ k d km lk. ltb-false _ _ (point.1 k d km lk);
-}
+word_parts : (x y c d : ℕ) → c < 65536 → d < 65536 → x * 65536 + c ≡ y * 65536 + d → (x ≡ y) × (c ≡ d)
+word_parts x y c d l l' e = (omega (arith, l, l', e), omega (arith, l, l', e))
+
+side_low : (side : Side) → side_place side ≤ 1
+side_low Out = omega arith
+side_low In = omega arith
 
 -- a setting at another place is not a member's for its side of a pair
 not_of : (member product other side : ℕ) (row : ToleranceRow) → setting_place row ≢ place_of member product other side → is_setting_of member product other side row ≡ false
@@ -30,115 +30,142 @@ not_of member product other side row ne =
     let r = and_parts (row.member == member) (row.product == product) q.0 in
     ne (omega (arith, eqb-true row.member member r.0, eqb-true row.product product r.1, eqb-true row.other other q.1, eqb-true (side_place row.side) side p.1)))
 
+-- and one that is kept by its place is
+its_own : (place member product other : ℕ) (side : Side) (row : ToleranceRow) → product < 65536 → other < 65536 → IsKeptBy place row → place ≡ place_of member product other (side_place side) → is_setting_of member product other (side_place side) row ≡ true
+its_own place member product other side row in_p in_o kept e =
+    let halves = half_parts ((row.member * 65536 + row.product) * 65536 + row.other) ((member * 65536 + product) * 65536 + other) (side_place row.side) (side_place side) (side_low row.side) (side_low side) (sym kept.place ∙ e) in
+    let low = word_parts (row.member * 65536 + row.product) (member * 65536 + product) row.other other kept.other in_o halves.0 in
+    let high = word_parts row.member member row.product product kept.product in_p low.0 in
+    rw (eq-eqb row.member member high.0, eq-eqb row.product product high.1, eq-eqb row.other other low.1, eq-eqb (side_place row.side) (side_place side) halves.1) refl
+
+-- a setting before others, where one is put
+module _ (new row : ToleranceRow) (rows : List ToleranceRow) where
+  at_same : setting_place row ≡ setting_place new → with_setting new (row ∷ rows) ≡ new ∷ rows
+  at_same e = rw (eq-eqb (setting_place row) (setting_place new) e) refl
+
+  at_less : setting_place new < setting_place row → with_setting new (row ∷ rows) ≡ new ∷ row ∷ rows
+  at_less l = rw (ne_eqb (setting_place row) (setting_place new) (λ q. omega (arith, q, l)), lt-ltb (setting_place new) (setting_place row) l) refl
+
+  at_more : setting_place row < setting_place new → with_setting new (row ∷ rows) ≡ row ∷ with_setting new rows
+  at_more l = rw (ne_eqb (setting_place row) (setting_place new) (λ q. omega (arith, q, l)), le-ltb (setting_place new) (setting_place row) (omega (arith, l))) refl
+
+-- below, at or above
+three_ways : {P : Type 0} (a b : ℕ) → (a < b → P) → (a ≡ b → P) → (b < a → P) → P
+three_ways a b less same more =
+    ⊎_elim less (λ (le : b ≤ a). ⊎_elim same (λ (ne : a ≢ b). more (omega (arith, le, ne))) (cases_eq a b)) (cases_lt a b)
+
+-- a setting put where another of its place was put
+over : (old new : ToleranceRow) (rows : List ToleranceRow) → setting_place old ≡ setting_place new → with_setting new (with_setting old rows) ≡ with_setting new rows
+over old new [] e = at_same new old [] e
+over old new (row ∷ rows) e =
+    let both = λ (xs : List ToleranceRow). with_setting new xs in
+    three_ways (setting_place row) (setting_place new)
+    (λ l. ap both (at_more old row rows (omega (arith, l, e))) ∙ at_more new row (with_setting old rows) l ∙ ap (λ xs. row ∷ xs) (over old new rows e) ∙ sym (at_more new row rows l))
+    (λ q. ap both (at_same old row rows (omega (arith, q, e))) ∙ at_same new old rows e ∙ sym (at_same new row rows q))
+    (λ l. ap both (at_less old row rows (omega (arith, l, e))) ∙ at_same new old (row ∷ rows) e ∙ sym (at_less new row rows l))
+
+-- a setting put before all others, one of which was put last
+before_with : (a b row : ToleranceRow) (rows : List ToleranceRow) → setting_place a < setting_place b → setting_place a < setting_place row → with_setting a (with_setting b (row ∷ rows)) ≡ a ∷ with_setting b (row ∷ rows)
+before_with a b row rows lb lr =
+    three_ways (setting_place row) (setting_place b)
+    (λ l. ap (λ xs. with_setting a xs) (at_more b row rows l) ∙ at_less a row (with_setting b rows) lr ∙ ap (λ xs. a ∷ xs) (sym (at_more b row rows l)))
+    (λ q. ap (λ xs. with_setting a xs) (at_same b row rows q) ∙ at_less a b rows lb ∙ ap (λ xs. a ∷ xs) (sym (at_same b row rows q)))
+    (λ l. ap (λ xs. with_setting a xs) (at_less b row rows l) ∙ at_less a b (row ∷ rows) lb ∙ ap (λ xs. a ∷ xs) (sym (at_less b row rows l)))
+
+-- two settings of different places may be put in either order
+apart_less : (a b : ToleranceRow) (rows : List ToleranceRow) → setting_place a < setting_place b → with_setting a (with_setting b rows) ≡ with_setting b (with_setting a rows)
+apart_less a b [] l = at_less a b [] l ∙ sym (at_more b a [] l)
+apart_less a b (row ∷ rows) l =
+    three_ways (setting_place row) (setting_place a)
+    (λ lr. ap (λ xs. with_setting a xs) (at_more b row rows (omega (arith, l, lr))) ∙ at_more a row (with_setting b rows) lr ∙ ap (λ xs. row ∷ xs) (apart_less a b rows l)
+    ∙ sym (ap (λ xs. with_setting b xs) (at_more a row rows lr) ∙ at_more b row (with_setting a rows) (omega (arith, l, lr))))
+    (λ q. ap (λ xs. with_setting a xs) (at_more b row rows (omega (arith, l, q))) ∙ at_same a row (with_setting b rows) q
+    ∙ sym (ap (λ xs. with_setting b xs) (at_same a row rows q) ∙ at_more b a rows l))
+    (λ lr. before_with a b row rows l lr ∙ sym (ap (λ xs. with_setting b xs) (at_less a row rows lr) ∙ at_more b a (row ∷ rows) l))
+
+apart : (a b : ToleranceRow) (rows : List ToleranceRow) → setting_place a ≢ setting_place b → with_setting a (with_setting b rows) ≡ with_setting b (with_setting a rows)
+apart a b rows ne =
+    three_ways (setting_place a) (setting_place b) (λ l. apart_less a b rows l) (λ q. absurd (ne q)) (λ l. sym (apart_less b a rows l))
+
 -- what a member set
 abbrev pub Finds : List ToleranceRow → ℕ → ℕ → ℕ → Side → ℕ → Option ℕ → Type 0
 Finds rows member product other side floor ceiling =
     (floor_in rows member product other side ≡ floor) × (ceiling_in rows member product other side ≡ ceiling)
 
-look_at : (rows : List ToleranceRow) (member product other : ℕ) (side : Side) (m : ℕ) (d : ToleranceRow) → m < length rows → ((k : ℕ) (e : ToleranceRow) → k < m → is_setting_of member product other (side_place side) (get_or rows k e) ≡ false) → is_setting_of member product other (side_place side) (get_or rows m d) ≡ true →
-    Finds rows member product other side (get_or rows m d).floor (get_or rows m d).ceiling
-look_at [] member product other side m d l before here = absurd (omega arith)
-look_at (row ∷ rows) member product other side zero d l before here = (rw here refl, rw here refl)
-look_at (row ∷ rows) member product other side (suc m) d l before here =
-    let no : is_setting_of member product other (side_place side) row ≡ false = before 0 row (omega arith) in
-    let rest = look_at rows member product other side m d (omega arith) (λ k e lk. before (suc k) e (omega arith)) here in
-    (rw no rest.0, rw no rest.1)
+module _ (member product other : ℕ) (side : Side) where
+  -- a setting that was put is found
+  finds_new : (new : ToleranceRow) (rows : List ToleranceRow) → setting_place new ≡ place_of member product other (side_place side) → is_setting_of member product other (side_place side) new ≡ true →
+      Finds (with_setting new rows) member product other side new.floor new.ceiling
+  finds_new new [] e own = (rw own refl, rw own refl)
+  finds_new new (row ∷ rows) e own =
+      let rest = finds_new new rows e own in
+      three_ways (setting_place row) (setting_place new)
+      (λ l. let no = not_of member product other (side_place side) row (λ q. omega (arith, l, e, q)) in
+      rw (at_more new row rows l) (rw no rest.0, rw no rest.1))
+      (λ q. rw (at_same new row rows q) (rw own refl, rw own refl))
+      (λ l. rw (at_less new row rows l) (rw own refl, rw own refl))
 
-look_none : (rows : List ToleranceRow) (member product other : ℕ) (side : Side) → ((k : ℕ) (e : ToleranceRow) → k < length rows → is_setting_of member product other (side_place side) (get_or rows k e) ≡ false) →
-    Finds rows member product other side 0 None
-look_none [] member product other side none = (refl, refl)
-look_none (row ∷ rows) member product other side none =
-    let no : is_setting_of member product other (side_place side) row ≡ false = none 0 row (omega arith) in
-    let rest = look_none rows member product other side (λ k e lk. none (suc k) e (omega arith)) in
-    (rw no rest.0, rw no rest.1)
+  -- and what is at other places is as before
+  finds_other : (new : ToleranceRow) (rows : List ToleranceRow) → setting_place new ≢ place_of member product other (side_place side) →
+      Finds (with_setting new rows) member product other side (floor_in rows member product other side) (ceiling_in rows member product other side)
+  finds_other new [] ne = let no = not_of member product other (side_place side) new ne in (rw no refl, rw no refl)
+  finds_other new (row ∷ rows) ne =
+      let rest = finds_other new rows ne in
+      let no = not_of member product other (side_place side) new ne in
+      let own = is_setting_of member product other (side_place side) row in
+      three_ways (setting_place row) (setting_place new)
+      (λ l. rw (at_more new row rows l) (ap (λ n. cond {A = ℕ} own row.floor n) rest.0, ap (λ n. cond {A = Option ℕ} own row.ceiling n) rest.1))
+      (λ q. let not_row = not_of member product other (side_place side) row (λ p. ne (sym q ∙ p)) in
+      rw (at_same new row rows q) (rw (no, not_row) refl, rw (no, not_row) refl))
+      (λ l. rw (at_less new row rows l) (rw no refl, rw no refl))
 
--- what stands at the cursor of a place
-module _ (rows : List ToleranceRow) (member product other : ℕ) (side : Side) (m : ℕ) (rising : AreSettings rows) (cursor : IsSettingCursor rows m (place_of member product other (side_place side))) where
-  pub found_at : (d : ToleranceRow) → m < length rows → is_setting_of member product other (side_place side) (get_or rows m d) ≡ true → Finds rows member product other side (get_or rows m d).floor (get_or rows m d).ceiling
-  found_at d l here =
-      look_at rows member product other side m d l (λ k e lk. not_of member product other (side_place side) (get_or rows k e) (λ q. omega (arith, q, cursor.before k e lk))) here
+abbrev pub floor_by : Option ToleranceRow → ℕ
+floor_by None = 0
+floor_by (Some row) = row.floor
 
-  pub found_none : ((d : ToleranceRow) → m < length rows → is_setting_of member product other (side_place side) (get_or rows m d) ≡ false) → Finds rows member product other side 0 None
-  found_none here = look_none rows member product other side none
-    where
-      none : (k : ℕ) (e : ToleranceRow) → k < length rows → is_setting_of member product other (side_place side) (get_or rows k e) ≡ false
-      none k e lk =
-          ⊎_elim (λ (b : k < m). not_of member product other (side_place side) (get_or rows k e) (λ q. omega (arith, q, cursor.before k e b)))
-          (λ (b : m ≤ k). ⊎_elim (λ (q : k ≡ m). rw q (here e (omega arith)))
-          (λ (q : k ≢ m). not_of member product other (side_place side) (get_or rows k e) (λ same. omega (arith, same, cursor.behind m e (omega arith) (omega arith), rising m k e (omega arith) lk)))
-          (cases_eq k m))
-          (cases_lt k m)
+abbrev pub ceiling_by : Option ToleranceRow → Option ℕ
+ceiling_by None = None
+ceiling_by (Some row) = row.ceiling
 
--- a setting put where one stands, or between two
-pub put_at : (new : ToleranceRow) (rows : List ToleranceRow) (m : ℕ) (d : ToleranceRow) → m < length rows → ((k : ℕ) (e : ToleranceRow) → k < m → setting_place (get_or rows k e) < setting_place new) → setting_place (get_or rows m d) ≡ setting_place new → set rows m new ≡ with_setting new rows
-put_at new [] m d l before here = absurd (omega arith)
-put_at new (row ∷ rows) zero d l before here = rw (eq-eqb (setting_place row) (setting_place new) here) refl
-put_at new (row ∷ rows) (suc m) d l before here =
-    let less : setting_place row < setting_place new = before 0 row (omega arith) in
-    let rest = put_at new rows m d (omega arith) (λ k e lk. before (suc k) e (omega arith)) here in
-    rw (ne_eqb (setting_place row) (setting_place new) (λ q. omega (arith, q, less)), le-ltb (setting_place new) (setting_place row) (omega arith)) (ap (λ xs. row ∷ xs) rest)
-
-pub put_between : (new : ToleranceRow) (rows : List ToleranceRow) (m : ℕ) → m ≤ length rows → ((k : ℕ) (e : ToleranceRow) → k < m → setting_place (get_or rows k e) < setting_place new) → ((k : ℕ) (e : ToleranceRow) → m ≤ k → k < length rows → setting_place new < setting_place (get_or rows k e)) → insert rows m new ≡ with_setting new rows
-put_between new [] zero l before behind = refl
-put_between new [] (suc m) l before behind = absurd (omega arith)
-put_between new (row ∷ rows) zero l before behind =
-    let more : setting_place new < setting_place row = behind 0 row (omega arith) (omega arith) in
-    rw (ne_eqb (setting_place row) (setting_place new) (λ q. omega (arith, q, more)), lt-ltb (setting_place new) (setting_place row) more) refl
-put_between new (row ∷ rows) (suc m) l before behind =
-    let less : setting_place row < setting_place new = before 0 row (omega arith) in
-    let rest = put_between new rows m (omega arith) (λ k e lk. before (suc k) e (omega arith)) (λ k e km lk. behind (suc k) e (omega arith) (omega arith)) in
-    rw (ne_eqb (setting_place row) (setting_place new) (λ q. omega (arith, q, less)), le-ltb (setting_place new) (setting_place row) (omega arith)) (ap (λ xs. row ∷ xs) rest)
-
--- settings stay in their order
-all_with : (P : ToleranceRow → Type 0) (new : ToleranceRow) (rows : List ToleranceRow) → P new → All P rows → All P (with_setting new rows)
-all_with P new [] here all = All-cons P new [] here all
-all_with P new (row ∷ rows) here all =
-    by (setting_place row == setting_place new) (ltb (setting_place new) (setting_place row)) refl refl (all_with P new rows here (All-tail P row rows all))
+-- what is kept by a place is what the member set
+pub found_by : (entries : List (ℕ × ToleranceRow)) (member product other : ℕ) (side : Side) → product < 65536 → other < 65536 → AreKept entries →
+    Finds (settings_of entries) member product other side (floor_by (lookup (nat_eq (place_of member product other (side_place side))) entries)) (ceiling_by (lookup (nat_eq (place_of member product other (side_place side))) entries))
+found_by [] member product other side in_p in_o kept = (refl, refl)
+found_by (entry ∷ entries) member product other side in_p in_o kept =
+    by (nat_eq wanted entry.0) refl (found_by entries member product other side in_p in_o kept.1)
   where
-    by : (same less : Bool) → (setting_place row == setting_place new) ≡ same → ltb (setting_place new) (setting_place row) ≡ less → All P (with_setting new rows) → All P (with_setting new (row ∷ rows))
-    by true less e e' rest = rw e (All-cons P new rows here (All-tail P row rows all))
-    by false true e e' rest = rw (e, e') (All-cons P new (row ∷ rows) here all)
-    by false false e e' rest = rw (e, e') (All-cons P row (with_setting new rows) (All-head P row rows all) rest)
+    wanted : ℕ
+    wanted = place_of member product other (side_place side)
 
-abbrev Below : ToleranceRow → ToleranceRow → Type 0
-Below a b = setting_place a < setting_place b
+    by : (b : Bool) → nat_eq wanted entry.0 ≡ b → Finds (settings_of entries) member product other side (floor_by (lookup (nat_eq wanted) entries)) (ceiling_by (lookup (nat_eq wanted) entries)) →
+        Finds (with_setting entry.1 (settings_of entries)) member product other side (floor_by (cond b (Some entry.1) (lookup (nat_eq wanted) entries))) (ceiling_by (cond b (Some entry.1) (lookup (nat_eq wanted) entries)))
+    by true e rest =
+        let same : entry.0 ≡ wanted = sym (eqb-true wanted entry.0 e) in
+        finds_new member product other side entry.1 (settings_of entries) (sym kept.0.place ∙ same) (its_own entry.0 member product other side entry.1 in_p in_o kept.0 same)
+    by false e rest =
+        let others = finds_other member product other side entry.1 (settings_of entries) (λ q. eqb-false wanted entry.0 e (sym (kept.0.place ∙ q))) in
+        (others.0 ∙ rest.0, others.1 ∙ rest.1)
 
-rising_head : (row : ToleranceRow) (rows : List ToleranceRow) → AreSettings (row ∷ rows) → All (Below row) rows
-rising_head row rows h k d l = h 0 (suc k) d (omega arith) (omega arith)
+-- nothing was set
+pub found_nothing : (entries : List (ℕ × ToleranceRow)) (member product other : ℕ) (side : Side) → length entries ≡ 0 → Finds (settings_of entries) member product other side 0 None
+found_nothing [] member product other side none = (refl, refl)
+found_nothing (entry ∷ entries) member product other side none = absurd (omega (arith, none))
 
-rising_tail : (row : ToleranceRow) (rows : List ToleranceRow) → AreSettings (row ∷ rows) → AreSettings rows
-rising_tail row rows h i j d ij l = h (suc i) (suc j) d (omega arith) (omega arith)
-
-pub settings_with : (new : ToleranceRow) (rows : List ToleranceRow) → AreSettings rows → AreSettings (with_setting new rows)
-settings_with new [] h = AllPairs-cons Below new [] (All-nil (Below new)) h
-settings_with new (row ∷ rows) h =
-    ⊎_elim (λ (e : setting_place row ≡ setting_place new). rw (eq-eqb (setting_place row) (setting_place new) e)
-    (AllPairs-cons Below new rows (All-weaker (Below row) (Below new) (λ x l. omega (arith, e, l)) rows (rising_head row rows h)) (rising_tail row rows h)))
-    (λ (ne : setting_place row ≢ setting_place new). rw (ne_eqb (setting_place row) (setting_place new) ne)
-    (⊎_elim (λ (l : setting_place new < setting_place row). rw (lt-ltb (setting_place new) (setting_place row) l)
-    (AllPairs-cons Below new (row ∷ rows) (All-cons (Below new) row rows l (All-weaker (Below row) (Below new) (λ x m. omega (arith, l, m)) rows (rising_head row rows h))) h))
-    (λ (g : setting_place row ≤ setting_place new). rw (le-ltb (setting_place new) (setting_place row) g)
-    (AllPairs-cons Below row (with_setting new rows) (all_with (Below row) new rows (omega (arith, g, ne)) (rising_head row rows h)) (settings_with new rows (rising_tail row rows h))))
-    (cases_lt (setting_place new) (setting_place row))))
-    (cases_eq (setting_place row) (setting_place new))
-
--- what a search for a setting's place found
-module _ (new : ToleranceRow) (rows xs : List ToleranceRow) (m w : ℕ) (same : xs ≡ rows) (wanted : w ≡ setting_place new) (stopped : IsSettingCursor xs m w) where
-  cursor_here : IsSettingCursor rows m (setting_place new)
-  cursor_here = subst (IsSettingCursor rows m) wanted (subst (λ ys. IsSettingCursor ys m w) same stopped)
-
-  pub put_found : (d : ToleranceRow) (p : ℕ) → m < length rows → d ≡ get_or rows m d → p ≡ setting_place d → p ≡ w → set rows m new ≡ with_setting new rows
-  put_found d p l is e e' = put_at new rows m d l cursor_here.before (sym (ap setting_place is) ∙ sym e ∙ e' ∙ wanted)
-
-  pub put_missing : AreSettings rows → m ≤ length rows → ((d : ToleranceRow) → m < length rows → setting_place (get_or rows m d) ≢ setting_place new) → insert rows m new ≡ with_setting new rows
-  put_missing rising le other = put_between new rows m le cursor_here.before behind
-    where
-      behind : (k : ℕ) (e : ToleranceRow) → m ≤ k → k < length rows → setting_place new < setting_place (get_or rows k e)
-      behind k e km lk =
-          let here : m < length rows = omega (arith, km, lk) in
-          let first : setting_place new ≤ setting_place (get_or rows m e) = cursor_here.behind m e (omega arith) here in
-          let differs = other e here in
-          let less : setting_place new < setting_place (get_or rows m e) = omega (arith, first, differs) in
-          ⊎_elim (λ (q : k ≡ m). rw q less)
-          (λ (q : k ≢ m). omega (arith, less, rising m k e (omega arith) lk))
-          (cases_eq k m)
+-- a setting that is kept by its place is put at its place
+pub kept_with : (entries : List (ℕ × ToleranceRow)) (place : ℕ) (new : ToleranceRow) → IsKeptBy place new → AreKept entries →
+    (settings_of (insert_entry nat_eq entries place new) ≡ with_setting new (settings_of entries)) × AreKept (insert_entry nat_eq entries place new)
+kept_with [] place new is kept = (refl, (is, tt))
+kept_with (entry ∷ entries) place new is kept =
+    by (nat_eq place entry.0) refl (kept_with entries place new is kept.1)
+  where
+    by : (b : Bool) → nat_eq place entry.0 ≡ b → (settings_of (insert_entry nat_eq entries place new) ≡ with_setting new (settings_of entries)) × AreKept (insert_entry nat_eq entries place new) →
+        (settings_of (cond b ((entry.0, new) ∷ entries) (entry ∷ insert_entry nat_eq entries place new)) ≡ with_setting new (with_setting entry.1 (settings_of entries))) × AreKept (cond b ((entry.0, new) ∷ entries) (entry ∷ insert_entry nat_eq entries place new))
+    by true e rest =
+        let same : place ≡ entry.0 = eqb-true place entry.0 e in (
+          sym (over entry.1 new (settings_of entries) (sym kept.0.place ∙ sym same ∙ is.place)),
+          (record { place = sym same ∙ is.place; member = is.member; product = is.product; other = is.other }, kept.1),
+        )
+    by false e rest = (
+      ap (λ rows. with_setting entry.1 rows) rest.0 ∙ apart entry.1 new (settings_of entries) (λ q. eqb-false place entry.0 e (is.place ∙ sym q ∙ sym kept.0.place)),
+      (kept.0, rest.1),
+    )

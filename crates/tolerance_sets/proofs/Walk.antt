@@ -27,9 +27,9 @@ one_more n f start before after more e e' e'' =
 
 -- the row that is found at a pair
 pub found_pair : (market : Market) (i j amount held : ℕ) (grows : Bool) (o : Option LimitRow) → amount ≡ amount_in market.network.now i j → held ≡ amount_in market.held.now i j → grows ≡ may_grow market.mode market.members.now i j →
-    option_to_list o ≡ limit_row i j (pair_lower amount (pair_floor market.settings.now market.product i j) held) (pair_upper grows amount (pair_ceiling market.settings.now market.product i j)) → option_to_list o ≡ market_limit market i j
+    option_to_list o ≡ limit_row i j (pair_lower amount (pair_floor market.settings.now.settings market.product i j) held) (pair_upper grows amount (pair_ceiling market.settings.now.settings market.product i j)) → option_to_list o ≡ market_limit market i j
 found_pair market i j amount held grows o e e' e'' h =
-    let row : ℕ → ℕ → Bool → List LimitRow = λ a b g. limit_row i j (pair_lower a (pair_floor market.settings.now market.product i j) b) (pair_upper g a (pair_ceiling market.settings.now market.product i j)) in
+    let row : ℕ → ℕ → Bool → List LimitRow = λ a b g. limit_row i j (pair_lower a (pair_floor market.settings.now.settings market.product i j) b) (pair_upper g a (pair_ceiling market.settings.now.settings market.product i j)) in
     h ∙ ap (λ a. row a held grows) e ∙ ap (λ b. row (amount_in market.network.now i j) b grows) e' ∙ ap (λ g. row (amount_in market.network.now i j) (amount_in market.held.now i j) g) e''
 
 -- the rows with that of a pair, if it has one

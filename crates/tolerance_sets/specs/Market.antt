@@ -6,15 +6,13 @@ use Rattle.command_types.specs.declared.roster.MemberRow.{MemberRow}
 use Rattle.command_types.specs.Tolerances.{is_dealer_row, may_grow, pair_limit}
 use Rattle.tolerance_sets.specs.declared.limits.Market.{Market}
 use Rattle.tolerance_sets.specs.declared.pair_cursor.PairCursor.{PairCursor}
-use Rattle.tolerance_sets.specs.Settings.{AreSettings}
 
 -- no member from a place on is a dealer
 abbrev pub AreNoDealers : List MemberRow → ℕ → Type 0
 AreNoDealers members from = (k : ℕ) → from ≤ k → is_dealer_row (slice_get members k) ≡ false
 
--- settings and rows are in order
+-- rows are in order
 pub record IsMarket (market : Market) : Type 0 where
-  pub settings : AreSettings market.settings.now
   pub network : IsRising market.network.now
   pub held : IsRising market.held.now
   pub dealers : AreNoDealers market.members.now market.dealers_end
@@ -22,7 +20,7 @@ pub record IsMarket (market : Market) : Type 0 where
 -- the row of a pair, if it has one
 abbrev pub market_limit : Market → ℕ → ℕ → List LimitRow
 market_limit market seller buyer =
-    pair_limit market.mode market.members.now market.settings.now market.product
+    pair_limit market.mode market.members.now market.settings.now.settings market.product
     (record { members = length market.members.now; rows = market.network.now })
     (record { members = length market.members.now; rows = market.held.now })
     seller buyer

@@ -1,22 +1,35 @@
--- What contracts see of the settings of all members, and how one is found.
-use Rattle.std.specs.Prelude.{ℕ, ◌+◌, ◌*◌, ◌<◌, ◌≤◌, List, length, slice_index_or, AllPairs}
+-- What contracts see of the settings of all members, and how they are kept.
+use Rattle.std.specs.Prelude.{◌≡◌, ℕ, ◌+◌, ◌*◌, ◌<◌, ◌≤◌, List, [], ◌∷◌}
 use Rattle.command_types.specs.declared.tolerance.ToleranceRow.{ToleranceRow}
-use Rattle.command_types.specs.Tolerances.{setting_place}
+use Rattle.command_types.specs.Tolerances.{setting_place, with_setting}
 
 -- the settings in their order, and how many more there is room for
 pub record SettingsView : Type 0 where
   pub settings : List ToleranceRow
   pub spare : ℕ
 
--- each setting stands behind those before it, so no two have the same place
-abbrev pub AreSettings : List ToleranceRow → Type 0
-AreSettings rows = AllPairs (λ a b. setting_place a < setting_place b) rows
-
 -- where the setting of a member stands, for its side of a pair
 abbrev pub place_of : ℕ → ℕ → ℕ → ℕ → ℕ
 place_of member product other side = ((member * 65536 + product) * 65536 + other) * 2 + side
 
--- where setting number m is the first at or behind a place, or the end is
-pub record IsSettingCursor (rows : List ToleranceRow) (m w : ℕ) : Type 0 where
-  pub before : (k : ℕ) (d : ToleranceRow) → k < m → setting_place (slice_index_or rows k d) < w
-  pub behind : (k : ℕ) (d : ToleranceRow) → m ≤ k → k < length rows → w ≤ setting_place (slice_index_or rows k d)
+-- the settings that are kept, whatever their order, each put at its place
+abbrev pub settings_of : List (ℕ × ToleranceRow) → List ToleranceRow
+settings_of [] = []
+settings_of (entry ∷ entries) = with_setting entry.1 (settings_of entries)
+
+-- a setting that is kept by this number: it is its place, and no two different settings have the same
+pub record IsKeptBy (at : ℕ) (row : ToleranceRow) : Type 0 where
+  pub place : at ≡ setting_place row
+  pub member : row.member < 65536
+  pub product : row.product < 65536
+  pub other : row.other < 65536
+
+-- each setting is kept by its place
+abbrev pub AreKept : List (ℕ × ToleranceRow) → Type 0
+AreKept [] = Unit {0}
+AreKept (entry ∷ entries) = IsKeptBy entry.0 entry.1 × AreKept entries
+
+-- all that is kept, and room in the map for what is promised
+pub record IsStore (entries : List (ℕ × ToleranceRow)) (spare map_spare : ℕ) : Type 0 where
+  pub kept : AreKept entries
+  pub room : spare ≤ map_spare

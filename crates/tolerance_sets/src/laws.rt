@@ -1,6 +1,6 @@
 //! The laws of the limits, each the contract of a function that does nothing.
 
-ghost use Rattle.tolerance_sets.specs.Laws.{NetworkIsWithin, HeldIsKept, BoundsAreThePairs, LimitsAreGood};
+ghost use Rattle.tolerance_sets.specs.Laws.{NetworkIsWithin, HeldIsKept, BoundsAreThePairs, LimitsAreGood, NothingIsKept, FreeModeReachesFloor, NoCycleIsLeft};
 
 /// A network lies within the limits that are made for it, whatever members set.
 pub fn network_is_within()
@@ -21,4 +21,20 @@ pub fn bounds_are_the_pairs()
 /// its bounds crossed.
 pub fn limits_are_good()
     ensures { LimitsAreGood }
+{}
+
+/// Where nobody set a floor and nothing is held, every lower bound is 0, in each mode.
+pub fn nothing_is_kept()
+    ensures { NothingIsKept }
+{}
+
+/// Where in free mode nobody set a floor or a ceiling and nothing is held, the gross of a certified network is the sum
+/// of the positive net positions: no network with these positions has less.
+pub fn free_mode_reaches_floor()
+    ensures { FreeModeReachesFloor }
+{}
+
+/// Where every lower bound is 0, no directed cycle of sales is left in a certified network, in each mode.
+pub fn no_cycle_is_left()
+    ensures { NoCycleIsLeft }
 {}

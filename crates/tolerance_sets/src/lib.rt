@@ -7,5 +7,8 @@ mod pair_cursor;
 mod settings;
 mod tolerances;
 
-pub use laws::{bounds_are_the_pairs, held_is_kept, limits_are_good, network_is_within};
+pub use laws::{
+    bounds_are_the_pairs, free_mode_reaches_floor, held_is_kept, limits_are_good,
+    network_is_within, no_cycle_is_left, nothing_is_kept,
+};
 pub use tolerances::{FloorOverCeiling, Tolerances};

@@ -4,14 +4,13 @@ ghost use Rattle.std.specs.Prelude.{◌≡◌, ◌<◌, ◌≤◌, ◌++◌, len
 ghost use Rattle.std.specs.Option.{option_to_list};
 ghost use Rattle.network_laws.specs.Networks.{IsRising};
 ghost use Rattle.command_types.specs.Books.{listed_below, listed_pairs};
-ghost use Rattle.command_types.specs.Tolerances.{smaller_of, pair_floor, pair_ceiling, is_dealer_row, may_grow, pair_upper, pair_lower, limit_row};
-ghost use Rattle.tolerance_sets.specs.Settings.{AreSettings};
+ghost use Rattle.command_types.specs.Tolerances.{smaller_of, pair_floor, pair_ceiling, is_dealer_row, is_open, may_grow, pair_upper, pair_lower, limit_row};
 ghost use Rattle.tolerance_sets.specs.Market.{IsMarket, AreNoDealers, IsAtPair, HaveNone, market_limit};
 
 use crate::pair_cursor::PairCursor;
-use crate::settings::levels_of;
-use command_types::{Level, MemberRow, Mode, Role, Side, ToleranceRow};
-use network_laws::{LimitRow, Row, amount_at};
+use crate::settings::Settings;
+use command_types::{Level, MemberRow, Mode, Role, Side};
+use network_laws::{LimitRow, MOST_MEMBERS, Row, amount_at};
 use std::alloc::{AllocError, Global};
 use units_core::{MemberNo, ProductNo};
 
@@ -22,7 +21,7 @@ pub(super) struct Market<'a> {
     pub members: &'a [MemberRow],
     /// The place behind the last dealer's, or one behind that.
     pub dealers_end: u16,
-    pub settings: &'a [ToleranceRow],
+    pub settings: &'a Settings,
     pub product: ProductNo,
     /// What members owe one another.
     pub network: &'a [Row],
@@ -54,14 +53,22 @@ pub(super) fn dealers_end(members: &[MemberRow]) -> u16
     end
 }
 
+// Whether a mode opens the pair of two members.
+fn is_open(mode: Mode, members: &[MemberRow], seller: u16, buyer: u16) -> bool
+    ensures { result ≡ is_open mode (slice_get members.now seller) (slice_get members.now buyer) }
+{
+    match mode {
+        Mode::Conservative => false,
+        Mode::Hybrid => is_dealer(members, seller) && is_dealer(members, buyer),
+        Mode::Free => true,
+    }
+}
+
 /// Whether a pair may come to more than its amount.
 pub(super) fn may_grow(mode: Mode, members: &[MemberRow], seller: u16, buyer: u16) -> bool
     ensures { result ≡ may_grow mode members.now seller buyer }
 {
-    mode == Mode::Hybrid
-        && seller != buyer
-        && is_dealer(members, seller)
-        && is_dealer(members, buyer)
+    seller != buyer && is_open(mode, members, seller, buyer)
 }
 
 fn smaller_of(first: Option<Level>, second: Option<Level>) -> Option<Level>
@@ -90,7 +97,7 @@ fn upper_of(grows: bool, amount: u64, ceiling: Option<Level>) -> Option<u64>
 
 // The row of a pair with this amount, so much of it held; none where it may come to nothing but 0.
 fn pair_limit(
-    settings: &[ToleranceRow],
+    settings: &Settings,
     product: ProductNo,
     seller: u16,
     buyer: u16,
@@ -98,26 +105,13 @@ fn pair_limit(
     held: u64,
     grows: bool,
 ) -> Option<LimitRow>
-    requires { AreSettings settings.now }
-    ensures { option_to_list result ≡ limit_row seller buyer (pair_lower amount (pair_floor settings.now product seller buyer) held) (pair_upper grows amount (pair_ceiling settings.now product seller buyer)) }
+    ensures { option_to_list result ≡ limit_row seller buyer (pair_lower amount (pair_floor settings.now.settings product seller buyer) held) (pair_upper grows amount (pair_ceiling settings.now.settings product seller buyer)) }
 {
     if amount == 0 && !grows {
         return None;
     }
-    let owed = levels_of(
-        settings,
-        MemberNo(seller),
-        product,
-        MemberNo(buyer),
-        Side::Out,
-    );
-    let due = levels_of(
-        settings,
-        MemberNo(buyer),
-        product,
-        MemberNo(seller),
-        Side::In,
-    );
+    let owed = settings.levels_of(MemberNo(seller), product, MemberNo(buyer), Side::Out);
+    let due = settings.levels_of(MemberNo(buyer), product, MemberNo(seller), Side::In);
     let upper = upper_of(grows, amount, smaller_of(owed.ceiling, due.ceiling));
     if upper == Some(0) {
         return None;
@@ -174,6 +168,15 @@ fn add_seller(
     Ok(())
 }
 
+// How many rows to make room for at first: in free mode nearly every pair has one.
+fn room_for(market: &Market) -> usize {
+    let members = market.members.len().min(MOST_MEMBERS as usize);
+    match market.mode {
+        Mode::Conservative | Mode::Hybrid => market.network.len(),
+        Mode::Free => members * members.saturating_sub(1),
+    }
+}
+
 /// The rows of all pairs, in their order.
 pub(super) fn all_limits(alloc: Global, market: &Market) -> Result<Vec<LimitRow>, AllocError>
     requires market { IsMarket market.now }
@@ -181,7 +184,7 @@ pub(super) fn all_limits(alloc: Global, market: &Market) -> Result<Vec<LimitRow>
     ensures { IfOk result (λ rows. rows.items ≡ listed_pairs (length market.now.members.now) (market_limit market.now)) }
 {
     let members = market.members.len() as u16;
-    let mut rows = Vec::with_capacity(alloc, market.network.len())?;
+    let mut rows = Vec::with_capacity(alloc, room_for(market))?;
     for seller in 0..members {
         add_seller(&mut rows, market, seller, members)?;
     }

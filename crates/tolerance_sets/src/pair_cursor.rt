@@ -1,10 +1,10 @@
 //! The pairs that may have limits, one after another. A pair without a row in the network that may not grow may come
-//! to nothing but 0, so it has none: a cursor goes over a seller's rows and over the dealers that it may sell more to.
+//! to nothing but 0, so it has none: a cursor goes over a seller's rows and over the members that it may sell more to.
 
-ghost use Rattle.std.specs.Prelude.{◌≡◌, ℕ, ◌+◌, ◌*◌, ◌<◌, ◌≤◌, ◌&&◌, [], false, length, slice_get, slice_index_or};
+ghost use Rattle.std.specs.Prelude.{◌≡◌, ℕ, ◌+◌, ◌*◌, ◌<◌, ◌≤◌, [], false, length, slice_index_or};
 ghost use Rattle.network_laws.specs.declared.rows.Row.{Row};
 ghost use Rattle.network_laws.specs.Networks.{IsRising, IsCursor, place};
-ghost use Rattle.command_types.specs.Tolerances.{is_hybrid, is_dealer_row, may_grow};
+ghost use Rattle.command_types.specs.Tolerances.{may_grow};
 ghost use Rattle.tolerance_sets.specs.Market.{IsMarket, IsAtPair, HaveNone, market_limit};
 
 use crate::limits::{Market, is_dealer, may_grow};
@@ -91,11 +91,17 @@ impl PairCursor {
     }
 }
 
-// Whether pairs of a seller may come to more than their amounts.
-fn may_sell_more(market: &Market, seller: u16) -> bool
-    ensures { result ≡ (is_hybrid market.now.mode && is_dealer_row (slice_get market.now.members.now seller)) }
+// The place of a buyer from which on no pair of a seller may grow.
+fn growing_end(market: &Market, seller: u16) -> u16
+    requires market { IsMarket market.now }
+    requires few { length market.now.members.now ≤ 256 }
+    ensures { (buyer : ℕ) → result ≤ buyer → buyer < length market.now.members.now → may_grow market.now.mode market.now.members.now seller buyer ≡ false }
 {
-    market.mode == Mode::Hybrid && is_dealer(market.members, seller)
+    match market.mode {
+        Mode::Hybrid if is_dealer(market.members, seller) => market.dealers_end,
+        Mode::Conservative | Mode::Hybrid => 0,
+        Mode::Free => market.members.len() as u16,
+    }
 }
 
 // The first buyer from one on with whom a seller's pair may grow, or the number of members.
@@ -106,16 +112,12 @@ fn growing_from(market: &Market, seller: u16, from: u16) -> u16
     ensures from { from ≤ result }
     ensures passed { (buyer : ℕ) → from ≤ buyer → buyer < result → may_grow market.now.mode market.now.members.now seller buyer ≡ false }
 {
-    let members = market.members.len() as u16;
-    if !may_sell_more(market, seller) {
-        return members;
-    }
-    for buyer in from..market.dealers_end {
-        if buyer != seller && is_dealer(market.members, buyer) {
+    for buyer in from..growing_end(market, seller) {
+        if may_grow(market.mode, market.members, seller, buyer) {
             return buyer;
         }
     }
-    members
+    market.members.len() as u16
 }
 
 fn place_of(row: Row) -> u32

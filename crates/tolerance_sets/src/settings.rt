@@ -1,10 +1,14 @@
-//! Settings in the order of their places: each is found by binary search, and put where it belongs.
+//! The settings of all members, each found by its place: by its member, product, other member and side.
 
-ghost use Rattle.std.specs.Prelude.{◌≡◌, ◌+◌, ◌<◌, ◌≤◌, length, insert, vec_len, vec_capacity};
+ghost use Rattle.std.specs.Prelude.{◌≡◌, ◌+◌, ◌<◌, ◌≤◌, [], OnOk, OnErr};
 ghost use Rattle.command_types.specs.Tolerances.{side_place, setting_place, is_setting_of, floor_in, ceiling_in, with_setting};
-ghost use Rattle.tolerance_sets.specs.Settings.{AreSettings, IsSettingCursor, place_of};
+ghost use Rattle.indexmap.specs.IndexMap.{spare};
+ghost use Rattle.tolerance_sets.specs.Settings.{place_of, settings_of, IsKeptBy, AreKept};
 
 use command_types::{Level, Side, ToleranceRow};
+use indexmap::IndexMap;
+use std::alloc::{AllocError, Global};
+use std::marker::Model;
 use units_core::{MemberNo, ProductNo};
 
 /// What a member allows for its side of a pair, in units of the contract's currency. Where it set nothing the floor
@@ -13,6 +17,25 @@ use units_core::{MemberNo, ProductNo};
 pub(super) struct Levels {
     pub floor: u64,
     pub ceiling: Option<Level>,
+}
+
+/// Settings, each kept by its place. Contracts see them in the order of their places, and how many more there is room
+/// for.
+#[derive(Drop)]
+pub(super) struct Settings {
+    rows: IndexMap<u64, ToleranceRow>,
+    spare: u64,
+}
+
+impl Model for Settings {
+    ghost use Rattle.indexmap.specs.IndexMap.{spare as map_spare};
+    ghost use Rattle.tolerance_sets.specs.Settings.{SettingsView, IsStore, settings_of};
+
+    ghost Value = { SettingsView };
+
+    ghost view = { λ s. record { settings = settings_of s.rows.entries; spare = s.spare } };
+
+    ghost invariant = { λ s. IsStore s.rows.entries s.spare (map_spare s.rows) };
 }
 
 fn side_number(side: Side) -> u64
@@ -27,101 +50,102 @@ fn side_number(side: Side) -> u64
 
 // Where the setting of a member for its side of a pair stands in the order.
 fn place(member: MemberNo, product: ProductNo, other: MemberNo, side: Side) -> u64
-    ensures { result ≡ place_of member product other (side_place side) }
+    ensures place { result ≡ place_of member product other (side_place side) }
+    ensures member { member < 65536 }
+    ensures product { product < 65536 }
+    ensures other { other < 65536 }
 {
     let pair = (u64::from(member.0) * 65536 + u64::from(product.0)) * 65536 + u64::from(other.0);
     pair * 2 + side_number(side)
 }
 
 fn place_of_row(row: &ToleranceRow) -> u64
-    ensures { result ≡ setting_place row.now }
+    ensures { IsKeptBy result row.now }
 {
     place(row.member, row.product, row.other, row.side)
 }
 
-// The first setting that is not before a place.
-fn first_setting(rows: &[ToleranceRow], wanted: u64) -> usize
-    requires { AreSettings rows.now }
-    ensures end { result ≤ length rows.now }
-    ensures cursor { IsSettingCursor rows.now result wanted }
+// Puts a setting at its place, in the room that there is.
+fn insert(rows: &mut IndexMap<u64, ToleranceRow>, new: ToleranceRow)
+    requires room { 0 < spare rows.old }
+    requires kept { AreKept rows.old.entries }
+    ensures settings { settings_of rows.new.entries ≡ with_setting new (settings_of rows.old.entries) }
+    ensures kept { AreKept rows.new.entries }
+    ensures spare { spare rows.old ≤ spare rows.new + 1 }
 {
-    rows.partition_point(|row| place_of_row(row) < wanted)
-}
-
-fn is_setting_of(
-    row: &ToleranceRow,
-    member: MemberNo,
-    product: ProductNo,
-    other: MemberNo,
-    side: Side,
-) -> bool
-    ensures { result ≡ is_setting_of member product other (side_place side) row.now }
-{
-    row.member == member
-        && row.product == product
-        && row.other == other
-        && side_number(row.side) == side_number(side)
-}
-
-/// What a member allows for its side of a pair.
-pub(super) fn levels_of(
-    rows: &[ToleranceRow],
-    member: MemberNo,
-    product: ProductNo,
-    other: MemberNo,
-    side: Side,
-) -> Levels
-    requires { AreSettings rows.now }
-    ensures floor { result.floor ≡ floor_in rows.now member product other side }
-    ensures ceiling { result.ceiling ≡ ceiling_in rows.now member product other side }
-{
-    if rows.is_empty() {
-        return Levels {
-            floor: 0,
-            ceiling: None,
-        };
+    let place = place_of_row(&new);
+    // The prover has no plan for the whole row as it came.
+    let row = ToleranceRow {
+        floor: new.floor,
+        ..new
+    };
+    match rows.insert(place, row) {
+        Ok(_) => {}
+        Err(_) => unreachable!(),
     }
-    let at = first_setting(rows, place(member, product, other, side));
-    if at < rows.len() && is_setting_of(&rows[at], member, product, other, side) {
-        let row = rows[at];
-        Levels {
-            floor: row.floor.get(),
-            ceiling: row.ceiling,
-        }
-    } else {
-        Levels {
-            floor: 0,
-            ceiling: None,
+}
+
+impl Settings {
+    /// No settings. It takes no memory.
+    pub(super) fn new(alloc: Global) -> Settings
+        ensures { result.settings ≡ [] }
+    {
+        Settings {
+            rows: IndexMap::new(alloc),
+            spare: 0,
         }
     }
-}
 
-/// Puts a setting at its place, in the room that there is; an earlier one there is replaced.
-pub(super) fn put(rows: &mut Vec<ToleranceRow>, new: ToleranceRow)
-    requires rising { AreSettings rows.old.items }
-    requires room { vec_len rows.old < vec_capacity rows.old }
-    ensures items { rows.new.items ≡ with_setting new rows.old.items }
-    ensures rising { AreSettings rows.new.items }
-    ensures len { vec_len rows.new ≤ vec_len rows.old + 1 }
-    ensures capacity { vec_capacity rows.new ≡ vec_capacity rows.old }
-{
-    let wanted = place_of_row(&new);
-    let at = first_setting(rows, wanted);
-    if at < rows.len() && place_of_row(&rows[at]) == wanted {
-        rows[at] = new;
-    } else {
-        insert(rows, at, new);
+    /// Makes room for one more setting. The only error is want of memory, and it changes nothing.
+    pub(super) fn reserve(&mut self) -> Result<(), AllocError>
+        ensures settings { self.new.settings ≡ self.old.settings }
+        ensures keeps { self.old.spare ≤ self.new.spare }
+        ensures room { OnOk result (1 ≤ self.new.spare) }
+        ensures err { OnErr result (self.new ≡ self.old) }
+    {
+        if self.spare == 0 {
+            self.rows.reserve(1)?;
+            self.spare = 1;
+        }
+        Ok(())
     }
-}
 
-// Puts a setting between others, in the room that there is.
-fn insert(rows: &mut Vec<ToleranceRow>, at: usize, new: ToleranceRow)
-    requires within { at ≤ vec_len rows.old }
-    requires room { vec_len rows.old < vec_capacity rows.old }
-    ensures items { rows.new.items ≡ insert rows.old.items at new }
-    ensures len { vec_len rows.new ≡ vec_len rows.old + 1 }
-    ensures capacity { vec_capacity rows.new ≡ vec_capacity rows.old }
-{
-    rows.push_reserved(new);
-    rows[at..].rotate_right(1);
+    /// Puts a setting at its place, in the room that there is; an earlier one there is replaced.
+    pub(super) fn put(&mut self, new: ToleranceRow)
+        requires room { 1 ≤ self.old.spare }
+        ensures settings { self.new.settings ≡ with_setting new self.old.settings }
+        ensures spare { self.old.spare ≤ self.new.spare + 1 }
+    {
+        insert(&mut self.rows, new);
+        self.spare -= 1;
+    }
+
+    /// What a member allows for its side of a pair.
+    pub(super) fn levels_of(
+        &self,
+        member: MemberNo,
+        product: ProductNo,
+        other: MemberNo,
+        side: Side,
+    ) -> Levels
+        ensures floor { result.floor ≡ floor_in self.now.settings member product other side }
+        ensures ceiling { result.ceiling ≡ ceiling_in self.now.settings member product other side }
+    {
+        if self.rows.is_empty() {
+            return Levels {
+                floor: 0,
+                ceiling: None,
+            };
+        }
+        match self.rows.get(&place(member, product, other, side)) {
+            Some(row) => Levels {
+                floor: row.floor.get(),
+                ceiling: row.ceiling,
+            },
+            None => Levels {
+                floor: 0,
+                ceiling: None,
+            },
+        }
+    }
 }

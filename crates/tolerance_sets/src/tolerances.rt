@@ -1,12 +1,12 @@
 //! The settings of all members.
 
-ghost use Rattle.std.specs.Prelude.{◌≡◌, ◌≢◌, ◌↔◌, ◌+◌, ◌≤◌, [], length, IsTrue, IsErr, IfOk, OnOk, OnErr, vec_len, vec_capacity};
+ghost use Rattle.std.specs.Prelude.{◌≡◌, ◌≢◌, ◌↔◌, ◌+◌, ◌≤◌, [], length, IsTrue, IsErr, IfOk, OnOk, OnErr};
 ghost use Rattle.network_laws.specs.Limits.{IsWithinLimits};
 ghost use Rattle.command_types.specs.Tolerances.{with_setting, limits_of};
 ghost use Rattle.command_types.specs.CycleRefusals.{is_crossed};
 
 use crate::limits::{Market, all_limits, dealers_end};
-use crate::settings::put;
+use crate::settings::Settings;
 use command_types::{Level, Mode, Roster, Side, ToleranceRow};
 use network_laws::{Limits, Network};
 use std::alloc::{AllocError, Global};
@@ -23,30 +23,16 @@ pub struct FloorOverCeiling;
 /// pair has the floor 0 and no ceiling.
 #[derive(Drop)]
 pub struct Tolerances {
-    rows: Vec<ToleranceRow>,
+    settings: Settings,
     alloc: Global,
 }
 
 impl Model for Tolerances {
-    ghost use Rattle.std.specs.Prelude.{◌-◌, vec_len, vec_capacity};
-    ghost use Rattle.tolerance_sets.specs.Settings.{SettingsView, AreSettings};
+    ghost use Rattle.tolerance_sets.specs.Settings.{SettingsView};
 
     ghost Value = { SettingsView };
 
-    ghost view = { λ t. record { settings = t.rows.items; spare = vec_capacity t.rows - vec_len t.rows } };
-
-    ghost invariant = { λ t. AreSettings t.rows.items };
-}
-
-// Makes room for one more row.
-fn make_room(rows: &mut Vec<ToleranceRow>) -> Result<(), AllocError>
-    ensures items { rows.new.items ≡ rows.old.items }
-    ensures len { vec_len rows.new ≡ vec_len rows.old }
-    ensures keeps { vec_capacity rows.old ≤ vec_capacity rows.new }
-    ensures room { OnOk result (vec_len rows.new + 1 ≤ vec_capacity rows.new) }
-    ensures err { OnErr result (vec_capacity rows.new ≡ vec_capacity rows.old) }
-{
-    rows.reserve(1)
+    ghost view = { λ t. t.settings };
 }
 
 fn is_crossed(row: &ToleranceRow) -> bool
@@ -64,7 +50,7 @@ impl Tolerances {
         ensures { result.settings ≡ [] }
     {
         Tolerances {
-            rows: Vec::new(alloc),
+            settings: Settings::new(alloc),
             alloc,
         }
     }
@@ -76,7 +62,7 @@ impl Tolerances {
         ensures room { OnOk result (1 ≤ self.new.spare) }
         ensures err { OnErr result (self.new ≡ self.old) }
     {
-        make_room(&mut self.rows)
+        self.settings.reserve()
     }
 
     /// What a member allows for what it owes another member in a product (`Out`), or for what it is owed (`In`): an
@@ -108,14 +94,15 @@ impl Tolerances {
         if is_crossed(&row) {
             return Err(FloorOverCeiling);
         }
-        put(&mut self.rows, row);
+        self.settings.put(row);
         Ok(())
     }
 
     /// The limits of a product in which members owe one another the amounts of a network, and the held ones among
     /// them those of another: from no less than the larger floor and what is held, to the amount; between two dealers
-    /// in hybrid mode, to the smaller ceiling, if there is one. They never keep a pair from staying as it is. A pair
-    /// that may come to nothing but 0 has no row. The only error is want of memory.
+    /// in hybrid mode, and between any two members in free mode, to the smaller ceiling, if there is one. They never
+    /// keep a pair from staying as it is. A pair that may come to nothing but 0 has no row. The only error is want of
+    /// memory.
     pub fn limits(
         &self,
         mode: Mode,
@@ -133,7 +120,7 @@ impl Tolerances {
             mode,
             members,
             dealers_end: dealers_end(members),
-            settings: &self.rows,
+            settings: &self.settings,
             product,
             network: network.rows(),
             held: held.rows(),

@@ -9,3 +9,4 @@ pub mod GivenFacts
 pub mod TableFacts
 pub mod PileFacts
 pub mod NameFacts
+mod GeneratedFacts

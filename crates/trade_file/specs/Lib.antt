@@ -8,3 +8,4 @@ pub mod Networks
 pub mod Laws
 pub mod Piles
 pub mod Placed
+pub mod Generated

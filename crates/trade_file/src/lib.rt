@@ -1,10 +1,12 @@
 //! How roster and trade files are read: who takes part, in which products, which trades are live, and the first fault
-//! of a file that doesn't say it.
+//! of a file that doesn't say it. And the market of a number, which needs no files.
 #![tactic(auto)]
 
 mod directory;
 mod draft;
+mod draws;
 mod file_trade;
+mod generated;
 mod laws;
 mod names;
 mod piles;
@@ -17,6 +19,7 @@ mod trade_row;
 mod trades;
 
 pub use file_trade::FileTrade;
+pub use generated::generate;
 pub use laws::roster_file_has_names;
 pub use roster::read_roster;
 pub use trade_networks::networks;

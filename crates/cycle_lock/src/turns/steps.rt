@@ -8,11 +8,25 @@ use crate::plays::{Draw, Look, Note, Outcome};
 use crate::rule::View;
 use atomic_table::Seat;
 use command_types::Desk;
+use std::hint::spin_loop;
 use std::sync::Wait;
 
 pub(super) type SeatOf<T> = Seat<Option<T>, View>;
 
+// How many looks a seat takes at the ticket that is served before it lets the system wait for it.
+const LOOKS: u32 = 200;
+
 impl<T: Desk> Turns<T> {
+    // Looks at the ticket that is served until it is this one, but not for long: most turns are short.
+    fn watch(&self, ticket: u64) {
+        for _ in 0..LOOKS {
+            if self.table.shared.peek(2) == ticket {
+                return;
+            }
+            spin_loop();
+        }
+    }
+
     // Draws a ticket, and waits until it is served. Then the seat has the slot.
     pub(super) fn enter<R: Wait>(&self, rt: &R, seat: &mut SeatOf<T>)
         requires own { seat.old.table_id ≡ self.now.table.shared.table_id }
@@ -23,6 +37,7 @@ impl<T: Desk> Turns<T> {
     {
         let ticket = self.table.shared.fetch_add::<Draw>(seat, 1, 1);
         for _ in rt.forever() {
+            self.watch(ticket);
             let served = self.table.shared.load::<Look<T>>(seat, 2);
             if served == ticket {
                 return;

@@ -1,68 +1,46 @@
-use Rattle.std.proofs.Common.{◌≡◌, ◌≢◌, ℕ, ◌+◌, ◌<◌, false, length, get_or, refl, sym, ◌∙◌, subst, arith, ⊎_elim, true≢false}
-use Rattle.std.proofs.lemmas.Bool.{cases_eq}
+use Rattle.std.proofs.Common.{refl, sym, ◌∙◌, arith, true≢false}
+use Rattle.std.proofs.lemmas.Bool.{and_from, and_parts}
 use Rattle.member_set.specs.Members.{has}
-use Rattle.path_solver.specs.Growth.{IsEntered, IsFoundSoFar}
-use Rattle.path_solver.proofs.Layered.{so_far_more, entered_more, layered_all}
-use Rattle.std.proofs.lemmas.List.{get_or_read}
-use Rattle.path_solver.proofs.Near.{near_members, near_entered, free_left}
+use Rattle.path_solver.proofs.Spreads.{few_levels, spread_none, spread_found, spread_more, spread_cut}
 use Rattle.path_solver.proofs.layers.layer.Goals as goal
 
-pub enter-requires-clause-near : goal.enter-requires-clause-near
-enter-requires-clause-near c =
-    let inv = c.loop-done.invariant in
-    let done = c.loop-done.done in
-    let within : c.loop-done.done < length c.loop-done.queue.items = omega (arith, c.loop-done-test.true, c.len.ensures) in
-    let here : c.index-here.result.now ≡ get_or c.loop-done.queue.items c.loop-done.done 0 = get_or_read c.loop-done.queue.items done c.index-here.result.now within c.index-here.ensures 0 in
-    let in_here : c.index-here.result.now < c.args.residual.now.members = omega (arith, here, (inv.search.queued done within).0) in
-    let long : get_or c.args.prices.now c.index-here.result.now 0 + 2 < length c.args.groups.now = omega (arith, c.requires.low c.index-here.result.now, c.requires.groups) in
-    near_members c.args.residual.now c.args.prices.now c.args.entries.now c.args.groups.now c.index-here.result.now c.members-members.ensures.residual c.requires.entries c.requires.sorted in_here c.requires.prices long c.loop-done.levels c.loop-done.free c.and-near.result c.open_to.result inv.search.one_each inv.free c.open_to.ensures c.and-near.ensures
+pub loop-now-init : goal.loop-now-init
+loop-now-init c =
+    spread_none c.args.residual.now c.args.prices.now c.args.surplus.now c.args.lack.now c.forget.new.levels c.args.receivers.now c.new.result (c.forget.auto.levels ∙ sym c.requires.levels) (sym c.requires.lack)
+    (λ v l. c.forget.ensures v (omega (arith, l, c.forget.auto.levels))) c.requires.receivers c.new.ensures c.members-members.ensures.residual
 
-pub loop-done-preserved-then-is_empty : goal.loop-done-preserved-then-is_empty
-loop-done-preserved-then-is_empty c =
-    let inv = c.loop-done.invariant in
-    let done = c.loop-done.done in
-    let within : c.loop-done.done < length c.loop-done.queue.items = omega (arith, c.loop-done-test.true, c.len.ensures) in
-    let here : c.index-here.result.now ≡ get_or c.loop-done.queue.items c.loop-done.done 0 = get_or_read c.loop-done.queue.items done c.index-here.result.now within c.index-here.ensures 0 in
-    let in_here : c.index-here.result.now < c.args.residual.now.members = omega (arith, here, (inv.search.queued done within).0) in
-    let long : get_or c.args.prices.now c.index-here.result.now 0 + 2 < length c.args.groups.now = omega (arith, c.requires.low c.index-here.result.now, c.requires.groups) in
-    let none : (u : ℕ) → has c.and-near.result u ≡ false = c.is_empty.ensures.0 c.if-is_empty.true in
-    let entered : IsEntered c.args.residual.now.flows c.args.prices.now c.loop-done.levels c.index-here.result.now =
-    near_entered c.args.residual.now c.args.prices.now c.args.entries.now c.args.groups.now c.index-here.result.now c.members-members.ensures.residual c.requires.entries c.requires.sorted in_here c.requires.prices long c.loop-done.levels c.loop-done.free c.and-near.result c.open_to.result inv.search.one_each inv.free c.open_to.ensures c.and-near.ensures c.loop-done.levels (λ u on. absurd (true≢false (sym on ∙ none u))) (λ u off. refl) in
-    let last : IsEntered c.args.residual.now.flows c.args.prices.now c.loop-done.levels (get_or c.loop-done.queue.items c.loop-done.done 0) = subst (IsEntered c.args.residual.now.flows c.args.prices.now c.loop-done.levels) here entered in
-    record {
-      search = inv.search;
-      free = inv.free;
-      most = λ v l was. omega (arith, inv.most v l was);
-      within = omega (arith, within);
-      entered = λ x lx.
-          ⊎_elim (λ (e : x ≡ c.loop-done.done). subst (λ y. IsEntered c.args.residual.now.flows c.args.prices.now c.loop-done.levels (get_or c.loop-done.queue.items y 0)) (sym e) last)
-          (λ (ne : x ≢ c.loop-done.done). inv.entered x (omega (arith, lx, ne)))
-          (cases_eq x c.loop-done.done);
-      found = inv.found;
-    }
+pub returns-in-Some-clause-layered : goal.returns-in-Some-clause-layered
+returns-in-Some-clause-layered c =
+    let met = c.in-Some.ensures.member in
+    let both = and_parts (has c.loop-now.now c.in-Some.source) (has c.args.senders.now c.in-Some.source) (sym (c.and-met.ensures c.in-Some.source) ∙ met) in
+    spread_found c.args.residual.now c.args.prices.now c.args.surplus.now c.args.lack.now c.loop-now.levels c.mark.new.levels c.loop-now.level c.loop-now.now c.loop-now.reached c.members-members.ensures.residual c.loop-now.invariant
+    c.and-met.result (λ v on. (and_parts (has c.loop-now.now v) (has c.args.senders.now v) (sym (c.and-met.ensures v) ∙ on)).0)
+    c.mark.auto.levels c.mark.ensures.marked c.mark.ensures.others c.in-Some.source met ((c.requires.senders c.in-Some.source).0 both.1)
 
-pub loop-done-preserved : goal.loop-done-preserved
-loop-done-preserved c =
-    let inv = c.loop-done.invariant in
-    let done = c.loop-done.done in
-    let within : c.loop-done.done < length c.loop-done.queue.items = omega (arith, c.loop-done-test.true, c.len.ensures) in
-    let here : c.index-here.result.now ≡ get_or c.loop-done.queue.items c.loop-done.done 0 = get_or_read c.loop-done.queue.items done c.index-here.result.now within c.index-here.ensures 0 in
-    let in_here : c.index-here.result.now < c.args.residual.now.members = omega (arith, here, (inv.search.queued done within).0) in
-    let long : get_or c.args.prices.now c.index-here.result.now 0 + 2 < length c.args.groups.now = omega (arith, c.requires.low c.index-here.result.now, c.requires.groups) in
-    let more = c.in_ok-nearest.ensures in
-    let entered : IsEntered c.args.residual.now.flows c.args.prices.now c.enter.new.levels c.index-here.result.now =
-    near_entered c.args.residual.now c.args.prices.now c.args.entries.now c.args.groups.now c.index-here.result.now c.members-members.ensures.residual c.requires.entries c.requires.sorted in_here c.requires.prices long c.loop-done.levels c.loop-done.free c.and-near.result c.open_to.result inv.search.one_each inv.free c.open_to.ensures c.and-near.ensures c.enter.new.levels more.reached more.others in
-    let last : IsEntered c.args.residual.now.flows c.args.prices.now c.enter.new.levels (get_or c.loop-done.queue.items c.loop-done.done 0) = subst (IsEntered c.args.residual.now.flows c.args.prices.now c.enter.new.levels) here entered in
-    record {
-      search = more.search;
-      free = free_left c.loop-done.levels c.enter.new.levels c.loop-done.free c.and-near.result c.without-free.result c.enter.auto.levels inv.free c.without-free.ensures more.reached more.others;
-      most = more.most done inv.most;
-      within = omega (arith, within, more.grown.longer);
-      entered = entered_more c.args.residual.now.flows c.args.prices.now c.loop-done.levels c.enter.new.levels c.loop-done.queue.items c.enter.new.queue.items done more.grown within inv.entered last;
-      found = subst (IsFoundSoFar c.args.surplus.now c.enter.new.levels) (sym c.or-found.ensures) (so_far_more c.args.surplus.now c.loop-done.levels c.enter.new.levels c.loop-done.queue.items c.enter.new.queue.items c.loop-done.found c.in_ok-nearest.nearest c.enter.auto.levels more.grown inv.found more.found);
-    }
+pub overflow_add-level : goal.overflow_add-level
+overflow_add-level c =
+    let few = few_levels c.args.residual.now c.args.prices.now c.args.surplus.now c.args.lack.now c.loop-now.levels c.loop-now.levels c.loop-now.level c.loop-now.now c.loop-now.reached c.members-members.ensures.residual c.loop-now.invariant in
+    omega (arith, few, c.members-members.ensures.residual.few)
 
-pub returns-after-loop-done : goal.returns-after-loop-done
-returns-after-loop-done c =
-    let inv = c.loop-done.invariant in
-    layered_all c.args.residual.now c.args.prices.now c.args.surplus.now c.args.lack.now c.loop-done.levels c.loop-done.queue.items c.loop-done.done c.loop-done.found c.members-members.ensures.residual (sym c.requires.lack) inv.search inv.found (omega (arith, c.loop-done-test.false, c.len.ensures)) inv.entered
+pub loop-now-smaller : goal.loop-now-smaller
+loop-now-smaller c =
+    let few = few_levels c.args.residual.now c.args.prices.now c.args.surplus.now c.args.lack.now c.loop-now.levels c.loop-now.levels c.loop-now.level c.loop-now.now c.loop-now.reached c.members-members.ensures.residual c.loop-now.invariant in
+    omega (arith, few)
+
+pub loop-now-preserved : goal.loop-now-preserved
+loop-now-preserved c =
+    let inv = c.loop-now.invariant in
+    let one = c.is_empty.ensures.some c.loop-now-test.true in
+    spread_more c.args.residual.now c.args.prices.now c.args.surplus.now c.args.lack.now c.loop-now.levels c.visit-near.new.levels c.loop-now.level c.loop-now.now c.loop-now.reached c.members-members.ensures.residual inv
+    c.args.entries.now c.args.groups.now c.visit-near.result c.without-now.result c.or.result c.requires.entries c.requires.sorted c.requires.prices
+    (λ v. omega (arith, c.requires.low v, c.requires.groups)) c.visit-near.auto.levels c.visit-near.ensures.marked c.visit-near.ensures.others one.0 one.1
+    (λ v on sends. true≢false (sym (c.and-met.ensures v ∙ and_from (has c.loop-now.now v) (has c.args.senders.now v) on ((c.requires.senders v).1 sends)) ∙ c.in_default.ensures.none.0 refl v))
+    c.visit-near.ensures.near c.visit-near.ensures.all c.or.ensures c.without-now.ensures
+
+pub returns-clause-layered : goal.returns-clause-layered
+returns-clause-layered c =
+    spread_cut c.args.residual.now c.args.prices.now c.args.surplus.now c.args.lack.now c.loop-now.levels c.loop-now.levels c.loop-now.level c.loop-now.now c.loop-now.reached c.members-members.ensures.residual c.loop-now.invariant
+    (sym c.requires.lack) (c.is_empty.ensures.none.0 c.loop-now-test.false)
+
+pub returns-clause-reached : goal.returns-clause-reached
+returns-clause-reached c none = c.loop-now.invariant.known

@@ -1,5 +1,4 @@
 use Rattle.std.proofs.Common.{◌≡◌, ℕ, ◌<◌, ◌≤◌, get_or}
-use Rattle.path_solver.specs.Groups.{AreGroups}
 use Rattle.path_solver.specs.Phases.{raised_price}
 use Rattle.path_solver.proofs.prices.raise.Given as goal
 
@@ -7,5 +6,4 @@ abbrev pub invariant-loop-member : goal.invariant-loop-member
 invariant-loop-member l = record {
   done : (v : ℕ) → v < l.member → get_or l.prices v 0 ≡ raised_price l.levels l.initial.prices v;
   later : (v : ℕ) → l.member ≤ v → get_or l.prices v 0 ≡ get_or l.initial.prices v 0;
-  sorted : AreGroups l.prices l.groups;
 }

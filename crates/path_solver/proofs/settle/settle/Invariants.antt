@@ -1,6 +1,7 @@
 use Rattle.std.proofs.Common.{◌≡◌, ◌+◌, ◌-◌, ◌*◌, length, sum}
 use Rattle.path_solver.specs.Phases.{IsPhase}
 use Rattle.path_solver.specs.Entries.{AreEntries}
+use Rattle.path_solver.specs.Rests.{HaveSome}
 use Rattle.path_solver.specs.Groups.{AreGroups}
 use Rattle.path_solver.proofs.settle.settle.Given as goal
 
@@ -12,6 +13,8 @@ invariant-phases l = record {
   sorted : AreGroups l.prices.items l.groups.items;
   prices : length l.prices.items ≡ l.initial.residual.members;
   levels : length l.levels.items ≡ l.initial.residual.members;
+  senders : HaveSome l.surplus l.senders;
+  receivers : HaveSome l.lack l.receivers;
   current : length l.current.items ≡ l.initial.residual.members;
 }
 

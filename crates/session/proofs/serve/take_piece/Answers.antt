@@ -1,7 +1,7 @@
 use Rattle.std.proofs.Common.{ℕ, ◌+◌, List, ◌++◌, ◌∷◌, [], take, drop, get_or, Ok, subst, ap, arith}
 use Rattle.command_types.specs.Lines.{cut_of}
 use Rattle.session.specs.Serving.{of_pass, CutOff, Left}
-use Rattle.session.proofs.ServedFacts.{cut_off_more, left_more, piece_rest}
+use Rattle.session.proofs.ServedFacts.{cut_off_more, cut_off_piece, left_more, piece_rest, served_begun, served_piece}
 use Rattle.session.proofs.serve.take_piece.Goals as goal
 
 pub returns-in-Ok-Over-clause-over : goal.returns-in-Ok-Over-clause-over
@@ -17,3 +17,18 @@ returns-in-Err-clause-cut_off g c = λ start begun bytes v.
     subst P (piece_rest bytes c.args.piece.now c.loop-byte.byte-index (omega arith))
     (cut_off_more start begun _ _ ((bytes ++ take c.loop-byte.byte-index c.args.piece.now) ++ get_or c.args.piece.now c.loop-byte.byte-index 0 ∷ []) (drop (c.loop-byte.byte-index + 1) c.args.piece.now)
     (c.in-Err.ensures.cut_off start begun (bytes ++ take c.loop-byte.byte-index c.args.piece.now) (c.loop-byte.invariant.served start begun bytes v)))
+
+pub loop-byte-init : goal.loop-byte-init
+loop-byte-init g c = record {
+  served = λ start begun bytes v. served_begun start begun _ _ _ _ _ bytes c.requires.waits v;
+  same = c.requires.roster;
+  never_falls = omega arith;
+}
+
+pub returns-in-Ok-clause-on : goal.returns-in-Ok-clause-on
+returns-in-Ok-clause-on g c = λ ok start begun bytes v.
+    served_piece start begun _ _ _ _ _ _ bytes c.args.piece.now c.loop-byte.byte-index (omega arith) c.in-Ok.ensures.takes (c.loop-byte.invariant.served start begun bytes v)
+
+pub returns-in-Err-flush-clause-cut_off : goal.returns-in-Err-flush-clause-cut_off
+returns-in-Err-flush-clause-cut_off g c = λ start begun bytes v.
+    cut_off_piece start begun _ _ _ _ _ _ bytes c.args.piece.now c.loop-byte.byte-index (omega arith) c.in-Err-flush.ensures.front (c.loop-byte.invariant.served start begun bytes v)

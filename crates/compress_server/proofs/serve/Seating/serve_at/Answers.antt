@@ -7,9 +7,9 @@ use Rattle.doors.specs.Visits.{IsNew}
 use Rattle.compress_server.specs.Seen.{output_of, listener_of}
 use Rattle.compress_server.specs.declared.ending.End.TheVariants.{Memory}
 use Rattle.compress_server.specs.Runs.{run_of, runs_of}
-use Rattle.compress_server.specs.Serve.{IsWritten, history_line, LendsMany, TakesBackAll, had_no_memory, had_door_fault, service_end}
+use Rattle.compress_server.specs.Serve.{IsWritten, history_line, LendsMany, AreLent, TakesBackAll, had_no_memory, had_door_fault, service_end}
 use Rattle.compress_server.proofs.EndFacts.{rose_later}
-use Rattle.compress_server.proofs.PlaceFacts.{rose_stays}
+use Rattle.compress_server.proofs.PlaceFacts.{rose_stays, lent_of}
 use Rattle.compress_server.proofs.ServiceFacts.{unbegun_at_once, unbegun_back, written_anew, seats_returned, any_run, some_failed, fault_told, why_trouble}
 use Rattle.compress_server.proofs.serve.Seating.serve_at.Goals as goal
 
@@ -48,8 +48,8 @@ returns-in-Ok-serve_house-clause-serves g c =
     let begun = output_of (g.K.Sink.taken c.args.output.now) (g.K.Sink.faults c.args.output.now) in
     let taken = output_of (g.K.Sink.taken c.tell_history-written.new.output) (g.K.Sink.faults c.tell_history-written.new.output) in
     let old = c.take_places.new.places in
-    let four : length places ≡ 4 = sym (length-map places run_of) ∙ out.served.count in
-    let many : length places ≡ old.len = omega (arith, four, told.all, old.ok.0) in
+    let count : length places ≡ c.args.self.now.words.now.seats.value = sym (length-map places run_of) ∙ out.served.count in
+    let many : length places ≡ old.len = omega (arith, count, told.all, old.ok.0) in
     let anew : take old.len (places ++ drop (length places) old.items) ≡ places = written_anew old.len places old.items many in
     let taken_back = subst (λ ps. TakesBackAll visits (g.L.Listener.doors c.take_places.new.listener) (g.L.Listener.doors c.give_back-in-Ok-serve_house.new.listener) (map (λ place. place.door) ps)) anew back.returned in
     let ended = subst (λ ps. c.end_of_service-end.result ≡ service_end (list_any (λ place. had_no_memory place.end) ps) (list_any (λ place. had_door_fault place.end) ps) c.is_stopped.result c.tell_history-written.result) (c.deref.ensures.value ∙ anew) c.end_of_service-end.ensures in
@@ -57,7 +57,7 @@ returns-in-Ok-serve_house-clause-serves g c =
     inr (record {
       seats = _;
       served = out.served;
-      returned = seats_returned visits _ _ _ (length old.items) places (four ∙ sym told.all) lends taken_back;
+      returned = seats_returned visits _ _ _ (length old.items) places (count ∙ sym told.all) lends taken_back;
       written = c.tell_history-written.result;
       wrote = subst (λ n. IsWritten begun taken (history_line n) c.tell_history-written.result) c.length.ensures.length c.tell_history-written.ensures;
       told = ended ∙ (ap (λ b. service_end b (list_any (λ place. had_door_fault place.end) places) c.is_stopped.result c.tell_history-written.result) (any_run visits had_no_memory places)
@@ -67,6 +67,16 @@ returns-in-Ok-serve_house-clause-serves g c =
           rose_later (faults c.args.listener.now) (faults c.take_places.new.listener) (faults c.give_back-in-Ok-serve_house.new.listener) (omega (arith, c.in_default-bind.ensures.never_falls, told.never_falls))
           (failed (some_failed visits g.L.Door.Door.faults places out.counted (fault_told _ _ _ _ (sym ended ∙ e))));
     })
+
+-- the places are those that were taken
+pub give_back-requires-in-Err-serve_house-clause-lent : goal.give_back-requires-in-Err-serve_house-clause-lent
+give_back-requires-in-Err-serve_house-clause-lent g c κs within =
+    let old = c.take_places.new.places in
+    let places = c.serve_house.new.places in
+    let same : places ≡ old.items = c.in-Err-serve_house.ensures.untouched ∙ c.deref_mut.ensures.value in
+    let anew : take old.len (places ++ drop (length places) old.items) ≡ old.items = written_anew old.len places old.items (ap length same ∙ sym old.ok.0) ∙ same in
+    let lent = lent_of (length old.items) (g.L.Listener.doors c.bind.new.self) (g.L.Listener.doors c.take_places.new.listener) c.in_default-take_places.ensures.lends in
+    subst (λ ps. AreLent (length ps) (g.L.Listener.doors c.take_places.new.listener)) (sym anew) lent
 
 pub returns-in-Err-serve_house-clause-serves : goal.returns-in-Err-serve_house-clause-serves
 returns-in-Err-serve_house-clause-serves g c =

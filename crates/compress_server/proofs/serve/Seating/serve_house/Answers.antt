@@ -24,6 +24,7 @@ serve-requires-send-T g c κs within = let disk = c.type_bounds.send-D in search
 pub returns-clause-served : goal.returns-clause-served
 returns-clause-served g c =
     let v = c.args.house in
+    let most = c.args.self.now.words.now.connections in
     let w = c.serve.result in
     let pass = c.in-Ok.lock.1 in
     let e = c.in-Ok.ensures in
@@ -36,9 +37,9 @@ returns-clause-served g c =
       others = λ n past. ap (λ k. entries_of_seat w.history n k) (sym opening) ∙ done.others n (omega (arith, past, c.requires.count));
       none = ap (λ k. entries_of_seat w.history 0 k) (sym opening) ∙ (ap (λ n. entries_of_seat w.history n (figures_of w).opening) (sym e.seat.0) ∙ (done.own ∙ e.made));
       lock = lock_of pass;
-      each = seats_of g.C.Door.visits (lock_of pass) v w 1 c.serve.new.places (λ k other lt.
+      each = seats_of g.C.Door.visits most (lock_of pass) v w 1 c.serve.new.places (λ k other lt.
           let there : k < length c.args.places.now = omega (arith, lt, same) in
-          seat_stands (lock_of pass) v w (k + 1) (seated (of_pass pass) (k + 1)) _ _ _ (seated_at v pass (k + 1) e.figures e.seen (e.stop ∙ c.requires.running)) (c.requires.new k other there).0 (done.seats k other there).served);
+          seat_stands most (lock_of pass) v w (k + 1) (seated (of_pass pass) (k + 1)) _ _ _ (seated_at v pass (k + 1) e.figures e.seen (e.stop ∙ c.requires.running)) (c.requires.new k other there).0 (done.seats k other there).served);
     }
 
 pub returns-clause-counted : goal.returns-clause-counted

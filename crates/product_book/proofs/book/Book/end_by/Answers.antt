@@ -1,45 +1,53 @@
+use Rattle.std.proofs.Common.{◌∙◌, sym, arith}
 use Rattle.command_types.specs.Trades.{row_ended_by}
 use Rattle.product_book.proofs.BookFacts.{ended_keeps}
 use Rattle.product_book.proofs.SumFacts.{old_placed, product_part, sold_part, bought_part, product_fits, sold_fits, bought_fits, settled}
+use Rattle.product_book.proofs.ChainFacts.{products_put}
 use Rattle.product_book.proofs.book.Book.end_by.Goals as goal
 
 pub settle-requires-clause-placed : goal.settle-requires-clause-placed
 settle-requires-clause-placed c =
     let there = rw c.deref.ensures.value at c.row_at-row.ensures in
-    old_placed c.self.inside.sums.members c.self.inside.products c.self.inside.submitted c.self.inside.sums.products.items c.self.inside.sums.sold.items c.self.inside.sums.bought.items c.self.inside.rows.items c.args.trade c.row_at-row.result (row_ended_by c.args.side c.row_at-row.result) c.self.invariant there (ended_keeps c.args.side c.row_at-row.result)
+    old_placed c.self.inside.sums.members c.self.inside.products c.self.inside.submitted c.self.inside.sums.products.items c.self.inside.sums.sold.items c.self.inside.sums.bought.items c.self.inside.rows.items c.args.trade c.row_at-row.result (row_ended_by c.args.side c.row_at-row.result) c.self.invariant.summed there (ended_keeps c.args.side c.row_at-row.result)
 
 pub settle-requires-clause-product_part : goal.settle-requires-clause-product_part
 settle-requires-clause-product_part c =
     let there = rw c.deref.ensures.value at c.row_at-row.ensures in
-    product_part c.self.inside.sums.members c.self.inside.products c.self.inside.submitted c.self.inside.sums.products.items c.self.inside.sums.sold.items c.self.inside.sums.bought.items c.self.inside.rows.items c.args.trade c.row_at-row.result (row_ended_by c.args.side c.row_at-row.result) c.self.invariant there (ended_keeps c.args.side c.row_at-row.result)
+    product_part c.self.inside.sums.members c.self.inside.products c.self.inside.submitted c.self.inside.sums.products.items c.self.inside.sums.sold.items c.self.inside.sums.bought.items c.self.inside.rows.items c.args.trade c.row_at-row.result (row_ended_by c.args.side c.row_at-row.result) c.self.invariant.summed there (ended_keeps c.args.side c.row_at-row.result)
 
 pub settle-requires-clause-sold_part : goal.settle-requires-clause-sold_part
 settle-requires-clause-sold_part c =
     let there = rw c.deref.ensures.value at c.row_at-row.ensures in
-    sold_part c.self.inside.sums.members c.self.inside.products c.self.inside.submitted c.self.inside.sums.products.items c.self.inside.sums.sold.items c.self.inside.sums.bought.items c.self.inside.rows.items c.args.trade c.row_at-row.result (row_ended_by c.args.side c.row_at-row.result) c.self.invariant there (ended_keeps c.args.side c.row_at-row.result)
+    sold_part c.self.inside.sums.members c.self.inside.products c.self.inside.submitted c.self.inside.sums.products.items c.self.inside.sums.sold.items c.self.inside.sums.bought.items c.self.inside.rows.items c.args.trade c.row_at-row.result (row_ended_by c.args.side c.row_at-row.result) c.self.invariant.summed there (ended_keeps c.args.side c.row_at-row.result)
 
 pub settle-requires-clause-bought_part : goal.settle-requires-clause-bought_part
 settle-requires-clause-bought_part c =
     let there = rw c.deref.ensures.value at c.row_at-row.ensures in
-    bought_part c.self.inside.sums.members c.self.inside.products c.self.inside.submitted c.self.inside.sums.products.items c.self.inside.sums.sold.items c.self.inside.sums.bought.items c.self.inside.rows.items c.args.trade c.row_at-row.result (row_ended_by c.args.side c.row_at-row.result) c.self.invariant there (ended_keeps c.args.side c.row_at-row.result)
+    bought_part c.self.inside.sums.members c.self.inside.products c.self.inside.submitted c.self.inside.sums.products.items c.self.inside.sums.sold.items c.self.inside.sums.bought.items c.self.inside.rows.items c.args.trade c.row_at-row.result (row_ended_by c.args.side c.row_at-row.result) c.self.invariant.summed there (ended_keeps c.args.side c.row_at-row.result)
 
 pub settle-requires-clause-product_fits : goal.settle-requires-clause-product_fits
 settle-requires-clause-product_fits c =
     let there = rw c.deref.ensures.value at c.row_at-row.ensures in
-    rw c.ended_by-asked.ensures (product_fits c.self.inside.sums.members c.self.inside.products c.self.inside.submitted c.self.inside.sums.products.items c.self.inside.sums.sold.items c.self.inside.sums.bought.items c.self.inside.rows.items c.args.trade c.row_at-row.result (row_ended_by c.args.side c.row_at-row.result) c.self.invariant there (ended_keeps c.args.side c.row_at-row.result))
+    rw c.ended_by-asked.ensures (product_fits c.self.inside.sums.members c.self.inside.products c.self.inside.submitted c.self.inside.sums.products.items c.self.inside.sums.sold.items c.self.inside.sums.bought.items c.self.inside.rows.items c.args.trade c.row_at-row.result (row_ended_by c.args.side c.row_at-row.result) c.self.invariant.summed there (ended_keeps c.args.side c.row_at-row.result))
 
 pub settle-requires-clause-sold_fits : goal.settle-requires-clause-sold_fits
 settle-requires-clause-sold_fits c =
     let there = rw c.deref.ensures.value at c.row_at-row.ensures in
-    rw c.ended_by-asked.ensures (sold_fits c.self.inside.sums.members c.self.inside.products c.self.inside.submitted c.self.inside.sums.products.items c.self.inside.sums.sold.items c.self.inside.sums.bought.items c.self.inside.rows.items c.args.trade c.row_at-row.result (row_ended_by c.args.side c.row_at-row.result) c.self.invariant there (ended_keeps c.args.side c.row_at-row.result))
+    rw c.ended_by-asked.ensures (sold_fits c.self.inside.sums.members c.self.inside.products c.self.inside.submitted c.self.inside.sums.products.items c.self.inside.sums.sold.items c.self.inside.sums.bought.items c.self.inside.rows.items c.args.trade c.row_at-row.result (row_ended_by c.args.side c.row_at-row.result) c.self.invariant.summed there (ended_keeps c.args.side c.row_at-row.result))
 
 pub settle-requires-clause-bought_fits : goal.settle-requires-clause-bought_fits
 settle-requires-clause-bought_fits c =
     let there = rw c.deref.ensures.value at c.row_at-row.ensures in
-    rw c.ended_by-asked.ensures (bought_fits c.self.inside.sums.members c.self.inside.products c.self.inside.submitted c.self.inside.sums.products.items c.self.inside.sums.sold.items c.self.inside.sums.bought.items c.self.inside.rows.items c.args.trade c.row_at-row.result (row_ended_by c.args.side c.row_at-row.result) c.self.invariant there (ended_keeps c.args.side c.row_at-row.result))
+    rw c.ended_by-asked.ensures (bought_fits c.self.inside.sums.members c.self.inside.products c.self.inside.submitted c.self.inside.sums.products.items c.self.inside.sums.sold.items c.self.inside.sums.bought.items c.self.inside.rows.items c.args.trade c.row_at-row.result (row_ended_by c.args.side c.row_at-row.result) c.self.invariant.summed there (ended_keeps c.args.side c.row_at-row.result))
 
 pub invariant_of-self : goal.invariant_of-self
 invariant_of-self c =
     let there = rw c.deref.ensures.value at c.row_at-row.ensures in
-    rw (c.put_row.ensures.items, c.settle.ensures.members, c.settle.ensures.products, c.settle.ensures.sold, c.settle.ensures.bought, c.ended_by-asked.ensures)
-    (settled c.self.inside.sums.members c.self.inside.products c.self.inside.submitted c.self.inside.sums.products.items c.self.inside.sums.sold.items c.self.inside.sums.bought.items c.self.inside.rows.items c.args.trade c.row_at-row.result (row_ended_by c.args.side c.row_at-row.result) c.self.invariant there (ended_keeps c.args.side c.row_at-row.result))
+    record {
+      summed =
+          rw (c.put_row.ensures.items, c.settle.ensures.members, c.settle.ensures.products, c.settle.ensures.sold, c.settle.ensures.bought, c.ended_by-asked.ensures)
+          (settled c.self.inside.sums.members c.self.inside.products c.self.inside.submitted c.self.inside.sums.products.items c.self.inside.sums.sold.items c.self.inside.sums.bought.items c.self.inside.rows.items c.args.trade c.row_at-row.result (row_ended_by c.args.side c.row_at-row.result) c.self.invariant.summed there (ended_keeps c.args.side c.row_at-row.result));
+      count = c.self.invariant.count;
+      chained = rw (c.put_row.ensures.items, c.ended_by-asked.ensures) (c.self.invariant.chained ∙ sym (products_put c.self.inside.rows.items c.args.trade c.row_at-row.result (row_ended_by c.args.side c.row_at-row.result) there (ended_keeps c.args.side c.row_at-row.result).product));
+      room = omega (arith, c.put_row.ensures.len, c.put_row.ensures.capacity, c.self.invariant.room);
+    }

@@ -1,14 +1,12 @@
 use Rattle.std.proofs.Common.{◌∙◌, length, sym, ap, subst}
 use Rattle.std.proofs.lemmas.Bool.{false≢true}
 use Rattle.network_laws.specs.Limits.{AreLimits, IsWithinLimits}
-use Rattle.tolerance_sets.specs.Settings.{AreSettings}
 use Rattle.tolerance_sets.proofs.PairLimits.{limits_are_good, network_is_within}
 use Rattle.tolerance_sets.proofs.Walk.{limits_from}
 use Rattle.tolerance_sets.proofs.tolerances.Tolerances.limits.Goals as goal
 
 pub all_limits-requires-clause-market : goal.all_limits-requires-clause-market
 all_limits-requires-clause-market c = record {
-  settings = subst AreSettings (sym c.deref.ensures.value) c.self.invariant;
   network = c.rows.ensures.rows.rising;
   held = c.rows-2.ensures.rows.rising;
   dealers = c.dealers_end.ensures;
@@ -17,7 +15,7 @@ all_limits-requires-clause-market c = record {
 pub unreachable-requires : goal.unreachable-requires
 unreachable-requires c =
     let members = c.members-members.result.now in
-    let settings = c.deref.result.now in
+    let settings = c.self.inside.settings.settings in
     let network = c.args.network.now in
     let held = c.args.held.now in
     let made = limits_from c.args.mode members settings c.args.product network held c.rows.result.now c.rows-2.result.now c.in_ok-rows.rows.items c.rows.ensures.value c.rows-2.ensures.value c.in_ok-rows.ensures in
@@ -26,7 +24,7 @@ unreachable-requires c =
 pub returns-clause-within : goal.returns-clause-within
 returns-clause-within c =
     let members = c.members-members.result.now in
-    let settings = c.deref.result.now in
+    let settings = c.self.inside.settings.settings in
     let network = c.args.network.now in
     let held = c.args.held.now in
     let made = limits_from c.args.mode members settings c.args.product network held c.rows.result.now c.rows-2.result.now c.in_ok-rows.rows.items c.rows.ensures.value c.rows-2.ensures.value c.in_ok-rows.ensures in

@@ -1,0 +1,217 @@
+//! The words behind a form's name: the plain ones, and the options.
+//!
+//!     --name V, --name=V       an option with its value, a number
+//!     --                       ends the options: all words behind it are plain
+//!     -, words without a dash  plain
+
+ghost use Rattle.std.specs.Prelude.{◌≡◌, ◌≤◌, ◌<◌, ◌==◌, Some, IfSome, map, take, drop, position, option_map, string_bytes, length};
+ghost use Rattle.compress_server.specs.Parting.{most_workers, most_seats, most_connections, count_of, once, with_option, option_word, is_dashed, with_plain, with_value, with_dashed, with_next, with_word, no_parts, parts_of, read_options, read_parts};
+
+use crate::count::Count;
+use arrayvec::ArrayVec;
+use units_core::read_number;
+
+/// An option that a form may have.
+#[derive(Clone, Copy)]
+pub enum OptionName {
+    Workers,
+    Seats,
+    Connections,
+}
+
+/// The options that are given.
+#[derive(Clone, Copy)]
+pub struct Options {
+    pub workers: Option<Count>,
+    pub seats: Option<Count>,
+    pub connections: Option<u64>,
+}
+
+/// How many workers and how many seats there may be.
+const MOST: u64 = 64;
+
+/// How many connections a seat may serve.
+pub const MOST_CONNECTIONS: u64 = 1_000_000;
+
+/// How many plain words a form has at the most.
+const MOST_PLAIN: usize = 4;
+
+/// Some words, parted.
+#[derive(Drop)]
+pub struct Parts<'a> {
+    pub plain: ArrayVec<&'a str, MOST_PLAIN>,
+    pub options: Options,
+    waiting: Option<OptionName>,
+    ended: bool,
+}
+
+/// The number from 1 to `most` that a text writes.
+pub fn count_of(most: u64, text: &[u8]) -> Option<u64>
+    ensures value { result ≡ count_of most text.now }
+    ensures within { IfSome result (λ n. (1 ≤ n) × (n ≤ most)) }
+{
+    match read_number(text, most) {
+        Ok(0) | Err(_) => None,
+        Ok(number) => Some(number),
+    }
+}
+
+// The number of workers or of seats that a text writes, for an option that had the one before.
+fn count_once(before: Option<Count>, text: &[u8]) -> Option<Count>
+    ensures { option_map (λ count. count.value) result ≡ once (option_map (λ count. count.value) before) (count_of 64 text.now) }
+{
+    if before.is_some() {
+        return None;
+    }
+    let value = count_of(MOST, text)?;
+    Some(Count {
+        value: value as u32,
+    })
+}
+
+impl Options {
+    // The options with this one too.
+    fn with(self, name: OptionName, value: &[u8]) -> Option<Options>
+        ensures { option_map read_options result ≡ with_option (read_options self) name value.now }
+    {
+        match name {
+            OptionName::Workers => {
+                let workers = Some(count_once(self.workers, value)?);
+                Some(Options { workers, ..self })
+            }
+            OptionName::Seats => {
+                let seats = Some(count_once(self.seats, value)?);
+                Some(Options { seats, ..self })
+            }
+            OptionName::Connections => {
+                if self.connections.is_some() {
+                    return None;
+                }
+                let connections = Some(count_of(MOST_CONNECTIONS, value)?);
+                Some(Options {
+                    connections,
+                    ..self
+                })
+            }
+        }
+    }
+}
+
+fn option_word(word: &[u8]) -> Option<OptionName>
+    ensures { result ≡ option_word word.now }
+{
+    if word == b"--workers".as_slice() {
+        Some(OptionName::Workers)
+    } else if word == b"--seats".as_slice() {
+        Some(OptionName::Seats)
+    } else if word == b"--connections".as_slice() {
+        Some(OptionName::Connections)
+    } else {
+        None
+    }
+}
+
+// Whether a word begins with a dash and has more behind it.
+fn is_dashed(word: &[u8]) -> bool
+    ensures { result ≡ is_dashed word.now }
+{
+    match word {
+        [] => false,
+        [byte, rest @ ..] => *byte == b'-' && !rest.is_empty(),
+    }
+}
+
+fn place_of_equals(word: &[u8]) -> Option<usize>
+    ensures value { result ≡ position (λ byte. byte == 61) word.now }
+    ensures within { IfSome result (λ at. at < length word.now) }
+{
+    word.iter().position(|byte| *byte == b'=')
+}
+
+impl<'a> Parts<'a> {
+    // No words.
+    fn new() -> Parts<'a>
+        ensures { read_parts result ≡ no_parts }
+    {
+        Parts {
+            plain: ArrayVec::new(),
+            options: Options {
+                workers: None,
+                seats: None,
+                connections: None,
+            },
+            waiting: None,
+            ended: false,
+        }
+    }
+
+    // Puts one more plain word behind the others; none where there is no place for it.
+    fn put_plain(&mut self, word: &'a str) -> Option<()>
+        ensures { option_map (λ done. read_parts self.new) result ≡ with_plain (read_parts self.old) word.now }
+    {
+        self.plain.try_push(word).ok()
+    }
+
+    // Puts the value of this option; none where the option can't have it.
+    fn put_value(&mut self, name: OptionName, value: &[u8]) -> Option<()>
+        ensures { option_map (λ done. read_parts self.new) result ≡ with_value (read_parts self.old) (Some name) value.now }
+    {
+        self.options = self.options.with(name, value)?;
+        self.waiting = None;
+        Some(())
+    }
+
+    // Puts a word with dashes; none where it is no option.
+    fn put_dashed(&mut self, word: &[u8]) -> Option<()>
+        ensures { option_map (λ done. read_parts self.new) result ≡ with_dashed (read_parts self.old) word.now (position (λ byte. byte == 61) word.now) }
+    {
+        match place_of_equals(word) {
+            Some(at) => {
+                let name = option_word(&word[..at])?;
+                self.put_value(name, &word[at + 1..])
+            }
+            None => {
+                self.waiting = Some(option_word(word)?);
+                Some(())
+            }
+        }
+    }
+
+    // Puts a word that is no value; none where it can't stand here.
+    fn put_next(&mut self, word: &'a str) -> Option<()>
+        ensures { option_map (λ done. read_parts self.new) result ≡ with_next (read_parts self.old) word.now }
+    {
+        if self.ended || !is_dashed(word.as_bytes()) {
+            return self.put_plain(word);
+        }
+        if word == "--" {
+            self.ended = true;
+            return Some(());
+        }
+        self.put_dashed(word.as_bytes())
+    }
+
+    // Puts one more word; none where it can't stand here.
+    fn put(&mut self, word: &'a str) -> Option<()>
+        ensures { option_map (λ done. read_parts self.new) result ≡ with_word (read_parts self.old) (self.old.waiting) word.now }
+    {
+        match self.waiting {
+            Some(name) => self.put_value(name, word.as_bytes()),
+            None => self.put_next(word),
+        }
+    }
+}
+
+/// The words, parted; none where one can't stand at its place, or the last is a name that waits for its value.
+pub fn parts_of(words: &[String]) -> Option<Parts<'_>>
+    ensures { option_map read_parts result ≡ parts_of (map string_bytes words.now) }
+{
+    let mut parts = Parts::new();
+    for word in words {
+        parts.put(word.as_str())?;
+    }
+    if parts.waiting.is_some() {
+        return None;
+    }
+    Some(parts)
+}

@@ -1,0 +1,72 @@
+//! How the text of a reply is written: its head line and its detail lines, each behind what waits for the sink.
+
+ghost use Rattle.std.specs.Prelude.{◌≡◌, ◌≤◌, ◌++◌, [], OnOk, OnErr, IfOk};
+ghost use Rattle.outside.specs.Faults.{Rose};
+ghost use Rattle.outside.specs.Flow.{Takes, TakesFront};
+ghost use Rattle.command_types.specs.Details.{reply_text};
+ghost use Rattle.session.specs.Pending.{Says};
+
+use crate::outbox::Outbox;
+use command_text::write_head;
+use command_types::{Reply, Roster};
+use outside::{Failed, Sink};
+use statements::{detail_count, detail_row, write_row};
+use std::alloc::{AllocError, Global};
+
+/// Writes replies: a buffer for one line, and what waits for the sink.
+#[derive(Drop)]
+pub struct ReplyWriter {
+    line: [u8; 4096],
+    outbox: Outbox,
+}
+
+impl ReplyWriter {
+    /// Nothing waits. It takes all its memory now.
+    pub fn new(alloc: Global) -> Result<ReplyWriter, AllocError>
+        ensures { IfOk result (λ w. w.outbox ≡ []) }
+    {
+        Ok(ReplyWriter {
+            line: [0; 4096],
+            outbox: Outbox::new(alloc)?,
+        })
+    }
+
+    /// Puts the text of a reply behind what waits. What waits goes to the sink where there is no room for a line more.
+    pub fn write<K: Sink>(
+        &mut self,
+        roster: &Roster,
+        reply: &Reply,
+        sink: &mut K,
+    ) -> Result<(), Failed>
+        ensures said { OnOk result (Says (K.taken sink.old) (K.taken sink.new) self.old.outbox self.new.outbox (reply_text roster.now reply.now)) }
+        ensures front { OnErr result (TakesFront (K.taken sink.old) (K.taken sink.new) (self.old.outbox ++ reply_text roster.now reply.now)) }
+        ensures never_falls { K.faults sink.old ≤ K.faults sink.new }
+        ensures failed { OnErr result (Rose (K.faults sink.old) (K.faults sink.new)) }
+    {
+        let end = write_head(reply, roster, &mut self.line);
+        match self.outbox.put(&self.line[..end], sink) {
+            Ok(()) => {}
+            Err(fault) => return Err(fault),
+        }
+        for index in 0..detail_count(&reply.answer) {
+            let row = detail_row(&reply.answer, index);
+            let end = write_row(&row, roster, &mut self.line);
+            match self.outbox.put(&self.line[..end], sink) {
+                Ok(()) => {}
+                Err(fault) => return Err(fault),
+            }
+        }
+        Ok(())
+    }
+
+    /// Gives the sink all that waits. Where the sink fails, it took a front.
+    pub fn flush<K: Sink>(&mut self, sink: &mut K) -> Result<(), Failed>
+        ensures takes { OnOk result (Takes (K.taken sink.old) (K.taken sink.new) self.old.outbox) }
+        ensures empty { OnOk result (self.new.outbox ≡ []) }
+        ensures front { OnErr result (TakesFront (K.taken sink.old) (K.taken sink.new) self.old.outbox) }
+        ensures never_falls { K.faults sink.old ≤ K.faults sink.new }
+        ensures failed { OnErr result (Rose (K.faults sink.old) (K.faults sink.new)) }
+    {
+        self.outbox.flush(sink)
+    }
+}
