@@ -1,30 +1,18 @@
 """The figures of a compression: of each product and each member, before it and after it.
 
-The files are read by the functions of tools/check_proposal; the figures are computed from the trades and from the
-proposal's rows, never taken from the proposal's own figures.
+A compression is a trade file and a proposal, or two texts of `replay`, one from before it and one from after it. The files
+are read by the functions of tools/check_proposal and of the module `replayed`; the figures are computed from the trades and
+from the proposal's rows, never taken from the proposal's own figures.
 """
 
-import importlib.machinery
-import importlib.util
-from pathlib import Path
-from types import ModuleType
-from typing import NamedTuple
+from typing import Any, NamedTuple
 
+from .checking import Network, checker
 from .ending import Stop, read_file
-
-Network = dict[tuple[int, int], int]
-
-
-def load_checker() -> ModuleType:
-    loader = importlib.machinery.SourceFileLoader("check_proposal", str(Path(__file__).parents[1] / "check_proposal"))
-    spec = importlib.util.spec_from_loader("check_proposal", loader)
-    assert spec is not None
-    module = importlib.util.module_from_spec(spec)
-    loader.exec_module(module)
-    return module
+from .replayed import MOST_REPLAY_BYTES, read_replay
 
 
-checker = load_checker()
+MOST_BYTES: int = checker.MOST_BYTES + 1
 
 
 class Sums(NamedTuple):
@@ -107,13 +95,32 @@ def nets_kept(old: list[Network], new: list[Network], members: int) -> list[tupl
 
 def compression_of(roster_file: str, trade_file: str, proposal_file: str) -> Compression:
     """The figures of a compression by three files; stops with the line of the first of them that has a fault."""
-    most: int = checker.MOST_BYTES + 1
     try:
-        roster = checker.read_roster(read_file(roster_file, most))
-        old: list[Network] = checker.read_trades(read_file(trade_file, most), roster)
-        new: list[Network] = [part.network for part in checker.read_proposal(read_file(proposal_file, most), roster)]
+        roster = read_roster(roster_file)
+        old: list[Network] = checker.read_trades(read_file(trade_file, MOST_BYTES), roster)
+        new = [part.network for part in checker.read_proposal(read_file(proposal_file, MOST_BYTES), roster)]
     except checker.Stop as stop:
         raise Stop(*stop.args) from None
+    return compared(roster, old, new)
+
+
+def replays_compared(roster_file: str, before_file: str, after_file: str) -> Compression:
+    """The figures of what changed between two texts of `replay`; stops with the line of the first file that has a fault."""
+    try:
+        roster = read_roster(roster_file)
+        old = read_replay("before", read_file(before_file, MOST_REPLAY_BYTES), roster)
+        new = read_replay("after", read_file(after_file, MOST_REPLAY_BYTES), roster)
+    except checker.Stop as stop:
+        raise Stop(*stop.args) from None
+    return compared(roster, old, new)
+
+
+def read_roster(file: str) -> Any:
+    return checker.read_roster(read_file(file, MOST_BYTES))
+
+
+def compared(roster: Any, old: list[Network], new: list[Network]) -> Compression:
+    """The figures of two networks for each product of a roster."""
     count = len(roster.members)
     products = [
         Product(name.decode(), sums_of(before, count), sums_of(after, count), before, after)

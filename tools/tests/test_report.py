@@ -14,12 +14,36 @@ from running import EXAMPLES, TOOLS, Ran, program, run
 
 sys.path.insert(0, str(TOOLS))
 
-from delkwoan.figures import Member, Share, Sums, compression_of, rows_of
+from delkwoan.ending import Stop
+from delkwoan.figures import Compression, Member, Share, Sums, compression_of, replays_compared, rows_of
 
 REPORT = TOOLS / "report"
 ROSTER, TRADES, PROPOSAL = HUB = [
     str(EXAMPLES / f"hub-{name}") for name in ("roster.csv", "trades.csv", "proposal.txt")
 ]
+
+
+# The hub's trades and the proposal's rows, by seller, buyer and amount, as `replay` tells them of a journal.
+BEFORE_TRADES = [("A", "E", 5), ("D", "E", 5), ("E", "B", 5), ("E", "C", 5)]
+AFTER_TRADES = [("A", "B", 5), ("D", "C", 5)]
+
+
+def trade_row(number: int, trade: tuple[str, str, int], state: str = "live") -> str:
+    return f"trade {number} {trade[0]} {trade[1]} P {trade[2]} 2026-03-02 {state} -\n"
+
+
+def replay_text(rows: dict[str, list[str]], executions: int = 0) -> str:
+    """The text of `replay` for the rows of each member."""
+    text = "".join(f"member {name} {len(rows[name])}\n" + "".join(rows[name]) for name in rows)
+    return text + "execution 9 1 1 4 0 2\n" * executions + "end 9\n"
+
+
+def rows_by_member(trades: list[tuple[str, str, int]], first: int, state: str = "live") -> dict[str, list[str]]:
+    numbered = list(enumerate(trades, first))
+    return {
+        member: [trade_row(number, trade, state) for number, trade in numbered if member in trade[:2]]
+        for member in "ABCDE"
+    }
 
 
 def needs_packages() -> None:
@@ -58,6 +82,53 @@ class Figures(InFolder):
         proposal.write_bytes(Path(HUB[2]).read_bytes().replace(b"row A B 5", b"row A B 6"))
         compression = compression_of(ROSTER, TRADES, str(proposal))
         self.assertEqual([member.nets_kept for member in compression.members], [0, 0, 1, 1, 1])
+
+    def test_the_hub_as_two_replays(self) -> None:
+        """The same figures, of a market in which the four trades ended and the proposal's two came."""
+        self.assertEqual(self.replays(*self.hub_texts()), compression_of(*HUB))
+
+    def test_a_replay_with_a_fault(self) -> None:
+        before, after = self.hub_texts()
+        cases = [
+            ("", "1: bad-line"),
+            (after[:-1], "19: bad-line"),
+            (after + "end 9\n", "20: bad-line"),
+            (after.replace("end 9\n", ""), "19: bad-line"),
+            (after.replace("member A 2\n", "member A 3\n"), "4: bad-line"),
+            (after.replace("member A", "member B"), "1: bad-line"),
+            (after.replace("member E 4\n", "member E 04\n"), "13: bad-line"),
+            (after.replace("trade 5 A B P 5 2026-03-02 live", "trade 5 A B P 6 2026-03-02 live", 1), "6: bad-line"),
+            (after.replace("trade 5 A", "trade 6 A", 1).replace("trade 6 D", "trade 5 D", 1), "9: bad-line"),
+            (after.replace("trade 5 A B P", "trade 5 A F P", 1), "3: unknown-name"),
+            (after.replace("trade 5 A B P", "trade 5 A B Q", 1), "3: unknown-name"),
+            (after.replace("trade 5 A B P", "trade 5 A A P", 1), "3: same-party"),
+            (after.replace("P 5 ", "P 0 ", 1), "2: bad-amount"),
+            (after.replace("2026-03-02", "2026-02-30", 1), "2: bad-day"),
+            (after.replace(" live -\n", " live\n", 1), "3: columns"),
+            (after.replace(" live -\n", " live held -\n", 1), "3: columns"),
+            (after.replace(" live ", " dead ", 1), "3: bad-line"),
+            (after.replace("execution 9 1", "execution 9"), "18: columns"),
+            (after.replace("execution 9 1", "execution 9 -1"), "18: bad-line"),
+            (after.replace("execution", "posting"), "18: bad-line"),
+        ]
+        for text, told in cases:
+            with self.subTest(told=told, text=text):
+                with self.assertRaises(Stop) as caught:
+                    self.replays(before, text)
+                self.assertEqual((caught.exception.status, caught.exception.line), (3, f"after row {told}"))
+        with self.assertRaises(Stop) as caught:
+            self.replays(before + "\n", after)
+        self.assertEqual(caught.exception.line, "before row 15: bad-line")
+
+    def hub_texts(self) -> tuple[str, str]:
+        ended, made = rows_by_member(BEFORE_TRADES, 1, "ended"), rows_by_member(AFTER_TRADES, 5)
+        before = replay_text(rows_by_member(BEFORE_TRADES, 1))
+        return before, replay_text({name: ended[name] + made[name] for name in ended}, executions=1)
+
+    def replays(self, before: str, after: str) -> Compression:
+        for name, text in (("before", before), ("after", after)):
+            (self.folder / name).write_text(text)
+        return replays_compared(ROSTER, str(self.folder / "before"), str(self.folder / "after"))
 
     def test_the_programs_figures(self) -> None:
         """GROSS, LEAST, M and BILATERAL of what the program solves are the report's."""
@@ -112,6 +183,14 @@ class Pages(InFolder):
         )
         self.assertEqual(rows[1:], [list(map(str, row)) for row in rows_of(compression_of(ROSTER, TRADES, PROPOSAL))])
 
+    def test_two_replays(self) -> None:
+        for name, trades, first in (("before", BEFORE_TRADES, 1), ("after", AFTER_TRADES, 5)):
+            (self.folder / name).write_text(replay_text(rows_by_member(trades, first)))
+        words = ["--replay", ROSTER, self.folder / "before", self.folder / "after", self.output]
+        told = f"{self.output}.html and {self.output}.csv: gross 20 before, 10 after\n"
+        self.assertEqual(run([REPORT, "--product", "P", *words]), Ran(0, told.encode(), b""))
+        self.assertIn("two texts of <code>replay</code>", Path(self.output + ".html").read_text())
+
     def test_it_is_the_same_each_time(self) -> None:
         pages = []
         for _ in range(2):
@@ -137,6 +216,9 @@ class Pages(InFolder):
             [*HUB, "-x"],
             ["--product", *HUB, "x"],
             ["--what", "P", *HUB, "x"],
+            ["--replay", *HUB],
+            ["--replay", "--replay", *HUB, "x"],
+            ["--product", "P", "--product", "P", *HUB, "x"],
         ]
         for words in cases:
             with self.subTest(words=words):
