@@ -3,6 +3,7 @@ pub mod StreamFacts
 pub mod PendingFacts
 pub mod TextFacts
 pub mod DraftRowFacts
+pub mod EndFacts
 pub mod DraftNoteFacts
 pub mod PotentialFacts
 pub mod KeyFacts

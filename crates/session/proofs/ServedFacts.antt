@@ -16,8 +16,9 @@ use Rattle.command_types.specs.Lines.{cut_of, ended_line, lines_of}
 use Rattle.command_types.specs.Grammar.{line_within}
 use Rattle.command_types.proofs.LineFacts.{cut_byte, cut_line, whole_grows, read_of_front, read_of_ended_front, take_push, none_last, some_last}
 use Rattle.command_types.proofs.TalkFacts.{talk_on, talk_longer}
-use Rattle.session.specs.declared.serve.Step.{Step}
-use Rattle.session.specs.Serving.{Seat, Sight, mark, standing, roster_of, Grows, AnswersRead, Answers, RepliesWhole, RepliesInPart, Served, Left, CutOff, Written}
+use Rattle.session.specs.declared.taking.Step.{Step}
+use Rattle.session.specs.Serving.{Seat, Sight, mark, standing, roster_of, Grows, AnswersRead, Answers, Left, CutOff, Written}
+use Rattle.session.specs.Standing.{Stand, RepliesWhole, RepliesInPart, Served}
 use Rattle.session.proofs.GrowthFacts.{grows_none, grows_both, same_roster}
 
 -- the text of a reply over this desk's roster
@@ -53,11 +54,11 @@ read_alike : (old new : Sight) (before after : Speaker) (a b : List ℕ) (reply 
 read_alike old new before after a b reply e r = let P : Result Line ℕ → Type 0 = λ l. AnswersRead old new before after l reply in subst P e r
 
 -- a byte that ends no line
-pub served_byte : (start : Sight) (begun taken : Option (List ℕ)) (waits : List ℕ) (now : Sight) (speaker : Speaker) (kept next bytes : List ℕ) (b : ℕ) →
-    Served start begun taken waits now speaker kept bytes → (b == 10) ≡ false → next ≡ take 4097 (kept ++ b ∷ []) → Served start begun taken waits now speaker next (bytes ++ b ∷ [])
-served_byte start begun taken waits now speaker kept next bytes b v other is =
+pub served_byte : (start : Sight) (begun taken : Option (List ℕ)) (stand : Stand) (kept next bytes : List ℕ) (b : ℕ) →
+    Served start begun taken stand kept bytes → (b == 10) ≡ false → next ≡ take 4097 (kept ++ b ∷ []) → Served start begun taken stand next (bytes ++ b ∷ [])
+served_byte start begun taken stand kept next bytes b v other is =
     let same = cut_byte bytes b other in
-    let P : List (List ℕ) → Type 0 = λ lines. IsTalk start.seat.figures now.history start.seat.number (standing start nobody false) lines v.text v.made (standing now speaker false) in
+    let P : List (List ℕ) → Type 0 = λ lines. IsTalk start.seat.figures stand.sight.history start.seat.number (standing start nobody false) lines v.text v.made (standing stand.sight stand.speaker false) in
     record {
       text = v.text;
       made = v.made;
@@ -76,62 +77,62 @@ last_front : (kept rest : List ℕ) → kept ≡ take 4097 rest → line_within 
 last_front kept rest is = ap line_within is ∙ read_of_front rest
 
 -- the lines with one more, which was replied to
-talk_with : (start : Sight) (begun taken : Option (List ℕ)) (waits : List ℕ) (old new : Sight) (before after : Speaker) (kept bytes line : List ℕ) (reply : Reply) →
-    (v : Served start begun taken waits old before kept bytes) → (a : Answers old new before after line reply) →
-    IsTalk start.seat.figures new.history start.seat.number (standing start nobody false) ((cut_of bytes).whole ++ line ∷ []) (v.text ++ text_of old reply) (v.made ++ a.made) (standing new after (is_bye reply.answer))
-talk_with start begun taken waits old new before after kept bytes line reply v a =
-    talk_on start.seat.figures new.history start.seat.number (standing start nobody false) (cut_of bytes).whole v.text v.made (standing old before false) line (text_of old reply) a.made (standing new after (is_bye reply.answer))
-    (talk_there start old new a.made (cut_of bytes).whole v.text v.made (standing old before false) a.grows v.talk)
-    (line_answered start.seat old new before after line reply v.grows.seat a)
+talk_with : (start : Sight) (begun taken : Option (List ℕ)) (old new : Stand) (kept bytes line : List ℕ) (reply : Reply) →
+    (v : Served start begun taken old kept bytes) → (a : Answers old.sight new.sight old.speaker new.speaker line reply) →
+    IsTalk start.seat.figures new.sight.history start.seat.number (standing start nobody false) ((cut_of bytes).whole ++ line ∷ []) (v.text ++ text_of old.sight reply) (v.made ++ a.made) (standing new.sight new.speaker (is_bye reply.answer))
+talk_with start begun taken old new kept bytes line reply v a =
+    talk_on start.seat.figures new.sight.history start.seat.number (standing start nobody false) (cut_of bytes).whole v.text v.made (standing old.sight old.speaker false) line (text_of old.sight reply) a.made (standing new.sight new.speaker (is_bye reply.answer))
+    (talk_there start old.sight new.sight a.made (cut_of bytes).whole v.text v.made (standing old.sight old.speaker false) a.grows v.talk)
+    (line_answered start.seat old.sight new.sight old.speaker new.speaker line reply v.grows.seat a)
 
 -- these lines are written, with one more
-written_with : (start : Sight) (begun taken taken' : Option (List ℕ)) (waits waits' : List ℕ) (old new : Sight) (before after : Speaker) (kept bytes line : List ℕ) (reply : Reply) (lines : List (List ℕ)) →
-    (v : Served start begun taken waits old before kept bytes) → Answers old new before after line reply → Says taken taken' waits waits' (text_of old reply) → waits' ≡ [] → lines ≡ (cut_of bytes).whole ++ line ∷ [] →
-    Written start begun taken' new lines
-written_with start begun taken taken' waits waits' old new before after kept bytes line reply lines v a says none order =
-    let P : List (List ℕ) → Type 0 = λ ls. IsTalk start.seat.figures new.history start.seat.number (standing start nobody false) ls (v.text ++ text_of old reply) (v.made ++ a.made) (standing new after (is_bye reply.answer)) in
+written_with : (start : Sight) (begun taken taken' : Option (List ℕ)) (old new : Stand) (kept bytes line : List ℕ) (reply : Reply) (lines : List (List ℕ)) →
+    (v : Served start begun taken old kept bytes) → Answers old.sight new.sight old.speaker new.speaker line reply → Says taken taken' old.waits new.waits (text_of old.sight reply) → new.waits ≡ [] → lines ≡ (cut_of bytes).whole ++ line ∷ [] →
+    Written start begun taken' new.sight lines
+written_with start begun taken taken' old new kept bytes line reply lines v a says none order =
+    let P : List (List ℕ) → Type 0 = λ ls. IsTalk start.seat.figures new.sight.history start.seat.number (standing start nobody false) ls (v.text ++ text_of old.sight reply) (v.made ++ a.made) (standing new.sight new.speaker (is_bye reply.answer)) in
     record {
-      text = v.text ++ text_of old reply;
+      text = v.text ++ text_of old.sight reply;
       made = v.made ++ a.made;
-      to = standing new after (is_bye reply.answer);
+      to = standing new.sight new.speaker (is_bye reply.answer);
       there = refl;
-      grows = grows_both start old new v.made a.made v.grows a.grows;
-      took = says_whole begun taken' [] waits' (v.text ++ text_of old reply) none (says_both begun taken taken' [] waits waits' v.text (text_of old reply) v.said says);
-      talk = subst P (sym order) (talk_with start begun taken waits old new before after kept bytes line reply v a);
+      grows = grows_both start old.sight new.sight v.made a.made v.grows a.grows;
+      took = says_whole begun taken' [] new.waits (v.text ++ text_of old.sight reply) none (says_both begun taken taken' [] old.waits new.waits v.text (text_of old.sight reply) v.said says);
+      talk = subst P (sym order) (talk_with start begun taken old new kept bytes line reply v a);
     }
 
 -- a line feed after which the session goes on
-pub served_line : (start : Sight) (begun taken taken' : Option (List ℕ)) (waits waits' : List ℕ) (old new : Sight) (before after : Speaker) (kept next bytes : List ℕ) (b : ℕ) (reply : Reply) →
-    Served start begun taken waits old before kept bytes → (b == 10) ≡ true → next ≡ [] → Answers old new before after (ended_line kept) reply → Says taken taken' waits waits' (text_of old reply) → is_bye reply.answer ≡ false →
-    Served start begun taken' waits' new after next (bytes ++ b ∷ [])
-served_line start begun taken taken' waits waits' old new before after kept next bytes b reply v feed is answered says stays =
+pub served_line : (start : Sight) (begun taken taken' : Option (List ℕ)) (old new : Stand) (kept next bytes : List ℕ) (b : ℕ) (reply : Reply) →
+    Served start begun taken old kept bytes → (b == 10) ≡ true → next ≡ [] → Answers old.sight new.sight old.speaker new.speaker (ended_line kept) reply → Says taken taken' old.waits new.waits (text_of old.sight reply) → is_bye reply.answer ≡ false →
+    Served start begun taken' new next (bytes ++ b ∷ [])
+served_line start begun taken taken' old new kept next bytes b reply v feed is answered says stays =
     let same = cut_line bytes b feed in
     let line = ended_line (cut_of bytes).rest in
-    let a = read_alike old new before after (ended_line kept) line reply (ended_front kept (cut_of bytes).rest v.line) answered in
-    let P : List (List ℕ) → Type 0 = λ lines. IsTalk start.seat.figures new.history start.seat.number (standing start nobody false) lines (v.text ++ text_of old reply) (v.made ++ a.made) (standing new after false) in
-    let Q : Bool → Type 0 = λ over. IsTalk start.seat.figures new.history start.seat.number (standing start nobody false) ((cut_of bytes).whole ++ line ∷ []) (v.text ++ text_of old reply) (v.made ++ a.made) (standing new after over) in
+    let a = read_alike old.sight new.sight old.speaker new.speaker (ended_line kept) line reply (ended_front kept (cut_of bytes).rest v.line) answered in
+    let P : List (List ℕ) → Type 0 = λ lines. IsTalk start.seat.figures new.sight.history start.seat.number (standing start nobody false) lines (v.text ++ text_of old.sight reply) (v.made ++ a.made) (standing new.sight new.speaker false) in
+    let Q : Bool → Type 0 = λ over. IsTalk start.seat.figures new.sight.history start.seat.number (standing start nobody false) ((cut_of bytes).whole ++ line ∷ []) (v.text ++ text_of old.sight reply) (v.made ++ a.made) (standing new.sight new.speaker over) in
     record {
-      text = v.text ++ text_of old reply;
+      text = v.text ++ text_of old.sight reply;
       made = v.made ++ a.made;
-      grows = grows_both start old new v.made a.made v.grows a.grows;
-      said = says_both begun taken taken' [] waits waits' v.text (text_of old reply) v.said says;
-      talk = subst P (sym (ap (λ c. c.whole) same)) (subst Q stays (talk_with start begun taken waits old new before after kept bytes line reply v a));
+      grows = grows_both start old.sight new.sight v.made a.made v.grows a.grows;
+      said = says_both begun taken taken' [] old.waits new.waits v.text (text_of old.sight reply) v.said says;
+      talk = subst P (sym (ap (λ c. c.whole) same)) (subst Q stays (talk_with start begun taken old new kept bytes line reply v a));
       line = is ∙ ap (λ c. take 4097 c.rest) (sym same);
     }
 
 -- a line feed after which the session is over
-pub left_line : (start : Sight) (begun taken taken' : Option (List ℕ)) (waits waits' : List ℕ) (old new : Sight) (before after : Speaker) (kept bytes : List ℕ) (b : ℕ) (reply : Reply) →
-    Served start begun taken waits old before kept bytes → (b == 10) ≡ true → Answers old new before after (ended_line kept) reply → Says taken taken' waits waits' (text_of old reply) → waits' ≡ [] → is_bye reply.answer ≡ true →
-    Left start begun taken' new (cut_of (bytes ++ b ∷ [])).whole
+pub left_line : (start : Sight) (begun taken taken' : Option (List ℕ)) (old new : Stand) (kept bytes : List ℕ) (b : ℕ) (reply : Reply) →
+    Served start begun taken old kept bytes → (b == 10) ≡ true → Answers old.sight new.sight old.speaker new.speaker (ended_line kept) reply → Says taken taken' old.waits new.waits (text_of old.sight reply) → new.waits ≡ [] → is_bye reply.answer ≡ true →
+    Left start begun taken' new.sight (cut_of (bytes ++ b ∷ [])).whole
 unfolding written_with
-left_line start begun taken taken' waits waits' old new before after kept bytes b reply v feed answered says none bye =
+left_line start begun taken taken' old new kept bytes b reply v feed answered says none bye =
     let line = ended_line (cut_of bytes).rest in
-    let a = read_alike old new before after (ended_line kept) line reply (ended_front kept (cut_of bytes).rest v.line) answered in
+    let a = read_alike old.sight new.sight old.speaker new.speaker (ended_line kept) line reply (ended_front kept (cut_of bytes).rest v.line) answered in
     record {
       said = (cut_of bytes).whole ++ line ∷ [];
       others = [];
       order = ap (λ c. c.whole) (cut_line bytes b feed) ∙ sym (append-nil _);
-      written = written_with start begun taken taken' waits waits' old new before after kept bytes line reply _ v a says none refl;
+      written = written_with start begun taken taken' old new kept bytes line reply _ v a says none refl;
       over = bye;
     }
 
@@ -148,86 +149,79 @@ left_more start begun taken now xs ys v =
     }
 
 -- a reply that is not written whole
-cut_off_at : (start : Sight) (begun taken taken' : Option (List ℕ)) (waits : List ℕ) (old new : Sight) (before after : Speaker) (kept bytes line : List ℕ) (reply : Reply) (lines : List (List ℕ)) →
-    Served start begun taken waits old before kept bytes → Answers old new before after line reply → TakesFront taken taken' (waits ++ text_of old reply) → lines ≡ (cut_of bytes).whole ++ line ∷ [] →
-    CutOff start begun taken' new lines
-cut_off_at start begun taken taken' waits old new before after kept bytes line reply lines v a front order = record {
+cut_off_at : (start : Sight) (begun taken taken' : Option (List ℕ)) (old new : Stand) (kept bytes line : List ℕ) (reply : Reply) (lines : List (List ℕ)) →
+    Served start begun taken old kept bytes → Answers old.sight new.sight old.speaker new.speaker line reply → TakesFront taken taken' (old.waits ++ text_of old.sight reply) → lines ≡ (cut_of bytes).whole ++ line ∷ [] →
+    CutOff start begun taken' new.sight lines
+cut_off_at start begun taken taken' old new kept bytes line reply lines v a front order = record {
   said = (cut_of bytes).whole ++ line ∷ [];
   others = [];
   order = order ∙ sym (append-nil _);
-  text = v.text ++ text_of old reply;
+  text = v.text ++ text_of old.sight reply;
   made = v.made ++ a.made;
-  to = standing new after (is_bye reply.answer);
+  to = standing new.sight new.speaker (is_bye reply.answer);
   there = refl;
-  grows = grows_both start old new v.made a.made v.grows a.grows;
-  took = front_after begun taken taken' [] waits v.text (text_of old reply) v.said front;
-  talk = talk_with start begun taken waits old new before after kept bytes line reply v a;
+  grows = grows_both start old.sight new.sight v.made a.made v.grows a.grows;
+  took = front_after begun taken taken' [] old.waits v.text (text_of old.sight reply) v.said front;
+  talk = talk_with start begun taken old new kept bytes line reply v a;
 }
 
 -- a line feed whose reply is not written whole
-pub cut_off_line : (start : Sight) (begun taken taken' : Option (List ℕ)) (waits : List ℕ) (old new : Sight) (before after : Speaker) (kept bytes : List ℕ) (b : ℕ) →
-    Served start begun taken waits old before kept bytes → (b == 10) ≡ true → RepliesInPart old new before after (ended_line kept) taken taken' waits →
-    CutOff start begun taken' new (cut_of (bytes ++ b ∷ [])).whole
-cut_off_line start begun taken taken' waits old new before after kept bytes b v feed r =
+pub cut_off_line : (start : Sight) (begun taken taken' : Option (List ℕ)) (old new : Stand) (kept bytes : List ℕ) (b : ℕ) →
+    Served start begun taken old kept bytes → (b == 10) ≡ true → RepliesInPart old new (ended_line kept) taken taken' →
+    CutOff start begun taken' new.sight (cut_of (bytes ++ b ∷ [])).whole
+cut_off_line start begun taken taken' old new kept bytes b v feed r =
     let line = ended_line (cut_of bytes).rest in
-    let a = read_alike old new before after (ended_line kept) line r.reply (ended_front kept (cut_of bytes).rest v.line) r.answers in
-    cut_off_at start begun taken taken' waits old new before after kept bytes line r.reply _ v a r.took (ap (λ c. c.whole) (cut_line bytes b feed))
+    let a = read_alike old.sight new.sight old.speaker new.speaker (ended_line kept) line r.reply (ended_front kept (cut_of bytes).rest v.line) r.answers in
+    cut_off_at start begun taken taken' old new kept bytes line r.reply _ v a r.took (ap (λ c. c.whole) (cut_line bytes b feed))
 
 -- what waits is not written whole
-pub cut_off_waiting : (start : Sight) (begun taken taken' : Option (List ℕ)) (waits : List ℕ) (now : Sight) (speaker : Speaker) (kept bytes : List ℕ) →
-    Served start begun taken waits now speaker kept bytes → TakesFront taken taken' waits → CutOff start begun taken' now (cut_of bytes).whole
-cut_off_waiting start begun taken taken' waits now speaker kept bytes v front = record {
+pub cut_off_waiting : (start : Sight) (begun taken taken' : Option (List ℕ)) (stand : Stand) (kept bytes : List ℕ) →
+    Served start begun taken stand kept bytes → TakesFront taken taken' stand.waits → CutOff start begun taken' stand.sight (cut_of bytes).whole
+cut_off_waiting start begun taken taken' stand kept bytes v front = record {
   said = (cut_of bytes).whole;
   others = [];
   order = sym (append-nil _);
   text = v.text;
   made = v.made;
-  to = standing now speaker false;
+  to = standing stand.sight stand.speaker false;
   there = refl;
   grows = v.grows;
-  took = front_waiting begun taken taken' [] waits v.text v.said front;
+  took = front_waiting begun taken taken' [] stand.waits v.text v.said front;
   talk = v.talk;
 }
 
 -- some of what waited is written, or all of it
-pub served_flushed : (start : Sight) (begun taken taken' : Option (List ℕ)) (waits waits' : List ℕ) (now : Sight) (speaker : Speaker) (kept bytes : List ℕ) →
-    Says taken taken' waits waits' [] → Served start begun taken waits now speaker kept bytes → Served start begun taken' waits' now speaker kept bytes
-served_flushed start begun taken taken' waits waits' now speaker kept bytes says v =
+pub served_flushed : (start : Sight) (begun taken taken' : Option (List ℕ)) (stand : Stand) (waits' kept bytes : List ℕ) →
+    Says taken taken' stand.waits waits' [] → Served start begun taken stand kept bytes → Served start begun taken' (record stand { waits = waits' }) kept bytes
+served_flushed start begun taken taken' stand waits' kept bytes says v =
     let P : List ℕ → Type 0 = λ text. Says begun taken' [] waits' text in
     record {
       text = v.text;
       made = v.made;
       grows = v.grows;
-      said = subst P (append-nil v.text) (says_both begun taken taken' [] waits waits' v.text [] v.said says);
+      said = subst P (append-nil v.text) (says_both begun taken taken' [] stand.waits waits' v.text [] v.said says);
       talk = v.talk;
       line = v.line;
     }
 
 -- before the first byte of a piece
-pub served_begun : (start : Sight) (begun taken : Option (List ℕ)) (waits : List ℕ) (now : Sight) (speaker : Speaker) (kept bytes : List ℕ) →
-    waits ≡ [] → Served start begun taken [] now speaker kept bytes → Served start begun taken waits now speaker kept (bytes ++ [])
-served_begun start begun taken waits now speaker kept bytes none v =
-    let P : List ℕ × List ℕ → Type 0 = λ x. Served start begun taken x.0 now speaker kept x.1 in
-    subst P (λ i. (sym none i, sym (append-nil bytes) i)) v
-
--- where nothing waits
-pub served_open : (start : Sight) (begun taken : Option (List ℕ)) (waits : List ℕ) (now : Sight) (speaker : Speaker) (kept bytes : List ℕ) →
-    waits ≡ [] → Served start begun taken [] now speaker kept bytes → Served start begun taken waits now speaker kept bytes
-served_open start begun taken waits now speaker kept bytes none v = let P : List ℕ → Type 0 = λ x. Served start begun taken x now speaker kept bytes in subst P (sym none) v
+pub served_begun : (start : Sight) (begun taken : Option (List ℕ)) (stand : Stand) (kept bytes : List ℕ) →
+    Served start begun taken stand kept bytes → Served start begun taken stand kept (bytes ++ [])
+served_begun start begun taken stand kept bytes v = let P : List ℕ → Type 0 = λ bs. Served start begun taken stand kept bs in subst P (sym (append-nil bytes)) v
 
 -- a whole piece, whose replies are written
-pub served_piece : (start : Sight) (begun taken taken' : Option (List ℕ)) (waits : List ℕ) (now : Sight) (speaker : Speaker) (kept bytes p : List ℕ) (i : ℕ) →
-    length p ≤ i → Takes taken taken' waits → Served start begun taken waits now speaker kept (bytes ++ take i p) → Served start begun taken' [] now speaker kept (bytes ++ p)
-served_piece start begun taken taken' waits now speaker kept bytes p i past took v =
-    let P : List ℕ → Type 0 = λ bs. Served start begun taken' [] now speaker kept (bytes ++ bs) in
-    subst P (take_all i p past) (served_flushed start begun taken taken' waits [] now speaker kept (bytes ++ take i p) (says_flushed taken taken' waits [] took refl) v)
+pub served_piece : (start : Sight) (begun taken taken' : Option (List ℕ)) (stand : Stand) (waits' kept bytes p : List ℕ) (i : ℕ) →
+    length p ≤ i → Takes taken taken' stand.waits → waits' ≡ [] → Served start begun taken stand kept (bytes ++ take i p) → Served start begun taken' (record stand { waits = waits' }) kept (bytes ++ p)
+served_piece start begun taken taken' stand waits' kept bytes p i past took none v =
+    let P : List ℕ → Type 0 = λ bs. Served start begun taken' (record stand { waits = waits' }) kept (bytes ++ bs) in
+    subst P (take_all i p past) (served_flushed start begun taken taken' stand waits' kept (bytes ++ take i p) (says_flushed taken taken' stand.waits waits' took none) v)
 
 -- a whole piece, whose replies are not written whole
-pub cut_off_piece : (start : Sight) (begun taken taken' : Option (List ℕ)) (waits : List ℕ) (now : Sight) (speaker : Speaker) (kept bytes p : List ℕ) (i : ℕ) →
-    length p ≤ i → TakesFront taken taken' waits → Served start begun taken waits now speaker kept (bytes ++ take i p) → CutOff start begun taken' now (cut_of (bytes ++ p)).whole
-cut_off_piece start begun taken taken' waits now speaker kept bytes p i past front v =
-    let P : List ℕ → Type 0 = λ bs. CutOff start begun taken' now (cut_of (bytes ++ bs)).whole in
-    subst P (take_all i p past) (cut_off_waiting start begun taken taken' waits now speaker kept (bytes ++ take i p) v front)
+pub cut_off_piece : (start : Sight) (begun taken taken' : Option (List ℕ)) (stand : Stand) (kept bytes p : List ℕ) (i : ℕ) →
+    length p ≤ i → TakesFront taken taken' stand.waits → Served start begun taken stand kept (bytes ++ take i p) → CutOff start begun taken' stand.sight (cut_of (bytes ++ p)).whole
+cut_off_piece start begun taken taken' stand kept bytes p i past front v =
+    let P : List ℕ → Type 0 = λ bs. CutOff start begun taken' stand.sight (cut_of (bytes ++ bs)).whole in
+    subst P (take_all i p past) (cut_off_waiting start begun taken taken' stand kept (bytes ++ take i p) v front)
 
 -- a front of the lines is a front of more lines
 cut_off_by : (start : Sight) (begun taken : Option (List ℕ)) (now : Sight) (lines more all : List (List ℕ)) → all ≡ lines ++ more → CutOff start begun taken now lines → CutOff start begun taken now all
@@ -250,64 +244,71 @@ cut_off_more start begun taken now xs ys v =
     let more = whole_grows xs ys in
     cut_off_by start begun taken now (cut_of xs).whole more.0 (cut_of (xs ++ ys)).whole more.1 v
 
+-- what was taken of a piece, with its next byte
+pub piece_next : (bytes p : List ℕ) (i : ℕ) → i < length p → (bytes ++ take i p) ++ get_or p i 0 ∷ [] ≡ bytes ++ take (i + 1) p
+piece_next bytes p i lt = append_assoc bytes (take i p) (get_or p i 0 ∷ []) ∙ ap (λ v. bytes ++ v) (sym (take_more p i 0 lt))
+
 -- a piece is what was taken of it, and the rest
 pub piece_rest : (bytes p : List ℕ) (i : ℕ) → i < length p → ((bytes ++ take i p) ++ get_or p i 0 ∷ []) ++ drop (i + 1) p ≡ bytes ++ p
 piece_rest bytes p i lt =
-    ap (λ v. v ++ drop (i + 1) p) (append_assoc bytes (take i p) (get_or p i 0 ∷ []) ∙ ap (λ v. bytes ++ v) (sym (take_more p i 0 lt)))
+    ap (λ v. v ++ drop (i + 1) p) (piece_next bytes p i lt)
     ∙ append_assoc bytes (take (i + 1) p) (drop (i + 1) p) ∙ ap (λ v. bytes ++ v) (take-append-drop (i + 1) p)
 
 -- an input that ended, where no begun line is left
-pub written_none : (start : Sight) (begun taken : Option (List ℕ)) (now : Sight) (speaker : Speaker) (kept bytes : List ℕ) →
-    Served start begun taken [] now speaker kept bytes → kept ≡ [] → Written start begun taken now (lines_of bytes)
-written_none start begun taken now speaker kept bytes v empty =
+pub written_none : (start : Sight) (begun taken : Option (List ℕ)) (stand : Stand) (kept bytes : List ℕ) →
+    Served start begun taken stand kept bytes → stand.waits ≡ [] → kept ≡ [] → Written start begun taken stand.sight (lines_of bytes)
+written_none start begun taken stand kept bytes v none empty =
     let all : lines_of bytes ≡ (cut_of bytes).whole = ap (λ l. (cut_of bytes).whole ++ l) (none_last (cut_of bytes).rest (sym v.line ∙ empty)) ∙ append-nil (cut_of bytes).whole in
-    let P : List (List ℕ) → Type 0 = λ lines. IsTalk start.seat.figures now.history start.seat.number (standing start nobody false) lines v.text v.made (standing now speaker false) in
-    record { text = v.text; made = v.made; to = standing now speaker false; there = refl; grows = v.grows; took = says_whole begun taken [] [] v.text refl v.said; talk = subst P (sym all) v.talk }
+    let P : List (List ℕ) → Type 0 = λ lines. IsTalk start.seat.figures stand.sight.history start.seat.number (standing start nobody false) lines v.text v.made (standing stand.sight stand.speaker false) in
+    record { text = v.text; made = v.made; to = standing stand.sight stand.speaker false; there = refl; grows = v.grows; took = says_whole begun taken [] stand.waits v.text none v.said; talk = subst P (sym all) v.talk }
 
 -- the whole lines so far, without a BYE among them
-pub whole_open : (start : Sight) (begun taken : Option (List ℕ)) (now : Sight) (speaker : Speaker) (kept bytes : List ℕ) →
-    Served start begun taken [] now speaker kept bytes → (written : Written start begun taken now (cut_of bytes).whole) × (written.to.over ≡ false)
-whole_open start begun taken now speaker kept bytes v =
-    (record { text = v.text; made = v.made; to = standing now speaker false; there = refl; grows = v.grows; took = says_whole begun taken [] [] v.text refl v.said; talk = v.talk }, refl)
+pub whole_open : (start : Sight) (begun taken : Option (List ℕ)) (stand : Stand) (kept bytes : List ℕ) →
+    Served start begun taken stand kept bytes → stand.waits ≡ [] → (written : Written start begun taken stand.sight (cut_of bytes).whole) × (written.to.over ≡ false)
+whole_open start begun taken stand kept bytes v none =
+    (record { text = v.text; made = v.made; to = standing stand.sight stand.speaker false; there = refl; grows = v.grows; took = says_whole begun taken [] stand.waits v.text none v.said; talk = v.talk }, refl)
 
 all_lines : (bytes kept : List ℕ) → kept ≡ take 4097 (cut_of bytes).rest → (kept ≡ [] → ⊥) → lines_of bytes ≡ (cut_of bytes).whole ++ (cut_of bytes).rest ∷ []
 all_lines bytes kept is some = ap (λ l. (cut_of bytes).whole ++ l) (some_last (cut_of bytes).rest (λ e. some (is ∙ e)))
 
 -- and where one is left, which is replied to
-pub written_last : (start : Sight) (begun taken between taken' : Option (List ℕ)) (waits waits' : List ℕ) (old new : Sight) (before after : Speaker) (kept bytes : List ℕ) (step : Step) →
-    Served start begun taken waits old before kept bytes → (kept ≡ [] → ⊥) → RepliesWhole old new before after kept taken between waits waits' step → Takes between taken' waits' →
-    Written start begun taken' new (lines_of bytes)
-written_last start begun taken between taken' waits waits' old new before after kept bytes step v some r took =
-    let a = read_alike old new before after kept (cut_of bytes).rest r.reply (last_front kept (cut_of bytes).rest v.line) r.answers in
-    let said = says_then_flushed taken between taken' waits waits' (text_of old r.reply) r.said took in
-    written_with start begun taken taken' waits [] old new before after kept bytes (cut_of bytes).rest r.reply (lines_of bytes) v a said refl (all_lines bytes kept v.line some)
+pub written_last : (start : Sight) (begun taken between taken' : Option (List ℕ)) (old new : Stand) (kept bytes : List ℕ) (step : Step) →
+    Served start begun taken old kept bytes → (kept ≡ [] → ⊥) → RepliesWhole old new kept taken between step → Takes between taken' new.waits →
+    Written start begun taken' new.sight (lines_of bytes)
+written_last start begun taken between taken' old new kept bytes step v some r took =
+    let a = read_alike old.sight new.sight old.speaker new.speaker kept (cut_of bytes).rest r.reply (last_front kept (cut_of bytes).rest v.line) r.answers in
+    let said = says_then_flushed taken between taken' old.waits new.waits (text_of old.sight r.reply) r.said took in
+    written_with start begun taken taken' old (record new { waits = [] }) kept bytes (cut_of bytes).rest r.reply (lines_of bytes) v a said refl (all_lines bytes kept v.line some)
 
-pub cut_off_last : (start : Sight) (begun taken taken' : Option (List ℕ)) (waits : List ℕ) (old new : Sight) (before after : Speaker) (kept bytes : List ℕ) →
-    Served start begun taken waits old before kept bytes → (kept ≡ [] → ⊥) → RepliesInPart old new before after kept taken taken' waits →
-    CutOff start begun taken' new (lines_of bytes)
-cut_off_last start begun taken taken' waits old new before after kept bytes v some r =
-    let a = read_alike old new before after kept (cut_of bytes).rest r.reply (last_front kept (cut_of bytes).rest v.line) r.answers in
-    cut_off_at start begun taken taken' waits old new before after kept bytes (cut_of bytes).rest r.reply (lines_of bytes) v a r.took (all_lines bytes kept v.line some)
+pub cut_off_last : (start : Sight) (begun taken taken' : Option (List ℕ)) (old new : Stand) (kept bytes : List ℕ) →
+    Served start begun taken old kept bytes → (kept ≡ [] → ⊥) → RepliesInPart old new kept taken taken' →
+    CutOff start begun taken' new.sight (lines_of bytes)
+cut_off_last start begun taken taken' old new kept bytes v some r =
+    let a = read_alike old.sight new.sight old.speaker new.speaker kept (cut_of bytes).rest r.reply (last_front kept (cut_of bytes).rest v.line) r.answers in
+    cut_off_at start begun taken taken' old new kept bytes (cut_of bytes).rest r.reply (lines_of bytes) v a r.took (all_lines bytes kept v.line some)
 
 -- a reply that waits and is not written whole
-pub part_of_whole : (taken between taken' : Option (List ℕ)) (waits waits' : List ℕ) (old new : Sight) (before after : Speaker) (line : List ℕ) (step : Step) →
-    RepliesWhole old new before after line taken between waits waits' step → TakesFront between taken' waits' → RepliesInPart old new before after line taken taken' waits
-part_of_whole taken between taken' waits waits' old new before after line step r front = record {
+pub part_of_whole : (taken between taken' : Option (List ℕ)) (old new : Stand) (line : List ℕ) (step : Step) →
+    RepliesWhole old new line taken between step → TakesFront between taken' new.waits → RepliesInPart old new line taken taken'
+part_of_whole taken between taken' old new line step r front = record {
   reply = r.reply;
   answers = r.answers;
-  took = front_waiting taken between taken' waits waits' (text_of old r.reply) r.said front;
+  took = front_waiting taken between taken' old.waits new.waits (text_of old.sight r.reply) r.said front;
 }
 
 -- nothing is served yet
-pub served_none : (start : Sight) (begun : Option (List ℕ)) (kept : List ℕ) → kept ≡ [] → Served start begun begun [] start nobody kept []
-served_none start begun kept empty = record {
-  text = [];
-  made = [];
-  grows = grows_none start;
-  said = says_none begun [];
-  talk = (refl, refl, refl);
-  line = empty;
-}
+pub served_none : (begun : Option (List ℕ)) (stand : Stand) (kept : List ℕ) → stand.speaker ≡ nobody → stand.waits ≡ [] → kept ≡ [] → Served stand.sight begun begun stand kept []
+served_none begun stand kept first none empty =
+    let begins : Served stand.sight begun begun (record { sight = stand.sight; speaker = nobody; waits = [] }) kept [] = record {
+      text = [];
+      made = [];
+      grows = grows_none stand.sight;
+      said = says_none begun [];
+      talk = (refl, refl, refl);
+      line = empty;
+    } in
+    let P : Speaker × List ℕ → Type 0 = λ x. Served stand.sight begun begun (record { sight = stand.sight; speaker = x.0; waits = x.1 }) kept [] in
+    subst P (λ i. (sym first i, sym none i)) begins
 
 -- the byte is a line feed, or not
 pub is_feed : (b : ℕ) → b ≡ 10 → (b == 10) ≡ true

@@ -1,10 +1,10 @@
 -- Whether a session goes on after a line.
 use Rattle.std.proofs.Common.{◌≡◌, Bool, true, false, Result, Ok, IfOk, refl, subst, cond}
-use Rattle.session.specs.declared.serve.Step.{Step}
-use Rattle.session.specs.declared.serve.Step.TheVariants.{On, Over}
+use Rattle.session.specs.declared.taking.Step.{Step}
+use Rattle.session.specs.declared.taking.Step.TheVariants.{On, Over}
 use Rattle.command_types.specs.declared.answer.Answer.{Answer}
 use Rattle.command_types.specs.Session.{is_bye}
-use Rattle.session.specs.Serving.{step_of}
+use Rattle.session.specs.Standing.{step_of}
 
 by_bye : (t : Bool) → On ≡ cond {A = Step} t Over On → t ≡ false
 by_bye true e = cc e

@@ -3,61 +3,62 @@ use Rattle.std.proofs.Common.{◌≡◌, ℕ, ◌==◌, true, List, [], ◌∷�
 use Rattle.command_types.specs.Lines.{cut_of, ended_line}
 use Rattle.command_types.specs.Session.{Speaker}
 use Rattle.outside.specs.declared.failed.Failed.{Failed}
-use Rattle.session.specs.declared.serve.Step.{Step}
-use Rattle.session.specs.declared.serve.Step.TheVariants.{On, Over}
+use Rattle.session.specs.declared.taking.Step.{Step}
+use Rattle.session.specs.declared.taking.Step.TheVariants.{On, Over}
 use Rattle.outside.specs.Flow.{Takes, TakesFront}
 use Rattle.command_types.specs.declared.answer.Reply.{Reply}
 use Rattle.command_types.specs.Roster.{Rows}
 use Rattle.command_types.specs.Details.{reply_text}
 use Rattle.session.specs.Pending.{Says}
-use Rattle.session.specs.Serving.{Sight, roster_of, step_of, Answers, RepliesWhole, RepliesInPart, Served, Left, CutOff}
+use Rattle.session.specs.Serving.{Sight, roster_of, Answers, Left, CutOff}
+use Rattle.session.specs.Standing.{Stand, step_of, RepliesWhole, RepliesInPart, Served}
 use Rattle.session.proofs.PendingFacts.{says_as, says_then_flushed, front_waiting}
 use Rattle.session.proofs.StepFacts.{goes_on, is_over, ok_holds}
 use Rattle.session.proofs.ServedFacts.{served_line, left_line, cut_off_line}
 
-pub whole_on : (start : Sight) (begun taken taken' : Option (List ℕ)) (waits waits' : List ℕ) (old new : Sight) (before after : Speaker) (kept next bytes line : List ℕ) (b : ℕ) (result : Result Step Failed) →
-    Served start begun taken waits old before kept bytes → (b == 10) ≡ true → next ≡ [] → line ≡ ended_line kept → result ≡ Ok On → IfOk result (RepliesWhole old new before after line taken taken' waits waits') →
-    Served start begun taken' waits' new after next (bytes ++ b ∷ [])
-whole_on start begun taken taken' waits waits' old new before after kept next bytes line b result v feed is same ok whole =
-    let P : List ℕ → Type 0 = λ l. RepliesWhole old new before after l taken taken' waits waits' On in
-    let r = subst P same (ok_holds (RepliesWhole old new before after line taken taken' waits waits') result On ok whole) in
-    served_line start begun taken taken' waits waits' old new before after kept next bytes b r.reply v feed is r.answers r.said (goes_on r.reply.answer r.next)
+pub whole_on : (start : Sight) (begun taken taken' : Option (List ℕ)) (old new : Stand) (kept next bytes line : List ℕ) (b : ℕ) (result : Result Step Failed) →
+    Served start begun taken old kept bytes → (b == 10) ≡ true → next ≡ [] → line ≡ ended_line kept → result ≡ Ok On → IfOk result (RepliesWhole old new line taken taken') →
+    Served start begun taken' new next (bytes ++ b ∷ [])
+whole_on start begun taken taken' old new kept next bytes line b result v feed is same ok whole =
+    let P : List ℕ → Type 0 = λ l. RepliesWhole old new l taken taken' On in
+    let r = subst P same (ok_holds (RepliesWhole old new line taken taken') result On ok whole) in
+    served_line start begun taken taken' old new kept next bytes b r.reply v feed is r.answers r.said (goes_on r.reply.answer r.next)
 
-pub whole_over : (start : Sight) (begun taken taken' : Option (List ℕ)) (waits waits' : List ℕ) (old new : Sight) (before after : Speaker) (kept bytes line : List ℕ) (b : ℕ) (result : Result Step Failed) →
-    Served start begun taken waits old before kept bytes → (b == 10) ≡ true → line ≡ ended_line kept → result ≡ Ok Over → IfOk result (RepliesWhole old new before after line taken taken' waits waits') →
-    Left start begun taken' new (cut_of (bytes ++ b ∷ [])).whole
-whole_over start begun taken taken' waits waits' old new before after kept bytes line b result v feed same ok whole =
-    let P : List ℕ → Type 0 = λ l. RepliesWhole old new before after l taken taken' waits waits' Over in
-    let r = subst P same (ok_holds (RepliesWhole old new before after line taken taken' waits waits') result Over ok whole) in
-    left_line start begun taken taken' waits waits' old new before after kept bytes b r.reply v feed r.answers r.said (r.flushed refl) (is_over r.reply.answer r.next)
+pub whole_over : (start : Sight) (begun taken taken' : Option (List ℕ)) (old new : Stand) (kept bytes line : List ℕ) (b : ℕ) (result : Result Step Failed) →
+    Served start begun taken old kept bytes → (b == 10) ≡ true → line ≡ ended_line kept → result ≡ Ok Over → IfOk result (RepliesWhole old new line taken taken') →
+    Left start begun taken' new.sight (cut_of (bytes ++ b ∷ [])).whole
+whole_over start begun taken taken' old new kept bytes line b result v feed same ok whole =
+    let P : List ℕ → Type 0 = λ l. RepliesWhole old new l taken taken' Over in
+    let r = subst P same (ok_holds (RepliesWhole old new line taken taken') result Over ok whole) in
+    left_line start begun taken taken' old new kept bytes b r.reply v feed r.answers r.said (r.flushed refl) (is_over r.reply.answer r.next)
 
-pub part_cut : (start : Sight) (begun taken taken' : Option (List ℕ)) (waits : List ℕ) (old new : Sight) (before after : Speaker) (kept bytes line : List ℕ) (b : ℕ) →
-    Served start begun taken waits old before kept bytes → (b == 10) ≡ true → line ≡ ended_line kept → RepliesInPart old new before after line taken taken' waits →
-    CutOff start begun taken' new (cut_of (bytes ++ b ∷ [])).whole
-part_cut start begun taken taken' waits old new before after kept bytes line b v feed same r =
-    let P : List ℕ → Type 0 = λ l. RepliesInPart old new before after l taken taken' waits in
-    cut_off_line start begun taken taken' waits old new before after kept bytes b v feed (subst P same r)
+pub part_cut : (start : Sight) (begun taken taken' : Option (List ℕ)) (old new : Stand) (kept bytes line : List ℕ) (b : ℕ) →
+    Served start begun taken old kept bytes → (b == 10) ≡ true → line ≡ ended_line kept → RepliesInPart old new line taken taken' →
+    CutOff start begun taken' new.sight (cut_of (bytes ++ b ∷ [])).whole
+part_cut start begun taken taken' old new kept bytes line b v feed same r =
+    let P : List ℕ → Type 0 = λ l. RepliesInPart old new l taken taken' in
+    cut_off_line start begun taken taken' old new kept bytes b v feed (subst P same r)
 
 -- a reply that waited and was written
-pub replied_flushed : (taken between taken' : Option (List ℕ)) (waited waits waits' : List ℕ) (old new : Sight) (before after : Speaker) (line : List ℕ) (rows : Rows) (reply : Reply) (step : Step) → rows ≡ roster_of old →
-    Answers old new before after line reply → Says taken between waited waits (reply_text rows reply) → Takes between taken' waits → waits' ≡ [] → step ≡ step_of reply.answer → RepliesWhole old new before after line taken taken' waited waits' step
-replied_flushed taken between taken' waited waits waits' old new before after line rows reply step same a said took none next =
-    let P : List ℕ → Type 0 = λ w. Says taken taken' waited w (reply_text (roster_of old) reply) in
-    let whole = says_then_flushed taken between taken' waited waits (reply_text rows reply) said took in
+pub replied_flushed : (taken between taken' : Option (List ℕ)) (old new : Stand) (waits line : List ℕ) (rows : Rows) (reply : Reply) (step : Step) → rows ≡ roster_of old.sight →
+    Answers old.sight new.sight old.speaker new.speaker line reply → Says taken between old.waits waits (reply_text rows reply) → Takes between taken' waits → new.waits ≡ [] → step ≡ step_of reply.answer → RepliesWhole old new line taken taken' step
+replied_flushed taken between taken' old new waits line rows reply step same a said took none next =
+    let P : List ℕ → Type 0 = λ w. Says taken taken' old.waits w (reply_text (roster_of old.sight) reply) in
+    let whole = says_then_flushed taken between taken' old.waits waits (reply_text rows reply) said took in
     record {
       reply = reply;
       answers = a;
-      said = subst P (sym none) (says_as taken taken' waited [] (reply_text rows reply) (reply_text (roster_of old) reply) (ap (λ r. reply_text r reply) same) whole);
+      said = subst P (sym none) (says_as taken taken' old.waits [] (reply_text rows reply) (reply_text (roster_of old.sight) reply) (ap (λ r. reply_text r reply) same) whole);
       next = next;
       flushed = λ over. none;
     }
 
 -- a reply that waited and was not written whole
-pub replied_in_part : (taken between taken' : Option (List ℕ)) (waited waits : List ℕ) (old new : Sight) (before after : Speaker) (line : List ℕ) (rows : Rows) (reply : Reply) → rows ≡ roster_of old →
-    Answers old new before after line reply → Says taken between waited waits (reply_text rows reply) → TakesFront between taken' waits → RepliesInPart old new before after line taken taken' waited
-replied_in_part taken between taken' waited waits old new before after line rows reply same a said front = record {
+pub replied_in_part : (taken between taken' : Option (List ℕ)) (old new : Stand) (waits line : List ℕ) (rows : Rows) (reply : Reply) → rows ≡ roster_of old.sight →
+    Answers old.sight new.sight old.speaker new.speaker line reply → Says taken between old.waits waits (reply_text rows reply) → TakesFront between taken' waits → RepliesInPart old new line taken taken'
+replied_in_part taken between taken' old new waits line rows reply same a said front = record {
   reply = reply;
   answers = a;
-  took = front_waiting taken between taken' waited waits (reply_text (roster_of old) reply)
-      (says_as taken between waited waits (reply_text rows reply) (reply_text (roster_of old) reply) (ap (λ r. reply_text r reply) same) said) front;
+  took = front_waiting taken between taken' old.waits waits (reply_text (roster_of old.sight) reply)
+      (says_as taken between old.waits waits (reply_text rows reply) (reply_text (roster_of old.sight) reply) (ap (λ r. reply_text r reply) same) said) front;
 }

@@ -6,5 +6,6 @@ pub mod KeptSpeaker
 pub mod Places
 pub mod Pending
 pub mod Serving
+pub mod Standing
 pub mod Proposing
 pub mod Ending

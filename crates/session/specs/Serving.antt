@@ -1,23 +1,17 @@
 -- How far a session has come.
-use Rattle.std.specs.Prelude.{◌≡◌, ℕ, Bool, true, false, List, [], ◌++◌, take, filter, ◌==◌, Option, Result, if◌then◌else◌}
+use Rattle.std.specs.Prelude.{◌≡◌, ℕ, Bool, true, false, List, ◌++◌, filter, ◌==◌, Option, Result}
 use Rattle.outside.specs.Flow.{Takes, TakesFront}
 use Rattle.command_types.specs.declared.ask.Ask.{Ask}
 use Rattle.command_types.specs.declared.ask.Entry.{Entry}
 use Rattle.command_types.specs.declared.line.Line.{Line}
-use Rattle.command_types.specs.declared.answer.Answer.{Answer}
 use Rattle.command_types.specs.declared.answer.Reply.{Reply}
 use Rattle.command_types.specs.declared.figures.Figures.{Figures}
 use Rattle.command_types.specs.Roster.{Rows}
 use Rattle.command_types.specs.History.{History, IsLegal, end_of, longer, recorded}
-use Rattle.command_types.specs.Lines.{cut_of}
 use Rattle.command_types.specs.Grammar.{line_within}
-use Rattle.command_types.specs.Details.{reply_text}
 use Rattle.cycle_lock.specs.declared.pass.Pass.{Pass}
 use Rattle.cycle_lock.specs.Passes.{LockId, lock_of, seat_of, figures_of, seen, saw_stop, may_split}
-use Rattle.session.specs.declared.serve.Step.{Step}
-use Rattle.session.specs.declared.serve.Step.TheVariants.{On, Over}
-use Rattle.command_types.specs.Session.{is_bye, Speaker, nobody, what_or_fault, speaker_after, Standing, Mark, mark_of, IsAsked, IsReplied, IsTalk}
-use Rattle.session.specs.Pending.{Says}
+use Rattle.command_types.specs.Session.{Speaker, nobody, what_or_fault, speaker_after, Standing, Mark, mark_of, IsAsked, IsReplied, IsTalk}
 
 -- what stays while a session asks: the lock that the desk is in, what the desk was when it was made, the number of the session's seat, and how many passes may be split off for others
 pub record Seat : Type 0 where
@@ -79,33 +73,6 @@ pub record AnswersRead (old new : Sight) (before after : Speaker) (read : Result
 -- A line is replied to.
 abbrev pub Answers : Sight → Sight → Speaker → Speaker → List ℕ → Reply → Type 0
 Answers old new before after line reply = AnswersRead old new before after (line_within line) reply
-
--- a session goes on after each answer but that to an accepted BYE
-abbrev pub step_of : Answer → Step
-step_of answer = if is_bye answer then Over else On
-
--- A line is replied to, and the reply comes behind what waited for the sink. Behind the reply to a BYE nothing waits.
-pub record RepliesWhole (old new : Sight) (before after : Speaker) (line : List ℕ) (taken then_taken : Option (List ℕ)) (waited waits : List ℕ) (step : Step) : Type 0 where
-  pub reply : Reply
-  pub answers : Answers old new before after line reply
-  pub said : Says taken then_taken waited waits (reply_text (roster_of old) reply)
-  pub next : step ≡ step_of reply.answer
-  pub flushed : step ≡ Over → waits ≡ []
-
--- A line is replied to, and of what waited and the reply a front is written that is not the whole.
-pub record RepliesInPart (old new : Sight) (before after : Speaker) (line : List ℕ) (taken then_taken : Option (List ℕ)) (waited : List ℕ) : Type 0 where
-  pub reply : Reply
-  pub answers : Answers old new before after line reply
-  pub took : TakesFront taken then_taken (waited ++ reply_text (roster_of old) reply)
-
--- All whole lines of these bytes are replied to, the replies are written but for what waits, and the begun line is kept, as far as it counts.
-pub record Served (start : Sight) (begun taken : Option (List ℕ)) (waits : List ℕ) (now : Sight) (speaker : Speaker) (kept bytes : List ℕ) : Type 0 where
-  pub text : List ℕ
-  pub made : List Entry
-  pub grows : Grows start now made
-  pub said : Says begun taken [] waits text
-  pub talk : IsTalk start.seat.figures now.history start.seat.number (standing start nobody false) (cut_of bytes).whole text made (standing now speaker false)
-  pub line : kept ≡ take 4097 (cut_of bytes).rest
 
 -- These lines are replied to, and the replies are written, all of them.
 pub record Written (start : Sight) (begun taken : Option (List ℕ)) (now : Sight) (lines : List (List ℕ)) : Type 0 where

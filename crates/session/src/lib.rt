@@ -14,7 +14,9 @@ mod proposals;
 mod replies;
 mod reply_writer;
 mod serve;
+mod session;
 mod solutions;
 mod speaker;
+mod taking;
 
 pub use serve::{SessionEnd, serve_session};

@@ -1,0 +1,198 @@
+//! How a session takes its input, piece by piece: every whole line that was read is replied to, and the replies are
+//! written, before more is read.
+
+ghost use Rattle.std.specs.Prelude.{◌≡◌, ℕ, ◌≤◌, ◌<◌, ◌≢◌, [], ◌∷◌, length, IfOk, OnOk, OnErr, Ok};
+ghost use Rattle.outside.specs.Faults.{Rose};
+ghost use Rattle.outside.specs.Flow.{TakesFront};
+ghost use Rattle.command_types.specs.Session.{nobody};
+ghost use Rattle.session.specs.Ending.{Ends};
+ghost use Rattle.session.specs.KeptSpeaker.{speaker_of};
+ghost use Rattle.session.specs.Pending.{Says};
+ghost use Rattle.session.specs.Serving.{of_pass};
+ghost use Rattle.session.specs.Standing.{stand_of, step_of, RepliesWhole, RepliesInPart, GoesOn, IsLeft, IsCut, EndsWritten, EndsCut};
+
+use crate::asker::Asker;
+use crate::asks::ended;
+use crate::line_buffer::LineBuffer;
+use crate::replies::reply_to;
+use crate::reply_writer::ReplyWriter;
+use crate::serve::SessionEnd;
+use crate::session::Session;
+use command_types::{Answer, Desk};
+use network_laws::Solver;
+use outside::{Failed, Sink, Source};
+use parallel_solver::Gate;
+use std::sync::Wait;
+use std::thread::Threads;
+
+// How many bytes a session takes at most.
+const LIMIT: usize = 1_073_741_824;
+
+/// Whether a session goes on after a line.
+#[derive(Clone, Copy, Debug, PartialEq, Eq)]
+pub enum Step {
+    On,
+    /// A BYE was accepted.
+    Over,
+}
+
+fn step_after(answer: &Answer) -> Step
+    ensures { result ≡ step_of answer.now }
+{
+    if matches!(answer, Answer::Bye) {
+        return Step::Over;
+    }
+    Step::On
+}
+
+// Before a PROPOSE, which may take long, what waits is written.
+fn flush_before<K: Sink>(line: &[u8], writer: &mut ReplyWriter, sink: &mut K) -> Result<(), Failed>
+    ensures said { OnOk result (Says (K.taken sink.old) (K.taken sink.new) writer.old.outbox writer.new.outbox []) }
+    ensures front { OnErr result (TakesFront (K.taken sink.old) (K.taken sink.new) writer.old.outbox) }
+    ensures never_falls { K.faults sink.old ≤ K.faults sink.new }
+    ensures failed { OnErr result (Rose (K.faults sink.old) (K.faults sink.new)) }
+{
+    if line.starts_with(b"PROPOSE ") {
+        return writer.flush(sink);
+    }
+    Ok(())
+}
+
+impl<'a, T: Desk, R: Threads + Wait + Sync, V: Solver, G: Gate> Session<'a, T, R, V, G> {
+    /// Replies to a line. The reply waits for the sink, but that to a BYE is written.
+    pub fn answer<K: Sink>(&mut self, line: &[u8], sink: &mut K) -> Result<Step, Failed>
+        ensures whole { IfOk result (RepliesWhole (stand_of self.old) (stand_of self.new) line.now (K.taken sink.old) (K.taken sink.new)) }
+        ensures in_part { OnErr result (RepliesInPart (stand_of self.old) (stand_of self.new) line.now (K.taken sink.old) (K.taken sink.new)) }
+        ensures never_falls { K.faults sink.old ≤ K.faults sink.new }
+        ensures failed { OnErr result (Rose (K.faults sink.old) (K.faults sink.new)) }
+    {
+        let reply = reply_to(
+            self.alloc,
+            &mut self.asker,
+            self.roster,
+            &mut self.speaker,
+            line,
+        );
+        match self.writer.write(self.roster, &reply, sink) {
+            Ok(()) => {}
+            Err(fault) => return Err(fault),
+        }
+        let step = step_after(&reply.answer);
+        if step == Step::On {
+            return Ok(step);
+        }
+        match self.writer.flush(sink) {
+            Ok(()) => Ok(step),
+            Err(fault) => Err(fault),
+        }
+    }
+
+    // Takes one byte of the input. A line feed ends a line, which is replied to.
+    fn take_byte<K: Sink>(
+        &mut self,
+        line: &mut LineBuffer,
+        byte: u8,
+        sink: &mut K,
+    ) -> Result<Step, Failed>
+        ensures on { result ≡ Ok Step.On → GoesOn (stand_of self.old) (stand_of self.new) line.old line.new (K.taken sink.old) (K.taken sink.new) (byte ∷ []) }
+        ensures over { result ≡ Ok Step.Over → IsLeft (stand_of self.old) (stand_of self.new) line.old (K.taken sink.old) (K.taken sink.new) (byte ∷ []) }
+        ensures cut_off { OnErr result (IsCut (stand_of self.old) (stand_of self.new) line.old (K.taken sink.old) (K.taken sink.new) (byte ∷ [])) }
+        ensures never_falls { K.faults sink.old ≤ K.faults sink.new }
+        ensures failed { OnErr result (Rose (K.faults sink.old) (K.faults sink.new)) }
+    {
+        if byte != b'\n' {
+            line.push(byte);
+            return Ok(Step::On);
+        }
+        match flush_before(line.bytes(), &mut self.writer, sink) {
+            Ok(()) => {}
+            Err(fault) => return Err(fault),
+        }
+        let step = self.answer(ended(line.bytes()), sink);
+        line.clear();
+        step
+    }
+
+    // Takes a piece of the input, up to a BYE. Then all its replies are written.
+    fn take_piece<K: Sink>(
+        &mut self,
+        line: &mut LineBuffer,
+        piece: &[u8],
+        sink: &mut K,
+    ) -> Result<Step, Failed>
+        ensures on { result ≡ Ok Step.On → GoesOn (stand_of self.old) (stand_of self.new) line.old line.new (K.taken sink.old) (K.taken sink.new) piece.now }
+        ensures over { result ≡ Ok Step.Over → IsLeft (stand_of self.old) (stand_of self.new) line.old (K.taken sink.old) (K.taken sink.new) piece.now }
+        ensures cut_off { OnErr result (IsCut (stand_of self.old) (stand_of self.new) line.old (K.taken sink.old) (K.taken sink.new) piece.now) }
+        ensures none_waits { result ≡ Ok Step.On → self.new.writer.outbox ≡ [] }
+        ensures never_falls { K.faults sink.old ≤ K.faults sink.new }
+        ensures failed { OnErr result (Rose (K.faults sink.old) (K.faults sink.new)) }
+    {
+        for byte in piece {
+            match self.take_byte(line, *byte, sink) {
+                Ok(Step::On) => {}
+                Ok(Step::Over) => return Ok(Step::Over),
+                Err(fault) => return Err(fault),
+            }
+        }
+        match self.writer.flush(sink) {
+            Ok(()) => Ok(Step::On),
+            Err(fault) => Err(fault),
+        }
+    }
+
+    // Replies to a last line without a line feed, if it is not empty.
+    fn take_end<K: Sink>(&mut self, line: &LineBuffer, sink: &mut K) -> Result<(), Failed>
+        requires waits { self.old.writer.outbox ≡ [] }
+        ensures written { OnOk result (EndsWritten (stand_of self.old) (stand_of self.new) line.now (K.taken sink.old) (K.taken sink.new)) }
+        ensures cut_off { OnErr result (EndsCut (stand_of self.old) (stand_of self.new) line.now (K.taken sink.old) (K.taken sink.new)) }
+        ensures never_falls { K.faults sink.old ≤ K.faults sink.new }
+        ensures failed { OnErr result (Rose (K.faults sink.old) (K.faults sink.new)) }
+    {
+        if line.bytes().is_empty() {
+            return Ok(());
+        }
+        match self.answer(line.bytes(), sink) {
+            Ok(_) => self.writer.flush(sink),
+            Err(fault) => Err(fault),
+        }
+    }
+
+    /// Replies to the lines of a source, which is read into this piece. The session is at its start.
+    pub fn serve<S: Source, K: Sink>(
+        &mut self,
+        line: &mut LineBuffer,
+        piece: &mut [u8],
+        source: &mut S,
+        sink: &mut K,
+    ) -> SessionEnd
+        requires piece { 0 < length piece.old }
+        requires line { line.old ≡ [] }
+        requires waits { self.old.writer.outbox ≡ [] }
+        requires speaker { speaker_of self.old.speaker ≡ nobody }
+        ensures ends { Ends (of_pass self.old.asker.pass) (S.flow source.old) (S.flow source.new) (K.taken sink.old) (K.taken sink.new) (of_pass self.new.asker.pass) result }
+        ensures memory { result ≢ SessionEnd.Memory }
+        ensures source_fault { result ≡ SessionEnd.SourceFault → Rose (S.faults source.old) (S.faults source.new) }
+        ensures sink_fault { result ≡ SessionEnd.SinkFault → Rose (K.faults sink.old) (K.faults sink.new) }
+    {
+        let mut taken = 0usize;
+        while taken < LIMIT {
+            let room = piece.len().min(LIMIT - taken);
+            let n = match source.read(&mut piece[..room]) {
+                Ok(n) => n,
+                Err(Failed) => return SessionEnd::SourceFault,
+            };
+            if n == 0 {
+                match self.take_end(line, sink) {
+                    Ok(()) => return SessionEnd::Ended,
+                    Err(Failed) => return SessionEnd::SinkFault,
+                }
+            }
+            match self.take_piece(line, &piece[..n], sink) {
+                Ok(Step::On) => taken += n,
+                Ok(Step::Over) => return SessionEnd::Ended,
+                Err(Failed) => return SessionEnd::SinkFault,
+            }
+        }
+        SessionEnd::Limit
+    }
+}
