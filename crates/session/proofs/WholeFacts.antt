@@ -1,7 +1,6 @@
 -- How a line feed goes on, from what its reply tells.
 use Rattle.std.proofs.Common.{◌≡◌, ℕ, ◌==◌, true, List, [], ◌∷◌, ◌++◌, Option, Result, Ok, IfOk, refl, sym, subst, ap}
 use Rattle.command_types.specs.Lines.{cut_of, ended_line}
-use Rattle.command_types.specs.Session.{Speaker}
 use Rattle.outside.specs.declared.failed.Failed.{Failed}
 use Rattle.session.specs.declared.taking.Step.{Step}
 use Rattle.session.specs.declared.taking.Step.TheVariants.{On, Over}

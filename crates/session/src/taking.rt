@@ -73,18 +73,13 @@ impl<'a, T: Desk, R: Threads + Wait + Sync, V: Solver, G: Gate> Session<'a, T, R
             &mut self.speaker,
             line,
         );
-        match self.writer.write(self.roster, &reply, sink) {
-            Ok(()) => {}
-            Err(fault) => return Err(fault),
-        }
+        self.writer.write(self.roster, &reply, sink)?;
         let step = step_after(&reply.answer);
         if step == Step::On {
             return Ok(step);
         }
-        match self.writer.flush(sink) {
-            Ok(()) => Ok(step),
-            Err(fault) => Err(fault),
-        }
+        self.writer.flush(sink)?;
+        Ok(step)
     }
 
     // Takes one byte of the input. A line feed ends a line, which is replied to.
@@ -104,10 +99,7 @@ impl<'a, T: Desk, R: Threads + Wait + Sync, V: Solver, G: Gate> Session<'a, T, R
             line.push(byte);
             return Ok(Step::On);
         }
-        match flush_before(line.bytes(), &mut self.writer, sink) {
-            Ok(()) => {}
-            Err(fault) => return Err(fault),
-        }
+        flush_before(line.bytes(), &mut self.writer, sink)?;
         let step = self.answer(ended(line.bytes()), sink);
         line.clear();
         step
@@ -128,16 +120,13 @@ impl<'a, T: Desk, R: Threads + Wait + Sync, V: Solver, G: Gate> Session<'a, T, R
         ensures failed { OnErr result (Rose (K.faults sink.old) (K.faults sink.new)) }
     {
         for byte in piece {
-            match self.take_byte(line, *byte, sink) {
-                Ok(Step::On) => {}
-                Ok(Step::Over) => return Ok(Step::Over),
-                Err(fault) => return Err(fault),
+            match self.take_byte(line, *byte, sink)? {
+                Step::On => {}
+                Step::Over => return Ok(Step::Over),
             }
         }
-        match self.writer.flush(sink) {
-            Ok(()) => Ok(Step::On),
-            Err(fault) => Err(fault),
-        }
+        self.writer.flush(sink)?;
+        Ok(Step::On)
     }
 
     // Replies to a last line without a line feed, if it is not empty.
@@ -151,10 +140,8 @@ impl<'a, T: Desk, R: Threads + Wait + Sync, V: Solver, G: Gate> Session<'a, T, R
         if line.bytes().is_empty() {
             return Ok(());
         }
-        match self.answer(line.bytes(), sink) {
-            Ok(_) => self.writer.flush(sink),
-            Err(fault) => Err(fault),
-        }
+        self.answer(line.bytes(), sink)?;
+        self.writer.flush(sink)
     }
 
     /// Replies to the lines of a source, which is read into this piece. The session is at its start.

@@ -1,4 +1,4 @@
-use Rattle.std.proofs.Common.{◌≡◌, ◌∙◌, sym, subst, ap}
+use Rattle.std.proofs.Common.{◌∙◌, sym, subst, ap}
 use Rattle.cycle_lock.specs.declared.pass.Pass.{Pass}
 use Rattle.session.specs.Serving.{of_pass}
 use Rattle.session.specs.Ending.{Ends}

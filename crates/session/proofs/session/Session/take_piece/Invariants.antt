@@ -1,4 +1,4 @@
-use Rattle.std.proofs.Common.{ℕ, ◌≤◌, take}
+use Rattle.std.proofs.Common.{◌≤◌, take}
 use Rattle.session.specs.Standing.{stand_of, GoesOn}
 use Rattle.session.proofs.session.Session.take_piece.Given as goal
 
