@@ -1,6 +1,7 @@
 """A `serve` of the program that was built, for the tests."""
 
 import os
+import signal
 import socket
 import subprocess
 import tempfile
@@ -58,6 +59,13 @@ class InService(unittest.TestCase):
         pipes = {"stdout": subprocess.PIPE, "stderr": subprocess.PIPE}
         self.service = subprocess.Popen(self.words(), stdin=subprocess.DEVNULL, **pipes)
         self.assertEqual(run([TOOLS / "wait-ready", self.address, "30"]), Ran(0, b"", b""))
+
+    def hold(self) -> None:
+        """Stops the service where it is, and waits until it has stopped: only then does it surely read no more."""
+        assert self.service is not None
+        self.service.send_signal(signal.SIGSTOP)
+        pid, state = os.waitpid(self.service.pid, os.WUNTRACED)
+        self.assertTrue(pid == self.service.pid and os.WIFSTOPPED(state), state)
 
     def kill(self) -> None:
         if self.service is not None:

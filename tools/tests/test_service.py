@@ -89,7 +89,7 @@ class Service(InService):
         waiting.stdin.write(b"HELLO B KB\n")
         waiting.stdin.flush()
         self.assertEqual(waiting.stdout.readline(), b"[0]  hello  NAME B\n")
-        self.service.send_signal(signal.SIGSTOP)
+        self.hold()
         waiting.stdin.write(b"NETS P\n")
         waiting.stdin.flush()
         with self.assertRaises(subprocess.TimeoutExpired):
