@@ -2,10 +2,10 @@
 
 import os
 import pty
+import select
 import subprocess
 import sys
 import tempfile
-import time
 import unittest
 from pathlib import Path
 from typing import Any
@@ -172,6 +172,22 @@ def environment(example: str, **more: str) -> dict[str, str]:
     return {**os.environ, "EXAMPLE": str(EXAMPLES / f"{example}.session"), "COMPRESS_CLI": str(FAKE), **more}
 
 
+def read_to(terminal: int, end: bytes) -> bytes:
+    """What comes from a terminal up to these bytes, as a prompt, or, where they are none, to its end."""
+    text = b""
+    while not (end and text.endswith(end)):
+        if not select.select([terminal], [], [], 60)[0]:
+            raise AssertionError(f"nothing comes behind {text!r}")
+        try:
+            piece = os.read(terminal, 4096)
+        except OSError:
+            piece = b""
+        if not piece:
+            break
+        text += piece
+    return text
+
+
 class InFolder(unittest.TestCase):
     def setUp(self) -> None:
         folder = tempfile.TemporaryDirectory()
@@ -323,15 +339,11 @@ class Shells(InFolder):
         child, terminal = pty.fork()
         if child == 0:
             os.execve(words[0], words, environ)
-        for line in typed:
-            time.sleep(1)
-            os.write(terminal, line)
         text = b""
-        try:
-            while piece := os.read(terminal, 4096):
-                text += piece
-        except OSError:
-            pass
+        for line in typed:
+            text += read_to(terminal, b"> ")
+            os.write(terminal, line)
+        text += read_to(terminal, b"")
         _, status = os.waitpid(child, 0)
         os.close(terminal)
         self.assertIn(b"HELLO A KA", text)
