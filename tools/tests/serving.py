@@ -1,14 +1,21 @@
 """A `serve` of the program that was built, for the tests."""
 
 import os
+import re
 import signal
 import socket
 import subprocess
+import sys
 import tempfile
 import unittest
 from pathlib import Path
+from typing import NamedTuple
 
 from running import EXAMPLES, TOOLS, Ran, program, run
+
+sys.path.insert(0, str(TOOLS))
+
+from delkwoan.session import Session
 
 ROSTER = EXAMPLES / "roster.csv"
 
@@ -29,6 +36,20 @@ def free_port() -> int:
     with socket.socket() as unbound:
         unbound.bind(("127.0.0.1", 0))
         return unbound.getsockname()[1]
+
+
+class Kept(NamedTuple):
+    """A record of a journal: the seat, who spoke, and the line of the change."""
+
+    seat: int
+    party: str
+    line: str
+
+
+def kept_by(told: bytes) -> list[Kept]:
+    """The records that the inspector told."""
+    found = re.findall(r"^\d+ record \d+, \d+ bytes: seat (\d+), (\S+): (.*)$", told.decode(), re.MULTILINE)
+    return [Kept(int(seat), party, line) for seat, party, line in found]
 
 
 class InService(unittest.TestCase):
@@ -54,11 +75,25 @@ class InService(unittest.TestCase):
     def words(self, journal: Path | None = None) -> list[str | Path]:
         return [self.program, "serve", ROSTER, journal or self.journal, self.address]
 
-    def start(self) -> None:
+    def start(self, *options: str) -> None:
         """Starts a service over the journal, and waits until it takes connections."""
         pipes = {"stdout": subprocess.PIPE, "stderr": subprocess.PIPE}
-        self.service = subprocess.Popen(self.words(), stdin=subprocess.DEVNULL, **pipes)
+        self.service = subprocess.Popen([*self.words(), *options], stdin=subprocess.DEVNULL, **pipes)
         self.assertEqual(run([TOOLS / "wait-ready", self.address, "30"]), Ran(0, b"", b""))
+
+    def session(self, name: str = "") -> Session:
+        """A session with the service, greeted by this name."""
+        session = Session.connect("127.0.0.1", self.port, 60)
+        self.addCleanup(session.close)
+        if name:
+            session.hello(name, "KO" if name == "OPS" else f"K{name}")
+        return session
+
+    def records(self, journal: Path | None = None) -> list[Kept]:
+        """The journal's records, by the inspector."""
+        told = run([TOOLS / "journal", journal or self.journal])
+        self.assertEqual((told.status, told.errors), (0, b""))
+        return kept_by(told.output)
 
     def hold(self) -> None:
         """Stops the service where it is, and waits until it has stopped: only then does it surely read no more."""

@@ -14,24 +14,10 @@ from test_client import whole_cycle
 sys.path.insert(0, str(TOOLS))
 
 from delkwoan import replies
-from delkwoan.session import LinkClosed, Session
+from delkwoan.session import LinkClosed
 
 
 class Service(InService):
-    def session(self, name: str = "") -> Session:
-        """A session with the service, greeted by this name."""
-        session = Session.connect("127.0.0.1", self.port, 60)
-        self.addCleanup(session.close)
-        if name:
-            session.hello(name, "KO" if name == "OPS" else f"K{name}")
-        return session
-
-    def records(self, journal: object = None) -> list[str]:
-        """What the journal's records say, by the inspector."""
-        told = run([TOOLS / "journal", journal or self.journal])
-        self.assertEqual((told.status, told.errors), (0, b""))
-        return [line.split(": ", 1)[1] for line in told.output.decode().splitlines() if " record " in line]
-
     def test_a_whole_cycle(self) -> None:
         self.start()
         with self.session() as session:
@@ -67,7 +53,7 @@ class Service(InService):
         for pair, positions in places.items():
             self.assertEqual(positions, sorted(positions))
             for count, position in enumerate(positions):
-                self.assertIn(f" TRADE {pair[0]} {pair[1]} P {1 + count} 2026-03-02", " " + records[position - 1])
+                self.assertEqual(records[position - 1].line, f"TRADE {pair[0]} {pair[1]} P {1 + count} 2026-03-02")
 
     def test_the_client(self) -> None:
         self.start()
@@ -150,7 +136,7 @@ class Service(InService):
             records = self.records()
             self.assertIn(len(records) - max(acknowledged), (0, 1))
             for position, kept in acknowledged.items():
-                self.assertTrue(records[position - 1].endswith(f"TRADE A B P {kept} 2026-03-02"))
+                self.assertEqual(records[position - 1].line, f"TRADE A B P {kept} 2026-03-02")
 
     def test_a_backup_of_a_running_service_is_restored(self) -> None:
         self.start()

@@ -9,7 +9,6 @@ import socket
 import sys
 import threading
 import unittest
-from pathlib import Path
 from typing import IO, NamedTuple
 
 from running import TOOLS, run
@@ -115,11 +114,6 @@ class SideBySide(InService):
                     left -= 1
                 file.close()
 
-    def records(self, journal: Path) -> list[str]:
-        """The records of a journal but for their places and seats."""
-        lines = run([TOOLS / "journal", journal]).output.decode().splitlines()
-        return [line.split(", ", 2)[2] for line in lines if " record " in line]
-
     def test_replies_are_those_of_one_history(self) -> None:
         self.start()
         known, told = Known(), [list[Told]() for _ in range(SEATS)]
@@ -138,7 +132,8 @@ class SideBySide(InService):
         again = self.folder / "again"
         replies = run([self.program, "script", ROSTER, again], lines.encode()).output.decode()
         self.assert_replies(replies, ordered)
-        self.assertEqual(self.records(again), self.records(self.journal))
+        one, other = ([(kept.party, kept.line) for kept in self.records(path)] for path in (again, self.journal))
+        self.assertEqual(one, other)
 
     def assert_replies(self, replies: str, ordered: list[Told]) -> None:
         """The replies of a script to a greeting and a line for each of these."""
