@@ -43,13 +43,13 @@ class Case(NamedTuple):
 
 
 CASES = [
-    Case("NETS, 1 connection", 1, 10_000, 1, NETS),
-    Case("NETS, 4 connections", 4, 5_000, 1, NETS),
-    Case("NETS, 16 connections", 16, 2_500, 1, NETS),
-    Case("NETS, 1 connection, 16 ahead", 1, 80_000, 16, NETS),
-    Case("NETS, 16 connections, 16 ahead", 16, 20_000, 16, NETS),
-    Case("TRADE, 1 connection", 1, 10_000, 1, TRADE, True),
-    Case("TRADE, 16 connections", 16, 1_000, 1, TRADE, True),
+    Case("NETS, 1 connection", 1, 40_000, 1, NETS),
+    Case("NETS, 4 connections", 4, 20_000, 1, NETS),
+    Case("NETS, 16 connections", 16, 10_000, 1, NETS),
+    Case("NETS, 1 connection, 16 ahead", 1, 320_000, 16, NETS),
+    Case("NETS, 16 connections, 16 ahead", 16, 4_000, 16, NETS),
+    Case("TRADE, 1 connection", 1, 40_000, 1, TRADE, True),
+    Case("TRADE, 16 connections", 16, 2_000, 1, TRADE, True),
 ]
 
 
