@@ -8,3 +8,4 @@ pub mod ServeFacts
 pub mod PlaceFacts
 pub mod ServiceFacts
 pub mod StatusFacts
+pub mod CompleteFacts

@@ -15,3 +15,4 @@ pub mod Gen
 pub mod Ending
 pub mod Telling
 pub mod Statuses
+pub mod Complete

@@ -17,5 +17,5 @@ mod solve;
 mod top;
 mod words;
 
-pub use laws::statuses_tell_the_end;
+pub use laws::{answers_what_it_can, statuses_tell_the_end};
 pub use top::run;

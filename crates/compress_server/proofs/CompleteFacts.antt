@@ -1,0 +1,216 @@
+-- What is answered where nothing outside fails: first the ends that are left, and then their statuses.
+use Rattle.std.proofs.Common.{◌≡◌, ◌⊎◌, ℕ, Bool, true, false, List, Option, Some, refl, sym, subst, inl, inr, ◌∙◌}
+use Rattle.doors.specs.Visits.{Visits}
+use Rattle.outside.specs.Faults.{Rose}
+use Rattle.outside.specs.Files.{Folder}
+use Rattle.outside.specs.Flow.{Flow}
+use Rattle.command_types.specs.Roster.{Rows}
+use Rattle.command_types.specs.declared.file_fault.FileFault.{FileFault}
+use Rattle.command_types.specs.History.{end_of}
+use Rattle.house.specs.House.{HouseView, is_stopped}
+use Rattle.compress_server.specs.declared.load.FileRole.{FileRole}
+use Rattle.compress_server.specs.declared.load.LoadFault.{LoadFault}
+use Rattle.compress_server.specs.declared.load.LoadFault.TheVariants.{Files, Faulty, Memory as NoMemory}
+use Rattle.compress_server.specs.declared.ending.End.{End}
+use Rattle.compress_server.specs.declared.ending.End.TheVariants.{Done, No, BadWords, Unloaded, Damaged, DiskFault, Stopped, ListenerFault, SourceFault, SinkFault, Limit, Memory}
+use Rattle.compress_server.specs.Complete.{Counts, IsUndisturbed, IsCheck, IsScript, HasJournal, IsAnswered, IsFormFault, AnswersWhatItCan}
+use Rattle.compress_server.specs.Ending.{IsFault, JournalRuns, CheckRuns, SolveRuns, GenRuns, Runs, IsCounted}
+use Rattle.compress_server.specs.Housed.{DiskState, OpeningFails}
+use Rattle.compress_server.specs.Seen.{OutputState, Seen}
+use Rattle.compress_server.specs.Serve.{IsUnhoused, IsUnbegun, IsService, HouseServes, IsWritten, history_line, service_end}
+use Rattle.compress_server.specs.Telling.{TellsEnd}
+use Rattle.compress_server.specs.Words.{Market, Form}
+
+-- the ends that are left
+IsAnswer : Form → End → Type 0
+IsAnswer form Done = Unit {0}
+IsAnswer form No = IsCheck form
+IsAnswer form BadWords = ⊥
+IsAnswer form (Unloaded (Files role)) = ⊥
+IsAnswer form (Unloaded (Faulty role fault)) = ⊥
+IsAnswer form (Unloaded NoMemory) = Unit {0}
+IsAnswer form (Damaged place) = HasJournal form
+IsAnswer form DiskFault = ⊥
+IsAnswer form Stopped = ⊥
+IsAnswer form ListenerFault = ⊥
+IsAnswer form SourceFault = ⊥
+IsAnswer form SinkFault = ⊥
+IsAnswer form Limit = IsScript form
+IsAnswer form Memory = Unit {0}
+
+-- a status of an end that is left
+status_answered : (form : Form) (told then_told : Option (List ℕ)) (errors then_errors : ℕ) (end : End) (status : ℕ) → TellsEnd told then_told errors then_errors end status → IsAnswer form end → IsAnswered form status
+unfolding IsAnswer
+status_answered form told then_told errors then_errors Done status t a = inl t.0
+status_answered form told then_told errors then_errors No status t a = inr (inl (t.0, a))
+status_answered form told then_told errors then_errors BadWords status t a = absurd a
+status_answered form told then_told errors then_errors (Unloaded (Files role)) status t a = absurd a
+status_answered form told then_told errors then_errors (Unloaded (Faulty role fault)) status t a = absurd a
+status_answered form told then_told errors then_errors (Unloaded NoMemory) status t a = inr (inr (inr (inr t.0)))
+status_answered form told then_told errors then_errors (Damaged place) status (inl t) a = inr (inr (inl (t.0, a)))
+status_answered form told then_told errors then_errors (Damaged place) status (inr t) a = inr (inr (inr (inr t.0)))
+status_answered form told then_told errors then_errors DiskFault status t a = absurd a
+status_answered form told then_told errors then_errors Stopped status t a = absurd a
+status_answered form told then_told errors then_errors ListenerFault status t a = absurd a
+status_answered form told then_told errors then_errors SourceFault status t a = absurd a
+status_answered form told then_told errors then_errors SinkFault status t a = absurd a
+status_answered form told then_told errors then_errors Limit status t a = inr (inr (inr (inl (t.0, a))))
+status_answered form told then_told errors then_errors Memory status t a = inr (inr (inr (inr t.0)))
+
+-- a file that could not be had: what is left is want of memory
+load_answered : (form : Form) (P : FileRole → FileFault → Type 0) (Q : FileRole → Type 0) (files input output : Type 0) (fault : LoadFault) →
+    IsFault P Q fault → IsCounted files input output (Unloaded fault) → (files → ⊥) → ((role : FileRole) (f : FileFault) → P role f → ⊥) → IsAnswer form (Unloaded fault)
+unfolding IsAnswer
+load_answered form P Q files input output (Files role) is counted held right = absurd (held counted)
+load_answered form P Q files input output (Faulty role f) is counted held right = absurd (right role f is)
+load_answered form P Q files input output NoMemory is counted held right = tt
+
+-- the same of an end that is such a fault
+unloaded_answered : (form : Form) (P : FileRole → FileFault → Type 0) (Q : FileRole → Type 0) (files input output : Type 0) (end : End) (fault : LoadFault) → end ≡ Unloaded fault →
+    IsFault P Q fault → IsCounted files input output end → (files → ⊥) → ((role : FileRole) (f : FileFault) → P role f → ⊥) → IsAnswer form end
+unloaded_answered form P Q files input output end fault e is counted held right =
+    let C : End → Type 0 = λ x. IsCounted files input output x in
+    let A : End → Type 0 = λ x. IsAnswer form x in
+    subst A (sym e) (load_answered form P Q files input output fault is (subst C e counted) held right)
+
+-- a script over its disk
+journal_answered : (roster journal : List ℕ) (workers : ℕ) (rows : Rows) (opened flow : Option Flow) (begun taken : Option (List ℕ)) (disk left : DiskState) (files input output : Type 0) (end : End) →
+    JournalRuns rows opened flow begun taken disk left end → IsCounted files input output end → (input → ⊥) → (output → ⊥) → (Rose disk.faults left.faults → ⊥) → IsAnswer (Form.Script roster journal workers) end
+unfolding IsAnswer
+journal_answered roster journal workers rows opened flow begun taken disk left files input output Done r counted no_input no_output no_disk = tt
+journal_answered roster journal workers rows opened flow begun taken disk left files input output No r counted no_input no_output no_disk = absurd r
+journal_answered roster journal workers rows opened flow begun taken disk left files input output BadWords r counted no_input no_output no_disk = absurd r
+journal_answered roster journal workers rows opened flow begun taken disk left files input output (Unloaded fault) r counted no_input no_output no_disk = absurd r
+journal_answered roster journal workers rows opened flow begun taken disk left files input output (Damaged place) r counted no_input no_output no_disk = tt
+journal_answered roster journal workers rows opened flow begun taken disk left files input output DiskFault (same, kept, unopened, rose) counted no_input no_output no_disk = absurd (no_disk rose)
+journal_answered roster journal workers rows opened flow begun taken disk left files input output Stopped (over, rose) counted no_input no_output no_disk = absurd (no_disk rose)
+journal_answered roster journal workers rows opened flow begun taken disk left files input output ListenerFault r counted no_input no_output no_disk = absurd r
+journal_answered roster journal workers rows opened flow begun taken disk left files input output SourceFault r counted no_input no_output no_disk = absurd (no_input counted)
+journal_answered roster journal workers rows opened flow begun taken disk left files input output SinkFault r counted no_input no_output no_disk = absurd (no_output counted)
+journal_answered roster journal workers rows opened flow begun taken disk left files input output Limit r counted no_input no_output no_disk = tt
+journal_answered roster journal workers rows opened flow begun taken disk left files input output Memory r counted no_input no_output no_disk = tt
+
+-- a check
+check_answered : (folder : Option Folder) (market : Market) (proposal : List ℕ) (begun taken : Option (List ℕ)) (files input output : Type 0) (end : End) →
+    CheckRuns folder market proposal begun taken end → IsCounted files input output end → (files → ⊥) → (output → ⊥) → ((role : FileRole) (f : FileFault) → IsFormFault folder (Form.Check market proposal) role f → ⊥) → IsAnswer (Form.Check market proposal) end
+unfolding IsAnswer
+check_answered folder market proposal begun taken files input output Done r counted no_files no_output right = tt
+check_answered folder market proposal begun taken files input output No r counted no_files no_output right = tt
+check_answered folder market proposal begun taken files input output BadWords r counted no_files no_output right = absurd r
+check_answered folder market proposal begun taken files input output (Unloaded fault) r counted no_files no_output right = load_answered (Form.Check market proposal) _ _ files input output fault r.1 counted no_files right
+check_answered folder market proposal begun taken files input output (Damaged place) r counted no_files no_output right = absurd r
+check_answered folder market proposal begun taken files input output DiskFault r counted no_files no_output right = absurd r
+check_answered folder market proposal begun taken files input output Stopped r counted no_files no_output right = absurd r
+check_answered folder market proposal begun taken files input output ListenerFault r counted no_files no_output right = absurd r
+check_answered folder market proposal begun taken files input output SourceFault r counted no_files no_output right = absurd r
+check_answered folder market proposal begun taken files input output SinkFault r counted no_files no_output right = absurd (no_output counted)
+check_answered folder market proposal begun taken files input output Limit r counted no_files no_output right = absurd r
+check_answered folder market proposal begun taken files input output Memory r counted no_files no_output right = tt
+
+-- a solve
+solve_answered : (folder : Option Folder) (market : Market) (workers : ℕ) (begun taken : Option (List ℕ)) (files input output : Type 0) (end : End) →
+    SolveRuns folder market begun taken end → IsCounted files input output end → (files → ⊥) → (output → ⊥) → ((role : FileRole) (f : FileFault) → IsFormFault folder (Form.Solve market workers) role f → ⊥) → IsAnswer (Form.Solve market workers) end
+unfolding IsAnswer
+solve_answered folder market workers begun taken files input output Done r counted no_files no_output right = tt
+solve_answered folder market workers begun taken files input output No r counted no_files no_output right = absurd r
+solve_answered folder market workers begun taken files input output BadWords r counted no_files no_output right = absurd r
+solve_answered folder market workers begun taken files input output (Unloaded fault) r counted no_files no_output right = load_answered (Form.Solve market workers) _ _ files input output fault r.1 counted no_files right
+solve_answered folder market workers begun taken files input output (Damaged place) r counted no_files no_output right = absurd r
+solve_answered folder market workers begun taken files input output DiskFault r counted no_files no_output right = absurd r
+solve_answered folder market workers begun taken files input output Stopped r counted no_files no_output right = absurd r
+solve_answered folder market workers begun taken files input output ListenerFault r counted no_files no_output right = absurd r
+solve_answered folder market workers begun taken files input output SourceFault r counted no_files no_output right = absurd r
+solve_answered folder market workers begun taken files input output SinkFault r counted no_files no_output right = absurd (no_output counted)
+solve_answered folder market workers begun taken files input output Limit r counted no_files no_output right = absurd r
+solve_answered folder market workers begun taken files input output Memory r counted no_files no_output right = tt
+
+-- a gen, which reads nothing
+gen_answered : (number workers : ℕ) (begun taken : Option (List ℕ)) (files input output : Type 0) (end : End) → GenRuns number begun taken end → IsCounted files input output end → (output → ⊥) → IsAnswer (Form.Gen number workers) end
+unfolding IsAnswer
+gen_answered number workers begun taken files input output Done r counted no_output = tt
+gen_answered number workers begun taken files input output No r counted no_output = absurd r
+gen_answered number workers begun taken files input output BadWords r counted no_output = absurd r
+gen_answered number workers begun taken files input output (Unloaded fault) r counted no_output = absurd r
+gen_answered number workers begun taken files input output (Damaged place) r counted no_output = absurd r
+gen_answered number workers begun taken files input output DiskFault r counted no_output = absurd r
+gen_answered number workers begun taken files input output Stopped r counted no_output = absurd r
+gen_answered number workers begun taken files input output ListenerFault r counted no_output = absurd r
+gen_answered number workers begun taken files input output SourceFault r counted no_output = absurd r
+gen_answered number workers begun taken files input output SinkFault r counted no_output = absurd (no_output counted)
+gen_answered number workers begun taken files input output Limit r counted no_output = absurd r
+gen_answered number workers begun taken files input output Memory r counted no_output = tt
+
+-- a service whose house was not opened
+unhoused_answered : (roster journal address : List ℕ) (seats connections workers : ℕ) (rows : Rows) (disk left : DiskState) (end : End) → OpeningFails rows disk left end → (Rose disk.faults left.faults → ⊥) → IsAnswer (Form.Serve roster journal address seats connections workers) end
+unfolding IsAnswer
+unhoused_answered roster journal address seats connections workers rows disk left Done r no_disk = absurd r
+unhoused_answered roster journal address seats connections workers rows disk left No r no_disk = absurd r
+unhoused_answered roster journal address seats connections workers rows disk left BadWords r no_disk = absurd r
+unhoused_answered roster journal address seats connections workers rows disk left (Unloaded fault) r no_disk = absurd r
+unhoused_answered roster journal address seats connections workers rows disk left (Damaged place) r no_disk = tt
+unhoused_answered roster journal address seats connections workers rows disk left DiskFault (unopened, rose) no_disk = absurd (no_disk rose)
+unhoused_answered roster journal address seats connections workers rows disk left Stopped r no_disk = absurd r
+unhoused_answered roster journal address seats connections workers rows disk left ListenerFault r no_disk = absurd r
+unhoused_answered roster journal address seats connections workers rows disk left SourceFault r no_disk = absurd r
+unhoused_answered roster journal address seats connections workers rows disk left SinkFault r no_disk = absurd r
+unhoused_answered roster journal address seats connections workers rows disk left Limit r no_disk = absurd r
+unhoused_answered roster journal address seats connections workers rows disk left Memory r no_disk = tt
+
+-- the output's count rose where the line was not written whole
+count_rose : (before after : OutputState) (line : List ℕ) (written : Bool) → IsWritten before after line written → written ≡ false → Rose before.faults after.faults
+count_rose before after line true w e = absurd (cc e)
+count_rose before after line false w e = w.1
+
+-- a service whose seats served
+seats_answered : (roster journal address : List ℕ) (seats connections workers : ℕ) (no_memory door_fault stopped written : Bool) →
+    (stopped ≡ true → ⊥) → (written ≡ false → ⊥) → (service_end no_memory door_fault stopped written ≡ ListenerFault → ⊥) → IsAnswer (Form.Serve roster journal address seats connections workers) (service_end no_memory door_fault stopped written)
+unfolding IsAnswer
+seats_answered roster journal address seats connections workers true door_fault stopped written no_stop no_cut no_door = tt
+seats_answered roster journal address seats connections workers false true stopped written no_stop no_cut no_door = absurd (no_door refl)
+seats_answered roster journal address seats connections workers false false true written no_stop no_cut no_door = absurd (no_stop refl)
+seats_answered roster journal address seats connections workers false false false true no_stop no_cut no_door = tt
+seats_answered roster journal address seats connections workers false false false false no_stop no_cut no_door = absurd (no_cut refl)
+
+-- a service whose seats could not begin
+unbegun_answered : (roster journal address : List ℕ) (seats connections workers : ℕ) (before after : ℕ) (end : End) →
+    ((end ≡ Memory) ⊎ ((end ≡ ListenerFault) × Rose before after)) → (Rose before after → ⊥) → IsAnswer (Form.Serve roster journal address seats connections workers) end
+unfolding IsAnswer
+unbegun_answered roster journal address seats connections workers before after end (inl e) held = let A : End → Type 0 = λ x. IsAnswer (Form.Serve roster journal address seats connections workers) x in subst A (sym e) tt
+unbegun_answered roster journal address seats connections workers before after end (inr (e, rose)) held = absurd (held rose)
+
+-- a service over its house
+served_answered : {D : Type 0} (visits : D → Option Visits) (roster journal address : List ℕ) (seats connections workers : ℕ) (folder : Option Folder) (old new : Counts) (before after : Seen) (v w : HouseView) (end : End) →
+    (is_stopped w ≡ true → Rose before.disk.faults after.disk.faults) →
+    HouseServes visits (record { seats = seats; connections = connections }) v w before.output after.output before.listener after.listener end →
+    IsUndisturbed folder (Form.Serve roster journal address seats connections workers) old new before after → IsAnswer (Form.Serve roster journal address seats connections workers) end
+served_answered visits roster journal address seats connections workers folder old new before after v w end stops (inl u) held =
+    unbegun_answered roster journal address seats connections workers before.listener.faults after.listener.faults end u.why held.listener_held
+served_answered visits roster journal address seats connections workers folder old new before after v w end stops (inr s) held =
+    let A : End → Type 0 = λ x. IsAnswer (Form.Serve roster journal address seats connections workers) x in
+    subst A (sym s.told) (seats_answered roster journal address seats connections workers _ _ (is_stopped w) s.written
+    (λ e. held.disk_held (stops e)) (λ e. held.output_held (count_rose before.output after.output (history_line (end_of w.history)) s.written s.wrote e)) (λ e. held.listener_held (s.counted (s.told ∙ e))))
+
+-- the end of any form
+end_answered : {D : Type 0} (visits : D → Option Visits) (folder : Option Folder) (form : Form) (opened flow : Option Flow) (old new : Counts) (before after : Seen) (end : End) →
+    Runs visits folder (Some form) opened flow before after end → IsCounted (Rose old.files new.files) (Rose old.input new.input) (Rose before.output.faults after.output.faults) end →
+    IsUndisturbed folder form old new before after → IsAnswer form end
+end_answered visits folder (Form.Script roster journal workers) opened flow old new before after end (same, inl (fault, e, unread, unwritten, kept, is)) counted held =
+    unloaded_answered (Form.Script roster journal workers) _ _ _ _ _ end fault e is counted held.files_held held.right
+end_answered visits folder (Form.Script roster journal workers) opened flow old new before after end (same, inr (rows, says, are, runs)) counted held =
+    journal_answered roster journal workers rows opened flow _ _ _ _ _ _ _ end runs counted held.input_held held.output_held held.disk_held
+end_answered visits folder (Form.Serve roster journal address seats connections workers) opened flow old new before after end (same, inl (fault, e, kept, is)) counted held =
+    unloaded_answered (Form.Serve roster journal address seats connections workers) _ _ _ _ _ end fault e is counted held.files_held held.right
+end_answered visits folder (Form.Serve roster journal address seats connections workers) opened flow old new before after end (same, inr (rows, says, are, inl u)) counted held =
+    unhoused_answered roster journal address seats connections workers rows before.disk after.disk end u.opening held.disk_held
+end_answered visits folder (Form.Serve roster journal address seats connections workers) opened flow old new before after end (same, inr (rows, says, are, inr (v, w, housed, serves))) counted held =
+    served_answered visits roster journal address seats connections workers folder old new before after v w end housed.stopped serves held
+end_answered visits folder (Form.Check market proposal) opened flow old new before after end (same, only, runs) counted held =
+    check_answered folder market proposal _ _ _ _ _ end runs counted held.files_held held.output_held held.right
+end_answered visits folder (Form.Solve market workers) opened flow old new before after end (same, only, runs) counted held =
+    solve_answered folder market workers _ _ _ _ _ end runs counted held.files_held held.output_held held.right
+end_answered visits folder (Form.Gen number workers) opened flow old new before after end (same, only, runs) counted held =
+    gen_answered number workers _ _ _ _ _ end runs counted held.output_held
+
+pub answers_what_it_can : {D : Type 0} (visits : D → Option Visits) → AnswersWhatItCan visits
+answers_what_it_can visits folder form opened flow old new before after end told then_told errors then_errors status runs tells counted held =
+    status_answered form told then_told errors then_errors end status tells (end_answered visits folder form opened flow old new before after end runs counted held)
