@@ -10,13 +10,47 @@ use atomic_table::Seat;
 use command_types::Desk;
 use std::hint::spin_loop;
 use std::sync::Wait;
+use std::time::Duration;
 
 pub(super) type SeatOf<T> = Seat<Option<T>, View>;
 
-// How many looks a seat takes at the ticket that is served before it lets the system wait for it.
+// How many looks a seat takes, for a free lock or for its ticket, before it sleeps.
 const LOOKS: u32 = 200;
 
+// How often a seat sleeps for a moment where the lock is not free, before it draws a ticket all the same.
+const PAUSES: u32 = 20;
+
+const PAUSE_MICROS: u64 = 50;
+
 impl<T: Desk> Turns<T> {
+    // Looks whether each ticket that was drawn has been served, but not for long.
+    fn is_free(&self) -> bool {
+        for _ in 0..LOOKS {
+            if self.table.shared.peek(1) == self.table.shared.peek(2) {
+                return true;
+            }
+            spin_loop();
+        }
+        false
+    }
+
+    // Stands back while others have tickets. Tickets are served in their order, so that each that is drawn behind a seat
+    // that sleeps waits for that seat to wake.
+    fn stand_back<R: Wait>(&self, rt: &R) {
+        for _ in 0..PAUSES {
+            if self.is_free() {
+                return;
+            }
+            let number = self.table.shared.peek(3);
+            self.table.shared.park_timeout(
+                rt,
+                3,
+                (number % (1 << 32)) as u32,
+                Duration::from_micros(PAUSE_MICROS),
+            );
+        }
+    }
+
     // Looks at the ticket that is served until it is this one, but not for long: most turns are short.
     fn watch(&self, ticket: u64) {
         for _ in 0..LOOKS {
@@ -35,6 +69,7 @@ impl<T: Desk> Turns<T> {
         ensures same { seat.new.me.0.account ≡ seat.old.me.0.account }
         ensures took { Took T.history T.figures T.stopped seat.old.me.1 seat.new.me }
     {
+        self.stand_back(rt);
         let ticket = self.table.shared.fetch_add::<Draw>(seat, 1, 1);
         for _ in rt.forever() {
             self.watch(ticket);
