@@ -3,4 +3,5 @@ pub mod PairRows
 pub mod PairLimits
 pub mod SettingOrder
 pub mod Passed
+pub mod OpenPairs
 pub mod ModeLaws

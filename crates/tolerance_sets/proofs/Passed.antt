@@ -17,7 +17,7 @@ pub no_limit : (market : Market) (i j : ℕ) → amount_in market.network.now i 
 no_limit market i j none still = rw (still, none) refl
 
 -- no row stands between two pairs that have the same cursor
-none_between : (rows : List Row) (m i from to j : ℕ) → IsCursor rows m (i * 65536 + from) → IsCursor rows m (i * 65536 + to) → from ≤ j → j < to → amount_in rows i j ≡ 0
+pub none_between : (rows : List Row) (m i from to j : ℕ) → IsCursor rows m (i * 65536 + from) → IsCursor rows m (i * 65536 + to) → from ≤ j → j < to → amount_in rows i j ≡ 0
 none_between rows m i from to j first last le l =
     amount_none rows i j (λ k d lk e.
     ⊎_elim (λ (b : k < m). omega (arith, e, le, first.before k d b)) (λ (b : m ≤ k). omega (arith, e, l, last.behind k d b lk)) (cases_lt k m))

@@ -1,3 +1,4 @@
 pub mod Settings
 pub mod Market
+pub mod OpenPairs
 pub mod Laws

@@ -1,7 +1,8 @@
 -- What contracts see of the settings of all members, and how they are kept.
-use Rattle.std.specs.Prelude.{◌≡◌, ℕ, ◌+◌, ◌*◌, ◌<◌, ◌≤◌, List, [], ◌∷◌}
+use Rattle.std.specs.Prelude.{◌≡◌, ℕ, ◌+◌, ◌*◌, ◌<◌, ◌≤◌, List, [], ◌∷◌, None}
+use Rattle.command_types.specs.declared.trade.Side.{Side}
 use Rattle.command_types.specs.declared.tolerance.ToleranceRow.{ToleranceRow}
-use Rattle.command_types.specs.Tolerances.{setting_place, with_setting}
+use Rattle.command_types.specs.Tolerances.{setting_place, with_setting, ceiling_in}
 
 -- the settings in their order, and how many more there is room for
 pub record SettingsView : Type 0 where
@@ -33,3 +34,7 @@ AreKept (entry ∷ entries) = IsKeptBy entry.0 entry.1 × AreKept entries
 pub record IsStore (entries : List (ℕ × ToleranceRow)) (spare map_spare : ℕ) : Type 0 where
   pub kept : AreKept entries
   pub room : spare ≤ map_spare
+
+-- no member set a ceiling in a product
+abbrev pub HaveNoCeiling : List ToleranceRow → ℕ → Type 0
+HaveNoCeiling settings product = (member other : ℕ) (side : Side) → ceiling_in settings member product other side ≡ None

@@ -3,6 +3,7 @@
 
 mod laws;
 mod limits;
+mod open_pairs;
 mod pair_cursor;
 mod settings;
 mod tolerances;

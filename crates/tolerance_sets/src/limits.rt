@@ -7,6 +7,7 @@ ghost use Rattle.command_types.specs.Books.{listed_below, listed_pairs};
 ghost use Rattle.command_types.specs.Tolerances.{smaller_of, pair_floor, pair_ceiling, is_dealer_row, is_open, may_grow, pair_upper, pair_lower, limit_row};
 ghost use Rattle.tolerance_sets.specs.Market.{IsMarket, AreNoDealers, IsAtPair, HaveNone, market_limit};
 
+use crate::open_pairs::{add_open_seller, is_unbounded};
 use crate::pair_cursor::PairCursor;
 use crate::settings::Settings;
 use command_types::{Level, MemberRow, Mode, Role, Side};
@@ -125,8 +126,12 @@ fn pair_limit(
     })
 }
 
-// Adds the row of a pair, if it has one.
-fn add_pair(rows: &mut Vec<LimitRow>, market: &Market, pair: PairCursor) -> Result<(), AllocError>
+/// Adds the row of a pair, if it has one.
+pub(super) fn add_pair(
+    rows: &mut Vec<LimitRow>,
+    market: &Market,
+    pair: PairCursor,
+) -> Result<(), AllocError>
     requires market { IsMarket market.now }
     requires pair { IsAtPair market.now pair }
     ensures { OnOk result (rows.new.items ≡ rows.old.items ++ market_limit market.now pair.seller pair.buyer) }
@@ -185,8 +190,13 @@ pub(super) fn all_limits(alloc: Global, market: &Market) -> Result<Vec<LimitRow>
 {
     let members = market.members.len() as u16;
     let mut rows = Vec::with_capacity(alloc, room_for(market))?;
+    let unbounded = is_unbounded(market);
     for seller in 0..members {
-        add_seller(&mut rows, market, seller, members)?;
+        if unbounded {
+            add_open_seller(&mut rows, market, seller, members)?;
+        } else {
+            add_seller(&mut rows, market, seller, members)?;
+        }
     }
     Ok(rows)
 }

@@ -126,8 +126,8 @@ fn place_of(row: Row) -> u32
     row.seller as u32 * 65536 + row.buyer as u32
 }
 
-// The buyer of a seller's row at a cursor, or the number of members where the cursor is past the seller's rows.
-fn buyer_at(rows: &[Row], at: usize, seller: u16, members: u16) -> u16
+/// The buyer of a seller's row at a cursor, or the number of members where the cursor is past the seller's rows.
+pub(super) fn buyer_at(rows: &[Row], at: usize, seller: u16, members: u16) -> u16
     requires rising { IsRising rows.now }
     ensures end { result ≤ members }
     ensures from { (buyer : ℕ) → buyer ≤ members → IsCursor rows.now at (seller * 65536 + buyer) → buyer ≤ result }

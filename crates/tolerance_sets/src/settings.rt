@@ -1,9 +1,9 @@
 //! The settings of all members, each found by its place: by its member, product, other member and side.
 
-ghost use Rattle.std.specs.Prelude.{◌≡◌, ◌+◌, ◌<◌, ◌≤◌, [], OnOk, OnErr};
+ghost use Rattle.std.specs.Prelude.{◌≡◌, true, ◌+◌, ◌<◌, ◌≤◌, [], OnOk, OnErr};
 ghost use Rattle.command_types.specs.Tolerances.{side_place, setting_place, is_setting_of, floor_in, ceiling_in, with_setting};
 ghost use Rattle.indexmap.specs.IndexMap.{spare};
-ghost use Rattle.tolerance_sets.specs.Settings.{place_of, settings_of, IsKeptBy, AreKept};
+ghost use Rattle.tolerance_sets.specs.Settings.{place_of, settings_of, IsKeptBy, AreKept, HaveNoCeiling};
 
 use command_types::{Level, Side, ToleranceRow};
 use indexmap::IndexMap;
@@ -147,5 +147,12 @@ impl Settings {
                 ceiling: None,
             },
         }
+    }
+
+    /// Whether no member set a ceiling in a product. It may say no where none did.
+    pub(super) fn have_no_ceiling(&self, product: ProductNo) -> bool
+        ensures { result ≡ true → HaveNoCeiling self.now.settings product }
+    {
+        self.rows.is_empty()
     }
 }
