@@ -2,6 +2,7 @@ pub mod Walk
 pub mod PairRows
 pub mod PairLimits
 pub mod SettingOrder
+pub mod NoCeiling
 pub mod Passed
 pub mod OpenPairs
 pub mod ModeLaws

@@ -40,17 +40,17 @@ its_own place member product other side row in_p in_o kept e =
 
 -- a setting before others, where one is put
 module _ (new row : ToleranceRow) (rows : List ToleranceRow) where
-  at_same : setting_place row ≡ setting_place new → with_setting new (row ∷ rows) ≡ new ∷ rows
+  pub at_same : setting_place row ≡ setting_place new → with_setting new (row ∷ rows) ≡ new ∷ rows
   at_same e = rw (eq-eqb (setting_place row) (setting_place new) e) refl
 
-  at_less : setting_place new < setting_place row → with_setting new (row ∷ rows) ≡ new ∷ row ∷ rows
+  pub at_less : setting_place new < setting_place row → with_setting new (row ∷ rows) ≡ new ∷ row ∷ rows
   at_less l = rw (ne_eqb (setting_place row) (setting_place new) (λ q. omega (arith, q, l)), lt-ltb (setting_place new) (setting_place row) l) refl
 
-  at_more : setting_place row < setting_place new → with_setting new (row ∷ rows) ≡ row ∷ with_setting new rows
+  pub at_more : setting_place row < setting_place new → with_setting new (row ∷ rows) ≡ row ∷ with_setting new rows
   at_more l = rw (ne_eqb (setting_place row) (setting_place new) (λ q. omega (arith, q, l)), le-ltb (setting_place new) (setting_place row) (omega (arith, l))) refl
 
 -- below, at or above
-three_ways : {P : Type 0} (a b : ℕ) → (a < b → P) → (a ≡ b → P) → (b < a → P) → P
+pub three_ways : {P : Type 0} (a b : ℕ) → (a < b → P) → (a ≡ b → P) → (b < a → P) → P
 three_ways a b less same more =
     ⊎_elim less (λ (le : b ≤ a). ⊎_elim same (λ (ne : a ≢ b). more (omega (arith, le, ne))) (cases_eq a b)) (cases_lt a b)
 

@@ -1,5 +1,6 @@
 -- What contracts see of the settings of all members, and how they are kept.
-use Rattle.std.specs.Prelude.{◌≡◌, ℕ, ◌+◌, ◌*◌, ◌<◌, ◌≤◌, List, [], ◌∷◌, None}
+use Rattle.std.specs.Prelude.{◌≡◌, ℕ, ◌+◌, ◌*◌, ◌<◌, ◌≤◌, ◌==◌, ◌&&◌, Bool, List, [], ◌∷◌, None}
+use Rattle.std.specs.Option.{is_some}
 use Rattle.command_types.specs.declared.trade.Side.{Side}
 use Rattle.command_types.specs.declared.tolerance.ToleranceRow.{ToleranceRow}
 use Rattle.command_types.specs.Tolerances.{setting_place, with_setting, ceiling_in}
@@ -34,6 +35,10 @@ AreKept (entry ∷ entries) = IsKeptBy entry.0 entry.1 × AreKept entries
 pub record IsStore (entries : List (ℕ × ToleranceRow)) (spare map_spare : ℕ) : Type 0 where
   pub kept : AreKept entries
   pub room : spare ≤ map_spare
+
+-- the setting is one of a product, and has a ceiling
+abbrev pub sets_ceiling : ℕ → ToleranceRow → Bool
+sets_ceiling product row = (row.product == product) && is_some row.ceiling
 
 -- no member set a ceiling in a product
 abbrev pub HaveNoCeiling : List ToleranceRow → ℕ → Type 0

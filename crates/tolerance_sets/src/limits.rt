@@ -178,7 +178,7 @@ fn room_for(market: &Market) -> usize {
     let members = market.members.len().min(MOST_MEMBERS as usize);
     match market.mode {
         Mode::Conservative | Mode::Hybrid => market.network.len(),
-        Mode::Free => members * members.saturating_sub(1),
+        Mode::Free => members * members,
     }
 }
 

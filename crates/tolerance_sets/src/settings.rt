@@ -2,8 +2,9 @@
 
 ghost use Rattle.std.specs.Prelude.{◌≡◌, true, ◌+◌, ◌<◌, ◌≤◌, [], OnOk, OnErr};
 ghost use Rattle.command_types.specs.Tolerances.{side_place, setting_place, is_setting_of, floor_in, ceiling_in, with_setting};
-ghost use Rattle.indexmap.specs.IndexMap.{spare};
-ghost use Rattle.tolerance_sets.specs.Settings.{place_of, settings_of, IsKeptBy, AreKept, HaveNoCeiling};
+ghost use Rattle.std.specs.List.{list_any};
+ghost use Rattle.indexmap.specs.IndexMap.{spare, values};
+ghost use Rattle.tolerance_sets.specs.Settings.{place_of, settings_of, IsKeptBy, AreKept, sets_ceiling, HaveNoCeiling};
 
 use command_types::{Level, Side, ToleranceRow};
 use indexmap::IndexMap;
@@ -85,6 +86,14 @@ fn insert(rows: &mut IndexMap<u64, ToleranceRow>, new: ToleranceRow)
     }
 }
 
+// Whether one of the settings has a ceiling in a product.
+fn any_ceiling(rows: &IndexMap<u64, ToleranceRow>, product: ProductNo) -> bool
+    ensures { result ≡ list_any (sets_ceiling product) (values rows.now) }
+{
+    rows.values()
+        .any(|row| row.product == product && row.ceiling.is_some())
+}
+
 impl Settings {
     /// No settings. It takes no memory.
     pub(super) fn new(alloc: Global) -> Settings
@@ -153,6 +162,6 @@ impl Settings {
     pub(super) fn have_no_ceiling(&self, product: ProductNo) -> bool
         ensures { result ≡ true → HaveNoCeiling self.now.settings product }
     {
-        self.rows.is_empty()
+        !any_ceiling(&self.rows, product)
     }
 }

@@ -1,7 +1,5 @@
-use Rattle.std.proofs.Common.{rules, List, Vec, Global, ◌≡◌, ◌+◌, ◌-◌, ◌≤◌, ◌==◌, ◌++◌, sym, ap, ◌∙◌, refl, arith}
+use Rattle.std.proofs.Common.{rules, List, Vec, Global, ◌≡◌, ◌+◌, ◌-◌, ◌++◌, ap, ◌∙◌, refl, arith}
 use Rattle.std.specs.Vec.{vec_len, vec_capacity}
-use Rattle.std.proofs.lemmas.Bool.{ne_eqb, eq-eqb}
-use Rattle.std.proofs.lemmas.List.{append-nil}
 use Rattle.network_laws.specs.declared.rows.LimitRow.{LimitRow}
 use Rattle.tolerance_sets.specs.OpenPairs.{open_row, listed_from}
 use Rattle.tolerance_sets.proofs.OpenPairs.{one_open, none_yet, own_row, other_row}

@@ -1,8 +1,7 @@
-use Rattle.std.proofs.Common.{◌≡◌, ◌+◌, ◌*◌, ◌≤◌, ◌<◌, ◌++◌, ℕ, refl, sym, ap, ◌∙◌, arith}
+use Rattle.std.proofs.Common.{◌≡◌, ◌++◌, refl, sym, ap, ◌∙◌, arith}
 use Rattle.std.proofs.lemmas.List.{append-nil}
-use Rattle.network_laws.specs.Networks.{IsCursor}
 use Rattle.command_types.specs.Books.{listed_below}
-use Rattle.tolerance_sets.specs.Market.{IsAtPair, market_limit}
+use Rattle.tolerance_sets.specs.Market.{market_limit}
 use Rattle.tolerance_sets.specs.OpenPairs.{open_row}
 use Rattle.tolerance_sets.proofs.OpenPairs.{open_limit, open_up_to}
 use Rattle.tolerance_sets.proofs.Passed.{none_between}
