@@ -12,7 +12,7 @@ use Rattle.path_solver.specs.Prices.{IsTight, IsOpen}
 use Rattle.path_solver.specs.Entries.{AreEntries, IsOpenInto, is_open_to}
 use Rattle.path_solver.specs.Groups.{AreGroups}
 use Rattle.path_solver.specs.Rests.{HaveSome}
-use Rattle.path_solver.specs.Levels.{IsReached, LeadsDown, AreLevels, AreCut, IsSource}
+use Rattle.path_solver.specs.Levels.{IsReached, LeadsDown, AreLevels, AreFewest, AreCut, IsSource}
 use Rattle.path_solver.proofs.Near.{near_open, open_near}
 use Rattle.path_solver.proofs.OneMoreExit.{ends_in}
 use Rattle.path_solver.proofs.Pigeons.{few_values, IsTaken}
@@ -44,6 +44,7 @@ pub record IsSpread (r : ResidualData) (p surplus lack levels : List ℕ) (level
   pub next : AreNext r p lack levels level now
   pub receivers : (v : ℕ) → 0 < get_or lack v 0 → get_or levels v 0 ≡ 65535 → has now v ≡ true
   pub closed : (a : ℕ) → a < arc_count r.flows → IsOpen r.flows p a → IsReached levels (head r.flows a) → get_or levels (tail r.flows a) 0 ≡ 65535 → has now (tail r.flows a) ≡ true
+  pub fewest : AreFewest r.flows p levels level
 
 -- who has an amount is a member
 pub amount_in : (amounts : List ℕ) (v : ℕ) → 0 < get_or amounts v 0 → (n : ℕ) → length amounts ≡ n → v < n
@@ -75,6 +76,10 @@ spread_none r p surplus lack levels now reached one_each len none receivers empt
       };
       receivers = λ v some e. (receivers v).1 some;
       closed = λ a l is_open was e. absurd (was (at (head r.flows a) (ends_in r residual a l).1));
+      fewest = record {
+        all = λ a l is_open was. absurd (was (at (head r.flows a) (ends_in r residual a l).1));
+        steps = λ a l is_open was. absurd (was (at (head r.flows a) (ends_in r residual a l).1));
+      };
     }
 
 module _ (r : ResidualData) (p surplus lack levels new : List ℕ) (level : ℕ) (now reached : MemberSet) (residual : IsResidual r) (h : IsSpread r p surplus lack levels level now reached) where
@@ -126,6 +131,44 @@ module _ (r : ResidualData) (p surplus lack levels new : List ℕ) (level : ℕ)
               let d = own.1 in
               (own.0, lead v own.0 d.arc d.tail (d.room, d.tight) (λ e. omega (arith, e, d.down, low, h.below v l was)) (d.down ∙ sym (others v off)))
         ]
+
+    steps_more : (a : ℕ) → a < arc_count r.flows → IsOpen r.flows p a → IsReached new (head r.flows a) → IsReached new (tail r.flows a) → get_or new (tail r.flows a) 0 ≤ get_or new (head r.flows a) 0 + 1
+    steps_more a l is_open is_head is_tail =
+        let h' = head r.flows a in
+        let t' = tail r.flows a in
+        elim (cases_Bool (has some (tail r.flows a))) [
+          | inl on_t ↦
+              elim (cases_Bool (has some (head r.flows a))) [
+                | inl on_h ↦ omega (arith, marked t' on_t, marked h' on_h)
+                | inr off_h ↦
+                    elim (cases_lt (get_or levels (head r.flows a) 0 + 1) level) [
+                      | inl less ↦ absurd (h.fewest.all a l is_open (λ e. is_head (others h' off_h ∙ e)) less (h.next.new t' (subset t' on_t)))
+                      | inr more ↦ omega (arith, marked t' on_t, others h' off_h, more)
+                    ]
+              ]
+          | inr off_t ↦
+              let was_t : IsReached levels (tail r.flows a) = λ e. is_tail (others t' off_t ∙ e) in
+              let low_t = h.below t' (ends_in r residual a l).0 was_t in
+              elim (cases_Bool (has some (head r.flows a))) [
+                | inl on_h ↦ omega (arith, others t' off_t, low_t, marked h' on_h)
+                | inr off_h ↦
+                    let old = h.fewest.steps a l is_open (λ e. is_head (others h' off_h ∙ e)) was_t in
+                    omega (arith, others t' off_t, others h' off_h, old)
+              ]
+        ]
+
+    all_more : (a : ℕ) → a < arc_count r.flows → IsOpen r.flows p a → IsReached new (head r.flows a) → get_or new (head r.flows a) 0 + 1 < level → IsReached new (tail r.flows a)
+    all_more a l is_open is_head less e =
+        let h' = head r.flows a in
+        elim (cases_Bool (has some (head r.flows a))) [
+          | inl on ↦ omega (arith, marked h' on, less)
+          | inr off ↦
+              let was = h.fewest.all a l is_open (λ q. is_head (others h' off ∙ q)) (omega (arith, others h' off, less)) in
+              was (sym (was_there (tail r.flows a) was) ∙ e)
+        ]
+
+    pub fewest_found : (s : ℕ) → has some s ≡ true → AreFewest r.flows p new (get_or new s 0)
+    fewest_found s on = subst (AreFewest r.flows p new) (sym (marked s on)) (record { all = all_more; steps = steps_more })
 
     -- where one of them has to send, these are levels
     pub spread_found : (s : ℕ) → has some s ≡ true → 0 < get_or surplus s 0 → IsSource surplus new s × AreLevels r.flows p lack new
@@ -234,6 +277,16 @@ module _ (r : ResidualData) (p surplus lack levels new : List ℕ) (level : ℕ)
             | inr off_head ↦
                 absurd (true≢false (sym (h.closed a l is_open (λ q. is (others (head r.flows a) off_head ∙ q)) old) ∙ off))
           ];
+      fewest = record {
+        all = λ a l is_open is less e.
+            let off = off_now (tail r.flows a) e in
+            let old : get_or levels (tail r.flows a) 0 ≡ 65535 = sym (others (tail r.flows a) off) ∙ e in
+            elim (cases_Bool (has now (head r.flows a))) [
+              | inl on ↦ omega (arith, marked (head r.flows a) on, less)
+              | inr off_head ↦ true≢false (sym (h.closed a l is_open (λ q. is (others (head r.flows a) off_head ∙ q)) old) ∙ off)
+            ];
+        steps = steps_more now itself one_each marked others;
+      };
     }
 
   -- nobody comes next

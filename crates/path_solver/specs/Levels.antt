@@ -1,5 +1,5 @@
 -- Levels: how many open arcs a search went back from a member that has to receive.
-use Rattle.std.specs.Prelude.{◌≡◌, ◌≢◌, ℕ, ◌+◌, ◌<◌, List, length, slice_index, Option, Some, None}
+use Rattle.std.specs.Prelude.{◌≡◌, ◌≢◌, ℕ, ◌+◌, ◌<◌, ◌≤◌, List, length, slice_index, Option, Some, None}
 use Rattle.residual_graph.specs.declared.flow.Flow.{Flow}
 use Rattle.residual_graph.specs.Arcs.{arc_count, pair, flow_at, tail, head, room}
 use Rattle.path_solver.specs.Prices.{IsTight, IsOpen}
@@ -20,6 +20,12 @@ pub record LeadsDown (flows : List Flow) (p levels : List ℕ) (v a : ℕ) : Typ
 pub record AreLevels (flows : List Flow) (p lack levels : List ℕ) : Type 0 where
   pub lowest : (v : ℕ) → v < length levels → slice_index levels v ≡ 0 → 0 < slice_index lack v
   pub down : (v : ℕ) → v < length levels → IsReached levels v → 0 < slice_index levels v → (a : ℕ) × LeadsDown flows p levels v a
+
+-- up to the level `last`, no open arc leads more than a level down, and each that leads below the level before it
+-- starts at a reached member: a path of open arcs from the last level to one that has to receive has no fewer arcs
+pub record AreFewest (flows : List Flow) (p levels : List ℕ) (last : ℕ) : Type 0 where
+  pub all : (a : ℕ) → a < arc_count flows → IsOpen flows p a → IsReached levels (head flows a) → slice_index levels (head flows a) + 1 < last → IsReached levels (tail flows a)
+  pub steps : (a : ℕ) → a < arc_count flows → IsOpen flows p a → IsReached levels (head flows a) → IsReached levels (tail flows a) → slice_index levels (tail flows a) ≤ slice_index levels (head flows a) + 1
 
 -- no open arc leads to a reached member from another
 abbrev pub IsClosed : List Flow → List ℕ → List ℕ → Type 0
