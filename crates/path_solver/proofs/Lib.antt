@@ -2,6 +2,7 @@ pub mod Same
 pub mod Walks
 pub mod Descents
 pub mod SentAlong
+pub mod Straight
 pub mod Cuts
 pub mod Pigeons
 pub mod OneMoreExit

@@ -1,13 +1,15 @@
 -- What each phase keeps, and what is left in the end.
-use Rattle.std.proofs.Common.{◌≡◌, ◌≢◌, ℕ, zero, suc, ◌+◌, ◌*◌, ◌<◌, ◌≤◌, ◌%◌, Bool, true, false, List, length, get_or, replicate, All, refl, sym, ap, ◌∙◌, subst, arith, inl, inr, ◌⊎◌, ⊎_elim}
-use Rattle.std.proofs.lemmas.Bool.{cases_eq, cases_lt, eq-eqb, ne_eqb}
+use Rattle.std.proofs.Common.{◌≡◌, ◌≢◌, ℕ, zero, suc, ◌+◌, ◌*◌, ◌<◌, ◌≤◌, ◌%◌, Bool, true, false, List, length, get_or, map, All, refl, sym, ap, ◌∙◌, true≢false, subst, arith, inl, inr, ◌⊎◌, ⊎_elim}
+use Rattle.std.proofs.lemmas.Bool.{cases_eq, cases_lt, eq-eqb, lt-ltb, le-ltb, ne_eqb}
 use Rattle.std.proofs.lemmas.Int.{ints}
-use Rattle.std.proofs.lemmas.List.{get_or_past, get_or_default}
+use Rattle.std.proofs.lemmas.List.{get_or_past, get_or_default, get_or-map, length-map}
 use Rattle.residual_graph.specs.declared.flow.Flow.{Flow}
 use Rattle.residual_graph.specs.Residual.{ResidualData, IsResidual, flow_place}
 use Rattle.residual_graph.specs.Arcs.{pair, is_forward, no_flow, flow_at, room, room_in, head, head_in, tail, tail_in}
-use Rattle.path_solver.specs.Prices.{IsTight, ArePrices}
-use Rattle.path_solver.specs.Rests.{IsSamePair, AreSamePairs, IsFeasible, AreApart, IsSentAlong, owed}
+use Rattle.path_solver.specs.Prices.{IsTight, ArePrices, first_price}
+use Rattle.member_set.specs.declared.set.MemberSet.{MemberSet}
+use Rattle.member_set.specs.Members.{has}
+use Rattle.path_solver.specs.Rests.{IsSamePair, AreSamePairs, IsFeasible, AreApart, IsSentAlong, HaveSome, owed}
 use Rattle.path_solver.specs.Levels.{IsReached, AreCut}
 use Rattle.path_solver.specs.Phases.{IsPhase, IsSettled, raised_price}
 use Rattle.path_solver.proofs.Same.{same_refl, same_sym, same_trans}
@@ -51,23 +53,45 @@ residual_kept a b members same h = record {
 pub feasible_kept : (old new : List Flow) (s l s' l' : List ℕ) → AreSamePairs old new → ((i : ℕ) → owed new s' l' i ≡ owed old s l i) → IsFeasible old s l → IsFeasible new s' l'
 feasible_kept old new s l s' l' same e f = (f.0, same_trans new old f.0 (same_sym old new same) f.1, λ i. f.2 i ∙ sym (e i))
 
-zeros : (n v : ℕ) → let none : ℕ = 0 in get_or (replicate n none) v none ≡ none
-zeros zero v = refl
-zeros (suc n) zero = refl
-zeros (suc n) (suc v) = zeros n v
+-- the first phase, of prices 0 and 1
+pub first_phase : (r : ResidualData) (surplus lack p : List ℕ) (top : ℕ) → p ≡ map first_price lack → length surplus ≡ r.members → length lack ≡ r.members → top ≤ r.members → (0 < r.members → top ≡ 1) → All (λ (f : Flow). f.back ≡ 0) r.flows → AreApart surplus lack → IsPhase r r surplus lack surplus lack p top
+first_phase r surplus lack p top is len_s len_l few one lowest apart = record {
+  members = refl;
+  pairs = same_refl r.flows;
+  owed = λ i. refl;
+  priced = λ k l. record { growing = λ _. omega (arith, low (flow_at r.flows k).seller); falling = λ b. absurd (omega (arith, b, lowest k no_flow l)) };
+  rated = record {
+    senders = λ v sends.
+        let in_v = inside surplus v sends in
+        let none : get_or lack v 0 ≡ 0 = ⊎_elim (λ (e : get_or lack v 0 ≡ 0). e) (λ (ne : get_or lack v 0 ≢ 0). absurd (omega (arith, sends, apart v (omega arith)))) (cases_eq (get_or lack v 0) 0) in
+        at v (omega (arith, in_v, len_s, len_l)) ∙ ap first_price none ∙ sym (one (omega (arith, in_v, len_s)));
+    receivers = λ v receives. at v (inside lack v receives) ∙ rw (lt-ltb 0 (get_or lack v 0) receives) refl;
+    most = λ v.
+        ⊎_elim (λ (in_v : v < length lack). omega (arith, low v, one (omega (arith, in_v, len_l))))
+        (λ (out : length lack ≤ v). omega (arith, get_or_past p v 0 (omega (arith, out, ap length is, length-map lack first_price))))
+        (cases_lt v (length lack));
+  };
+  apart = apart;
+  few = few;
+}
+  where
+    at : (v : ℕ) → v < length lack → get_or p v 0 ≡ first_price (get_or lack v 0)
+    at v l = ap (λ xs. get_or xs v 0) is ∙ get_or-map first_price lack v 0 0 l
 
-pub first_phase : (r : ResidualData) (surplus lack p : List ℕ) → p ≡ replicate r.members 0 → All (λ (f : Flow). f.back ≡ 0) r.flows → AreApart surplus lack → IsPhase r r surplus lack surplus lack p 0
-first_phase r surplus lack p is lowest apart =
-    let zero_at = λ (v : ℕ). ap (λ xs. get_or xs v 0) is ∙ zeros r.members v in
-    record {
-      members = refl;
-      pairs = same_refl r.flows;
-      owed = λ i. refl;
-      priced = λ k l. record { growing = λ _. omega (arith, zero_at (flow_at r.flows k).seller); falling = λ b. absurd (omega (arith, b, lowest k no_flow l)) };
-      rated = record { senders = λ v _. zero_at v; receivers = λ v _. zero_at v; most = λ v. omega (arith, zero_at v) };
-      apart = apart;
-      few = omega arith;
-    }
+    at_most : (x : ℕ) → first_price x ≤ 1
+    at_most x =
+        ⊎_elim (λ (some : 0 < x). let is : first_price x ≡ 0 = rw (lt-ltb 0 x some) refl in omega (arith, is))
+        (λ (none : x ≤ 0). let is : first_price x ≡ 1 = rw (le-ltb 0 x none) refl in omega (arith, is))
+        (cases_lt 0 x)
+
+    low : (v : ℕ) → get_or p v 0 ≤ 1
+    low v =
+        ⊎_elim (λ (in_v : v < length lack). omega (arith, at v in_v, at_most (get_or lack v 0)))
+        (λ (out : length lack ≤ v). omega (arith, get_or_past p v 0 (omega (arith, out, ap length is, length-map lack first_price))))
+        (cases_lt v (length lack))
+
+    inside : (xs : List ℕ) (v : ℕ) → 0 < get_or xs v 0 → v < length xs
+    inside xs v some = ⊎_elim (λ (lt : v < length xs). lt) (λ (ge : length xs ≤ v). absurd (omega (arith, some, get_or_past xs v 0 ge))) (cases_lt v (length xs))
 
 pub phase_sent : (old a b : ResidualData) (s0 l0 s l s' l' p : List ℕ) (top : ℕ) → IsPhase old a s0 l0 s l p top → IsSentAlong p a b s l s' l' → IsPhase old b s0 l0 s' l' p top
 phase_sent old a b s0 l0 s l s' l' p top h x = record {
@@ -82,11 +106,11 @@ phase_sent old a b s0 l0 s l s' l' p top h x = record {
   few = h.few;
 }
 
-forward_of : (k : ℕ) → (pair (2 * k) ≡ k) × (is_forward (2 * k) ≡ true)
+pub forward_of : (k : ℕ) → (pair (2 * k) ≡ k) × (is_forward (2 * k) ≡ true)
 forward_of k = (omega arith, eq-eqb (2 * k % 2) 0 (omega arith))
 
 -- what the arcs of pair k are
-arc_is : (flows : List Flow) (a k : ℕ) (b : Bool) → pair a ≡ k → is_forward a ≡ b → (room flows a ≡ room_in (flow_at flows k) b) × (head flows a ≡ head_in (flow_at flows k) b) × (tail flows a ≡ tail_in (flow_at flows k) b)
+pub arc_is : (flows : List Flow) (a k : ℕ) (b : Bool) → pair a ≡ k → is_forward a ≡ b → (room flows a ≡ room_in (flow_at flows k) b) × (head flows a ≡ head_in (flow_at flows k) b) × (tail flows a ≡ tail_in (flow_at flows k) b)
 arc_is flows a k b e q = (
   ap (λ j. room_in (flow_at flows j) (is_forward a)) e ∙ ap (room_in (flow_at flows k)) q,
   ap (λ j. head_in (flow_at flows j) (is_forward a)) e ∙ ap (head_in (flow_at flows k)) q,
@@ -174,6 +198,48 @@ raised_phase old r s0 l0 s l p p' levels top v0 residual feasible len_p len_p' l
         record { growing = λ room_k. omega (arith, was.growing room_k, at_s, at_b, x.1, y.1); falling = λ back_k. omega (arith, was.falling back_k, at_s, at_b, x.1, y.1) })
         (raised_cases levels p f.buyer))
         (raised_cases levels p f.seller)
+
+-- the price of those that have to send in the first phase: 1 where there are members
+pub first_top : (n : ℕ) → (top : ℕ) × (top ≤ n) × (0 < n → top ≡ 1)
+first_top zero = (0, omega arith, λ some. absurd (omega (arith, some)))
+first_top (suc n) = (1, omega arith, λ _. refl)
+
+-- the first phase after its amounts went straight, with the price of those that have to send
+pub straight_phase : (old mid : ResidualData) (s0 l0 s l p : List ℕ) → p ≡ map first_price l0 → length s0 ≡ old.members → length l0 ≡ old.members → All (λ (f : Flow). f.back ≡ 0) old.flows → AreApart s0 l0 → IsSentAlong p old mid s0 l0 s l → IsPhase old mid s0 l0 s l p (first_top old.members).0
+straight_phase old mid s0 l0 s l p is len_s len_l lowest apart sent =
+    let top = first_top old.members in
+    phase_sent old old mid s0 l0 s0 l0 s l p top.0 (first_phase old s0 l0 p top.0 is len_s len_l top.1 top.2 lowest apart) sent
+
+-- what is settled from later amounts on is settled from earlier ones on
+pub settled_more : (old mid new : ResidualData) (s0 l0 s l p p' : List ℕ) (top : ℕ) → IsPhase old mid s0 l0 s l p top → IsSettled mid new s l p' → IsSettled old new s0 l0 p'
+settled_more old mid new s0 l0 s l p p' top h x = record {
+  members = x.members ∙ h.members;
+  pairs = same_trans old.flows mid.flows new.flows h.pairs x.pairs;
+  nets = λ i in_i. x.nets i (omega (arith, in_i, h.members)) ∙ h.owed i;
+  priced = x.priced;
+  one_each = x.one_each ∙ h.members;
+  most = λ v. omega (arith, x.most v, h.members);
+}
+
+-- a phase from its own amounts on
+pub phase_anew : (old mid : ResidualData) (s0 l0 s l p : List ℕ) (top : ℕ) → IsPhase old mid s0 l0 s l p top → IsPhase mid mid s l s l p top
+phase_anew old mid s0 l0 s l p top h = record {
+  members = refl;
+  pairs = same_refl mid.flows;
+  owed = λ i. refl;
+  priced = h.priced;
+  rated = h.rated;
+  apart = h.apart;
+  few = omega (arith, h.few, h.members);
+}
+
+-- no member has an amount where none is in the set
+pub none_left : (amounts : List ℕ) (set : MemberSet) → HaveSome amounts set → ((v : ℕ) → has set v ≡ false) → (v : ℕ) → get_or amounts v 0 ≡ 0
+none_left amounts set are none v =
+    elim (cases_eq (get_or amounts v 0) 0) [
+      | inl e ↦ e
+      | inr ne ↦ absurd (true≢false (sym ((are v).1 (omega (arith, ne))) ∙ none v))
+    ]
 
 -- where nothing is left to send
 pub settled : (old r : ResidualData) (s0 l0 s l p : List ℕ) (top : ℕ) → IsResidual old → IsFeasible old.flows s0 l0 → length p ≡ old.members → ((v : ℕ) → get_or s v 0 ≡ 0) → IsPhase old r s0 l0 s l p top → IsSettled old r s0 l0 p

@@ -1,5 +1,5 @@
 -- Prices of members, in units of gross per unit moved, and which pairs are tight.
-use Rattle.std.specs.Prelude.{◌≡◌, ℕ, ◌+◌, ◌<◌, ◌≤◌, if◌then◌else◌, List, length, slice_index, map, ℤ, pos}
+use Rattle.std.specs.Prelude.{◌≡◌, ℕ, ◌+◌, ◌<◌, ◌≤◌, if◌then◌else◌, nat_lt, List, length, slice_index, map, ℤ, pos}
 use Rattle.residual_graph.specs.declared.flow.Flow.{Flow}
 use Rattle.residual_graph.specs.Arcs.{flow_at, pair, room, is_forward}
 
@@ -15,6 +15,10 @@ pub record IsPriced (p : List ℕ) (f : Flow) : Type 0 where
 -- the same of all pairs: no arc with room has a negative reduced cost
 abbrev pub ArePrices : List Flow → List ℕ → Type 0
 ArePrices flows p = (k : ℕ) → k < length flows → IsPriced p (flow_at flows k)
+
+-- the price of a member in the first phase, by what it has to receive
+abbrev pub first_price : ℕ → ℕ
+first_price lack = if nat_lt 0 lack then 0 else 1
 
 -- an arc has room, and its pair is tight
 abbrev pub IsOpen : List Flow → List ℕ → ℕ → Type 0

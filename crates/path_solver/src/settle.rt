@@ -3,8 +3,9 @@
 ghost use Rattle.std.specs.Prelude.{◌≡◌, ℕ, ◌<◌, ◌≤◌, length, slice_index, replicate, IfOk, true, All};
 ghost use Rattle.member_set.specs.Members.{has};
 ghost use Rattle.path_solver.specs.Rests.{IsFeasible, AreApart, HaveSome};
-ghost use Rattle.path_solver.specs.Phases.{IsSettled};
+ghost use Rattle.path_solver.specs.Phases.{IsPhase, IsSettled};
 
+use crate::direct::{first_prices, send_direct};
 use crate::entries::entries_of;
 use crate::exits::Exits;
 use crate::groups::sort_by_price;
@@ -56,7 +57,7 @@ fn still_with(amounts: &[u64], members: MemberSet) -> MemberSet
     some
 }
 
-/// Sends everything that is to be sent, and answers the prices.
+/// Sends everything that is to be sent, straight where that is enough, and answers the prices.
 pub fn settle(
     alloc: Global,
     residual: &mut Residual,
@@ -70,11 +71,36 @@ pub fn settle(
     requires feasible { IsFeasible residual.old.flows surplus.old lack.old }
     ensures { IfOk result (λ prices. IsSettled residual.old residual.new surplus.old lack.old prices.items) }
 {
+    let _members = residual.members();
+    let prices = first_prices(alloc, lack)?;
+    send_direct(residual, &prices, surplus, lack);
+    if those_with(surplus).is_empty() {
+        return Ok(prices);
+    }
+    let prices = settle_rest(alloc, residual, surplus, lack, prices)?;
+    Ok(prices)
+}
+
+/// Sends along paths what is left to send in the first phase, and in those behind it, and answers the prices.
+fn settle_rest(
+    alloc: Global,
+    residual: &mut Residual,
+    surplus: &mut [u64],
+    lack: &mut [u64],
+    first: Vec<u16>,
+) -> Result<Vec<u16>, AllocError>
+    requires surplus { residual.old.members ≡ length surplus.old }
+    requires lack { residual.old.members ≡ length lack.old }
+    requires prices { residual.old.members ≡ length first.items }
+    requires phase { IsPhase residual.old residual.old surplus.old lack.old surplus.old lack.old first.items 1 }
+    requires feasible { IsFeasible residual.old.flows surplus.old lack.old }
+    ensures { IfOk result (λ prices. IsSettled residual.old residual.new surplus.old lack.old prices.items) }
+{
     let members = residual.members();
+    let mut prices = first;
     let exits = Exits::of(alloc, residual)?;
     let mut entries = entries_of(alloc, residual)?;
     let mut groups = all_of(alloc, members + 3, MemberSet::new())?;
-    let mut prices = all_of(alloc, members, 0u16)?;
     sort_by_price(&prices, &mut groups);
     let mut levels = all_of(alloc, members, UNREACHED)?;
     let mut current = all_of(alloc, members, 0usize)?;
@@ -82,7 +108,7 @@ pub fn settle(
     let mut senders = those_with(surplus);
     let mut receivers = those_with(lack);
     let mut reached = MemberSet::new();
-    let mut top = 0u16;
+    let mut top = 1u16;
     'phases: while !senders.is_empty() {
         match layer(
             residual,

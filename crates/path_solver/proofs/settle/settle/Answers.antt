@@ -1,140 +1,35 @@
-use Rattle.std.proofs.Common.{◌≡◌, ℕ, ◌+◌, ◌<◌, false, List, length, get_or, Option, refl, inl, inr, true≢false, sym, ap, ◌∙◌, subst, arith}
-use Rattle.std.proofs.lemmas.List.{with_items_is}
-use Rattle.std.specs.Prelude.{IsNone}
-use Rattle.std.proofs.lemmas.Bool.{cases_eq}
-use Rattle.member_set.specs.declared.set.MemberSet.{MemberSet}
-use Rattle.member_set.specs.Members.{has}
-use Rattle.path_solver.specs.Entries.{AreEntries}
-use Rattle.path_solver.specs.Groups.{AreGroups}
-use Rattle.path_solver.specs.Levels.{IsReached, AreCut}
-use Rattle.path_solver.specs.Rests.{IsSentAlong, HaveSome}
-use Rattle.path_solver.specs.Phases.{IsPhase, raised_price}
-use Rattle.path_solver.proofs.Same.{exits_kept}
+use Rattle.std.proofs.Common.{ℕ, ◌<◌, List, length, get_or, refl, sym, ap, subst, arith}
+use Rattle.std.proofs.lemmas.List.{length-map}
+use Rattle.path_solver.specs.Prices.{first_price}
+use Rattle.path_solver.specs.Rests.{IsSentAlong}
+use Rattle.path_solver.specs.Phases.{IsPhase}
 use Rattle.path_solver.proofs.Spreads.{amount_in}
-use Rattle.path_solver.proofs.Phased.{settled, raised_phase, phase_sent}
+use Rattle.path_solver.proofs.Phased.{first_top, straight_phase, phase_anew, none_left, settled}
 use Rattle.path_solver.proofs.settle.settle.Goals as goal
 
-pub layer-requires-clause-entries : goal.layer-requires-clause-entries
-layer-requires-clause-entries c = subst (AreEntries c.phases.residual) (sym c.deref-in-phases.ensures.value) c.phases.invariant.entries
-
-pub layer-requires-clause-sorted : goal.layer-requires-clause-sorted
-layer-requires-clause-sorted c =
-    subst (λ (xs : List ℕ). AreGroups xs c.deref-in-phases-3.result.now) (sym c.deref-in-phases-2.ensures.value)
-    (subst (AreGroups c.phases.prices.items) (sym c.deref-in-phases-3.ensures.value) c.phases.invariant.sorted)
-
-pub raise-requires-clause-sorted : goal.raise-requires-clause-sorted
-raise-requires-clause-sorted c =
-    subst (λ (xs : List ℕ). AreGroups xs c.deref_mut-in-None-2.result.now) (sym c.deref_mut-in-None.ensures.value)
-    (subst (AreGroups c.phases.prices.items) (sym c.deref_mut-in-None-2.ensures.value) c.phases.invariant.sorted)
-
-pub raise-requires-clause-room : goal.raise-requires-clause-room
-raise-requires-clause-room c =
-    let inv = c.phases.invariant in
-    omega (arith, ap length c.deref_mut-in-None-2.ensures.value, inv.groups, inv.phase.few)
-
-pub raise-requires-clause-most : goal.raise-requires-clause-most
-raise-requires-clause-most c v = omega (arith, ap (λ (xs : List ℕ). get_or xs v 0) c.deref_mut-in-None.ensures.value, c.phases.invariant.phase.rated.most v)
-
--- no member has an amount where none is in the set
-none_left : (amounts : List ℕ) (set : MemberSet) → HaveSome amounts set → ((v : ℕ) → has set v ≡ false) → (v : ℕ) → get_or amounts v 0 ≡ 0
-none_left amounts set are none v =
-    elim (cases_eq (get_or amounts v 0) 0) [
-      | inl e ↦ e
-      | inr ne ↦ absurd (true≢false (sym ((are v).1 (omega (arith, ne))) ∙ none v))
-    ]
-
-pub raise-requires-clause-reached : goal.raise-requires-clause-reached
-raise-requires-clause-reached c v =
-    let inv = c.phases.invariant in
-    let levels = with_items_is c.phases.levels c.layer.new.levels (c.layer.auto.levels ∙ c.deref_mut-in-phases.ensures.len) in
-    let at_levels : c.deref-in-None.result.now ≡ c.layer.new.levels = c.deref-in-None.ensures.value ∙ levels in
-    let none : IsNone c.layer.result = subst (λ (o : Option ℕ). IsNone o) (sym c.in-None.is) refl in
-    let known = c.layer.ensures.reached none v in
-    let one_each : length c.deref_mut-in-None.result.now ≡ c.phases.residual.members = ap length c.deref_mut-in-None.ensures.value ∙ inv.prices ∙ sym inv.phase.members in (
-      λ on. (omega (arith, (known.0 on).0, one_each), subst (λ (xs : List ℕ). IsReached xs v) (sym at_levels) (known.0 on).1),
-      λ both. known.1 (omega (arith, both.0, one_each), subst (λ (xs : List ℕ). IsReached xs v) at_levels both.1),
-    )
-
-pub still_with-senders-requires-clause-small : goal.still_with-senders-requires-clause-small
-still_with-senders-requires-clause-small c v on =
-    amount_in c.phases.surplus v ((c.phases.invariant.senders v).0 on) (length c.send_phase.new.surplus) (sym c.send_phase.auto.surplus)
-
-pub still_with-senders-requires-clause-all : goal.still_with-senders-requires-clause-all
-still_with-senders-requires-clause-all c v some = (c.phases.invariant.senders v).1 (c.in_ok-send_phase-in-Some.ensures.along.senders v some)
-
-pub still_with-receivers-requires-clause-small : goal.still_with-receivers-requires-clause-small
-still_with-receivers-requires-clause-small c v on =
-    amount_in c.phases.lack v ((c.phases.invariant.receivers v).0 on) (length c.send_phase.new.lack) (sym c.send_phase.auto.lack)
-
-pub still_with-receivers-requires-clause-all : goal.still_with-receivers-requires-clause-all
-still_with-receivers-requires-clause-all c v some = (c.phases.invariant.receivers v).1 (c.in_ok-send_phase-in-Some.ensures.along.receivers v some)
-
-pub layer-requires-clause-low : goal.layer-requires-clause-low
-layer-requires-clause-low c v =
-    let inv = c.phases.invariant in
-    omega (arith, ap (λ (xs : List ℕ). get_or xs v 0) c.deref-in-phases-2.ensures.value, inv.phase.rated.most v, inv.phase.few, inv.phase.members)
-
-pub send_phase-requires-clause-entries : goal.send_phase-requires-clause-entries
-send_phase-requires-clause-entries c = subst (AreEntries c.phases.residual) (sym c.deref_mut-in-Some.ensures.value) c.phases.invariant.entries
-
-pub send_phase-requires-clause-exits : goal.send_phase-requires-clause-exits
-send_phase-requires-clause-exits c =
-    exits_kept c.args.residual.now c.phases.residual c.in_ok-exits.exits c.phases.invariant.phase.members c.phases.invariant.phase.pairs c.in_ok-exits.ensures.exits
-
-pub phases-preserved-in-None : goal.phases-preserved-in-None
-phases-preserved-in-None c =
+pub returns-then-is_empty : goal.returns-then-is_empty
+returns-then-is_empty c =
     let old = c.args.residual.now in
-    let r = c.phases.residual in
-    let inv = c.phases.invariant in
-    let p = c.phases.prices.items in
-    let p' = c.raise.new.prices in
-    let found = c.layer.new.levels in
-    let at_p : c.deref-in-phases-2.result.now ≡ c.phases.prices.items = c.deref-in-phases-2.ensures.value in
-    let len_found : length c.layer.new.levels ≡ c.args.residual.now.members = c.layer.auto.levels ∙ ap length c.deref_mut-in-phases.ensures.value ∙ inv.levels in
-    let len_new : length c.raise.new.prices ≡ length c.phases.prices.items = c.raise.auto.prices ∙ ap length c.deref_mut-in-None.ensures.value in
-    let levels = with_items_is c.phases.levels c.layer.new.levels (c.layer.auto.levels ∙ c.deref_mut-in-phases.ensures.len) in
-    let prices = with_items_is c.phases.prices c.raise.new.prices (c.raise.auto.prices ∙ c.deref_mut-in-None.ensures.len) in
-    let at_levels : c.deref-in-None.result.now ≡ c.layer.new.levels = c.deref-in-None.ensures.value ∙ levels in
-    let cut : AreCut c.phases.residual.flows c.phases.prices.items c.phases.surplus c.phases.lack c.layer.new.levels =
-    subst (λ (xs : List ℕ). AreCut c.phases.residual.flows xs c.phases.surplus c.phases.lack c.layer.new.levels) at_p (rw c.in-None.is at c.layer.ensures.layered) in
-    let raised : (v : ℕ) → v < length c.phases.prices.items → get_or c.raise.new.prices v 0 ≡ raised_price c.layer.new.levels c.phases.prices.items v =
-    λ v l. c.raise.ensures.raised v (omega (arith, l, ap length c.deref_mut-in-None.ensures.value)) ∙ ap (λ ls. raised_price ls c.deref_mut-in-None.result.now v) at_levels ∙ ap (λ ps. raised_price c.layer.new.levels ps v) c.deref_mut-in-None.ensures.value in
-    let source = c.is_empty.ensures.some c.phases-test.true in
-    let sends : 0 < get_or c.phases.surplus source.0 0 = (c.phases.invariant.senders source.0).0 source.1 in
-    let all = raised_phase old r c.args.surplus.now c.args.lack.now c.phases.surplus c.phases.lack p p' found c.phases.top source.0 c.members-members.ensures.residual c.requires.feasible inv.prices len_new len_found (c.phases.auto.surplus ∙ sym c.requires.surplus) sends inv.phase cut raised in
-    let groups = with_items_is c.phases.groups c.raise.new.groups (c.raise.auto.groups ∙ c.deref_mut-in-None-2.ensures.len) in
-    record {
-      entries = inv.entries;
-      groups = ap length groups ∙ c.raise.auto.groups ∙ ap length c.deref_mut-in-None-2.ensures.value ∙ inv.groups;
-      sorted = rw (prices, groups) c.raise.ensures.sorted;
-      phase = subst (λ (xs : List ℕ). IsPhase c.args.residual.now c.phases.residual c.args.surplus.now c.args.lack.now c.phases.surplus c.phases.lack xs (c.phases.top + 1)) (sym prices) all.1;
-      prices = ap length prices ∙ len_new ∙ inv.prices;
-      levels = ap length levels ∙ len_found;
-      senders = inv.senders;
-      receivers = inv.receivers;
-      current = inv.current;
-    }
+    let p = c.in_ok-prices.prices.items in
+    let sent : IsSentAlong c.in_ok-prices.prices.items c.args.residual.now c.send_direct.new.residual c.args.surplus.now c.args.lack.now c.send_direct.new.surplus c.send_direct.new.lack =
+    subst (λ (xs : List ℕ). IsSentAlong xs c.args.residual.now c.send_direct.new.residual c.args.surplus.now c.args.lack.now c.send_direct.new.surplus c.send_direct.new.lack) c.deref.ensures.value c.send_direct.ensures in
+    let phase = straight_phase old c.send_direct.new.residual c.args.surplus.now c.args.lack.now c.send_direct.new.surplus c.send_direct.new.lack p c.in_ok-prices.ensures (sym c.requires.surplus) (sym c.requires.lack) c.requires.lowest c.requires.apart sent in
+    settled old c.send_direct.new.residual c.args.surplus.now c.args.lack.now c.send_direct.new.surplus c.send_direct.new.lack p (first_top old.members).0 c.members-members.ensures.residual c.requires.feasible
+    (omega (arith, ap length c.in_ok-prices.ensures, length-map c.args.lack.now first_price, c.requires.lack))
+    (none_left c.send_direct.new.surplus c.those_with.result c.those_with.ensures (c.is_empty.ensures.none.0 c.if-is_empty.true))
+    phase
 
-pub phases-preserved : goal.phases-preserved
-phases-preserved c =
-    let inv = c.phases.invariant in
-    let levels = with_items_is c.phases.levels c.layer.new.levels (c.layer.auto.levels ∙ c.deref_mut-in-phases.ensures.len) in
-    let current = with_items_is c.phases.current c.send_phase.new.current (c.send_phase.auto.current ∙ c.deref_mut-in-Some-2.ensures.len) in
-    let sent : IsSentAlong c.phases.prices.items c.phases.residual c.send_phase.new.residual c.phases.surplus c.phases.lack c.send_phase.new.surplus c.send_phase.new.lack =
-    subst (λ (xs : List ℕ). IsSentAlong xs c.phases.residual c.send_phase.new.residual c.phases.surplus c.phases.lack c.send_phase.new.surplus c.send_phase.new.lack) c.deref-in-Some.ensures.value c.in_ok-send_phase-in-Some.ensures.along in
-    let entries = with_items_is c.phases.entries c.send_phase.new.entries (c.send_phase.auto.entries ∙ c.deref_mut-in-Some.ensures.len) in
-    record {
-      entries = subst (AreEntries c.send_phase.new.residual) (sym entries) c.in_ok-send_phase-in-Some.ensures.entries;
-      groups = inv.groups;
-      sorted = inv.sorted;
-      phase = phase_sent c.args.residual.now c.phases.residual c.send_phase.new.residual c.args.surplus.now c.args.lack.now c.phases.surplus c.phases.lack c.send_phase.new.surplus c.send_phase.new.lack c.phases.prices.items c.phases.top inv.phase sent;
-      prices = inv.prices;
-      levels = ap length levels ∙ c.layer.auto.levels ∙ ap length c.deref_mut-in-phases.ensures.value ∙ inv.levels;
-      senders = c.still_with-senders.ensures;
-      receivers = c.still_with-receivers.ensures;
-      current = ap length current ∙ c.send_phase.auto.current ∙ ap length c.deref_mut-in-Some-2.ensures.value ∙ inv.current;
-    }
-
-pub returns : goal.returns
-returns c =
-    settled c.args.residual.now c.phases.residual c.args.surplus.now c.args.lack.now c.phases.surplus c.phases.lack c.phases.prices.items c.phases.top c.members-members.ensures.residual c.requires.feasible c.phases.invariant.prices (none_left c.phases.surplus c.phases.senders c.phases.invariant.senders (c.is_empty.ensures.none.0 c.phases-test.false)) c.phases.invariant.phase
+pub settle_rest-requires-clause-phase : goal.settle_rest-requires-clause-phase
+settle_rest-requires-clause-phase c =
+    let old = c.args.residual.now in
+    let mid = c.send_direct.new.residual in
+    let p = c.in_ok-prices.prices.items in
+    let sent : IsSentAlong c.in_ok-prices.prices.items c.args.residual.now c.send_direct.new.residual c.args.surplus.now c.args.lack.now c.send_direct.new.surplus c.send_direct.new.lack =
+    subst (λ (xs : List ℕ). IsSentAlong xs c.args.residual.now c.send_direct.new.residual c.args.surplus.now c.args.lack.now c.send_direct.new.surplus c.send_direct.new.lack) c.deref.ensures.value c.send_direct.ensures in
+    let phase = straight_phase old mid c.args.surplus.now c.args.lack.now c.send_direct.new.surplus c.send_direct.new.lack p c.in_ok-prices.ensures (sym c.requires.surplus) (sym c.requires.lack) c.requires.lowest c.requires.apart sent in
+    let source = c.is_empty.ensures.some c.if-is_empty.false in
+    let sends : 0 < get_or c.send_direct.new.surplus source.0 0 = (c.those_with.ensures source.0).0 source.1 in
+    let inside = amount_in c.send_direct.new.surplus source.0 sends (length c.send_direct.new.surplus) refl in
+    let one = (first_top old.members).2 (omega (arith, inside, c.send_direct.auto.surplus, c.requires.surplus)) in
+    subst (λ t. IsPhase mid mid c.send_direct.new.surplus c.send_direct.new.lack c.send_direct.new.surplus c.send_direct.new.lack p t) one
+    (phase_anew old mid c.args.surplus.now c.args.lack.now c.send_direct.new.surplus c.send_direct.new.lack p (first_top old.members).0 phase)

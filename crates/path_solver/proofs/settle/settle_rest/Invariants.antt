@@ -3,7 +3,7 @@ use Rattle.path_solver.specs.Phases.{IsPhase}
 use Rattle.path_solver.specs.Entries.{AreEntries}
 use Rattle.path_solver.specs.Rests.{HaveSome}
 use Rattle.path_solver.specs.Groups.{AreGroups}
-use Rattle.path_solver.proofs.settle.settle.Given as goal
+use Rattle.path_solver.proofs.settle.settle_rest.Given as goal
 
 abbrev pub invariant-phases : goal.invariant-phases
 invariant-phases l = record {

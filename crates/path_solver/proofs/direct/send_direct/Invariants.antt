@@ -1,0 +1,5 @@
+use Rattle.path_solver.specs.Rests.{IsSentAlong}
+use Rattle.path_solver.proofs.direct.send_direct.Given as goal
+
+abbrev pub invariant-loop-pair : goal.invariant-loop-pair
+invariant-loop-pair l = IsSentAlong l.prices l.initial.residual l.residual l.initial.surplus l.initial.lack l.surplus l.lack
