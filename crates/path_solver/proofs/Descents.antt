@@ -41,6 +41,8 @@ path_more flows p levels lack here next end a path down at_next h =
       open_arcs = All-push (IsOpen flows p) path a h.open_arcs (down.room, down.tight);
       below = All-push (λ b. get_or levels (tail flows b) 0 ≤ get_or levels here 0) path a (λ k d l. omega (arith, h.below k d l, up)) (omega (arith, own));
       rising = rising_push (λ b. get_or levels (tail flows b) 0) (get_or levels next 0) path a h.below (omega (arith, own, up)) h.rising;
+      steps = All-push (λ b. get_or levels (head flows b) 0 + 1 ≡ get_or levels (tail flows b) 0) path a h.steps (down.down ∙ sym own);
+      long = omega (arith, h.long, length_push path a, up);
       receives = h.receives;
       member = h.member;
     }
@@ -53,6 +55,8 @@ path_none flows p levels lack here receives member = record {
   open_arcs = λ k d l. absurd (omega arith);
   below = λ k d l. absurd (omega arith);
   rising = λ i j d lt l. absurd (omega arith);
+  steps = λ k d l. absurd (omega arith);
+  long = omega arith;
   receives = receives;
   member = member;
 }

@@ -3,6 +3,7 @@ pub mod Walks
 pub mod Descents
 pub mod SentAlong
 pub mod Straight
+pub mod Shortest
 pub mod Cuts
 pub mod Pigeons
 pub mod OneMoreExit

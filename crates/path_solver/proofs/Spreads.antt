@@ -12,7 +12,7 @@ use Rattle.path_solver.specs.Prices.{IsTight, IsOpen}
 use Rattle.path_solver.specs.Entries.{AreEntries, IsOpenInto, is_open_to}
 use Rattle.path_solver.specs.Groups.{AreGroups}
 use Rattle.path_solver.specs.Rests.{HaveSome}
-use Rattle.path_solver.specs.Levels.{IsReached, LeadsDown, AreLevels, AreFewest, AreCut, IsSource}
+use Rattle.path_solver.specs.Levels.{IsReached, LeadsDown, AreLevels, AreFewest, AreShortest, AreCut, IsSource}
 use Rattle.path_solver.proofs.Near.{near_open, open_near}
 use Rattle.path_solver.proofs.OneMoreExit.{ends_in}
 use Rattle.path_solver.proofs.Pigeons.{few_values, IsTaken}
@@ -45,6 +45,7 @@ pub record IsSpread (r : ResidualData) (p surplus lack levels : List ℕ) (level
   pub receivers : (v : ℕ) → 0 < get_or lack v 0 → get_or levels v 0 ≡ 65535 → has now v ≡ true
   pub closed : (a : ℕ) → a < arc_count r.flows → IsOpen r.flows p a → IsReached levels (head r.flows a) → get_or levels (tail r.flows a) 0 ≡ 65535 → has now (tail r.flows a) ≡ true
   pub fewest : AreFewest r.flows p levels level
+  pub first : (v : ℕ) → v < r.members → 0 < get_or lack v 0 → 0 < level → get_or levels v 0 ≡ 0
 
 -- who has an amount is a member
 pub amount_in : (amounts : List ℕ) (v : ℕ) → 0 < get_or amounts v 0 → (n : ℕ) → length amounts ≡ n → v < n
@@ -80,6 +81,7 @@ spread_none r p surplus lack levels now reached one_each len none receivers empt
         all = λ a l is_open was. absurd (was (at (head r.flows a) (ends_in r residual a l).1));
         steps = λ a l is_open was. absurd (was (at (head r.flows a) (ends_in r residual a l).1));
       };
+      first = λ v l some above. absurd (omega (arith, above));
     }
 
 module _ (r : ResidualData) (p surplus lack levels new : List ℕ) (level : ℕ) (now reached : MemberSet) (residual : IsResidual r) (h : IsSpread r p surplus lack levels level now reached) where
@@ -167,8 +169,24 @@ module _ (r : ResidualData) (p surplus lack levels new : List ℕ) (level : ℕ)
               was (sym (was_there (tail r.flows a) was) ∙ e)
         ]
 
-    pub fewest_found : (s : ℕ) → has some s ≡ true → AreFewest r.flows p new (get_or new s 0)
-    fewest_found s on = subst (AreFewest r.flows p new) (sym (marked s on)) (record { all = all_more; steps = steps_more })
+    first_more : (v : ℕ) → v < r.members → 0 < get_or lack v 0 → 0 < level → get_or new v 0 ≡ 0
+    first_more v l receives above =
+        let zero = h.first v l receives above in
+        was_there v (λ e. omega (arith, e, zero)) ∙ zero
+
+    pub shortest_found : (s : ℕ) → has some s ≡ true → length surplus ≡ r.members → length lack ≡ r.members → AreShortest r.flows p surplus lack new (get_or new s 0)
+    shortest_found s on len len_l =
+        subst (AreShortest r.flows p surplus lack new) (sym (marked s on))
+        (record {
+          fewest = record { all = all_more; steps = steps_more };
+          senders = λ v sends is.
+              elim (cases_Bool (has some v)) [
+                | inl on_v ↦ omega (arith, marked v on_v)
+                | inr off ↦ absurd (is (others v off ∙ h.senders v (amount_in surplus v sends r.members len) sends))
+              ];
+          receivers = λ v receives above. first_more v (amount_in lack v receives r.members len_l) receives above;
+          low = low;
+        })
 
     -- where one of them has to send, these are levels
     pub spread_found : (s : ℕ) → has some s ≡ true → 0 < get_or surplus s 0 → IsSource surplus new s × AreLevels r.flows p lack new
@@ -287,6 +305,15 @@ module _ (r : ResidualData) (p surplus lack levels new : List ℕ) (level : ℕ)
             ];
         steps = steps_more now itself one_each marked others;
       };
+      first = λ v l some _.
+          elim (cases_lt 0 level) [
+            | inl above ↦ first_more now itself one_each marked others v l some above
+            | inr none ↦
+                elim (cases_eq (get_or levels v 0) 65535) [
+                  | inl e ↦ omega (arith, marked v (h.receivers v some e), none)
+                  | inr was ↦ absurd (omega (arith, none, h.below v l was))
+                ]
+          ];
     }
 
   -- nobody comes next

@@ -1,5 +1,5 @@
 -- Paths, from their last arc to their first.
-use Rattle.std.specs.Prelude.{◌≡◌, ℕ, ◌<◌, ◌≤◌, List, [], ◌∷◌, length, slice_index, fold, All, AllPairs, Option, Some, None}
+use Rattle.std.specs.Prelude.{◌≡◌, ℕ, ◌+◌, ◌<◌, ◌≤◌, List, [], ◌∷◌, length, slice_index, fold, All, AllPairs, Option, Some, None}
 use Rattle.residual_graph.specs.declared.flow.Flow.{Flow}
 use Rattle.residual_graph.specs.Arcs.{arc_count, tail, head, pushed}
 use Rattle.path_solver.specs.Prices.{IsOpen}
@@ -20,8 +20,15 @@ pub record IsPathDown (flows : List Flow) (p levels lack : List ℕ) (from end :
   pub open_arcs : All (IsOpen flows p) path
   pub below : All (λ a. slice_index levels (tail flows a) ≤ slice_index levels from) path
   pub rising : AllPairs (λ a b. slice_index levels (tail flows a) < slice_index levels (tail flows b)) path
+  pub steps : All (λ a. slice_index levels (head flows a) + 1 ≡ slice_index levels (tail flows a)) path
+  pub long : length path + slice_index levels end ≡ slice_index levels from
   pub receives : 0 < slice_index lack end
   pub member : end < length levels
+
+-- each path of open arcs from a member that has to send to one that has to receive has so many arcs at the least
+abbrev pub NoneIsShorter : List Flow → List ℕ → List ℕ → List ℕ → ℕ → Type 0
+NoneIsShorter flows p surplus lack n =
+    (v w : ℕ) (arcs : List ℕ) → 0 < slice_index surplus v → 0 < slice_index lack w → IsWalkBack flows w arcs v → All (IsOpen flows p) arcs → n ≤ length arcs
 
 -- what a walk finds
 abbrev pub IsWalked : List Flow → List ℕ → List ℕ → List ℕ → ℕ → List ℕ → Option ℕ → Type 0

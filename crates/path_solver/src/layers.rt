@@ -5,7 +5,7 @@ ghost use Rattle.member_set.specs.Members.{has};
 ghost use Rattle.path_solver.specs.Entries.{AreEntries, IsOpenInto, is_open_to};
 ghost use Rattle.path_solver.specs.Groups.{AreGroups};
 ghost use Rattle.path_solver.specs.Rests.{AreApart, HaveSome};
-ghost use Rattle.path_solver.specs.Levels.{IsReached, IsLayered, AreFewest};
+ghost use Rattle.path_solver.specs.Levels.{IsReached, IsLayered, AreShortest};
 
 use crate::entries::Entry;
 use member_set::MemberSet;
@@ -41,7 +41,7 @@ pub fn layer(
     requires levels { residual.now.members ≡ length levels.old }
     requires apart { AreApart surplus.now lack.now }
     ensures layered { IsLayered residual.now.flows prices.now surplus.now lack.now levels.new result }
-    ensures fewest { IfSome result (λ s. AreFewest residual.now.flows prices.now levels.new (slice_index levels.new s)) }
+    ensures shortest { IfSome result (λ s. AreShortest residual.now.flows prices.now surplus.now lack.now levels.new (slice_index levels.new s)) }
     ensures reached { IsNone result → (v : ℕ) → (has reached.new v ≡ true) ↔ ((v < residual.now.members) × IsReached levels.new v) }
 {
     let _members = residual.members();

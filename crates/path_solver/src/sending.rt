@@ -3,8 +3,8 @@
 ghost use Rattle.std.specs.Prelude.{◌≡◌, ℕ, true, ◌<◌, length, slice_index, sum, IfOk, OnOk, IsTrue};
 ghost use Rattle.path_solver.specs.Exits.{AreExits};
 ghost use Rattle.path_solver.specs.Entries.{AreEntries};
-ghost use Rattle.path_solver.specs.Levels.{IsReached, AreLevels, IsSource};
-ghost use Rattle.path_solver.specs.Paths.{IsFresh};
+ghost use Rattle.path_solver.specs.Levels.{IsReached, AreLevels, AreShortest, IsSource};
+ghost use Rattle.path_solver.specs.Paths.{IsFresh, NoneIsShorter};
 ghost use Rattle.path_solver.specs.Rests.{IsSentAlong};
 
 use crate::entries::Entry;
@@ -35,6 +35,7 @@ pub fn send_phase(
     requires lack { residual.old.members ≡ length lack.old }
     requires current { residual.old.members ≡ length current.old }
     requires source { IsSource surplus.old levels.now source }
+    requires shortest { AreShortest residual.old.flows prices.now surplus.old lack.old levels.now (slice_index levels.now source) }
     requires down { AreLevels residual.old.flows prices.now lack.old levels.now }
     ensures entries { OnOk result (AreEntries residual.new entries.new) }
     ensures along { OnOk result (IsSentAlong prices.now residual.old residual.new surplus.old lack.old surplus.new lack.new) }
@@ -63,7 +64,8 @@ fn reset(numbers: &mut [usize])
     }
 }
 
-/// Sends from a member along one path as much as the path can take, and tells whether there was one.
+/// Sends from a member along one path as much as the path can take, and tells whether there was one. No path of
+/// least cost from one that has to send to one that has to receive has fewer arcs.
 fn send_once(
     residual: &mut Residual,
     exits: &Exits,
@@ -83,10 +85,13 @@ fn send_once(
     requires surplus { residual.old.members ≡ length surplus.old }
     requires lack { residual.old.members ≡ length lack.old }
     requires current { residual.old.members ≡ length current.old }
+    requires shortest { AreShortest residual.old.flows prices.now surplus.old lack.old levels.now (slice_index levels.now from) }
     requires from { from < residual.old.members }
     ensures entries { OnOk result (AreEntries residual.new entries.new) }
+    ensures kept { OnOk result (AreShortest residual.new.flows prices.now surplus.new lack.new levels.now (slice_index levels.now from)) }
     ensures along { OnOk result (IsSentAlong prices.now residual.old residual.new surplus.old lack.old surplus.new lack.new) }
     ensures sent { IfOk result (λ sent. IsTrue sent → sum surplus.new < sum surplus.old) }
+    ensures shortest { IfOk result (λ sent. IsTrue sent → NoneIsShorter residual.old.flows prices.now surplus.old lack.old (length path.new.items)) }
     ensures fresh { AreLevels residual.old.flows prices.now lack.old levels.now → IsReached levels.now from → IsFresh levels.now current.old (slice_index levels.now from) → 0 < slice_index surplus.old from → IfOk result (λ sent. sent ≡ true) }
 {
     if surplus[from as usize] == 0 {
@@ -124,8 +129,10 @@ fn send_all(
     requires surplus { residual.old.members ≡ length surplus.old }
     requires lack { residual.old.members ≡ length lack.old }
     requires current { residual.old.members ≡ length current.old }
+    requires shortest { AreShortest residual.old.flows prices.now surplus.old lack.old levels.now (slice_index levels.now from) }
     requires from { from < residual.old.members }
     ensures entries { OnOk result (AreEntries residual.new entries.new) }
+    ensures kept { OnOk result (AreShortest residual.new.flows prices.now surplus.new lack.new levels.now (slice_index levels.now from)) }
     ensures along { OnOk result (IsSentAlong prices.now residual.old residual.new surplus.old lack.old surplus.new lack.new) }
 {
     'paths: while send_once(

@@ -1,7 +1,7 @@
 use Rattle.std.proofs.Common.{refl, sym, ◌∙◌, arith, true≢false}
 use Rattle.std.proofs.lemmas.Bool.{and_from, and_parts}
 use Rattle.member_set.specs.Members.{has}
-use Rattle.path_solver.proofs.Spreads.{few_levels, spread_none, spread_found, fewest_found, spread_more, spread_cut}
+use Rattle.path_solver.proofs.Spreads.{few_levels, spread_none, spread_found, shortest_found, spread_more, spread_cut}
 use Rattle.path_solver.proofs.layers.layer.Goals as goal
 
 pub loop-now-init : goal.loop-now-init
@@ -17,11 +17,11 @@ returns-in-Some-clause-layered c =
     c.and-met.result (λ v on. (and_parts (has c.loop-now.now v) (has c.args.senders.now v) (sym (c.and-met.ensures v) ∙ on)).0)
     c.mark.auto.levels c.mark.ensures.marked c.mark.ensures.others c.in-Some.source met ((c.requires.senders c.in-Some.source).0 both.1)
 
-pub returns-in-Some-clause-fewest : goal.returns-in-Some-clause-fewest
-returns-in-Some-clause-fewest c =
-    fewest_found c.args.residual.now c.args.prices.now c.args.surplus.now c.args.lack.now c.loop-now.levels c.mark.new.levels c.loop-now.level c.loop-now.now c.loop-now.reached c.members-members.ensures.residual c.loop-now.invariant
+pub returns-in-Some-clause-shortest : goal.returns-in-Some-clause-shortest
+returns-in-Some-clause-shortest c =
+    shortest_found c.args.residual.now c.args.prices.now c.args.surplus.now c.args.lack.now c.loop-now.levels c.mark.new.levels c.loop-now.level c.loop-now.now c.loop-now.reached c.members-members.ensures.residual c.loop-now.invariant
     c.and-met.result (λ v on. (and_parts (has c.loop-now.now v) (has c.args.senders.now v) (sym (c.and-met.ensures v) ∙ on)).0)
-    c.mark.auto.levels c.mark.ensures.marked c.mark.ensures.others c.in-Some.source c.in-Some.ensures.member
+    c.mark.auto.levels c.mark.ensures.marked c.mark.ensures.others c.in-Some.source c.in-Some.ensures.member (sym c.requires.surplus) (sym c.requires.lack)
 
 pub overflow_add-level : goal.overflow_add-level
 overflow_add-level c =

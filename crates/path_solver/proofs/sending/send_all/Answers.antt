@@ -9,11 +9,13 @@ send_once-requires-clause-exits c =
 pub paths-preserved : goal.paths-preserved
 paths-preserved c = record {
   entries = c.in_ok-send_once.ensures.entries;
+  shortest = c.in_ok-send_once.ensures.kept;
   along = sent_more c.args.prices.now c.args.residual.now c.paths.residual c.send_once.new.residual c.args.surplus.now c.args.lack.now c.paths.surplus c.paths.lack c.send_once.new.surplus c.send_once.new.lack c.paths.invariant.along c.in_ok-send_once.ensures.along;
 }
 
 pub returns : goal.returns
 returns c = record {
   entries = c.in_ok-send_once.ensures.entries;
+  kept = c.in_ok-send_once.ensures.kept;
   along = sent_more c.args.prices.now c.args.residual.now c.paths.residual c.send_once.new.residual c.args.surplus.now c.args.lack.now c.paths.surplus c.paths.lack c.send_once.new.surplus c.send_once.new.lack c.paths.invariant.along c.in_ok-send_once.ensures.along;
 }

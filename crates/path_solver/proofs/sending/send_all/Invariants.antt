@@ -1,11 +1,13 @@
-use Rattle.std.proofs.Common.{sum}
+use Rattle.std.proofs.Common.{get_or, sum}
 use Rattle.path_solver.specs.Rests.{IsSentAlong}
+use Rattle.path_solver.specs.Levels.{AreShortest}
 use Rattle.path_solver.specs.Entries.{AreEntries}
 use Rattle.path_solver.proofs.sending.send_all.Given as goal
 
 abbrev pub invariant-paths : goal.invariant-paths
 invariant-paths l = record {
   entries : AreEntries l.residual l.entries;
+  shortest : AreShortest l.residual.flows l.prices l.surplus l.lack l.levels (get_or l.levels l.from 0);
   along : IsSentAlong l.prices l.initial.residual l.residual l.initial.surplus l.initial.lack l.surplus l.lack;
 }
 
