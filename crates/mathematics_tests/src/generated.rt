@@ -17,13 +17,13 @@ const TRADES: u16 = 3_000;
 
 /// Numbers by a linear congruential generator, from the number of a market on.
 #[derive(Clone, Copy)]
-struct Draws {
-    state: u64,
+pub struct Draws {
+    pub state: u64,
 }
 
 impl Draws {
     /// The next number, below 2^31.
-    fn draw(&mut self) -> u64 {
+    pub fn draw(&mut self) -> u64 {
         self.state = self
             .state
             .wrapping_mul(6_364_136_223_846_793_005)

@@ -13,6 +13,8 @@ mod files;
 #[cfg(test)]
 mod generated;
 #[cfg(test)]
+mod lattices;
+#[cfg(test)]
 mod least;
 #[cfg(test)]
 mod networks;

@@ -41,7 +41,7 @@ fn in_order(alloc: Global, sales: &[Sale]) -> Result<Vec<Sale>, AllocError> {
 }
 
 /// Bounds by which no pair may grow.
-fn no_growth(alloc: Global, sales: &[Sale]) -> Result<Vec<Bound>, AllocError> {
+pub fn no_growth(alloc: Global, sales: &[Sale]) -> Result<Vec<Bound>, AllocError> {
     let mut bounds = Vec::new(alloc);
     for &(seller, buyer, amount) in sales {
         bounds.push((seller, buyer, 0, Some(amount)))?;
