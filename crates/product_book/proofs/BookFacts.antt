@@ -248,7 +248,7 @@ book_written f members products submitted n rows new keeps all e book =
 pub flag_keeps : (flag : Bool) (row : TradeRow) → KeepsTerms row (record row { frozen = flag })
 flag_keeps flag row = record { number = refl; product = refl; seller = refl; buyer = refl; amount = refl; submitter = refl; state = λ h. h }
 
-alleged_counts : (state : TradeState) → IsTrue (is_alleged state) → IsTrue (counts state)
+pub alleged_counts : (state : TradeState) → IsTrue (is_alleged state) → IsTrue (counts state)
 alleged_counts Alleged h = refl
 alleged_counts Live h = cc
 alleged_counts Ended h = cc

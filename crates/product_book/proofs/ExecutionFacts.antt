@@ -1,5 +1,5 @@
 -- The execution of a plan: each step can run where its turn comes, and the book keeps what each book keeps.
-use Rattle.std.proofs.Common.{◌≡◌, ◌≢◌, ℕ, zero, suc, ◌+◌, ◌-◌, ◌≤◌, ◌<◌, ◌==◌, ◌&&◌, nat_lt, Bool, true, false, List, [], ◌∷◌, length, get_or, take, slice_get, is_some, IsTrue, Option, Some, None, if◌then◌else◌, arith, refl, ap, sym, subst, ◌∙◌}
+use Rattle.std.proofs.Common.{◌≡◌, ℕ, zero, suc, ◌+◌, ◌-◌, ◌≤◌, ◌<◌, ◌==◌, ◌&&◌, nat_lt, Bool, true, false, List, [], ◌∷◌, length, get_or, take, slice_get, is_some, IsTrue, Option, Some, None, if◌then◌else◌, arith, refl, ap, sym, subst, ◌∙◌}
 use Rattle.std.specs.Prelude.{All}
 use Rattle.std.proofs.lemmas.Bool.Decides.{nat_tests}
 use Rattle.std.proofs.lemmas.List.{length-set, length-append}
@@ -15,7 +15,7 @@ use Rattle.command_types.specs.Trades.{counts, is_live, gross_of, submitted_coun
 use Rattle.command_types.specs.Plans.{ended_row, cut_row, made_row, after_step, executed, count_of, is_new}
 use Rattle.product_book.specs.Book.{IsTrade, AreTrades, IsBook, gross_limit}
 use Rattle.command_types.specs.Execution.{IsLiveTrade, MayFall, IsStep, IsExecutable}
-use Rattle.product_book.specs.Execution.{CanRun, added_by}
+use Rattle.product_book.specs.Execution.{CanRun, IsMade, added_by}
 use Rattle.product_book.proofs.BookFacts.{gross_part, placed, trades_push, trades_set, trades_at, submitted_by_nobody, submitted_set}
 use Rattle.product_book.proofs.PlaceFacts.{there_by, within_by}
 
@@ -114,16 +114,14 @@ step_runs members products rows (New product seller buyer amount day) bounded h 
 pub steps_run : (members products submitted : ℕ) (rows : List TradeRow) (plan : List PlanRow) → IsBook members products submitted rows → IsExecutable members products rows plan → All (CanRun rows) plan
 steps_run members products submitted rows plan book may = All-weaker (IsStep members products rows) (CanRun rows) (λ step h. step_runs members products rows step book.bounded h) plan may.steps
 
--- a new trade of a step has a product and two different parties
-abbrev IsMade : ℕ → ℕ → PlanRow → Type 0
-IsMade members products (End trade) = Unit {0}
-IsMade members products (Cut trade from to) = Unit {0}
-IsMade members products (New product seller buyer amount day) = (product < products) × (seller < members) × (buyer < members) × (seller ≢ buyer)
-
+-- a step that the trades allow makes such a trade
 step_makes : (members products : ℕ) (rows : List TradeRow) (step : PlanRow) → IsStep members products rows step → IsMade members products step
 step_makes members products rows (End trade) h = tt
 step_makes members products rows (Cut trade from to) h = tt
 step_makes members products rows (New product seller buyer amount day) h = h
+
+pub steps_made : (members products : ℕ) (rows : List TradeRow) (plan : List PlanRow) → IsExecutable members products rows plan → All (IsMade members products) plan
+steps_made members products rows plan may = All-weaker (IsStep members products rows) (IsMade members products) (step_makes members products rows) plan may.steps
 
 -- one trade is changed, but for its number, its product and its parties
 trades_with : (change : TradeRow → TradeRow) (members products : ℕ) (rows : List TradeRow) (number : ℕ) (o : Option TradeRow) → ((n : ℕ) (row : TradeRow) → IsTrade members products n row → IsTrade members products n (change row)) → trade_numbered rows number ≡ o →
@@ -133,7 +131,7 @@ trades_with change members products rows number (Some row) keeps is are =
     let at_place = placed rows number row is in
     trades_set members products 1 rows (number - 1) (change row) are (keeps (1 + (number - 1)) row (trades_at members products 1 rows (number - 1) row are at_place.2))
 
-trades_after : (members products : ℕ) (rows : List TradeRow) (step : PlanRow) → IsMade members products step → AreTrades members products 1 rows → AreTrades members products 1 (after_step rows step)
+pub trades_after : (members products : ℕ) (rows : List TradeRow) (step : PlanRow) → IsMade members products step → AreTrades members products 1 rows → AreTrades members products 1 (after_step rows step)
 trades_after members products rows (End trade) made are =
     trades_with ended_row members products rows trade (trade_numbered rows trade) (λ n row is. record { number = is.number; product = is.product; seller = is.seller; buyer = is.buyer; different = is.different }) refl are
 trades_after members products rows (Cut trade from to) made are =

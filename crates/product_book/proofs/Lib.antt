@@ -7,4 +7,7 @@ pub mod ExecutionFacts
 pub mod FrozenFacts
 pub mod KeptFacts
 pub mod SumFacts
-pub mod ChainFacts
+pub mod EntryFacts
+pub mod ListedFacts
+pub mod WalkFacts
+pub mod LinkedFacts

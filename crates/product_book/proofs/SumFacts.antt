@@ -13,7 +13,7 @@ use Rattle.product_book.proofs.BookFacts.{placed, KeepsTerms, trades_at, book_ch
 use Rattle.product_book.proofs.KeptFacts.{own_at, kept_push, kept_set, part_in, kept_map, kept_same}
 
 -- two places of members are the same only for one member in one product
-same_product : (members p s q t : ℕ) → s < members → t < members → member_place members p s ≡ member_place members q t → p ≡ q
+pub same_product : (members p s q t : ℕ) → s < members → t < members → member_place members p s ≡ member_place members q t → p ≡ q
 same_product members p s q t small low e =
     ⊎_elim (λ (same : p ≡ q). same)
     (λ (ne : p ≡ q → ⊥).
@@ -22,7 +22,7 @@ same_product members p s q t small low e =
     (cases_lt p q))
     (cases_eq p q)
 
-same_member : (members p s q t : ℕ) → p ≡ q → member_place members p s ≡ member_place members q t → s ≡ t
+pub same_member : (members p s q t : ℕ) → p ≡ q → member_place members p s ≡ member_place members q t → s ≡ t
 same_member members p s q t same e = omega (arith, e, ap (λ k. k * members) same)
 
 one_row : (members p s q t : ℕ) (live : Bool) (amount : ℕ) → s < members → t < members

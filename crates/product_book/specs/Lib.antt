@@ -3,4 +3,6 @@ pub mod Freezes
 pub mod Networks
 pub mod Execution
 pub mod Kept
-pub mod Chains
+pub mod OpenLists
+pub mod Links
+pub mod Walks

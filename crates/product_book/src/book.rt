@@ -9,10 +9,10 @@ ghost use Rattle.command_types.specs.Execution.{IsExecutable};
 ghost use Rattle.product_book.specs.Freezes.{rows_by_choice, frozen_among, FrozenCount};
 ghost use Rattle.product_book.specs.Networks.{network_of, AllCount};
 
-use crate::chains::Chains;
 use crate::kept::KeptSums;
+use crate::links::{Links, place_of};
 use crate::networks::{self, Which};
-use crate::row::{append, ended_by, live, put_row, row_at, with_hold};
+use crate::row::{append, ended_by, has_ended, live, put_row, row_at, with_hold};
 use crate::{execution, freezes, picks, sums};
 use command_types::{PlanRow, Side, TradeRow, TradeState};
 use network_laws::Network;
@@ -46,7 +46,7 @@ pub struct Position {
 pub struct Book {
     rows: Vec<TradeRow>,
     sums: KeptSums,
-    chains: Chains,
+    links: Links,
     products: u16,
     submitted: u64,
 }
@@ -54,13 +54,13 @@ pub struct Book {
 impl Model for Book {
     ghost use Rattle.std.specs.Prelude.{◌-◌, vec_len, vec_capacity};
     ghost use Rattle.product_book.specs.Book.{BookView};
-    ghost use Rattle.product_book.specs.Chains.{IsChainedBook};
+    ghost use Rattle.product_book.specs.Links.{IsLinkedBook};
 
     ghost Value = { BookView };
 
-    ghost view = { λ b. record { rows = b.rows.items; spare = b.chains.spare; members = b.sums.members; products = b.products } };
+    ghost view = { λ b. record { rows = b.rows.items; spare = b.links.spare; members = b.sums.members; products = b.products } };
 
-    ghost invariant = { λ b. IsChainedBook b.sums.members b.products b.submitted b.sums.products.items b.sums.sold.items b.sums.bought.items b.rows.items b.chains (vec_capacity b.rows - vec_len b.rows) };
+    ghost invariant = { λ b. IsLinkedBook b.sums.members b.products b.submitted b.sums.products.items b.sums.sold.items b.sums.bought.items b.rows.items b.links.by_product b.links.by_pair b.links.spare (vec_capacity b.rows - vec_len b.rows) };
 }
 
 impl Book {
@@ -75,7 +75,7 @@ impl Book {
         Ok(Book {
             rows: Vec::new(alloc),
             sums: KeptSums::new(alloc, members, products)?,
-            chains: Chains::new(alloc, products)?,
+            links: Links::new(alloc, members, products)?,
             products,
             submitted: 0,
         })
@@ -89,7 +89,7 @@ impl Book {
         ensures err { OnErr result (self.new ≡ self.old) }
     {
         make_room(&mut self.rows, trades as usize)?;
-        self.chains.reserve(trades)
+        self.links.reserve(trades)
     }
 
     /// How many trades there are. It takes no memory.
@@ -173,7 +173,12 @@ impl Book {
     ) -> Result<Vec<TradeRow>, AllocError>
         ensures { IfOk result (λ rows. rows.items ≡ live_between product seller buyer self.now.rows) }
     {
-        picks::of_pair(*self.rows.allocator(), &self.rows, product, seller, buyer)
+        let alloc = *self.rows.allocator();
+        let pair = (product.index(), seller.index(), buyer.index());
+        match place_of(self.sums.members, self.products, pair) {
+            Some(place) => picks::live_in(alloc, &self.rows, &self.links.by_pair, place),
+            None => Ok(Vec::new(alloc)),
+        }
     }
 
     /// The network of the product's trades of this kind: each pair of members has the sum of its trades. A frozen
@@ -187,7 +192,7 @@ impl Book {
         networks::network_of(
             alloc,
             &self.rows,
-            &self.chains,
+            &self.links.by_product,
             self.sums.members,
             product,
             which,
@@ -237,8 +242,8 @@ impl Book {
         };
         self.submitted += 1;
         self.sums.enter(&row);
+        self.links.enter(self.sums.members, &row);
         append(&mut self.rows, row);
-        self.chains.push(product);
         number
     }
 
@@ -264,6 +269,9 @@ impl Book {
         let asked = ended_by(row, side);
         self.sums.settle(&row, &asked);
         put_row(&mut self.rows, trade, asked);
+        if has_ended(&asked) {
+            self.links.leave(trade);
+        }
         asked.state
     }
 
@@ -312,8 +320,7 @@ impl Book {
         requires plan { IsExecutable self.old.members self.old.products self.old.rows plan.now }
         ensures { self.new ≡ record self.old { rows = executed plan.now self.old.rows; spare = self.old.spare - count_of is_new plan.now } }
     {
-        execution::execute(&mut self.rows, plan);
+        execution::execute(&mut self.rows, &mut self.links, self.sums.members, plan);
         self.sums.recount(&self.rows);
-        self.chains.rechain(&self.rows);
     }
 }

@@ -2,12 +2,13 @@
 #![tactic(auto)]
 
 mod book;
-mod chains;
 mod execution;
 mod freezes;
 mod kept;
 mod laws;
+mod links;
 mod networks;
+mod open_lists;
 mod picks;
 mod row;
 mod sums;

@@ -1,8 +1,8 @@
 //! A trade of the book: where it stands, and what a party's call or a plan's step makes of it.
 
-ghost use Rattle.std.specs.Prelude.{◌≡◌, ◌+◌, ◌<◌, ◌++◌, [], ◌∷◌, Some, IsTrue, is_some, vec_len, vec_capacity};
+ghost use Rattle.std.specs.Prelude.{not, ◌≡◌, ◌+◌, ◌<◌, ◌++◌, [], ◌∷◌, Some, IsTrue, is_some, vec_len, vec_capacity};
 ghost use Rattle.command_types.specs.Plans.{ended_row, cut_row, made_row};
-ghost use Rattle.command_types.specs.Trades.{trade_numbered, with_row, live_row, row_ended_by, row_with_hold};
+ghost use Rattle.command_types.specs.Trades.{counts, trade_numbered, with_row, live_row, row_ended_by, row_with_hold};
 
 use command_types::{Side, TradeRow, TradeState};
 use units_core::{Amount, Day, MemberNo, ProductNo};
@@ -33,6 +33,13 @@ pub(super) fn append(rows: &mut Vec<TradeRow>, row: TradeRow)
     ensures capacity { vec_capacity rows.new ≡ vec_capacity rows.old }
 {
     rows.push_reserved(row);
+}
+
+/// Whether the trade has ended.
+pub(super) fn has_ended(row: &TradeRow) -> bool
+    ensures { result ≡ not (counts row.now.state) }
+{
+    row.state == TradeState::Ended
 }
 
 /// The trade made live.

@@ -1,5 +1,6 @@
-use Rattle.std.proofs.Common.{arith}
-use Rattle.product_book.proofs.ExecutionFacts.{added_le, runs_at}
+use Rattle.std.proofs.Common.{◌∙◌, ap, arith}
+use Rattle.command_types.specs.Plans.{after_step}
+use Rattle.product_book.proofs.ExecutionFacts.{added_le, added_more, executed_more, runs_at}
 use Rattle.product_book.proofs.execution.execute.Goals as goal
 
 pub run-requires-clause-room : goal.run-requires-clause-room
@@ -9,3 +10,21 @@ run-requires-clause-room c =
 pub run-requires-clause-step : goal.run-requires-clause-step
 run-requires-clause-step c =
     rw c.loop-step.invariant.items (runs_at c.args.rows.now.items c.args.plan.now c.loop-step.step-index c.step-item.result c.loop-step-test.true c.step-item.is c.requires.steps)
+
+pub run-requires-clause-spare : goal.run-requires-clause-spare
+run-requires-clause-spare c =
+    omega (arith, c.loop-step.invariant.spare, c.requires.spare, added_le c.args.plan.now c.loop-step.step-index c.step-item.result c.loop-step-test.true c.step-item.is)
+
+pub loop-step-preserved : goal.loop-step-preserved
+loop-step-preserved c =
+    let more = added_more c.args.plan.now c.loop-step.step-index c.step-item.result c.loop-step-test.true c.step-item.is in
+    let fits = added_le c.args.plan.now c.loop-step.step-index c.step-item.result c.loop-step-test.true c.step-item.is in
+    record {
+      items =
+          c.run.ensures.items ∙ ap (λ rows. after_step rows c.step-item.result) c.loop-step.invariant.items
+          ∙ executed_more c.args.rows.now.items c.args.plan.now c.loop-step.step-index c.step-item.result c.loop-step-test.true c.step-item.is;
+      len = omega (arith, c.run.ensures.len, c.loop-step.invariant.len, more);
+      capacity = c.run.ensures.capacity ∙ c.loop-step.invariant.capacity;
+      spare = omega (arith, c.run.ensures.spare, c.loop-step.invariant.spare, more, fits, c.requires.spare);
+      running = rw c.loop-step.invariant.running.linked.product_count at c.run.ensures.running;
+    }

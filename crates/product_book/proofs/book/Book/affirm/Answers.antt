@@ -1,9 +1,9 @@
-use Rattle.std.proofs.Common.{IsTrue, subst, ◌∙◌, sym, arith}
+use Rattle.std.proofs.Common.{IsTrue, subst, sym, arith}
 use Rattle.command_types.specs.Trades.{live_row}
 use Rattle.product_book.specs.Book.{may_affirm}
-use Rattle.product_book.proofs.BookFacts.{live_keeps}
+use Rattle.product_book.proofs.BookFacts.{live_keeps, alleged_counts}
 use Rattle.product_book.proofs.SumFacts.{old_placed, product_part, sold_part, bought_part, product_fits, sold_fits, bought_fits, settled}
-use Rattle.product_book.proofs.ChainFacts.{products_put}
+use Rattle.product_book.proofs.LinkedFacts.{linked_kept}
 use Rattle.product_book.proofs.book.Book.affirm.Goals as goal
 
 pub settle-requires-clause-placed : goal.settle-requires-clause-placed
@@ -56,7 +56,8 @@ invariant_of-self c =
       summed =
           rw (c.put_row.ensures.items, c.settle.ensures.members, c.settle.ensures.products, c.settle.ensures.sold, c.settle.ensures.bought, c.live-agreed.ensures)
           (settled c.self.inside.sums.members c.self.inside.products c.self.inside.submitted c.self.inside.sums.products.items c.self.inside.sums.sold.items c.self.inside.sums.bought.items c.self.inside.rows.items c.args.trade c.row_at-row.result (live_row c.row_at-row.result) c.self.invariant.summed there (live_keeps c.row_at-row.result alleged));
-      count = c.self.invariant.count;
-      chained = rw (c.put_row.ensures.items, c.live-agreed.ensures) (c.self.invariant.chained ∙ sym (products_put c.self.inside.rows.items c.args.trade c.row_at-row.result (live_row c.row_at-row.result) there (live_keeps c.row_at-row.result alleged).product));
+      linked =
+          rw (c.put_row.ensures.items, c.settle.ensures.members, c.live-agreed.ensures)
+          (linked_kept c.self.inside.sums.members c.self.inside.products c.self.inside.links.by_product c.self.inside.links.by_pair c.self.inside.links.spare c.self.inside.rows.items c.self.invariant.linked c.args.trade c.row_at-row.result (live_row c.row_at-row.result) there (live_keeps c.row_at-row.result alleged) (sym (alleged_counts c.row_at-row.result.state alleged)));
       room = omega (arith, c.put_row.ensures.len, c.put_row.ensures.capacity, c.self.invariant.room);
     }

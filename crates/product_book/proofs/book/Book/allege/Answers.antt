@@ -1,9 +1,7 @@
-use Rattle.std.proofs.Common.{arith, ◌∙◌, ℕ, List, ◌++◌, ◌∷◌, [], ap, sym}
+use Rattle.std.proofs.Common.{arith, refl}
 use Rattle.product_book.proofs.BookFacts.{submitted_le}
 use Rattle.product_book.proofs.SumFacts.{member_sold, member_bought, sold_most, bought_most, alleged_with_sums}
-use Rattle.std.proofs.lemmas.List.{map_push}
-use Rattle.command_types.specs.declared.trade.TradeRow.{TradeRow}
-use Rattle.product_book.specs.Chains.{products_of}
+use Rattle.product_book.proofs.LinkedFacts.{linked_entered}
 use Rattle.product_book.proofs.book.Book.allege.Goals as goal
 
 pub enter-requires-clause-sold_fits : goal.enter-requires-clause-sold_fits
@@ -22,9 +20,12 @@ invariant_of-self c =
           (alleged_with_sums c.self.inside.sums.members c.self.inside.products c.self.inside.submitted c.self.inside.sums.products.items c.self.inside.sums.sold.items c.self.inside.sums.bought.items c.self.inside.rows.items c.self.invariant.summed _ (cc)
           (record { number = omega arith; product = rw (← c.self.view_is) at c.requires.product; seller = rw (← c.self.view_is) at c.requires.seller; buyer = rw (← c.self.view_is) at c.requires.buyer; different = c.requires.different })
           (rw (← c.self.view_is) at c.requires.bound));
-      count = ap (λ v. v.count) c.push.ensures ∙ c.self.invariant.count;
-      chained = ap (λ v. v.products) c.push.ensures ∙ ap (λ (ps : List ℕ). ps ++ c.args.product ∷ []) c.self.invariant.chained ∙ sym (ap products_of c.append.ensures.items ∙ map_push (λ (r : TradeRow). r.product) c.self.inside.rows.items _);
-      room = omega (arith, ap (λ v. v.spare) c.push.ensures, c.append.ensures.len, c.append.ensures.capacity, c.self.invariant.room);
+      linked =
+          rw (c.append.ensures.items, c.enter.ensures.members)
+          (linked_entered c.self.inside.sums.members c.self.inside.products c.self.inside.links.by_product c.self.inside.links.by_pair c.self.inside.links.spare c.self.inside.rows.items c.self.invariant.linked c.enter-2.new.self.by_product c.enter-2.new.self.by_pair c.enter-2.new.self.spare _ c.enter-2.ensures.products (rw c.enter.ensures.members at c.enter-2.ensures.pairs)
+          (record { number = omega arith; product = rw (← c.self.view_is) at c.requires.product; seller = rw (← c.self.view_is) at c.requires.seller; buyer = rw (← c.self.view_is) at c.requires.buyer; different = c.requires.different })
+          refl (rw (← c.self.view_is) at c.requires.room) c.enter-2.ensures.spare);
+      room = omega (arith, c.enter-2.ensures.spare, c.append.ensures.len, c.append.ensures.capacity, c.self.invariant.room);
     }
 
 pub overflow_add-self : goal.overflow_add-self

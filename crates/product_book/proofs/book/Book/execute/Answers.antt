@@ -1,10 +1,5 @@
-use Rattle.std.proofs.Common.{◌∙◌, length, ap, arith}
-use Rattle.std.proofs.lemmas.List.{length-map}
-use Rattle.command_types.specs.declared.trade.TradeRow.{TradeRow}
-use Rattle.product_book.proofs.ExecutionFacts.{steps_run, book_executed}
-use Rattle.command_types.specs.Plans.{executed}
-use Rattle.product_book.specs.Chains.{products_of}
-use Rattle.product_book.proofs.FreezeFacts.{products_of as in_range}
+use Rattle.std.proofs.Common.{arith}
+use Rattle.product_book.proofs.ExecutionFacts.{steps_run, steps_made, book_executed}
 use Rattle.product_book.proofs.book.Book.execute.Goals as goal
 
 pub execute-requires-clause-steps : goal.execute-requires-clause-steps
@@ -28,12 +23,15 @@ invariant_of-self c =
     record {
       summed =
           rw (c.execute.ensures.items, c.recount.ensures.members) (record { book = after; kept = kept });
-      count = c.rechain.ensures.count ∙ c.self.invariant.count;
-      chained = c.rechain.ensures.products ∙ ap products_of c.deref-2.ensures.value;
-      room = omega (arith, c.rechain.ensures.spare, c.self.invariant.room, c.execute.ensures.len, c.execute.ensures.capacity, ap length c.self.invariant.chained, length-map c.self.inside.rows.items (λ (r : TradeRow). r.product), c.self.inside.rows.ok.0, c.deref-2.ensures.len);
+      linked = rw (c.recount.ensures.members) (rw c.self.invariant.linked.product_count at c.execute.ensures.running).linked;
+      room = omega (arith, c.execute.ensures.spare, c.self.invariant.room, c.execute.ensures.len, c.execute.ensures.capacity);
     }
 
-pub rechain-requires-clause-products : goal.rechain-requires-clause-products
-rechain-requires-clause-products c =
-    let after = book_executed c.self.inside.sums.members c.self.inside.products c.self.inside.submitted c.self.inside.rows.items c.args.plan.now c.self.invariant.summed.book (rw (← c.self.view_is) at c.requires.plan) in
-    rw (c.deref-2.ensures.value, c.execute.ensures.items, c.self.invariant.count) (in_range c.self.inside.sums.members c.self.inside.products 1 (executed c.args.plan.now c.self.inside.rows.items) after.trades)
+pub execute-requires-clause-made : goal.execute-requires-clause-made
+execute-requires-clause-made c =
+    rw c.self.invariant.linked.product_count (steps_made c.self.inside.sums.members c.self.inside.products c.self.inside.rows.items c.args.plan.now (rw (← c.self.view_is) at c.requires.plan))
+
+pub execute-requires-clause-running : goal.execute-requires-clause-running
+execute-requires-clause-running c =
+    rw c.self.invariant.linked.product_count
+    (record { few = c.self.invariant.summed.book.few_members; few_products = c.self.invariant.summed.book.few_products; trades = c.self.invariant.summed.book.trades; linked = c.self.invariant.linked })

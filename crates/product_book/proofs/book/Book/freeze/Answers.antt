@@ -4,7 +4,7 @@ use Rattle.product_book.specs.Freezes.{is_chosen, row_by_choice, FrozenCount}
 use Rattle.product_book.proofs.BookFacts.{rows_written, flag_keeps}
 use Rattle.product_book.proofs.SumFacts.{written_with_sums}
 use Rattle.product_book.proofs.FreezeFacts.{products_of, none_ended}
-use Rattle.product_book.proofs.ChainFacts.{products_written}
+use Rattle.product_book.proofs.LinkedFacts.{linked_written}
 use Rattle.product_book.proofs.book.Book.freeze.Goals as goal
 
 pub freeze-requires : goal.freeze-requires
@@ -19,8 +19,9 @@ invariant_of-self c =
       summed =
           written_with_sums c.self.inside.sums.members c.self.inside.products c.self.inside.submitted c.self.inside.sums.products.items c.self.inside.sums.sold.items c.self.inside.sums.bought.items c.self.inside.rows.items c.self.invariant.summed c.self.inside.rows.len c.freeze.new.rows (row_by_choice c.args.products.now)
           (λ row. flag_keeps (is_live row.state && is_chosen c.args.products.now row.product) row) (λ row. refl) c.self.inside.rows.ok.0 (rw c.deref_mut.ensures.value at c.freeze.ensures.rows);
-      count = c.self.invariant.count;
-      chained = c.self.invariant.chained ∙ sym (products_written (row_by_choice c.args.products.now) c.self.inside.rows.len c.self.inside.rows.items c.freeze.new.rows (λ row. refl) c.self.inside.rows.ok.0 (rw c.deref_mut.ensures.value at c.freeze.ensures.rows));
+      linked =
+          linked_written c.self.inside.sums.members c.self.inside.products c.self.inside.links.by_product c.self.inside.links.by_pair c.self.inside.links.spare c.self.inside.rows.items c.self.invariant.linked c.self.inside.rows.len c.freeze.new.rows (row_by_choice c.args.products.now)
+          (λ row. flag_keeps (is_live row.state && is_chosen c.args.products.now row.product) row) (λ row. refl) c.self.inside.rows.ok.0 (rw c.deref_mut.ensures.value at c.freeze.ensures.rows);
       room = c.self.invariant.room;
     }
 

@@ -1,0 +1,130 @@
+//! The lists of a book: of each product, and of each ordered pair of members in it, its alleged and live trades. Who asks
+//! for a product or for a pair goes to its open trades alone.
+
+ghost use Rattle.std.specs.Prelude.{ℕ, ◌≡◌, ◌-◌, ◌*◌, ◌<◌, ◌≤◌, [], length, max, replicate, None, OnOk, OnErr, IfOk, IfSome};
+ghost use Rattle.product_book.specs.Links.{pair_place, trade_place, IsPushed, IsTakenOut};
+
+use crate::open_lists::OpenLists;
+use command_types::TradeRow;
+use std::alloc::{AllocError, Global};
+
+/// The lists of products and of pairs.
+#[derive(Drop)]
+pub(super) struct Links {
+    pub by_product: OpenLists,
+    pub by_pair: OpenLists,
+    pub spare: u64,
+}
+
+// The place of an ordered pair in a product.
+fn pair_place(members: u16, product: usize, seller: usize, buyer: usize) -> u32
+    requires members { members ≤ 256 }
+    requires product { product < 64 }
+    requires seller { seller < members }
+    requires buyer { buyer < members }
+    ensures { result ≡ pair_place members product seller buyer }
+{
+    let line = product as u32 * members as u32 + seller as u32;
+    line * members as u32 + buyer as u32
+}
+
+/// The place of a product, a seller and a buyer; none where there is no such product or member.
+pub(super) fn place_of(members: u16, products: u16, pair: (usize, usize, usize)) -> Option<u32>
+    requires few { members ≤ 256 }
+    requires few_products { products ≤ 64 }
+    ensures found { IfSome result (λ place. place ≡ pair_place members pair.0 pair.1 pair.2) }
+    ensures product { IfSome result (λ _. pair.0 < products) }
+    ensures seller { IfSome result (λ _. pair.1 < members) }
+    ensures buyer { IfSome result (λ _. pair.2 < members) }
+    ensures none { result ≡ None → pair.0 < products → pair.1 < members → pair.2 < members → ⊥ }
+{
+    let (product, seller, buyer) = pair;
+    if product >= products as usize {
+        return None;
+    }
+    if seller >= members as usize {
+        return None;
+    }
+    if buyer >= members as usize {
+        return None;
+    }
+    Some(pair_place(members, product, seller, buyer))
+}
+
+impl Links {
+    /// The lists of no trades. The only error is want of memory.
+    pub(super) fn new(alloc: Global, members: u16, products: u16) -> Result<Links, AllocError>
+        requires few { members ≤ 256 }
+        requires few_products { products ≤ 64 }
+        ensures products { IfOk result (λ made. made.by_product.lists ≡ replicate products []) }
+        ensures pairs { IfOk result (λ made. made.by_pair.lists ≡ replicate (members * (members * products)) []) }
+        ensures product_numbers { IfOk result (λ made. made.by_product.count ≡ 0) }
+        ensures pair_numbers { IfOk result (λ made. made.by_pair.count ≡ 0) }
+        ensures spare { IfOk result (λ made. made.spare ≡ 0) }
+    {
+        let pairs = members as u32 * (members as u32 * products as u32);
+        Ok(Links {
+            by_product: OpenLists::new(alloc, products as u32)?,
+            by_pair: OpenLists::new(alloc, pairs)?,
+            spare: 0,
+        })
+    }
+
+    /// Makes room for so many more trades. The only error is want of memory, and it leaves the room that there was.
+    pub(super) fn reserve(&mut self, trades: u32) -> Result<(), AllocError>
+        requires product_room { self.old.spare ≤ self.old.by_product.spare }
+        requires pair_room { self.old.spare ≤ self.old.by_pair.spare }
+        ensures products { self.new.by_product.lists ≡ self.old.by_product.lists }
+        ensures product_numbers { self.new.by_product.count ≡ self.old.by_product.count }
+        ensures pairs { self.new.by_pair.lists ≡ self.old.by_pair.lists }
+        ensures pair_numbers { self.new.by_pair.count ≡ self.old.by_pair.count }
+        ensures product_room { self.new.spare ≤ self.new.by_product.spare }
+        ensures pair_room { self.new.spare ≤ self.new.by_pair.spare }
+        ensures room { OnOk result (self.new.spare ≡ max self.old.spare trades) }
+        ensures err { OnErr result (self.new.spare ≡ self.old.spare) }
+    {
+        self.by_product.reserve(trades)?;
+        self.by_pair.reserve(trades)?;
+        self.spare = self.spare.max(trades as u64);
+        Ok(())
+    }
+
+    /// Puts a trade last into its lists. It takes no memory.
+    pub(super) fn enter(&mut self, members: u16, row: &TradeRow)
+        requires members { members ≤ 256 }
+        requires few { row.now.product < 64 }
+        requires seller { row.now.seller < members }
+        requires buyer { row.now.buyer < members }
+        requires product { row.now.product < length self.old.by_product.lists }
+        requires place { trade_place members row.now < length self.old.by_pair.lists }
+        requires room { 1 ≤ self.old.spare }
+        requires product_room { self.old.spare ≤ self.old.by_product.spare }
+        requires pair_room { self.old.spare ≤ self.old.by_pair.spare }
+        ensures products { IsPushed self.old.by_product self.new.by_product row.now.product }
+        ensures pairs { IsPushed self.old.by_pair self.new.by_pair (trade_place members row.now) }
+        ensures spare { self.new.spare ≡ self.old.spare - 1 }
+    {
+        let place = pair_place(
+            members,
+            row.product.index(),
+            row.seller.index(),
+            row.buyer.index(),
+        );
+        self.by_product.push(row.product.index() as u32);
+        self.by_pair.push(place);
+        self.spare -= 1;
+    }
+
+    /// Takes a trade out of its lists. It takes no memory.
+    pub(super) fn leave(&mut self, number: u64)
+        requires some { 1 ≤ number }
+        requires product { number ≤ self.old.by_product.count }
+        requires pair { number ≤ self.old.by_pair.count }
+        ensures products { IsTakenOut self.old.by_product self.new.by_product number }
+        ensures pairs { IsTakenOut self.old.by_pair self.new.by_pair number }
+        ensures spare { self.new.spare ≡ self.old.spare }
+    {
+        self.by_product.take_out(number);
+        self.by_pair.take_out(number);
+    }
+}
