@@ -134,7 +134,11 @@ impl Book {
         ensures sum { result ≡ pair_sum_of product seller buyer self.now.rows }
         ensures most { result ≤ gross_limit }
     {
-        sums::pair_total(&self.rows, product, seller, buyer)
+        let pair = (product.index(), seller.index(), buyer.index());
+        match place_of(self.sums.members, self.products, pair) {
+            Some(place) => sums::live_total(&self.rows, &self.links.by_pair, place),
+            None => 0,
+        }
     }
 
     /// The member's position in the product, over its live trades. It takes no memory.

@@ -40,8 +40,8 @@ fn counted(row: &TradeRow) -> u64
     }
 }
 
-// What a trade adds to the sums of its two members.
-fn live(row: &TradeRow) -> u64
+/// What a trade adds to the sums of its two members.
+pub(super) fn live(row: &TradeRow) -> u64
     ensures { result ≡ live_part row.now }
 {
     if row.state == TradeState::Live {

@@ -1,43 +1,29 @@
-//! Sums over the trades, row by row.
+//! Sums over the trades of a list.
 
-ghost use Rattle.std.specs.Prelude.{◌≡◌, ◌≤◌, ◌==◌, ◌&&◌, if◌then◌else◌};
-ghost use Rattle.command_types.specs.Trades.{is_live, pair_sum_of};
+ghost use Rattle.std.specs.Prelude.{◌≡◌, ◌≤◌, sum_by};
+ghost use Rattle.linked_rows.specs.Rows.{list_of};
 ghost use Rattle.product_book.specs.Book.{gross_limit};
+ghost use Rattle.product_book.specs.Kept.{live_part};
+ghost use Rattle.product_book.specs.OpenLists.{numbers_in};
+ghost use Rattle.product_book.specs.Walks.{rows_at, EachThere};
 
-use command_types::{TradeRow, TradeState};
-use units_core::{MemberNo, ProductNo};
+use crate::kept::live;
+use crate::open_lists::OpenLists;
+use crate::row::row_at;
+use command_types::TradeRow;
 
-// Whether the row is live, and in the product.
-fn is_live_in(row: &TradeRow, product: ProductNo) -> bool
-    ensures { result ≡ ((row.now.product == product) && is_live row.now.state) }
-{
-    row.product == product && row.state == TradeState::Live
-}
-
-// What the seller owes the buyer by a row in the product.
-fn between(row: &TradeRow, product: ProductNo, seller: MemberNo, buyer: MemberNo) -> u64
-    ensures { result ≡ (if (row.now.product == product) && is_live row.now.state && (row.now.seller == seller) && (row.now.buyer == buyer) then row.now.amount else 0) }
-{
-    if is_live_in(row, product) && row.seller == seller && row.buyer == buyer {
-        row.amount.get()
-    } else {
-        0
-    }
-}
-
-/// What the seller owes the buyer in the product, over their live trades.
-pub(super) fn pair_total(
-    rows: &[TradeRow],
-    product: ProductNo,
-    seller: MemberNo,
-    buyer: MemberNo,
-) -> u64
-    requires { pair_sum_of product seller buyer rows.now ≤ gross_limit }
-    ensures { result ≡ pair_sum_of product seller buyer rows.now }
+/// What the live trades of a list come to.
+pub(super) fn live_total(trades: &[TradeRow], lists: &OpenLists, list: u32) -> u64
+    requires there { EachThere trades.now (numbers_in (list_of lists.now.lists list)) }
+    requires most { sum_by live_part (rows_at trades.now (numbers_in (list_of lists.now.lists list))) ≤ gross_limit }
+    ensures { result ≡ sum_by live_part (rows_at trades.now (numbers_in (list_of lists.now.lists list))) }
 {
     let mut total = 0;
-    for row in rows {
-        total += between(row, product, seller, buyer);
+    let mut at = lists.first(list);
+    while let Some(node) = at {
+        let trade = row_at(trades, lists.number_at(node));
+        total += live(&trade);
+        at = lists.next(node);
     }
     total
 }
