@@ -1,4 +1,4 @@
-use Rattle.std.proofs.Common.{◌≡◌, ◌<◌, ◌∙◌, refl, sym, arith}
+use Rattle.std.proofs.Common.{◌≡◌, ◌<◌, refl, sym, arith}
 use Rattle.product_book.specs.Links.{pair_place}
 use Rattle.product_book.proofs.LinkedFacts.{pair_numbers, place_low, pair_total, no_total, pair_most}
 use Rattle.product_book.proofs.book.Book.pair_sum.Goals as goal
