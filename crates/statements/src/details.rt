@@ -4,8 +4,20 @@ ghost use Rattle.std.specs.Prelude.{◌≡◌, ◌<◌, slice_get, length, Some}
 ghost use Rattle.statements.specs.Details.{details_of};
 
 use command_types::{Answer, LimitLine, PlanRow, TradeRow};
+use units_core::MemberNo;
 
-/// What a detail line tells.
+/// An execution: the length of the history then, its cycle and version, and how many trades its plan ended, cut and made.
+#[derive(Clone, Copy)]
+pub struct ExecutionLine {
+    pub position: u64,
+    pub cycle: u64,
+    pub version: u64,
+    pub ended: u64,
+    pub cut: u64,
+    pub made: u64,
+}
+
+/// What a detail line tells, or a line of a replay.
 #[derive(Clone, Copy)]
 pub enum DetailRow {
     Trade(TradeRow),
@@ -13,6 +25,9 @@ pub enum DetailRow {
     Limit(LimitLine),
     /// A step of a plan.
     Plan(PlanRow),
+    /// A member, and how many trades it has a side in.
+    Member { member: MemberNo, count: u64 },
+    Execution(ExecutionLine),
 }
 
 /// How many rows an answer tells. Most answers tell none.

@@ -1,10 +1,11 @@
-//! Detail lines of replies: the rows that follow a head line.
+//! Detail lines of replies, the rows that follow a head line; and the lines of a replay.
 #![tactic(auto)]
 
 mod details;
 mod plan_text;
+mod replay_text;
 mod row_text;
 mod trade_text;
 
-pub use details::{DetailRow, detail_count, detail_row};
+pub use details::{DetailRow, ExecutionLine, detail_count, detail_row};
 pub use row_text::{put_row, write_row};
