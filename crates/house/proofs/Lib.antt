@@ -5,4 +5,5 @@ pub mod ToldFacts
 pub mod CallingFacts
 pub mod ChangeFacts
 pub mod OpeningFacts
+pub mod ExecutionFacts
 pub mod Sends

@@ -5,3 +5,4 @@ pub mod Journals
 pub mod House
 pub mod Opening
 pub mod Calling
+pub mod Executions

@@ -2,11 +2,14 @@
 #![tactic(auto)]
 
 mod calling;
+mod executions;
 pub mod fault;
 pub mod house;
 mod opening;
 pub mod past;
 mod storing;
 
+pub use executions::Executions;
 pub use fault::OpenFault;
 pub use house::House;
+pub use opening::{Recovered, recover_noting};

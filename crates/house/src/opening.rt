@@ -1,7 +1,7 @@
 //! A house, opened on what a disk holds.
-ghost use Rattle.std.specs.Prelude.{◌≡◌, ◌≢◌, ◌+◌, ◌≤◌, List, [], ◌∷◌, IfOk, IfErr, OnOk, Err};
+ghost use Rattle.std.specs.Prelude.{◌≡◌, ◌≢◌, ◌+◌, ◌≤◌, List, [], ◌∷◌, ◌++◌, option_map, IfOk, IfErr, OnOk, Err};
 ghost use Rattle.command_types.specs.declared.ask.Entry.{Entry};
-ghost use Rattle.command_types.specs.Machine.{empty_state, state_after};
+ghost use Rattle.command_types.specs.Machine.{empty_state, state_after, answer_to};
 ghost use Rattle.command_types.specs.History.{IsAcceptedIn};
 ghost use Rattle.command_types.specs.Sizes.{frames_size};
 ghost use Rattle.cycle_states.specs.PlainDesk.{IsReplayed};
@@ -16,10 +16,11 @@ ghost use Rattle.recovery.specs.Reading.{file_of, entries_in, IsRead};
 ghost use Rattle.house.specs.declared.fault.OpenFault.TheVariants.{DiskFault};
 ghost use Rattle.house.specs.Opening.{IsReplayFault, StandsForNone, FindsFault, IsOpened};
 ghost use Rattle.house.specs.Storing.{ContentStandsFor};
+ghost use Rattle.house.specs.Executions.{executions_told, told_of};
 
 use crate::past::Past;
-use crate::{House, OpenFault};
-use command_types::{Entry, Roster};
+use crate::{Executions, House, OpenFault};
+use command_types::{Answer, Entry, Roster};
 use cycle_states::{Machine, is_recorded};
 use journal_core::Journal;
 use outside::Disk;
@@ -27,10 +28,11 @@ use recovery::{Entries, EntryAt, read_entries};
 use std::alloc::Global;
 use std::snapshot::Snapshot;
 
-// Has the machine make the change, if it accepts it.
-fn accept(machine: &mut Machine, item: EntryAt) -> Result<Entry, OpenFault>
+// Has the machine make the change, if it accepts it, and gives the change and its answer.
+fn accept(machine: &mut Machine, item: EntryAt) -> Result<(Entry, Answer), OpenFault>
     requires { IsYoung machine.old.state.cycle }
-    ensures entry { IfOk result (λ entry. entry ≡ item.entry) }
+    ensures entry { IfOk result (λ made. made.0 ≡ item.entry) }
+    ensures answer { IfOk result (λ made. made.1 ≡ answer_to machine.old.state item.entry.ask) }
     ensures accepted { OnOk result (IsAcceptedIn machine.old.state item.entry) }
     ensures state { OnOk result (machine.new.state ≡ state_after machine.old.state item.entry.ask) }
     ensures fault { IfErr result (IsReplayFault machine.old.state (item ∷ [])) }
@@ -40,49 +42,102 @@ fn accept(machine: &mut Machine, item: EntryAt) -> Result<Entry, OpenFault>
         return Err(OpenFault::Damaged { offset: item.at });
     }
     let ready = machine.prepare(item.entry)?;
-    let (entry, _) = machine.commit(ready);
-    Ok(entry)
+    Ok(machine.commit(ready))
 }
 
-// Has a machine that made no change yet make those that were read, one after another, if it accepts each at its place.
-fn replay(alloc: Global, machine: &mut Machine, read: &Entries) -> Result<Past, OpenFault>
+// Has a machine that made no change yet make those that were read, one after another, if it accepts each at its place. The
+// replies that tell an execution are noted behind those that were.
+fn replay(
+    alloc: Global,
+    machine: &mut Machine,
+    read: &Entries,
+    executions: &mut Executions,
+) -> Result<Past, OpenFault>
     requires { machine.old.state ≡ empty_state machine.old.state.roster }
     ensures entries { (list : List EntryAt) → IsRead (file_of read.now) list → IfOk result (λ past. past ≡ entries_in list) }
     ensures replayed { IfOk result (λ past. IsReplayed machine.new.state past) }
     ensures roster { OnOk result (machine.new.state.roster ≡ machine.old.state.roster) }
+    ensures told { IfOk result (λ past. told_of executions.new ≡ option_map (λ replies. replies ++ executions_told machine.old.state 0 past) (told_of executions.old)) }
     ensures fault { (list : List EntryAt) → IsRead (file_of read.now) list → IfErr result (IsReplayFault machine.old.state list) }
 {
     let mut past = Past::new();
     let mut reader = read.reader();
     while let Some(item) = reader.next(alloc)? {
-        let entry = accept(machine, item)?;
+        let (entry, answer) = accept(machine, item)?;
         past.push(&entry);
+        executions.note(past.count(), answer)?;
     }
     Ok(past)
 }
 
 // The machine of this roster after the changes that were read, if it accepts each at its place, and the changes.
-fn restore(alloc: Global, roster: Roster, read: &Entries) -> Result<(Machine, Past), OpenFault>
+fn restore(
+    alloc: Global,
+    roster: Roster,
+    read: &Entries,
+    executions: &mut Executions,
+) -> Result<(Machine, Past), OpenFault>
     ensures entries { (list : List EntryAt) → IsRead (file_of read.now) list → IfOk result (λ r. r.1 ≡ entries_in list) }
     ensures replayed { IfOk result (λ r. IsReplayed r.0.state r.1) }
     ensures roster { IfOk result (λ r. r.0.state.roster ≡ roster) }
+    ensures told { IfOk result (λ r. told_of executions.new ≡ option_map (λ replies. replies ++ executions_told (empty_state roster) 0 r.1) (told_of executions.old)) }
     ensures fault { (list : List EntryAt) → IsRead (file_of read.now) list → IfErr result (IsReplayFault (empty_state roster) list) }
 {
     let mut machine = Machine::new(alloc, roster)?;
-    let past = replay(alloc, &mut machine, read)?;
+    let past = replay(alloc, &mut machine, read, executions)?;
     Ok((machine, past))
 }
 
-// What is read of a disk: the machine after its changes, the changes, and the place where its journal goes on.
+/// What is read of a disk: the machine after its changes, the changes, the place where its journal goes on, and the
+/// executions, where they were to be kept.
 #[derive(Drop)]
-pub(crate) struct Recovered {
+pub struct Recovered {
+    pub machine: Machine,
+    pub past: Past,
+    pub end: u64,
+    pub executions: Executions,
+}
+
+/// Reads a disk's journal, and makes its changes, over this roster. It writes nothing. `Damaged` comes only where the disk's
+/// content stands for no history that is legal for the roster, with the one place that is told. The replies that tell an
+/// execution are noted behind those that were, where they are kept at all.
+pub fn recover_noting<D: Disk>(
+    alloc: Global,
+    roster: Roster,
+    disk: &mut D,
+    mut executions: Executions,
+) -> Result<Recovered, OpenFault>
+    ensures stands { IfOk result (λ r. ContentStandsFor (D.history disk.old) r.past) }
+    ensures replayed { IfOk result (λ r. IsReplayed r.machine.state r.past) }
+    ensures roster { IfOk result (λ r. r.machine.state.roster ≡ roster) }
+    ensures ends { IfOk result (λ r. EndsAt (D.history disk.old) r.end) }
+    ensures size { IfOk result (λ r. r.end ≡ 9 + frames_size r.past) }
+    ensures told { IfOk result (λ r. told_of r.executions ≡ option_map (λ replies. replies ++ executions_told (empty_state roster) 0 r.past) (told_of executions)) }
+    ensures fault { IfErr result (FindsFault roster (D.history disk.old)) }
+    ensures same { D.history disk.new ≡ D.history disk.old }
+    ensures never_falls { D.fault_count disk.old ≤ D.fault_count disk.new }
+    ensures failed { result ≡ Err DiskFault → Rose (D.fault_count disk.old) (D.fault_count disk.new) }
+{
+    let read = read_entries(alloc, disk)?;
+    let (machine, past) = restore(alloc, roster, &read, &mut executions)?;
+    Ok(Recovered {
+        machine,
+        past,
+        end: read.end(),
+        executions,
+    })
+}
+
+// What a house needs of it.
+#[derive(Drop)]
+pub(crate) struct Reopened {
     machine: Machine,
     past: Past,
     end: u64,
 }
 
 // Reads a disk's journal, and makes its changes. It writes nothing.
-fn recover<D: Disk>(alloc: Global, roster: Roster, disk: &mut D) -> Result<Recovered, OpenFault>
+fn recover<D: Disk>(alloc: Global, roster: Roster, disk: &mut D) -> Result<Reopened, OpenFault>
     ensures stands { IfOk result (λ r. ContentStandsFor (D.history disk.old) r.past) }
     ensures replayed { IfOk result (λ r. IsReplayed r.machine.state r.past) }
     ensures roster { IfOk result (λ r. r.machine.state.roster ≡ roster) }
@@ -93,13 +148,14 @@ fn recover<D: Disk>(alloc: Global, roster: Roster, disk: &mut D) -> Result<Recov
     ensures never_falls { D.fault_count disk.old ≤ D.fault_count disk.new }
     ensures failed { result ≡ Err DiskFault → Rose (D.fault_count disk.old) (D.fault_count disk.new) }
 {
-    let read = read_entries(alloc, disk)?;
-    let (machine, past) = restore(alloc, roster, &read)?;
-    Ok(Recovered {
+    let recovered = recover_noting(alloc, roster, disk, Executions::unkept())?;
+    let Recovered {
         machine,
         past,
-        end: read.end(),
-    })
+        end,
+        executions: _,
+    } = recovered;
+    Ok(Reopened { machine, past, end })
 }
 
 impl<D: Disk> House<D> {

@@ -62,7 +62,7 @@ impl Past {
     }
 
     /// How many there are.
-    pub(crate) fn count(&self) -> u64
+    pub fn count(&self) -> u64
         ensures count { result ≡ length self.now }
         ensures short { result < 2 ^ 63 }
     {

@@ -6,7 +6,7 @@ use Rattle.house.specs.declared.fault.OpenFault.{OpenFault}
 use Rattle.house.specs.Faults.{fault_of_reading}
 use Rattle.house.specs.Opening.{IsReplayFault, FindsFault}
 use Rattle.house.proofs.OpeningFacts.{reading_fault, replay_fault, replay_stands}
-use Rattle.house.proofs.opening.recover.Goals as goal
+use Rattle.house.proofs.opening.recover_noting.Goals as goal
 
 pub returns-in_err-read-clause-fault : goal.returns-in_err-read-clause-fault
 returns-in_err-read-clause-fault g c =
