@@ -25,6 +25,7 @@ use Rattle.compress_server.specs.Run.{IsWhole, IsStopped, IsAtLimit, IsUnwritten
 use Rattle.compress_server.specs.Check.{SaysYes, SaysNo, SaysFront}
 use Rattle.compress_server.specs.Solve.{Proposes, ProposesFront}
 use Rattle.compress_server.specs.Gen.{Summarizes, SummarizesFront}
+use Rattle.compress_server.specs.Replay.{JournalReplays}
 use Rattle.compress_server.specs.Seen.{Seen, IsOnlyOutput}
 use Rattle.compress_server.specs.Serve.{ServiceSize, ServiceRuns}
 
@@ -60,6 +61,12 @@ abbrev pub ScriptRuns : Option Folder → List ℕ → Option Flow → Option Fl
 ScriptRuns folder roster opened flow begun taken disk left end =
     ((fault : LoadFault) × (end ≡ Unloaded fault) × (flow ≡ opened) × (taken ≡ begun) × (left ≡ disk) × IsFault (IsRosterFault folder roster) ReadBeforeRoster fault)
     ⊎ OverRoster folder roster (λ rows. JournalRuns rows opened flow begun taken disk left end)
+
+-- by the end of a replay: the roster could not be had, and the disk was left alone; or what came over its rows
+abbrev pub ReplayRuns : Option Folder → List ℕ → Option (List ℕ) → Option (List ℕ) → DiskState → DiskState → End → Type 0
+ReplayRuns folder roster begun taken disk left end =
+    ((fault : LoadFault) × (end ≡ Unloaded fault) × (taken ≡ begun) × (left ≡ disk) × IsFault (IsRosterFault folder roster) ReadBeforeRoster fault)
+    ⊎ OverRoster folder roster (λ rows. JournalReplays rows disk left begun taken end)
 
 -- by the end of a check of parts that were read: the line that was written
 abbrev pub IsTold : Rows → Mode → List FileTrade → List ProposalPart → Option (List ℕ) → Option (List ℕ) → End → Type 0
@@ -142,6 +149,8 @@ Runs visits folder (Some (Form.Solve market workers)) opened flow before after e
     (flow ≡ opened) × IsOnlyOutput before after × SolveRuns folder market before.output.taken after.output.taken end
 Runs visits folder (Some (Form.Gen number workers)) opened flow before after end =
     (flow ≡ opened) × IsOnlyOutput before after × GenRuns number before.output.taken after.output.taken end
+Runs visits folder (Some (Form.Replay roster journal)) opened flow before after end =
+    (flow ≡ opened) × (after.listener ≡ before.listener) × ReplayRuns folder roster before.output.taken after.output.taken before.disk after.disk end
 
 -- where the files, the input or the output failed, its count rose; a fault of the disk or of the listener is counted in what a script or a service comes to
 abbrev pub IsCounted : Type 0 → Type 0 → Type 0 → End → Type 0

@@ -12,6 +12,8 @@ pub mod Script
 pub mod Check
 pub mod Solve
 pub mod Gen
+pub mod Told
+pub mod Replay
 pub mod Ending
 pub mod Telling
 pub mod Statuses

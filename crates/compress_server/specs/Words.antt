@@ -20,6 +20,7 @@ pub data Form : Type 0 where
   Check : (market : Market) (proposal : List ℕ) → Form
   Solve : (market : Market) (workers : ℕ) → Form
   Gen : (number workers : ℕ) → Form
+  Replay : (roster journal : List ℕ) → Form
 
 -- the numbers where the option is not given
 abbrev pub workers_of : Options → ℕ
@@ -74,6 +75,11 @@ gen_of options (number ∷ []) =
     if has_workers_alone options then option_map (λ n. Form.Gen n (workers_of options)) (count_of most_number number) else None
 gen_of options plain = None
 
+-- `replay ROSTER JOURNAL`
+abbrev pub replay_of : Options → List (List ℕ) → Option Form
+replay_of options (roster ∷ journal ∷ []) = if has_none options then Some (Form.Replay roster journal) else None
+replay_of options plain = None
+
 -- the form of this name, with these words behind it
 abbrev pub form_named : List ℕ → Parts → Option Form
 form_named name parts =
@@ -82,7 +88,8 @@ form_named name parts =
     else (if bytes_eq name (codes "check") then check_of parts.options parts.plain
     else (if bytes_eq name (codes "solve") then solve_of parts.options parts.plain
     else (if bytes_eq name (codes "gen") then gen_of parts.options parts.plain
-    else None))))
+    else (if bytes_eq name (codes "replay") then replay_of parts.options parts.plain
+    else None)))))
 
 -- what the words ask for; none where they are out of form
 abbrev pub form_of : List (List ℕ) → Option Form
@@ -100,3 +107,4 @@ read_form (read.Serve roster journal address seats connections workers) = Form.S
 read_form (read.Check market proposal) = Form.Check (read_market market) proposal.now
 read_form (read.Solve market workers) = Form.Solve (read_market market) workers.value
 read_form (read.Gen number workers) = Form.Gen number workers.value
+read_form (read.Replay roster journal) = Form.Replay roster.now journal.now

@@ -11,6 +11,7 @@ mod load;
 mod opening;
 mod parting;
 mod places;
+mod replay;
 mod script;
 mod serve;
 mod solve;

@@ -18,6 +18,7 @@ use crate::ending::End;
 use crate::faults::{damage_line, fault_line};
 use crate::generated::run_gen;
 use crate::load::{FileRole, LoadFault};
+use crate::replay::{ReplayWords, run_replay};
 use crate::script::{ScriptWords, run_script};
 use crate::serve::{ServiceWords, run_serve};
 use crate::solve::run_solve;
@@ -159,6 +160,12 @@ fn run_form<
             let workers = Workers::new(rt, workers.value, gate);
             (run_gen(alloc, number, output, &workers), disk)
         }
+        Some(Form::Replay { roster, journal }) => {
+            let words = ReplayWords { roster, journal };
+            let mut disk = disk;
+            let end = run_replay(alloc, files, &words, output, &mut disk);
+            (end, disk)
+        }
     }
 }
 
@@ -173,6 +180,8 @@ fn run_form<
 ///   that fails and why.
 /// - `solve ROSTER TRADES MODE [--workers W]`: a proposal for a market.
 /// - `gen NUMBER [--workers W]`: the summary of the market of a number from 1 to 10^18, solved in the hybrid mode.
+/// - `replay ROSTER JOURNAL`: what the journal stands for: each member and the trades in which it has a side, each
+///   execution, and how many changes there are. Nothing is written to the disk.
 ///
 /// MODE is `conservative`, `hybrid` or `free`. W workers solve, from 1 to 64; N is from 1 to 64, and C from 1 to 1,000,000. Where the
 /// option is not given, W and N are 4, and C is 1,000,000. An option is `--name V` or `--name=V`, at any place behind the
@@ -197,8 +206,8 @@ fn run_form<
 /// - 10: the listener failed, and no seat began; or the door of a seat, and the others served on;
 /// - 11: the files failed at one of them, and the files before it have no fault.
 ///
-/// At 2, 3, 7, 9 and 11 nothing was read from the input or written to the output. A check, a solve and a gen read no
-/// input, and leave the disk alone. For each status but 0 and 1 one line goes to the errors.
+/// At 2, 3, 7, 9 and 11 nothing was read from the input or written to the output. A check, a solve, a gen and a replay read
+/// no input; the first three leave the disk alone. For each status but 0 and 1 one line goes to the errors.
 pub fn run<
     R: Threads + Wait + Sync,
     F: Files,

@@ -2,7 +2,7 @@
 //! `specs/Words` has them.
 
 ghost use Rattle.std.specs.Prelude.{◌≡◌, map, string_bytes, option_map};
-ghost use Rattle.compress_server.specs.Words.{market_of, script_of, serve_of, check_of, solve_of, gen_of, workers_of, seats_of, connections_of, has_none, has_workers_alone, form_named, form_of, read_market, read_form};
+ghost use Rattle.compress_server.specs.Words.{market_of, script_of, serve_of, check_of, solve_of, gen_of, replay_of, workers_of, seats_of, connections_of, has_none, has_workers_alone, form_named, form_of, read_market, read_form};
 ghost use Rattle.compress_server.specs.Parting.{read_options, read_parts};
 
 use crate::count::Count;
@@ -52,6 +52,11 @@ pub enum Form<'a> {
     Gen {
         number: u64,
         workers: Count,
+    },
+    /// What a journal stands for over a roster.
+    Replay {
+        roster: &'a str,
+        journal: &'a str,
     },
 }
 
@@ -173,6 +178,15 @@ fn read_gen<'a>(options: &Options, plain: &[&'a str]) -> Option<Form<'a>>
     }
 }
 
+fn read_replay<'a>(options: &Options, plain: &[&'a str]) -> Option<Form<'a>>
+    ensures { option_map read_form result ≡ replay_of (read_options options.now) (map (λ word. word.now) plain.now) }
+{
+    match plain {
+        [roster, journal] if options.has_none() => Some(Form::Replay { roster, journal }),
+        _ => None,
+    }
+}
+
 // The form of this name, with these words behind it.
 fn form_named<'a>(name: &str, parts: &Parts<'a>) -> Option<Form<'a>>
     ensures { option_map read_form result ≡ form_named name.now (read_parts parts.now) }
@@ -188,6 +202,8 @@ fn form_named<'a>(name: &str, parts: &Parts<'a>) -> Option<Form<'a>>
         read_solve(&parts.options, plain)
     } else if name == "gen" {
         read_gen(&parts.options, plain)
+    } else if name == "replay" {
+        read_replay(&parts.options, plain)
     } else {
         None
     }

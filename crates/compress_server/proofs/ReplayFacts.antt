@@ -1,0 +1,197 @@
+-- What a machine that made a journal's changes tells is what the history tells.
+use Rattle.std.proofs.Common.{◌≡◌, ◌∙◌, refl, sym, subst, ap, ℕ, ◌+◌, ◌<◌, Bool, true, false, cond, List, [], ◌∷◌, ◌++◌, length, get_or, take, Option, Some, None, unwrap_or, append_assoc, arith}
+use Rattle.std.proofs.lemmas.List.{append-nil, length-map, take_more}
+use Rattle.std.proofs.lemmas.Option.{none-some}
+use Rattle.std.specs.Prelude.{option_map, IsFalse}
+use Rattle.outside.specs.Disk as disks
+use Rattle.outside.specs.Flow.{Takes, TakesFront}
+use Rattle.network_laws.specs.Solutions.{SolutionData}
+use Rattle.command_types.specs.declared.answer.Answer.{Answer}
+use Rattle.command_types.specs.declared.answer.Reply.{Reply}
+use Rattle.command_types.specs.declared.ask.Entry.{Entry}
+use Rattle.command_types.specs.declared.ask.What.{What}
+use Rattle.command_types.specs.declared.ask.What.TheVariants.{Post}
+use Rattle.command_types.specs.declared.figures.State.{State}
+use Rattle.command_types.specs.declared.plan.PlanRow.{PlanRow}
+use Rattle.command_types.specs.declared.trade.TradeRow.{TradeRow}
+use Rattle.command_types.specs.Roster.{Rows}
+use Rattle.command_types.specs.Books.{listed_below}
+use Rattle.command_types.specs.CycleSteps.{rows_of_member}
+use Rattle.command_types.specs.History.{History, IsLegal, IsLegalFrom, end_of, replayed_from}
+use Rattle.command_types.specs.Machine.{answer_to, empty_state}
+use Rattle.command_types.specs.Plans.{thawed, thawed_row}
+use Rattle.command_types.specs.Details.{lines_text, trade_line}
+use Rattle.cycle_states.specs.PlainDesk.{history_of, IsReplayed}
+use Rattle.trade_history.specs.Book.{IsClosedBase, Book, ExecutionRow, book_from, own_rows, execution_row, executions_from}
+use Rattle.trade_history.specs.Laws.{is_execution, execution_answer, TellsExecution, ExecutesAfter}
+use Rattle.trade_history.specs.Search.{Execution, execution_at}
+use Rattle.trade_history.proofs.Listed.{own_rows_are_the_historys, executions_are_listed, others_are_not_listed}
+use Rattle.trade_history.proofs.Replay.{answers_tell_executions, legal-front, run-none, run-on}
+use Rattle.trade_history.proofs.Whole.{found-at, moments-push, search_finds_executions}
+use Rattle.house.specs.declared.opening.Recovered.{Recovered}
+use Rattle.house.specs.Executions.{told_by, executions_told, told_of}
+use Rattle.house.specs.Storing.{ContentStandsFor}
+use Rattle.house.specs.Opening.{FindsFault}
+use Rattle.house.specs.declared.fault.OpenFault.{OpenFault}
+use Rattle.house.specs.declared.fault.OpenFault.TheVariants as opens
+use Rattle.house.proofs.ExecutionFacts.{executions_told-push}
+use Rattle.statements.specs.Details.{member_text}
+use Rattle.compress_server.specs.Told.{rows_told, reply_told, end_text, told_text, recovered_text}
+use Rattle.compress_server.specs.Replay.{rows_text, execution_line, replay_text, IsKept, JournalReplays}
+use Rattle.compress_server.specs.Housed.{disk_of}
+use Rattle.compress_server.specs.declared.ending.End.TheVariants.{Done, Damaged, SinkFault}
+use Rattle.compress_server.proofs.PlanFacts.{posted_empty}
+
+-- ---- lines
+
+lines-append : {T : Type 0} (line : T → List ℕ) (xs ys : List T) → lines_text line (xs ++ ys) ≡ lines_text line xs ++ lines_text line ys
+lines-append line [] ys = refl
+lines-append line (x ∷ xs) ys = ap (λ text. line x ++ text) (lines-append line xs ys) ∙ sym (append_assoc (line x) (lines_text line xs) (lines_text line ys))
+
+-- one line more
+lines-push : {T : Type 0} (line : T → List ℕ) (xs : List T) (x : T) → lines_text line (xs ++ x ∷ []) ≡ lines_text line xs ++ line x
+lines-push line xs x = lines-append line xs (x ∷ []) ∙ ap (λ text. lines_text line xs ++ text) (append-nil (line x))
+
+-- the lines of the first elements, with the next one's behind them
+pub lines_more : {T : Type 0} (line : T → List ℕ) (xs : List T) (i : ℕ) (x : T) (before now after : List ℕ) → i < length xs → x ≡ get_or xs i x → now ≡ before ++ lines_text line (take i xs) → after ≡ now ++ line x
+    → after ≡ before ++ lines_text line (take (i + 1) xs)
+lines_more line xs i x before now after within is so_far pushed =
+    pushed ∙ ap (λ text. text ++ line x) so_far ∙ append_assoc before (lines_text line (take i xs)) (line x)
+    ∙ ap (λ text. before ++ text) (sym (ap (lines_text line) (take_more xs i x within ∙ ap (λ y. take i xs ++ y ∷ []) (sym is)) ∙ lines-push line (take i xs) x))
+
+lines-thawed : (roster : Rows) (rows : List TradeRow) → lines_text (trade_line roster) (thawed rows) ≡ lines_text (trade_line roster) rows
+lines-thawed roster [] = refl
+lines-thawed roster (row ∷ rows) = ap (λ text. trade_line roster row ++ text) (lines-thawed roster rows)
+
+-- ---- one execution more
+
+-- the line of an execution, and that of the answer which tells it
+line_told : (position : ℕ) (what : What) (x : Execution) (answer : Answer) → answer ≡ execution_answer what x → ((cycle version : ℕ) (solutions : List SolutionData) → what ≡ Post cycle version solutions → x.plan ≡ [])
+    → lines_text reply_told (told_by position answer) ≡ lines_text execution_line (execution_row position (Some x))
+line_told position (Post cycle version solutions) x answer is empty =
+    ap (λ a. lines_text reply_told (told_by position a)) is
+    ∙ ap (λ plan. lines_text execution_line (execution_row position (Some (record { cycle = x.cycle; version = x.version; plan = plan })))) (sym (empty cycle version solutions refl))
+line_told position what x answer is empty = ap (λ a. lines_text reply_told (told_by position a)) is
+
+none_told : (position : ℕ) (answer : Answer) (b : Bool) → is_execution answer ≡ b → b ≡ false → cond {A = List Reply} b (record { at = position; answer = answer } ∷ []) [] ≡ []
+none_told position answer true is e = cc
+none_told position answer false is e = refl
+
+module _ (h : History) (closed : IsClosedBase h.base.state) (legal : IsLegal h) (start : h.base.position ≡ 0) where
+  abbrev s : State
+  s = h.base.state
+
+  module _ (front : List Entry) (entry : Entry) (back : List Entry) (split : h.entries ≡ front ++ entry ∷ back) where
+    abbrev found_here : Option Execution
+    found_here = execution_at s.roster s.cycle.number (book_from s (front ++ entry ∷ [])).moments
+
+    abbrev answer : Answer
+    answer = answer_to (replayed_from s front) entry.ask
+
+    abbrev position : ℕ
+    position = h.base.position + length front + 1
+
+    posted : (x : Execution) → found_here ≡ Some x → (by : Option (List ℕ)) (what : What) → entry.ask ≡ record { by = by; what = what } → (cycle version : ℕ) (solutions : List SolutionData) → what ≡ Post cycle version solutions → x.plan ≡ []
+    posted x is by what asked cycle version solutions post =
+        let book : Book = book_from s front in
+        let run = run-on s.roster s.cycle.number s (record { moments = []; rows = thawed s.trades }) front (run-none s closed) (legal-front s front entry back (subst (IsLegalFrom s) split legal)) in
+        let asks : entry.ask ≡ record { by = by; what = Post cycle version solutions } = asked ∙ ap (λ w. record { by = by; what = w }) post in
+        posted_empty s.roster s.cycle.number by cycle version solutions book.rows book.moments x run.keeps.numbered
+        (ap (λ a. execution_at s.roster s.cycle.number (record { ask = a; rows = book.rows } ∷ book.moments)) (sym asks)
+        ∙ ap (execution_at s.roster s.cycle.number) (sym (moments-push s front entry)) ∙ is)
+
+    one : (o : Option Execution) → found_here ≡ o → lines_text execution_line (executions_from h.base (front ++ entry ∷ [])) ≡ lines_text execution_line (executions_from h.base front) ++ lines_text reply_told (told_by position answer)
+    one None is =
+        let tells : IsFalse (is_execution answer) = subst (λ o. TellsExecution entry.ask.what o answer) is (answers_tell_executions h closed legal front entry back split) in
+        let none : told_by position answer ≡ [] = none_told position answer (is_execution answer) refl tells in
+        let nothing : (cycle version : ℕ) (plan : List PlanRow) → ExecutesAfter s front entry cycle version plan → ⊥ =
+        λ cycle version plan x. absurd (none-some (record { cycle = cycle; version = version; plan = plan }) (sym is ∙ (search_finds_executions h closed legal front entry back split cycle version plan).0 x)) in
+        ap (lines_text execution_line) (others_are_not_listed h closed legal front entry back split nothing)
+        ∙ sym (append-nil (lines_text execution_line (executions_from h.base front)))
+        ∙ ap (λ replies. lines_text execution_line (executions_from h.base front) ++ lines_text reply_told replies) (sym none)
+    one (Some x) is =
+        let tells : answer ≡ execution_answer entry.ask.what x = subst (λ o. TellsExecution entry.ask.what o answer) is (answers_tell_executions h closed legal front entry back split) in
+        let line = line_told position entry.ask.what x answer tells (posted x is entry.ask.by entry.ask.what refl) in
+        ap (lines_text execution_line) (executions_are_listed h closed legal front entry back split x.cycle x.version x.plan (found-at s front entry x is))
+        ∙ lines-append execution_line (executions_from h.base front) (execution_row position (Some x))
+        ∙ ap (λ text. lines_text execution_line (executions_from h.base front) ++ text) (sym line)
+
+  -- the replies that told an execution have the lines of the executions
+  abbrev AreTold : List Entry → Type 0
+  AreTold front = lines_text reply_told (executions_told s 0 front) ≡ lines_text execution_line (executions_from h.base front)
+
+  one_more : (front : List Entry) (entry : Entry) (back : List Entry) → h.entries ≡ front ++ entry ∷ back → AreTold front → AreTold (front ++ entry ∷ [])
+  one_more front entry back split told =
+      let place : 0 + length front + 1 ≡ h.base.position + length front + 1 = omega (arith, start) in
+      let line = lines_text reply_told (told_by (h.base.position + length front + 1) (answer_to (replayed_from s front) entry.ask)) in
+      ap (lines_text reply_told) (executions_told-push s 0 front entry)
+      ∙ lines-append reply_told (executions_told s 0 front) (told_by (0 + length front + 1) (answer_to (replayed_from s front) entry.ask))
+      ∙ ap (λ k. lines_text reply_told (executions_told s 0 front) ++ lines_text reply_told (told_by k (answer_to (replayed_from s front) entry.ask))) place
+      ∙ ap (λ text. text ++ line) told
+      ∙ sym (one front entry back split (found_here front entry back split) refl)
+
+  told_on : (front back : List Entry) → h.entries ≡ front ++ back → AreTold front → AreTold (front ++ back)
+  told_on front [] split told = subst AreTold (sym (append-nil front)) told
+  told_on front (entry ∷ back) split told =
+      let regroup = append_assoc front (entry ∷ []) back in
+      subst AreTold regroup (told_on (front ++ entry ∷ []) back (split ∙ sym regroup) (one_more front entry back split told))
+
+  pub executions_are_told : AreTold h.entries
+  executions_are_told = told_on [] h.entries refl refl
+
+-- ---- the whole text
+
+module _ (rows : Rows) (entries : List Entry) (legal : IsLegalFrom (empty_state rows) entries) (now : State) (is : now ≡ replayed_from (empty_state rows) entries) (roster : now.roster ≡ rows) where
+  abbrev h : History
+  h = history_of (empty_state rows) entries
+
+  closed_base : IsClosedBase (empty_state rows)
+  closed_base = record { phase = refl; free = refl; numbered = tt }
+
+  abbrev lines_of : Rows → ℕ → List TradeRow → List ℕ
+  lines_of roster member own = member_text roster member (length own) ++ lines_text (trade_line roster) own
+
+  own_told : (member : ℕ) → rows_told now member ≡ rows_text rows h member
+  own_told member =
+      let own = rows_of_member member now.trades in
+      let same : thawed own ≡ own_rows h member = ap (λ (t : State). thawed (rows_of_member member t.trades)) is ∙ own_rows_are_the_historys h closed_base legal member in
+      ap (λ r. lines_of r member own) roster
+      ∙ sym (λ i. member_text rows member (length-map own thawed_row i) ++ lines-thawed rows own i)
+      ∙ ap (lines_of rows member) same
+
+  pub text_told : (executions : List Reply) → executions ≡ executions_told (empty_state rows) 0 entries → told_text now (length entries) executions ≡ replay_text rows h
+  text_told executions told =
+      let members : length now.roster.members ≡ length rows.members = ap (λ (r : Rows). length r.members) roster in
+      let lines : lines_text reply_told executions ≡ lines_text execution_line (executions_from h.base h.entries) = ap (lines_text reply_told) told ∙ executions_are_told h closed_base legal refl in
+      let ends : length entries ≡ end_of h = omega arith in
+      (λ i. listed_below (members i) (λ member. own_told member i) ++ (lines i ++ end_text (ends i)))
+
+-- what was read of a disk, for these rows, is what it keeps
+pub replay_told : (rows : Rows) (o : Option disks.History) (read : Recovered) → ContentStandsFor o read.past → IsReplayed read.machine.state read.past → read.machine.state.roster ≡ rows
+    → told_of read.executions ≡ option_map (λ replies. replies ++ executions_told (empty_state rows) 0 read.past) (Some [])
+    → (h : History) × IsKept rows o h × (recovered_text read ≡ replay_text rows h)
+replay_told rows o read stands replayed roster told =
+    let entries = read.past in
+    let begins : empty_state read.machine.state.roster ≡ empty_state rows = ap empty_state roster in
+    let legal : IsLegalFrom (empty_state rows) entries = subst (λ (t : State). IsLegalFrom t entries) begins replayed.legal in
+    let is : read.machine.state ≡ replayed_from (empty_state rows) entries = replayed.same ∙ ap (λ (t : State). replayed_from t entries) begins in
+    let executions : unwrap_or (told_of read.executions) [] ≡ executions_told (empty_state rows) 0 entries = ap (λ o. unwrap_or o []) told in
+    (history_of (empty_state rows) entries, record { base = refl; legal = legal; stands = stands }, text_told rows entries legal read.machine.state is roster (unwrap_or (told_of read.executions) []) executions)
+
+-- ---- how a replay ends, over a disk that was attached, which changes nothing
+module _ (rows : Rows) (o mid now : Option disks.History) (before after : ℕ) (same : mid ≡ o) (stays : now ≡ mid) (begun taken : Option (List ℕ)) where
+  module _ (read : Recovered) (text : List ℕ) (stands : ContentStandsFor mid read.past) (replayed : IsReplayed read.machine.state read.past) (roster : read.machine.state.roster ≡ rows)
+      (told : told_of read.executions ≡ option_map (λ replies. replies ++ executions_told (empty_state rows) 0 read.past) (Some [])) (is : text ≡ recovered_text read) where
+    pub replays : Takes begun taken text → JournalReplays rows (disk_of o before) (disk_of now after) begun taken Done
+    replays takes =
+        let k = replay_told rows o read (subst (λ (d : Option disks.History). ContentStandsFor d read.past) same stands) replayed roster told in
+        (stays ∙ same, (k.0, k.1, subst (λ t. Takes begun taken t) (is ∙ k.2) takes))
+
+    pub replays_front : TakesFront begun taken text → JournalReplays rows (disk_of o before) (disk_of now after) begun taken SinkFault
+    replays_front takes =
+        let k = replay_told rows o read (subst (λ (d : Option disks.History). ContentStandsFor d read.past) same stands) replayed roster told in
+        (stays ∙ same, (k.0, k.1, subst (λ t. TakesFront begun taken t) (is ∙ k.2) takes))
+
+  pub replay_damaged : (fault : OpenFault) (place : ℕ) → fault ≡ opens.Damaged place → FindsFault rows mid fault → taken ≡ begun → JournalReplays rows (disk_of o before) (disk_of now after) begun taken (Damaged place)
+  replay_damaged fault place is found none =
+      (stays ∙ same, (none, subst (λ (d : Option disks.History). FindsFault rows d (opens.Damaged place)) same (subst (λ (f : OpenFault). FindsFault rows mid f) is found)))

@@ -1,0 +1,65 @@
+-- What a replay writes: the rows of each member, and the executions, by the history alone.
+use Rattle.std.specs.Prelude.{◌≡◌, ℕ, List, [], ◌++◌, length, Option}
+use Rattle.outside.specs.Disk as disks
+use Rattle.outside.specs.Faults.{Rose}
+use Rattle.outside.specs.Flow.{Takes, TakesFront}
+use Rattle.command_types.specs.Books.{listed_below}
+use Rattle.command_types.specs.Details.{lines_text, trade_line}
+use Rattle.command_types.specs.History.{History, IsLegal, end_of}
+use Rattle.command_types.specs.Machine.{empty_state}
+use Rattle.command_types.specs.Roster.{Rows}
+use Rattle.cycle_states.specs.PlainDesk.{history_of}
+use Rattle.trade_history.specs.Book.{ExecutionRow, own_rows, executions_of}
+use Rattle.statements.specs.Details.{member_text, execution_text}
+use Rattle.house.specs.Storing.{ContentStandsFor}
+use Rattle.house.specs.Opening.{FindsFault}
+use Rattle.house.specs.declared.fault.OpenFault.TheVariants as opens
+use Rattle.compress_server.specs.declared.ending.End.{End}
+use Rattle.compress_server.specs.declared.ending.End.TheVariants.{Done, No, BadWords, Unloaded, Damaged, DiskFault, Stopped, ListenerFault, SourceFault, SinkFault, Limit, Memory}
+use Rattle.compress_server.specs.Housed.{DiskState}
+use Rattle.compress_server.specs.Told.{end_text}
+
+-- a member, and the trades in which it has a side, in rising number
+abbrev pub rows_text : Rows → History → ℕ → List ℕ
+rows_text rows h member = member_text rows member (length (own_rows h member)) ++ lines_text (trade_line rows) (own_rows h member)
+
+abbrev pub execution_line : ExecutionRow → List ℕ
+execution_line row =
+    execution_text (record { position = row.position; cycle = row.cycle; version = row.version; ended = row.ended; cut = row.cut; made = row.made })
+
+-- each member with its rows, then each execution, then the length of the history
+abbrev pub replay_text : Rows → History → List ℕ
+replay_text rows h = listed_below (length rows.members) (rows_text rows h) ++ (lines_text execution_line (executions_of h) ++ end_text (end_of h))
+
+-- the disk's content stands for this history, which is legal for these rows
+pub record IsKept (rows : Rows) (disk : Option disks.History) (h : History) : Type 0 where
+  pub base : h.base ≡ (history_of (empty_state rows) []).base
+  pub legal : IsLegal h
+  pub stands : ContentStandsFor disk h.entries
+
+-- the whole text of what the disk keeps was written
+abbrev pub Replays : Rows → DiskState → Option (List ℕ) → Option (List ℕ) → Type 0
+Replays rows disk begun taken = (h : History) × IsKept rows disk.history h × Takes begun taken (replay_text rows h)
+
+-- a front of it was
+abbrev pub ReplaysFront : Rows → DiskState → Option (List ℕ) → Option (List ℕ) → Type 0
+ReplaysFront rows disk begun taken = (h : History) × IsKept rows disk.history h × TakesFront begun taken (replay_text rows h)
+
+-- by the end of a replay over these rows and a disk: damage is told only where the content stands for no legal history, with the one place that is told
+abbrev pub ReplayEnds : Rows → DiskState → DiskState → Option (List ℕ) → Option (List ℕ) → End → Type 0
+ReplayEnds rows disk left begun taken Done = Replays rows disk begun taken
+ReplayEnds rows disk left begun taken No = ⊥
+ReplayEnds rows disk left begun taken BadWords = ⊥
+ReplayEnds rows disk left begun taken (Unloaded fault) = ⊥
+ReplayEnds rows disk left begun taken (Damaged place) = (taken ≡ begun) × FindsFault rows disk.history (opens.Damaged place)
+ReplayEnds rows disk left begun taken DiskFault = (taken ≡ begun) × Rose disk.faults left.faults
+ReplayEnds rows disk left begun taken Stopped = ⊥
+ReplayEnds rows disk left begun taken ListenerFault = ⊥
+ReplayEnds rows disk left begun taken SourceFault = ⊥
+ReplayEnds rows disk left begun taken SinkFault = ReplaysFront rows disk begun taken
+ReplayEnds rows disk left begun taken Limit = ⊥
+ReplayEnds rows disk left begun taken Memory = taken ≡ begun
+
+-- so it ended, and nothing was written to the disk
+abbrev pub JournalReplays : Rows → DiskState → DiskState → Option (List ℕ) → Option (List ℕ) → End → Type 0
+JournalReplays rows disk left begun taken end = (left.history ≡ disk.history) × ReplayEnds rows disk left begun taken end

@@ -1,0 +1,209 @@
+//! The form `replay`: what a journal stands for, told in full.
+//!
+//!     roster -> journal -> its changes, made again by a machine -> members with their rows -> executions -> `end N`
+//!
+//! Nothing is written to the disk.
+
+ghost use Rattle.std.specs.Prelude.{◌≡◌, ◌<◌, ◌++◌, length, OnOk, IfOk};
+ghost use Rattle.outside.specs.Faults.{Rose};
+ghost use Rattle.command_types.specs.Books.{listed_below};
+ghost use Rattle.command_types.specs.CycleSteps.{rows_of_member};
+ghost use Rattle.command_types.specs.Details.{lines_text, trade_line};
+ghost use Rattle.command_types.specs.Roster.{IsRoster};
+ghost use Rattle.cycle_states.specs.Machine.{IsYoung};
+ghost use Rattle.cycle_states.specs.PlainDesk.{IsReplayed};
+ghost use Rattle.statements.specs.Details.{row_text};
+ghost use Rattle.compress_server.specs.declared.load.FileRole.{FileRole as Role};
+ghost use Rattle.compress_server.specs.Ending.{ReplayRuns};
+ghost use Rattle.compress_server.specs.Housed.{disk_of};
+ghost use Rattle.compress_server.specs.Replay.{JournalReplays};
+ghost use Rattle.compress_server.specs.Told.{rows_told, reply_told, end_text, recovered_text};
+
+use crate::ending::End;
+use crate::load::{LoadFault, load_roster};
+use command_types::{Answer, Ask, Listed, Reply, Roster, TradeRow, What};
+use cycle_states::Machine;
+use house::{Executions, OpenFault, Recovered, recover_noting};
+use outside::{Disk, Files, Sink, write_all};
+use statements::{DetailRow, ExecutionLine, put_row};
+use std::alloc::{AllocError, Global};
+use units_core::{MemberNo, print_u128};
+
+/// How many bytes a line has at most.
+const LINE: usize = 136;
+
+// Puts the line of a row behind the text. The only error is want of memory, as below.
+fn push_row(text: &mut Vec<u8>, roster: &Roster, row: &DetailRow) -> Result<(), AllocError>
+    ensures { OnOk result (text.new.items ≡ text.old.items ++ row_text roster.now row.now) }
+{
+    let mut line = [0; LINE];
+    let size = put_row(&mut line, 0, roster, row);
+    text.extend_from_slice(&line[..size])
+}
+
+fn push_trades(text: &mut Vec<u8>, roster: &Roster, rows: &[TradeRow]) -> Result<(), AllocError>
+    ensures { OnOk result (text.new.items ≡ text.old.items ++ lines_text (trade_line roster.now) rows.now) }
+{
+    for row in rows {
+        push_row(text, roster, &DetailRow::Trade(*row))?;
+    }
+    Ok(())
+}
+
+// The trades in which a member has a side: what its STATEMENT is answered.
+fn trades_of(machine: &Machine, member: u16) -> Result<Listed<TradeRow>, AllocError>
+    requires young { IsYoung machine.now.state.cycle }
+    requires there { member < length machine.now.state.roster.members }
+    ensures { IfOk result (λ rows. rows ≡ rows_of_member member machine.now.state.trades) }
+{
+    let row = machine.roster().members()[usize::from(member)];
+    let ask = Ask {
+        by: Some(row.name),
+        what: What::Statement,
+    };
+    match machine.answer(&ask)? {
+        Answer::Statement { rows } => Ok(rows),
+        _ => unreachable!(),
+    }
+}
+
+// Puts a member and its trades behind the text.
+fn push_member(text: &mut Vec<u8>, machine: &Machine, member: u16) -> Result<(), AllocError>
+    requires young { IsYoung machine.now.state.cycle }
+    requires there { member < length machine.now.state.roster.members }
+    ensures { OnOk result (text.new.items ≡ text.old.items ++ rows_told machine.now.state member) }
+{
+    let roster = machine.roster();
+    let trades = trades_of(machine, member)?;
+    let rows = trades.rows();
+    let head = DetailRow::Member {
+        member: MemberNo(member),
+        count: rows.len() as u64,
+    };
+    push_row(text, roster, &head)?;
+    push_trades(text, roster, rows)
+}
+
+fn push_members(text: &mut Vec<u8>, machine: &Machine) -> Result<(), AllocError>
+    requires { IsYoung machine.now.state.cycle }
+    ensures { OnOk result (text.new.items ≡ text.old.items ++ listed_below (length machine.now.state.roster.members) (rows_told machine.now.state)) }
+{
+    let count = machine.roster().members().len() as u16;
+    for member in 0..count {
+        push_member(text, machine, member)?;
+    }
+    Ok(())
+}
+
+// Puts the line of a reply behind the text, if it tells an execution. One that touched nobody changed no trade.
+fn push_reply(text: &mut Vec<u8>, roster: &Roster, reply: &Reply) -> Result<(), AllocError>
+    ensures { OnOk result (text.new.items ≡ text.old.items ++ reply_told reply.now) }
+{
+    let (cycle, version, ended, cut, made) = match reply.answer {
+        Answer::Executed {
+            cycle,
+            version,
+            ended,
+            cut,
+            made,
+        } => (cycle, version, ended, cut, made),
+        Answer::Nothing { cycle, version } => (cycle, version, 0, 0, 0),
+        _ => return Ok(()),
+    };
+    let line = ExecutionLine {
+        position: reply.at,
+        cycle,
+        version,
+        ended,
+        cut,
+        made,
+    };
+    push_row(text, roster, &DetailRow::Execution(line))
+}
+
+fn push_replies(text: &mut Vec<u8>, roster: &Roster, replies: &[Reply]) -> Result<(), AllocError>
+    ensures { OnOk result (text.new.items ≡ text.old.items ++ lines_text reply_told replies.now) }
+{
+    for reply in replies {
+        push_reply(text, roster, reply)?;
+    }
+    Ok(())
+}
+
+fn push_end(text: &mut Vec<u8>, entries: u64) -> Result<(), AllocError>
+    ensures { OnOk result (text.new.items ≡ text.old.items ++ end_text entries) }
+{
+    text.extend_from_slice(b"end ")?;
+    print_u128(u128::from(entries), text)?;
+    text.extend_from_slice(b"\n")
+}
+
+// All that is told of what was read of a disk.
+fn text_of(alloc: Global, read: &Recovered) -> Result<Vec<u8>, AllocError>
+    requires { IsReplayed read.now.machine.state read.now.past }
+    ensures { IfOk result (λ text. text.items ≡ recovered_text read.now) }
+{
+    let entries = read.past.count();
+    let mut text = Vec::new(alloc);
+    push_members(&mut text, &read.machine)?;
+    if let Some(replies) = &read.executions.replies {
+        push_replies(&mut text, read.machine.roster(), replies)?;
+    }
+    push_end(&mut text, entries)?;
+    Ok(text)
+}
+
+// Tells what the journal of this name stands for, over this roster.
+fn replay_journal<K: Sink, D: Disk>(
+    alloc: Global,
+    roster: Roster,
+    journal: &str,
+    output: &mut K,
+    disk: &mut D,
+) -> End
+    ensures runs { JournalReplays roster (disk_of (D.history disk.old) (D.fault_count disk.old)) (disk_of (D.history disk.new) (D.fault_count disk.new)) (K.taken output.old) (K.taken output.new) result }
+    ensures sink_fault { result ≡ End.SinkFault → Rose (K.faults output.old) (K.faults output.new) }
+{
+    if disk.attach(journal).is_err() {
+        return End::DiskFault;
+    }
+    let read = match recover_noting(alloc, roster, disk, Executions::none(alloc)) {
+        Ok(read) => read,
+        Err(OpenFault::Damaged { offset }) => return End::Damaged(offset),
+        Err(OpenFault::DiskFault) => return End::DiskFault,
+        Err(OpenFault::Memory) => return End::Memory,
+    };
+    let Ok(text) = text_of(alloc, &read) else {
+        return End::Memory;
+    };
+    if write_all(output, &text).is_err() {
+        return End::SinkFault;
+    }
+    End::Done
+}
+
+/// The words of the form.
+#[derive(Clone, Copy)]
+pub struct ReplayWords<'a> {
+    pub roster: &'a str,
+    pub journal: &'a str,
+}
+
+/// Reads the roster of the file with this name, and tells what the journal with that one stands for. No file changes.
+pub fn run_replay<F: Files, K: Sink, D: Disk>(
+    alloc: Global,
+    files: &mut F,
+    words: &ReplayWords<'_>,
+    output: &mut K,
+    disk: &mut D,
+) -> End
+    ensures runs { ReplayRuns (F.folder files.old) words.now.roster.now (K.taken output.old) (K.taken output.new) (disk_of (D.history disk.old) (D.fault_count disk.old)) (disk_of (D.history disk.new) (D.fault_count disk.new)) result }
+    ensures stays { F.folder files.new ≡ F.folder files.old }
+    ensures sink_fault { result ≡ End.SinkFault → Rose (K.faults output.old) (K.faults output.new) }
+    ensures file_fault { (role : Role) → result ≡ End.Unloaded (LoadFault.Files role) → Rose (F.faults files.old) (F.faults files.new) }
+{
+    match load_roster(alloc, files, words.roster) {
+        Ok(roster) => replay_journal(alloc, roster, words.journal, output, disk),
+        Err(fault) => End::Unloaded(fault),
+    }
+}
