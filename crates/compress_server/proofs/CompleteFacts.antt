@@ -16,6 +16,7 @@ use Rattle.compress_server.specs.declared.ending.End.TheVariants.{Done, No, BadW
 use Rattle.compress_server.specs.Complete.{Counts, IsUndisturbed, IsCheck, IsScript, HasJournal, IsAnswered, IsFormFault, AnswersWhatItCan}
 use Rattle.compress_server.specs.Ending.{IsFault, JournalRuns, CheckRuns, SolveRuns, GenRuns, Runs, IsCounted}
 use Rattle.compress_server.specs.Housed.{DiskState, OpeningFails}
+use Rattle.compress_server.specs.Replay.{ReplayEnds}
 use Rattle.compress_server.specs.Seen.{OutputState, Seen}
 use Rattle.compress_server.specs.Serve.{IsUnhoused, IsUnbegun, IsService, HouseServes, IsWritten, history_line, service_end}
 use Rattle.compress_server.specs.Telling.{TellsEnd}
@@ -140,6 +141,23 @@ gen_answered number workers begun taken files input output SinkFault r counted n
 gen_answered number workers begun taken files input output Limit r counted no_output = absurd r
 gen_answered number workers begun taken files input output Memory r counted no_output = tt
 
+-- a replay over its disk
+replay_answered : (roster journal : List ℕ) (rows : Rows) (begun taken : Option (List ℕ)) (disk left : DiskState) (files input output : Type 0) (end : End) →
+    ReplayEnds rows disk left begun taken end → IsCounted files input output end → (output → ⊥) → (Rose disk.faults left.faults → ⊥) → IsAnswer (Form.Replay roster journal) end
+unfolding IsAnswer
+replay_answered roster journal rows begun taken disk left files input output Done r counted no_output no_disk = tt
+replay_answered roster journal rows begun taken disk left files input output No r counted no_output no_disk = absurd r
+replay_answered roster journal rows begun taken disk left files input output BadWords r counted no_output no_disk = absurd r
+replay_answered roster journal rows begun taken disk left files input output (Unloaded fault) r counted no_output no_disk = absurd r
+replay_answered roster journal rows begun taken disk left files input output (Damaged place) r counted no_output no_disk = tt
+replay_answered roster journal rows begun taken disk left files input output DiskFault (kept, rose) counted no_output no_disk = absurd (no_disk rose)
+replay_answered roster journal rows begun taken disk left files input output Stopped r counted no_output no_disk = absurd r
+replay_answered roster journal rows begun taken disk left files input output ListenerFault r counted no_output no_disk = absurd r
+replay_answered roster journal rows begun taken disk left files input output SourceFault r counted no_output no_disk = absurd r
+replay_answered roster journal rows begun taken disk left files input output SinkFault r counted no_output no_disk = absurd (no_output counted)
+replay_answered roster journal rows begun taken disk left files input output Limit r counted no_output no_disk = absurd r
+replay_answered roster journal rows begun taken disk left files input output Memory r counted no_output no_disk = tt
+
 -- a service whose house was not opened
 unhoused_answered : (roster journal address : List ℕ) (seats connections workers : ℕ) (rows : Rows) (disk left : DiskState) (end : End) → OpeningFails rows disk left end → (Rose disk.faults left.faults → ⊥) → IsAnswer (Form.Serve roster journal address seats connections workers) end
 unfolding IsAnswer
@@ -210,6 +228,11 @@ end_answered visits folder (Form.Solve market workers) opened flow old new befor
     solve_answered folder market workers _ _ _ _ _ end runs counted held.files_held held.output_held held.right
 end_answered visits folder (Form.Gen number workers) opened flow old new before after end (same, only, runs) counted held =
     gen_answered number workers _ _ _ _ _ end runs counted held.output_held
+
+end_answered visits folder (Form.Replay roster journal) opened flow old new before after end (unread, same, inl (fault, e, unwritten, kept, is)) counted held =
+    unloaded_answered (Form.Replay roster journal) _ _ _ _ _ end fault e is counted held.files_held held.right
+end_answered visits folder (Form.Replay roster journal) opened flow old new before after end (unread, same, inr (rows, says, are, (kept, ends))) counted held =
+    replay_answered roster journal rows _ _ _ _ _ _ _ end ends counted held.output_held held.disk_held
 
 pub answers_what_it_can : {D : Type 0} (visits : D → Option Visits) → AnswersWhatItCan visits
 answers_what_it_can visits folder form opened flow old new before after end told then_told errors then_errors status runs tells counted held =

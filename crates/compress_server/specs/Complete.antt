@@ -20,6 +20,7 @@ IsFormFault folder (Form.Serve roster journal address seats connections workers)
 IsFormFault folder (Form.Check market proposal) = IsCheckFault folder market proposal
 IsFormFault folder (Form.Solve market workers) = IsMarketFault folder market
 IsFormFault folder (Form.Gen number workers) = λ role fault. ⊥
+IsFormFault folder (Form.Replay roster journal) = IsRosterFault folder roster
 
 -- the counts of the faults of the files and of the input
 pub record Counts : Type 0 where
@@ -41,6 +42,7 @@ IsCheck (Form.Serve roster journal address seats connections workers) = ⊥
 IsCheck (Form.Check market proposal) = Unit {0}
 IsCheck (Form.Solve market workers) = ⊥
 IsCheck (Form.Gen number workers) = ⊥
+IsCheck (Form.Replay roster journal) = ⊥
 
 abbrev pub IsScript : Form → Type 0
 IsScript (Form.Script roster journal workers) = Unit {0}
@@ -48,6 +50,7 @@ IsScript (Form.Serve roster journal address seats connections workers) = ⊥
 IsScript (Form.Check market proposal) = ⊥
 IsScript (Form.Solve market workers) = ⊥
 IsScript (Form.Gen number workers) = ⊥
+IsScript (Form.Replay roster journal) = ⊥
 
 abbrev pub HasJournal : Form → Type 0
 HasJournal (Form.Script roster journal workers) = Unit {0}
@@ -55,6 +58,7 @@ HasJournal (Form.Serve roster journal address seats connections workers) = Unit 
 HasJournal (Form.Check market proposal) = ⊥
 HasJournal (Form.Solve market workers) = ⊥
 HasJournal (Form.Gen number workers) = ⊥
+HasJournal (Form.Replay roster journal) = Unit {0}
 
 -- The work was done, or a check said no; or a journal is damaged, a script is at its limit, or there was no memory.
 abbrev pub IsAnswered : Form → ℕ → Type 0
