@@ -1,5 +1,5 @@
 -- What each phase keeps, and what is left in the end.
-use Rattle.std.proofs.Common.{◌≡◌, ◌≢◌, ℕ, zero, suc, ◌+◌, ◌*◌, ◌<◌, ◌≤◌, ◌%◌, Bool, true, false, List, length, get_or, map, All, refl, sym, ap, ◌∙◌, true≢false, subst, arith, inl, inr, ◌⊎◌, ⊎_elim}
+use Rattle.std.proofs.Common.{◌≡◌, ◌≢◌, ℕ, zero, suc, ◌+◌, ◌*◌, ◌<◌, ◌≤◌, ◌%◌, Bool, true, false, List, length, get_or, map, replicate, All, refl, sym, ap, ◌∙◌, true≢false, subst, arith, inl, inr, ◌⊎◌, ⊎_elim}
 use Rattle.std.proofs.lemmas.Bool.{cases_eq, cases_lt, eq-eqb, lt-ltb, le-ltb, ne_eqb}
 use Rattle.std.proofs.lemmas.Int.{ints}
 use Rattle.std.proofs.lemmas.List.{get_or_past, get_or_default, get_or-map, length-map}
@@ -52,6 +52,25 @@ residual_kept a b members same h = record {
 
 pub feasible_kept : (old new : List Flow) (s l s' l' : List ℕ) → AreSamePairs old new → ((i : ℕ) → owed new s' l' i ≡ owed old s l i) → IsFeasible old s l → IsFeasible new s' l'
 feasible_kept old new s l s' l' same e f = (f.0, same_trans new old f.0 (same_sym old new same) f.1, λ i. f.2 i ∙ sym (e i))
+
+zeros : (n v : ℕ) → let none : ℕ = 0 in get_or (replicate n none) v none ≡ none
+zeros zero v = refl
+zeros (suc n) zero = refl
+zeros (suc n) (suc v) = zeros n v
+
+-- before anything is sent
+pub phase_none : (r : ResidualData) (surplus lack p : List ℕ) → p ≡ replicate r.members 0 → All (λ (f : Flow). f.back ≡ 0) r.flows → AreApart surplus lack → IsPhase r r surplus lack surplus lack p 0
+phase_none r surplus lack p is lowest apart =
+    let zero_at = λ (v : ℕ). ap (λ xs. get_or xs v 0) is ∙ zeros r.members v in
+    record {
+      members = refl;
+      pairs = same_refl r.flows;
+      owed = λ i. refl;
+      priced = λ k l. record { growing = λ _. omega (arith, zero_at (flow_at r.flows k).seller); falling = λ b. absurd (omega (arith, b, lowest k no_flow l)) };
+      rated = record { senders = λ v _. zero_at v; receivers = λ v _. zero_at v; most = λ v. omega (arith, zero_at v) };
+      apart = apart;
+      few = omega arith;
+    }
 
 -- the first phase, of prices 0 and 1
 pub first_phase : (r : ResidualData) (surplus lack p : List ℕ) (top : ℕ) → p ≡ map first_price lack → length surplus ≡ r.members → length lack ≡ r.members → top ≤ r.members → (0 < r.members → top ≡ 1) → All (λ (f : Flow). f.back ≡ 0) r.flows → AreApart surplus lack → IsPhase r r surplus lack surplus lack p top

@@ -57,8 +57,31 @@ fn still_with(amounts: &[u64], members: MemberSet) -> MemberSet
     some
 }
 
-/// Sends everything that is to be sent, straight where that is enough, and answers the prices.
+/// Sends everything that is to be sent, and answers the prices, which are 0 where nothing is.
 pub fn settle(
+    alloc: Global,
+    residual: &mut Residual,
+    surplus: &mut [u64],
+    lack: &mut [u64],
+) -> Result<Vec<u16>, AllocError>
+    requires surplus { residual.old.members ≡ length surplus.old }
+    requires lack { residual.old.members ≡ length lack.old }
+    requires lowest { All (λ f. f.back ≡ 0) residual.old.flows }
+    requires apart { AreApart surplus.old lack.old }
+    requires feasible { IsFeasible residual.old.flows surplus.old lack.old }
+    ensures { IfOk result (λ prices. IsSettled residual.old residual.new surplus.old lack.old prices.items) }
+{
+    let members = residual.members();
+    if those_with(surplus).is_empty() {
+        let prices = all_of(alloc, members, 0u16)?;
+        return Ok(prices);
+    }
+    let prices = settle_first(alloc, residual, surplus, lack)?;
+    Ok(prices)
+}
+
+/// Sends straight what can go so, and the rest along paths, and answers the prices.
+fn settle_first(
     alloc: Global,
     residual: &mut Residual,
     surplus: &mut [u64],
