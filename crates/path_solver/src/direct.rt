@@ -19,7 +19,7 @@ pub fn first_prices(alloc: Global, lack: &[u64]) -> Result<Vec<u16>, AllocError>
 }
 
 /// Sends over each pair from a member that has to send to one that has to receive as much as the three can take. At
-/// these prices each such pair is a path of least cost, and none has fewer arcs.
+/// these prices such a pair is tight: its arc alone is a path.
 pub fn send_direct(residual: &mut Residual, prices: &[u16], surplus: &mut [u64], lack: &mut [u64])
     requires prices { residual.old.members ≡ length prices.now }
     requires surplus { residual.old.members ≡ length surplus.old }

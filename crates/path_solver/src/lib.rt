@@ -1,6 +1,6 @@
 //! A solver by successive shortest paths (Ahuja, Magnanti and Orlin, *Network Flows*). It starts with every
 //! pair at its lower bound. Members whose net position is then too small have to send, and those whose net
-//! position is too large have to receive: these have the price 0, and all others 1. An arc is tight where its
+//! position is too large have to receive: these have the price 0, and all others 1 if somebody has. An arc is tight where its
 //! cost is the price that it bridges. First amounts go straight, over the pairs of one that has to send and one
 //! that has to receive, which are tight. While tight arcs with room lead from members that have to send to such
 //! that have to receive, amounts go along those paths that have the fewest arcs. Where none leads there, the

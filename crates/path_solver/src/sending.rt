@@ -65,7 +65,7 @@ fn reset(numbers: &mut [usize])
 }
 
 /// Sends from a member along one path as much as the path can take, and tells whether there was one. No path of
-/// least cost from one that has to send to one that has to receive has fewer arcs.
+/// open arcs from one that has to send to one that has to receive has fewer.
 fn send_once(
     residual: &mut Residual,
     exits: &Exits,
