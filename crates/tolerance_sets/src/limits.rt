@@ -127,6 +127,7 @@ fn pair_limit(
 }
 
 /// Adds the row of a pair, if it has one.
+#[inline(always)]
 pub(super) fn add_pair(
     rows: &mut Vec<LimitRow>,
     market: &Market,

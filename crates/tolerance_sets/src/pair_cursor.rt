@@ -65,6 +65,7 @@ impl PairCursor {
     }
 
     // At the first pair from this one on that may have limits.
+    #[inline(always)]
     fn found(self, market: &Market) -> PairCursor
         requires market { IsMarket market.now }
         requires few { length market.now.members.now ≤ 256 }
