@@ -97,6 +97,7 @@ fn upper_of(grows: bool, amount: u64, ceiling: Option<Level>) -> Option<u64>
 }
 
 // The row of a pair with this amount, so much of it held; none where it may come to nothing but 0.
+#[inline(always)]
 fn pair_limit(
     settings: &Settings,
     product: ProductNo,
