@@ -19,7 +19,7 @@ COMMANDS = ["compress-check-proposal", "compress-client", "compress-journal", "c
 COMMANDS += ["compress_cli"]
 
 TYPED: list[tuple[list[str], list[str]]] = [
-    (["compress_cli", ""], ["check", "gen", "script", "serve", "solve"]),
+    (["compress_cli", ""], ["check", "gen", "replay", "script", "serve", "solve"]),
     (["compress_cli", "gen", ""], []),
     (["compress_cli", "s"], ["script", "serve", "solve"]),
     (["compress_cli", "serve", "a", "hub-r"], ["hub-roster.csv"]),
