@@ -1,6 +1,9 @@
 //! The program: the service over the system's files, streams and sockets.
 #![tactic(auto)]
 
+mod read_disk;
+
+use crate::read_disk::ReadDisk;
 use compress_server::run;
 use doors::SocketListener;
 use outside::sink::write_all;
@@ -36,6 +39,14 @@ fn fill_standard<R: Files<File = File> + AllocGlobal>(rt: &R) -> io::Result<Vec<
     Ok(taken)
 }
 
+// Whether the words ask for a replay.
+fn is_replay(words: &[String]) -> bool {
+    match words {
+        [name, ..] => name.as_str() == "replay",
+        [] => false,
+    }
+}
+
 fn main(rt: HostRuntime) -> ExitCode {
     let mut errors = StreamSink::new(rt.stderr());
     let Ok(_standard) = fill_standard(&rt) else {
@@ -46,6 +57,22 @@ fn main(rt: HostRuntime) -> ExitCode {
     let mut input = StreamSource::new(rt.stdin());
     let mut output = StreamSink::new(rt.stdout());
     match words(&rt) {
+        // A replay writes nothing, and reads a journal that another program has.
+        Ok(words) if is_replay(&words) => {
+            let (status, _disk) = run(
+                &rt,
+                rt.alloc(),
+                &words,
+                &mut files,
+                &mut input,
+                &mut output,
+                &mut errors,
+                ReadDisk::new(rt),
+                &mut SocketListener::new(&rt),
+                &OpenGate,
+            );
+            ExitCode::from(status)
+        }
         Ok(words) => {
             let (status, _disk) = run(
                 &rt,
