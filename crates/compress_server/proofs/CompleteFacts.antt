@@ -228,11 +228,10 @@ end_answered visits folder (Form.Solve market workers) opened flow old new befor
     solve_answered folder market workers _ _ _ _ _ end runs counted held.files_held held.output_held held.right
 end_answered visits folder (Form.Gen number workers) opened flow old new before after end (same, only, runs) counted held =
     gen_answered number workers _ _ _ _ _ end runs counted held.output_held
-
 end_answered visits folder (Form.Replay roster journal) opened flow old new before after end (unread, same, inl (fault, e, unwritten, kept, is)) counted held =
     unloaded_answered (Form.Replay roster journal) _ _ _ _ _ end fault e is counted held.files_held held.right
 end_answered visits folder (Form.Replay roster journal) opened flow old new before after end (unread, same, inr (rows, says, are, (kept, ends))) counted held =
-    replay_answered roster journal rows _ _ _ _ _ _ _ end ends counted held.output_held held.disk_held
+    replay_answered roster journal rows before.output.taken after.output.taken before.disk after.disk (Rose old.files new.files) (Rose old.input new.input) (Rose before.output.faults after.output.faults) end ends counted held.output_held held.disk_held
 
 pub answers_what_it_can : {D : Type 0} (visits : D → Option Visits) → AnswersWhatItCan visits
 answers_what_it_can visits folder form opened flow old new before after end told then_told errors then_errors status runs tells counted held =

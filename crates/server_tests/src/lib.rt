@@ -44,6 +44,8 @@ mod program;
 #[cfg(test)]
 mod proposals;
 #[cfg(test)]
+mod replays;
+#[cfg(test)]
 mod served;
 #[cfg(test)]
 mod served_seats;

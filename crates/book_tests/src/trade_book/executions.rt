@@ -7,7 +7,7 @@ ghost use Rattle.command_types.specs.Execution.{IsExecutable};
 use super::{P, amount};
 use crate::market::{A, B, C};
 use command_types::{PlanRow, Side, TradeRow, TradeState};
-use product_book::Book;
+use product_book::{Book, Which};
 use std::alloc::{AllocError, Global};
 use std::test::Fail;
 use units_core::{Day, MemberNo};
@@ -97,8 +97,8 @@ fn trades_end_and_one_is_cut_to_the_rest(rt: HostRuntime) -> Result<(), Fail> {
     Ok(())
 }
 
-// Whether the chain is shortened to these trades, of which so many were submitted, and the third is of the day, nobody's and not
-// frozen.
+// Whether the chain is shortened to these trades, of which so many were submitted, the third is of the day, nobody's and not
+// frozen, and the network is that of the live ones.
 fn is_shortened_to(alloc: Global, lines: &[Line], submitted: u64) -> Result<bool, AllocError> {
     let day = Day::read(b"2026-03-31").ok_or(AllocError)?;
     let mut book = chain(alloc, day)?;
@@ -118,9 +118,13 @@ fn is_shortened_to(alloc: Global, lines: &[Line], submitted: u64) -> Result<bool
         },
         PlanRow::End { trade: 2 },
     ]);
+    let network = book.network(P, Which::Live)?;
+    let is_owed = network.amount(0, 2) == 7
+        && network.amount(0, 1) == 3
+        && network.amount(1, 2) == 0;
     let made = book.get(3);
     let is_plain = made.is_some_and(|row| row.day == day && row.submitter.is_none() && !row.frozen);
-    Ok(is_plain && has_lines(&book, lines) && book.submitted_count() == submitted)
+    Ok(is_plain && is_owed && has_lines(&book, lines) && book.submitted_count() == submitted)
 }
 
 #[test]

@@ -1,4 +1,4 @@
-//! The book's sums beside those of a plain list of trades, after each of many random commands.
+//! The book's sums and networks beside those of a plain list of trades, after each of many random commands.
 
 ghost use Rattle.std.specs.Prelude.{◌≡◌, ◌<◌, ◌≤◌};
 ghost use Rattle.command_types.specs.Trades.{trade_numbered};
@@ -6,7 +6,7 @@ ghost use Rattle.product_book.specs.Book.{may_affirm, may_end};
 
 use super::amount;
 use command_types::{Side, TradeState};
-use product_book::Book;
+use product_book::{Book, Which};
 use std::alloc::{AllocError, Global};
 use std::test::Fail;
 use units_core::{Day, MemberNo, ProductNo};
@@ -168,6 +168,23 @@ fn all_agree(book: &Book, plain: &[Line]) -> bool {
     true
 }
 
+// Whether the network of a product's live trades is that of the plain list.
+fn network_agrees(book: &Book, plain: &[Line], product: u16) -> Result<bool, AllocError> {
+    let network = book.network(ProductNo(product), Which::Live)?;
+    for seller in 0..4 {
+        for buyer in 0..4 {
+            let owed = total(plain, |line| {
+                let is_between = line.seller == seller && line.buyer == buyer;
+                line.product == product && line.state == TradeState::Live && is_between
+            });
+            if network.amount(seller, buyer) != owed {
+                return Ok(false);
+            }
+        }
+    }
+    Ok(true)
+}
+
 // One random command: as many trades as affirmations, and as many of these as ends.
 fn command(
     book: &mut Book,
@@ -187,10 +204,11 @@ fn command(
         2 => end(book, plain, trade, Side::Out),
         _ => end(book, plain, trade, Side::In),
     }
-    Ok(all_agree(book, plain))
+    let product = roll(seed, 3) as u16;
+    Ok(all_agree(book, plain) && network_agrees(book, plain, product)?)
 }
 
-// Whether the sums agree after each of so many commands.
+// Whether the sums and a network agree after each of so many commands.
 fn agree_throughout(alloc: Global, commands: u32) -> Result<bool, AllocError> {
     let day = Day::read(b"2030-01-02").ok_or(AllocError)?;
     let mut book = Book::new(alloc, 4, 2)?;
@@ -205,7 +223,7 @@ fn agree_throughout(alloc: Global, commands: u32) -> Result<bool, AllocError> {
 }
 
 #[test]
-fn kept_sums_are_those_of_a_plain_list(rt: HostRuntime) -> Result<(), Fail> {
+fn sums_and_networks_are_those_of_a_plain_list(rt: HostRuntime) -> Result<(), Fail> {
     assert!(rt; agree_throughout(rt.alloc(), 3000)?);
     Ok(())
 }

@@ -1,0 +1,184 @@
+//! Replays: what a journal stands for, byte for byte, and what each damage of it is told. The journal stays as it is.
+
+ghost use Rattle.std.specs.Prelude.{Some};
+ghost use Rattle.outside.specs.Disk.{IsSettled};
+
+use crate::journals::{crashed, disk_of, left_by};
+use crate::program::{ROSTER, run_files, run_on};
+use outside::{Disk, MemoryDisk, MemorySink, MemorySource};
+use std::alloc::{AllocError, AllocGlobal};
+use std::sync::Wait;
+use std::test::Fail;
+use std::thread::Threads;
+
+// A's command TRADE A B P 10 2026-03-02 from seat 0, and a closed gate.
+const ONE: &[u8] =
+    b"OTCJRNL1\x01\x19\0\0\0\0\0\0\0\x01A\x01\x01A\x01B\x01P\x0a\0\0\0\0\0\0\0\xea\x07\x03\x02\0";
+
+// The same with another byte at the last gate, and at the first one.
+const ENDED_BY_SEVEN: &[u8] =
+    b"OTCJRNL1\x01\x19\0\0\0\0\0\0\0\x01A\x01\x01A\x01B\x01P\x0a\0\0\0\0\0\0\0\xea\x07\x03\x02\x07";
+
+const BEGUN_BY_SEVEN: &[u8] =
+    b"OTCJRNL1\x07\x19\0\0\0\0\0\0\0\x01A\x01\x01A\x01B\x01P\x0a\0\0\0\0\0\0\0\xea\x07\x03\x02\0";
+
+// C's command TRADE A B P 10 2026-03-02, which is no trade of C.
+const REFUSED: &[u8] =
+    b"OTCJRNL1\x01\x19\0\0\0\0\0\0\0\x01C\x01\x01A\x01B\x01P\x0a\0\0\0\0\0\0\0\xea\x07\x03\x02\0";
+
+const ONE_TEXT: &str =
+    "member A 1\ntrade 1 A B P 10 2026-03-02 alleged -\nmember B 1\ntrade 1 A B P 10 2026-03-02 alleged -\nmember C 0\nend 1\n";
+
+const NONE_TEXT: &str = "member A 0\nmember B 0\nmember C 0\nend 0\n";
+
+// Replays a disk's journal into so much room. It gives the disk if the replay ends so.
+fn replayed<R: Threads + Wait + Sync + AllocGlobal>(
+    rt: &R,
+    disk: MemoryDisk,
+    room: usize,
+    end: (u8, &str, &str),
+) -> Result<MemoryDisk, Fail>
+    requires { IsSettled (Some disk.history) }
+{
+    let (status, text, told) = end;
+    let mut source = MemorySource::new(rt.alloc(), b"HELLO A KA\n")?;
+    let mut output = MemorySink::new(rt.alloc(), room)?;
+    let files: &[(&str, &[u8])] = &[("T", ROSTER.as_bytes())];
+    let words = &["replay", "T", "j"];
+    let (ended, errors, disk) = run_on(rt, words, files, &mut source, &mut output, disk)?;
+    if ended == status
+        && output.bytes() == text.as_bytes()
+        && errors.bytes() == told.as_bytes()
+    {
+        return Ok(disk);
+    }
+    Err(Fail::new("the replay ended otherwise"))
+}
+
+// Whether a replay of these bytes ends so, and leaves them.
+fn ends<R: Threads + Wait + Sync + AllocGlobal>(
+    rt: &R,
+    bytes: &[u8],
+    end: (u8, &str, &str),
+) -> Result<bool, Fail> {
+    let disk = disk_of(rt.alloc(), bytes)?;
+    let mut disk = replayed(rt, disk, 256, end)?;
+    let mut into = [0; 64];
+    let read = disk.read(0, &mut into)?;
+    Ok(into.get(..read) == Some(bytes))
+}
+
+// A journal's first bytes, so many of them, and what a replay of them ends with.
+const JOURNALS: &[(&[u8], usize, u8, &str, &str)] = &[
+    (b"", 0, 0, NONE_TEXT, ""),
+    (b"OTCJRNL1\0", 9, 0, NONE_TEXT, ""),
+    (ONE, 39, 0, ONE_TEXT, ""),
+    (ENDED_BY_SEVEN, 39, 0, ONE_TEXT, ""),
+    (BEGUN_BY_SEVEN, 39, 0, NONE_TEXT, ""),
+    (BEGUN_BY_SEVEN, 30, 0, NONE_TEXT, ""),
+    (ONE, 9, 0, NONE_TEXT, ""),
+    (ONE, 30, 7, "", "damaged at 8\n"),
+    (ONE, 38, 7, "", "damaged at 38\n"),
+    (REFUSED, 39, 7, "", "damaged at 8\n"),
+    (b"OTCJRNL2\0\0", 10, 7, "", "damaged at 0\n"),
+];
+
+fn all_are_told<R: Threads + Wait + Sync + AllocGlobal>(rt: &R) -> Result<bool, Fail> {
+    for (bytes, size, status, text, told) in JOURNALS {
+        let front = bytes.get(..*size).unwrap_or(bytes);
+        if !ends(rt, front, (*status, text, told))? {
+            return Ok(false);
+        }
+    }
+    Ok(true)
+}
+
+#[test]
+fn a_replay_tells_what_the_journal_stands_for_or_its_damage(rt: HostRuntime) -> Result<(), Fail> {
+    let told = all_are_told(&rt)?;
+    assert!(rt; told);
+    Ok(())
+}
+
+const LINES: &str =
+    "HELLO A KA\nTRADE A B P 10 2026-03-02\nHELLO B KB\nAFFIRM 1\nTRADE B C P 7 2026-03-02\nHELLO C KC\nAFFIRM 2\nHELLO OPS KO\nFREEZE 2026-03-31\nPROPOSE 1 conservative\nFREEZE 2026-03-31\nPROPOSE 2 hybrid\nHELLO A KA\nACCEPT 2 1\nHELLO B KB\nACCEPT 2 1\nHELLO C KC\nACCEPT 2 1\nTRADE C A P 3 2026-04-01\nHELLO A KA\nAFFIRM 4\nHELLO OPS KO\nFREEZE 2026-04-30\nPROPOSE 3 conservative\nHELLO A KA\nACCEPT 3 1\nHELLO C KC\nACCEPT 3 1\nHELLO OPS KO\nFREEZE 2026-05-31\nCANCEL 4\nHELLO A KA\nHOLD 1\n";
+
+const REPLIES: &str =
+    "ok 0 hello A\nok 1 trade 1\nok 1 hello B\nok 2 live 1\nok 3 trade 2\nok 3 hello C\nok 4 live 2\nok 4 hello OPS\nok 5 frozen 1 2\nok 7 nothing 1 1\nok 8 frozen 2 2\nok 10 proposed 2 1 17 10\nok 10 hello A\nok 11 accepted 2 1 2\nok 11 hello B\nok 12 accepted 2 1 1\nok 12 hello C\nok 13 executed 2 1 1 1 1\nok 14 trade 4\nok 14 hello A\nok 15 live 4\nok 15 hello OPS\nok 16 frozen 3 3\nok 18 proposed 3 1 13 7\nok 18 hello A\nok 19 accepted 3 1 1\nok 19 hello C\nok 20 executed 3 1 1 1 0\nok 20 hello OPS\nok 21 frozen 4 2\nok 22 cancelled 4\nok 22 hello A\nok 23 held 1\n";
+
+// Nothing is left to do in the first cycle. In the second the first trade is cut by 7, the second ends, and A owes C the 7; in
+// the third C's 3 to A end, and what A owes C falls by as much. The fourth is cancelled.
+const TEXT: &str =
+    "member A 3\ntrade 1 A B P 3 2026-03-02 live held\ntrade 3 A C P 4 2026-03-31 live -\ntrade 4 C A P 3 2026-04-01 ended -\nmember B 2\ntrade 1 A B P 3 2026-03-02 live held\ntrade 2 B C P 7 2026-03-02 ended -\nmember C 3\ntrade 2 B C P 7 2026-03-02 ended -\ntrade 3 A C P 4 2026-03-31 live -\ntrade 4 C A P 3 2026-04-01 ended -\nexecution 7 1 1 0 0 0\nexecution 13 2 1 1 1 1\nexecution 20 3 1 1 1 0\nend 23\n";
+
+// The market's whole text is told, twice over; and where the output has less room, a front of it.
+fn a_market_is_told<R: Threads + Wait + Sync + AllocGlobal>(rt: &R) -> Result<(), Fail> {
+    let disk = disk_of(rt.alloc(), b"")?;
+    let disk = left_by(rt, disk, LINES, (0, REPLIES, ""))?;
+    let disk = replayed(rt, crashed(disk), 1024, (0, TEXT, ""))?;
+    let disk = replayed(rt, crashed(disk), 21, (5, "member A 3\ntrade 1 A B", "sink fault\n"))?;
+    let _ = replayed(rt, crashed(disk), 1024, (0, TEXT, ""))?;
+    Ok(())
+}
+
+#[test]
+fn a_market_of_several_cycles_is_replayed_whole(rt: HostRuntime) -> Result<(), Fail> {
+    a_market_is_told(&rt)
+}
+
+// Each of the three calls of a disk that a replay makes: it is attached, its length is asked for, and it is read.
+fn each_fault_is_told<R: Threads + Wait + Sync + AllocGlobal>(rt: &R) -> Result<(), Fail> {
+    for call in 1..4u64 {
+        let mut disk = disk_of(rt.alloc(), ONE)?;
+        disk.fail_at(call)?;
+        let disk = replayed(rt, disk, 256, (6, "", "disk fault\n"))?;
+        let _ = replayed(rt, crashed(disk), 256, (0, ONE_TEXT, ""))?;
+    }
+    Ok(())
+}
+
+#[test]
+fn a_disk_that_fails_is_told_and_stays(rt: HostRuntime) -> Result<(), Fail> {
+    each_fault_is_told(&rt)
+}
+
+// Words, and whether they are in form.
+const WORDS: &[(&[&str], bool)] = &[
+    (&["replay", "T", "j"], true),
+    (&["replay", "--", "T", "j"], true),
+    (&["replay", "T", "--", "-j"], true),
+    (&["replay", "-", "-"], true),
+    (&["replay"], false),
+    (&["replay", "T"], false),
+    (&["replay", "T", "j", "k"], false),
+    (&["replay", "T", "-j"], false),
+    (&["replay", "T", "j", "--workers", "4"], false),
+    (&["replay", "T", "j", "--seats=4"], false),
+    (&["replay", "--connections", "1", "T", "j"], false),
+    (&["Replay", "T", "j"], false),
+];
+
+// Over no files, words in form fail at the roster's.
+fn words_are_told<R: Threads + Wait + Sync + AllocGlobal>(rt: &R) -> Result<bool, AllocError> {
+    for (words, in_form) in WORDS {
+        let (status, line) = if *in_form {
+            (11, "file fault\n")
+        } else {
+            (2, "bad words\n")
+        };
+        let mut source = MemorySource::new(rt.alloc(), b"")?;
+        let output = MemorySink::new(rt.alloc(), 256)?;
+        let ran = run_files(rt, words, &[], &mut source, output)?;
+        if !ran.is(status, b"", line) {
+            return Ok(false);
+        }
+    }
+    Ok(true)
+}
+
+#[test]
+fn words_of_a_replay_are_two_names(rt: HostRuntime) -> Result<(), Fail> {
+    let told = words_are_told(&rt)?;
+    assert!(rt; told);
+    Ok(())
+}
