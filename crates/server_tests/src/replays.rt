@@ -116,7 +116,7 @@ fn a_market_is_told<R: Threads + Wait + Sync + AllocGlobal>(rt: &R) -> Result<()
     let disk = disk_of(rt.alloc(), b"")?;
     let disk = left_by(rt, disk, LINES, (0, REPLIES, ""))?;
     let disk = replayed(rt, crashed(disk), 1024, (0, TEXT, ""))?;
-    let disk = replayed(rt, crashed(disk), 21, (5, "member A 3\ntrade 1 A B", "sink fault\n"))?;
+    let disk = replayed(rt, crashed(disk), 22, (5, "member A 3\ntrade 1 A B", "sink fault\n"))?;
     let _ = replayed(rt, crashed(disk), 1024, (0, TEXT, ""))?;
     Ok(())
 }
