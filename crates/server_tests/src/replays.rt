@@ -46,10 +46,7 @@ fn replayed<R: Threads + Wait + Sync + AllocGlobal>(
     let files: &[(&str, &[u8])] = &[("T", ROSTER.as_bytes())];
     let words = &["replay", "T", "j"];
     let (ended, errors, disk) = run_on(rt, words, files, &mut source, &mut output, disk)?;
-    if ended == status
-        && output.bytes() == text.as_bytes()
-        && errors.bytes() == told.as_bytes()
-    {
+    if ended == status && output.bytes() == text.as_bytes() && errors.bytes() == told.as_bytes() {
         return Ok(disk);
     }
     Err(Fail::new("the replay ended otherwise"))
@@ -116,7 +113,12 @@ fn a_market_is_told<R: Threads + Wait + Sync + AllocGlobal>(rt: &R) -> Result<()
     let disk = disk_of(rt.alloc(), b"")?;
     let disk = left_by(rt, disk, LINES, (0, REPLIES, ""))?;
     let disk = replayed(rt, crashed(disk), 1024, (0, TEXT, ""))?;
-    let disk = replayed(rt, crashed(disk), 22, (5, "member A 3\ntrade 1 A B", "sink fault\n"))?;
+    let disk = replayed(
+        rt,
+        crashed(disk),
+        22,
+        (5, "member A 3\ntrade 1 A B", "sink fault\n"),
+    )?;
     let _ = replayed(rt, crashed(disk), 1024, (0, TEXT, ""))?;
     Ok(())
 }
