@@ -17,6 +17,9 @@ returns-then-is_err-2-clause-runs g c =
     (g.K.Sink.taken c.args.output.now) (g.K.Sink.taken c.write_all.new.sink) read c.deref.result.now e.stands e.replayed e.roster told (c.deref.ensures.value ∙ c.in-Ok-text_of.ensures)
     (err_holds c.write_all.result c.is_err-2.result _ c.is_err-2.ensures.value c.if-is_err-2.true c.write_all.ensures.front)
 
+pub returns-then-is_err-2-clause-sink_fault : goal.returns-then-is_err-2-clause-sink_fault
+returns-then-is_err-2-clause-sink_fault g c = λ sink. err_holds c.write_all.result c.is_err-2.result _ c.is_err-2.ensures.value c.if-is_err-2.true c.write_all.ensures.failed
+
 pub returns-clause-runs : goal.returns-clause-runs
 returns-clause-runs g c =
     let history = g.D.Disk.history in
