@@ -6,6 +6,7 @@ use Rattle.command_types.specs.declared.trade.TradeRow.{TradeRow}
 use Rattle.command_types.specs.Trades.{is_live, trade_numbered}
 use Rattle.command_types.specs.Books.{is_held}
 use Rattle.command_types.specs.Execution.{falling_trades}
+use Rattle.units_core.specs.declared.limits.TheConstants.{MOST_GROSS}
 
 -- a live trade that takes part in the cycle, and that nobody holds
 pub record IsFree (row : TradeRow) : Type 0 where
@@ -27,7 +28,7 @@ pub record IsNewInRange (members products product seller buyer amount : ℕ) : T
   pub in_buyers : buyer < members
   pub different : seller ≢ buyer
   pub least : 1 ≤ amount
-  pub most : amount ≤ 10 ^ 18
+  pub most : amount ≤ MOST_GROSS
 
 -- the step is of a free trade, or makes a good one
 abbrev pub IsFreeStep : ℕ → ℕ → List TradeRow → PlanRow → Type 0

@@ -11,6 +11,7 @@ use Rattle.command_types.specs.Plans.{plan_of, is_new, count_of}
 use Rattle.command_types.specs.Execution.{IsExecutable}
 use Rattle.acceptance.specs.FreePlans.{IsFreePlan}
 use Rattle.acceptance.specs.Renewals.{AreNumbered, IsRenewal, renewal_plan, renewed}
+use Rattle.units_core.specs.declared.limits.TheConstants.{MOST_GROSS}
 
 -- what the seller owes the buyer in a product, over their live trades that are frozen
 abbrev pub frozen_sum : ℕ → ℕ → ℕ → List TradeRow → ℕ
@@ -59,7 +60,7 @@ PlanIsFree =
 
 -- no product's gross is over the limit, and no new network's gross is above that of the frozen one
 pub record HasRoom (members : ℕ) (rows : List TradeRow) (new : List NetworkData) : Type 0 where
-  pub bounded : (product : ℕ) → gross_of product rows ≤ 10 ^ 18
+  pub bounded : (product : ℕ) → gross_of product rows ≤ MOST_GROSS
   pub falls : (product : ℕ) (network : NetworkData) → slice_get new product ≡ Some network → gross network ≤ gross (frozen_network members product rows)
 
 -- where that is so, the plan can be executed

@@ -8,6 +8,7 @@ use Rattle.command_types.specs.declared.trade.TradeRow.{TradeRow}
 use Rattle.command_types.specs.Books.{is_held}
 use Rattle.command_types.specs.Plans.{falling}
 use Rattle.acceptance.specs.declared.planning.Change.{Change}
+use Rattle.units_core.specs.declared.limits.TheConstants.{MOST_GROSS}
 
 -- a frozen trade of the product that nobody holds
 abbrev pub is_free_in : ℕ → TradeRow → Bool
@@ -44,4 +45,4 @@ product_steps change trades seller buyer =
 pub record IsChange (change : Change) : Type 0 where
   pub old : IsRising change.old.now
   pub new : IsRising change.new.now
-  pub within : total change.new.now ≤ 10 ^ 18
+  pub within : total change.new.now ≤ MOST_GROSS

@@ -4,6 +4,7 @@ use Rattle.std.specs.Int.{bit_at}
 use Rattle.command_types.specs.Books.{listed_below}
 use Rattle.command_types.specs.CycleRefusals.{has_voted}
 use Rattle.command_types.specs.Plans.{only_if}
+use Rattle.units_core.specs.declared.limits.TheConstants.{MOST_MEMBERS}
 
 -- the members that must accept, and those that have accepted, each in rising order
 pub record VotesView : Type 0 where
@@ -16,7 +17,7 @@ is_flagged words member = bit_at (slice_index words (member / 64)) (member % 64)
 
 -- the members below 256 whose flag is set, in rising order
 unfoldable pub flagged : List ℕ → List ℕ
-flagged words = listed_below 256 (λ member. only_if (is_flagged words member) member)
+flagged words = listed_below MOST_MEMBERS (λ member. only_if (is_flagged words member) member)
 
 -- the member is not among those that have accepted
 abbrev pub is_left : List ℕ → ℕ → Bool

@@ -2,6 +2,7 @@
 
 ghost use Rattle.std.specs.Prelude.{◌≡◌, ℕ, ◌<◌, ◌==◌, ◌||◌, false};
 ghost use Rattle.acceptance.specs.Votes.{is_flagged};
+ghost use Rattle.units_core.specs.declared.limits.TheConstants.{MOST_MEMBERS};
 
 use units_core::MemberNo;
 
@@ -21,7 +22,7 @@ impl Flags {
 
     /// Whether the member is in the set.
     pub(super) fn has(&self, member: MemberNo) -> bool
-        requires { member < 256 }
+        requires { member < MOST_MEMBERS }
         ensures { result ≡ is_flagged self.now.words member }
     {
         let place = member.index();
@@ -30,7 +31,7 @@ impl Flags {
 
     /// Puts the member into the set.
     pub(super) fn insert(&mut self, member: MemberNo)
-        requires { member < 256 }
+        requires { member < MOST_MEMBERS }
         ensures { (m : ℕ) → is_flagged self.new.words m ≡ ((member == m) || is_flagged self.old.words m) }
     {
         let place = member.index();

@@ -6,6 +6,7 @@ ghost use Rattle.command_types.specs.Plans.{is_party_row, is_in_step, is_touched
 ghost use Rattle.command_types.specs.Trades.{trade_numbered};
 ghost use Rattle.acceptance.specs.Parties.{HasPartiesBelow, IsStepBelow, IsPlanBelow};
 ghost use Rattle.acceptance.specs.Votes.{is_flagged};
+ghost use Rattle.units_core.specs.declared.limits.TheConstants.{MOST_MEMBERS};
 
 use crate::flags::Flags;
 use crate::votes::Votes;
@@ -22,9 +23,9 @@ fn row_at(trades: &[TradeRow], trade: u64) -> TradeRow
 
 // The seller and the buyer of the trade with this number.
 fn trade_parties(trades: &[TradeRow], trade: u64) -> (MemberNo, MemberNo)
-    requires { HasPartiesBelow 256 (trade_numbered trades.now trade) }
-    ensures seller { result.0 < 256 }
-    ensures buyer { result.1 < 256 }
+    requires { HasPartiesBelow MOST_MEMBERS (trade_numbered trades.now trade) }
+    ensures seller { result.0 < MOST_MEMBERS }
+    ensures buyer { result.1 < MOST_MEMBERS }
     ensures parties { (m : ℕ) → is_party_row (trade_numbered trades.now trade) m ≡ ((result.0 == m) || (result.1 == m)) }
 {
     let row = row_at(trades, trade);
@@ -33,9 +34,9 @@ fn trade_parties(trades: &[TradeRow], trade: u64) -> (MemberNo, MemberNo)
 
 // The seller and the buyer of a step.
 fn step_parties(trades: &[TradeRow], step: &PlanRow) -> (MemberNo, MemberNo)
-    requires { IsStepBelow trades.now 256 step.now }
-    ensures seller { result.0 < 256 }
-    ensures buyer { result.1 < 256 }
+    requires { IsStepBelow trades.now MOST_MEMBERS step.now }
+    ensures seller { result.0 < MOST_MEMBERS }
+    ensures buyer { result.1 < MOST_MEMBERS }
     ensures parties { (m : ℕ) → is_in_step trades.now m step.now ≡ ((result.0 == m) || (result.1 == m)) }
 {
     match *step {
@@ -47,7 +48,7 @@ fn step_parties(trades: &[TradeRow], step: &PlanRow) -> (MemberNo, MemberNo)
 
 // Puts the parties of a step into the set.
 fn add_parties(members: &mut Flags, trades: &[TradeRow], step: &PlanRow)
-    requires { IsStepBelow trades.now 256 step.now }
+    requires { IsStepBelow trades.now MOST_MEMBERS step.now }
     ensures { (m : ℕ) → is_flagged members.new.words m ≡ (is_flagged members.old.words m || is_in_step trades.now m step.now) }
 {
     let (seller, buyer) = step_parties(trades, step);
@@ -57,7 +58,7 @@ fn add_parties(members: &mut Flags, trades: &[TradeRow], step: &PlanRow)
 
 // The parties of all steps.
 fn all_parties(trades: &[TradeRow], plan: &[PlanRow]) -> Flags
-    requires { IsPlanBelow trades.now 256 plan.now }
+    requires { IsPlanBelow trades.now MOST_MEMBERS plan.now }
     ensures { (m : ℕ) → is_flagged result.words m ≡ is_touched trades.now plan.now m }
 {
     let mut members = Flags::none();
@@ -70,9 +71,9 @@ fn all_parties(trades: &[TradeRow], plan: &[PlanRow]) -> Flags
 /// The votes that a plan needs: those of the members that are a party of a step of it. Nobody has accepted. The
 /// trades that it ends or cuts are among `trades`, whose numbers count from 1. It takes no memory.
 pub fn touched(trades: &[TradeRow], plan: &[PlanRow]) -> Votes
-    requires { IsPlanBelow trades.now 256 plan.now }
+    requires { IsPlanBelow trades.now MOST_MEMBERS plan.now }
     ensures touched { (m : ℕ) → has_voted result.needed m ≡ is_touched trades.now plan.now m }
-    ensures needed { (n : ℕ) → n ≤ 256 → IsPlanBelow trades.now n plan.now → result.needed ≡ touched_by n trades.now plan.now }
+    ensures needed { (n : ℕ) → n ≤ MOST_MEMBERS → IsPlanBelow trades.now n plan.now → result.needed ≡ touched_by n trades.now plan.now }
     ensures accepted { result.accepted ≡ [] }
 {
     Votes::of(all_parties(trades, plan))

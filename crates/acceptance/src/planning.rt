@@ -7,6 +7,7 @@ ghost use Rattle.std.specs.Prelude.{◌≡◌, ℕ, ◌-◌, ◌<◌, ◌≤◌,
 ghost use Rattle.command_types.specs.Books.{is_held, listed_below, listed_pairs};
 ghost use Rattle.command_types.specs.Plans.{falling, product_plan, plan_of};
 ghost use Rattle.acceptance.specs.Planning.{is_free_in, is_from, is_to, row_fall, pair_steps, change_steps, product_steps, IsChange};
+ghost use Rattle.units_core.specs.declared.limits.TheConstants.{MOST_GROSS};
 
 use command_types::{PlanRow, TradeRow};
 use network_laws::{Network, Row, amount_at, first_row, next_row};
@@ -108,7 +109,7 @@ fn add_fall(
 // The amount of a new trade.
 fn amount_of(n: u64) -> Amount
     requires least { 1 ≤ n }
-    requires most { n ≤ 10 ^ 18 }
+    requires most { n ≤ MOST_GROSS }
     ensures { result ≡ n }
 {
     match Amount::new(n) {
@@ -127,7 +128,7 @@ fn add_pair(
     before: u64,
     after: u64,
 ) -> Result<(), AllocError>
-    requires { after ≤ 10 ^ 18 }
+    requires { after ≤ MOST_GROSS }
     ensures { OnOk result (plan.new.items ≡ plan.old.items ++ pair_steps change.now.product change.now.day sold.now seller buyer before after) }
 {
     if after < before {

@@ -3,6 +3,7 @@
 ghost use Rattle.std.specs.Prelude.{◌≡◌, ℕ, ◌<◌, ◌&&◌, ◌∷◌, [], not, IsTrue, IsFalse};
 ghost use Rattle.command_types.specs.CycleRefusals.{has_voted};
 ghost use Rattle.acceptance.specs.Votes.{is_flagged, flagged, left_of};
+ghost use Rattle.units_core.specs.declared.limits.TheConstants.{MOST_MEMBERS};
 
 use crate::flags::Flags;
 use std::marker::Model;
@@ -26,7 +27,7 @@ impl Model for Votes {
 
 // Whether a member of a set is not in another.
 fn is_left(needed: &Flags, accepted: &Flags, member: MemberNo) -> bool
-    requires { member < 256 }
+    requires { member < MOST_MEMBERS }
     ensures { result ≡ (is_flagged needed.now.words member && not (is_flagged accepted.now.words member)) }
 {
     needed.has(member) && !accepted.has(member)
@@ -59,7 +60,7 @@ impl Votes {
 
     /// Whether the plan needs the member's vote.
     pub fn needs(&self, member: MemberNo) -> bool
-        requires { member < 256 }
+        requires { member < MOST_MEMBERS }
         ensures { result ≡ has_voted self.now.needed member }
     {
         self.needed.has(member)
@@ -67,7 +68,7 @@ impl Votes {
 
     /// Whether the member has accepted.
     pub fn has(&self, member: MemberNo) -> bool
-        requires { member < 256 }
+        requires { member < MOST_MEMBERS }
         ensures { result ≡ has_voted self.now.accepted member }
     {
         self.accepted.has(member)
@@ -82,7 +83,7 @@ impl Votes {
 
     /// The member accepts, which is needed and has not accepted yet.
     pub fn accept(&mut self, member: MemberNo)
-        requires member { member < 256 }
+        requires member { member < MOST_MEMBERS }
         requires needed { IsTrue (has_voted self.old.needed member) }
         requires first { IsFalse (has_voted self.old.accepted member) }
         ensures needed { self.new.needed ≡ self.old.needed }

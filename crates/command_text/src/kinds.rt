@@ -4,7 +4,7 @@ ghost use Rattle.std.specs.Prelude.{◌≡◌};
 ghost use Rattle.command_types.specs.Grammar.{amount_word, number_word, signed_word, side_word, ceiling_word};
 
 use command_types::{Level, Side};
-use units_core::{Amount, read_number, read_signed};
+use units_core::{Amount, MOST_NUMBER, read_number, read_signed};
 
 /// An amount, from 1 to 10^18.
 pub(crate) fn amount_of(word: &[u8]) -> Option<Amount>
@@ -17,7 +17,7 @@ pub(crate) fn amount_of(word: &[u8]) -> Option<Amount>
 pub(crate) fn number_of(word: &[u8]) -> Option<u64>
     ensures { result ≡ number_word word.now }
 {
-    read_number(word, 1_000_000_000_000_000_000).ok()
+    read_number(word, MOST_NUMBER).ok()
 }
 
 /// A number, from 0 to 10^18, as a level.

@@ -3,6 +3,7 @@
 ghost use Rattle.std.specs.Prelude.{◌≡◌, ◌≤◌, length};
 ghost use Rattle.command_types.specs.Grammar.{line_by, line_of};
 ghost use Rattle.command_text.specs.ReadOf.{read_of};
+ghost use Rattle.units_core.specs.declared.limits.TheConstants.{MOST_LINE};
 
 use crate::bad_line::BadLine;
 use crate::commands::{
@@ -87,7 +88,7 @@ fn read_command(verb: &[u8], words: &mut Words<'_>) -> Result<Line, BadLine>
 /// What a line says, exactly as the line grammar has it, or the place of the first word that is not of the form. A
 /// line has no line feed, and at most 4,096 bytes. No memory is taken.
 pub fn read_line(line: &[u8]) -> Result<Line, BadLine>
-    requires { length line.now ≤ 4096 }
+    requires { length line.now ≤ MOST_LINE }
     ensures { result ≡ read_of (line_of line.now) }
 {
     let mut words = Words::new(line);

@@ -14,17 +14,19 @@ impl<'a> Model for Words<'a> {
     ghost use Rattle.std.specs.Prelude.{ℕ, ◌+◌, ◌≤◌, length};
     ghost use Rattle.command_types.specs.Grammar.{Cursor};
     ghost use Rattle.command_text.specs.Reading.{cursor_at};
+    ghost use Rattle.units_core.specs.declared.limits.TheConstants.{MOST_LINE};
 
     ghost Value = { Cursor };
 
     ghost view = { λ w. cursor_at w.line.now w.at };
 
-    ghost invariant = { λ w. (length w.line.now ≤ 4096) × (w.at ≤ length w.line.now + 1) };
+    ghost invariant = { λ w. (length w.line.now ≤ MOST_LINE) × (w.at ≤ length w.line.now + 1) };
 }
 
 ghost use Rattle.std.specs.Prelude.{◌≡◌, ◌+◌, ◌<◌, ◌≤◌, [], ◌∷◌, IfSome, IfNone, length, take};
 ghost use Rattle.command_types.specs.Grammar.{words_of};
 ghost use Rattle.command_text.specs.Reading.{words_from, cursor_at, IsNext};
+ghost use Rattle.units_core.specs.declared.limits.TheConstants.{MOST_LINE};
 
 // Where the first word of a text ends: at the first space, or at the text's end.
 fn word_end(text: &[u8]) -> usize
@@ -42,7 +44,7 @@ fn word_end(text: &[u8]) -> usize
 impl<'a> Words<'a> {
     /// The words of a line.
     pub(crate) fn new(line: &'a [u8]) -> Words<'a>
-        requires { length line.now ≤ 4096 }
+        requires { length line.now ≤ MOST_LINE }
         ensures { result ≡ cursor_at line.now 0 }
     {
         Words { line, at: 0 }

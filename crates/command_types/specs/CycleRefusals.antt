@@ -12,6 +12,7 @@ use Rattle.command_types.specs.declared.refusal.Refusal.TheVariants.{NotOperator
 use Rattle.command_types.specs.Roster.{member_place, product_place, is_operator}
 use Rattle.command_types.specs.Plans.{is_touched}
 use Rattle.command_types.specs.Cycles.{is_open, is_broken, is_solving, is_proposed, may_begin, has_limits, bad_post}
+use Rattle.units_core.specs.declared.limits.TheConstants.{MOST_DRAFT, MOST_GROSS}
 
 abbrev pub unless_operator : State → List ℕ → Bool × Refusal
 unless_operator s by = (not (is_operator s.roster by), NotOperator)
@@ -87,7 +88,7 @@ limits_refusals s by product = unless_operator s by ∷ unless_product s product
 
 -- a draft's rows and potentials are at most 100,000
 abbrev pub if_draft_full : ℕ → Bool × Refusal
-if_draft_full size = (nat_lt 100000 size, DraftFull)
+if_draft_full size = (nat_lt MOST_DRAFT size, DraftFull)
 
 abbrev pub row_refusals : State → List ℕ → List ℕ → List ℕ → List ℕ → ℕ → ℕ → List (Bool × Refusal)
 row_refusals s by product seller buyer size sum =
@@ -95,7 +96,7 @@ row_refusals s by product seller buyer size sum =
     ∷ unless_members s seller buyer
     ∷ unless_product s product
     ∷ (bytes_eq seller buyer, OwnTrade)
-    ∷ (nat_lt 1000000000000000000 sum, GrossOver)
+    ∷ (nat_lt MOST_GROSS sum, GrossOver)
     ∷ if_draft_full size
     ∷ []
 

@@ -5,6 +5,7 @@ use Rattle.command_types.specs.declared.plan.PlanRow.TheVariants.{End, Cut, New}
 use Rattle.command_types.specs.declared.trade.TradeRow.{TradeRow}
 use Rattle.command_types.specs.Trades.{is_live, gross_of, trade_numbered}
 use Rattle.command_types.specs.Plans.{executed}
+use Rattle.units_core.specs.declared.limits.TheConstants.{MOST_GROSS}
 
 -- the trade is there, and live
 abbrev pub IsLiveTrade : Option TradeRow → Type 0
@@ -38,4 +39,4 @@ falling_trades (step ∷ plan) = trade_of_step step ++ falling_trades plan
 pub record IsExecutable (members products : ℕ) (rows : List TradeRow) (plan : List PlanRow) : Type 0 where
   pub steps : All (IsStep members products rows) plan
   pub once : AllPairs (λ a b. a ≢ b) (falling_trades plan)
-  pub bounded : (product : ℕ) → gross_of product (executed plan rows) ≤ 10 ^ 18
+  pub bounded : (product : ℕ) → gross_of product (executed plan rows) ≤ MOST_GROSS

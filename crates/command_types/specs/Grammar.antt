@@ -13,6 +13,7 @@ use Rattle.command_types.specs.declared.trade.Side.TheVariants.{Out, In}
 use Rattle.command_types.specs.declared.line.Line.{Line}
 use Rattle.command_types.specs.declared.line.Line.TheVariants.{Hello, Trade, Affirm, End, Hold, Free, Tol, Nets, Statement, Freeze, Begin, Limits, Row, Pot, Post, Propose, Plan, Accept, Decline, Cancel, Bye}
 use Rattle.command_types.specs.Lines.{line_limit}
+use Rattle.units_core.specs.declared.limits.TheConstants.{MOST_NUMBER}
 
 -- one more byte in front of the first word
 abbrev pub onto_word : ℕ → List (List ℕ) → List (List ℕ)
@@ -42,7 +43,7 @@ abbrev pub amount_word : List ℕ → Option ℕ
 amount_word word = value_or_none (amount_of word)
 
 abbrev pub number_word : List ℕ → Option ℕ
-number_word word = value_or_none (number_of word 1000000000000000000)
+number_word word = value_or_none (number_of word MOST_NUMBER)
 
 abbrev pub signed_word : List ℕ → Option ℤ
 signed_word word = value_or_none (signed_of word)

@@ -1,9 +1,10 @@
 -- The lines of an input: bytes are cut at line feeds.
 use Rattle.std.specs.Prelude.{ℕ, ◌-◌, slice_index, Bool, ◌&&◌, ◌==◌, nat_lt, List, [], ◌∷◌, ◌++◌, length, take, fold, if◌then◌else◌}
+use Rattle.units_core.specs.declared.limits.TheConstants.{MOST_LINE}
 
 -- the most bytes that a line may have before its line feed
 abbrev pub line_limit : ℕ
-line_limit = 4096
+line_limit = MOST_LINE
 
 abbrev pub ends_with_return : List ℕ → Bool
 ends_with_return line = nat_lt 0 (length line) && (slice_index line (length line - 1) == 13)

@@ -19,6 +19,7 @@ use Rattle.command_types.specs.Cycles.{closed, is_open}
 use Rattle.command_types.specs.CycleRefusals.{tol_refusals, statement_refusals, freeze_refusals, begin_refusals, fetch_refusals, limits_refusals, row_refusals, pot_refusals, post_refusals, plan_refusals, accept_refusals, decline_refusals, cancel_refusals}
 use Rattle.command_types.specs.CycleSteps.{market_in, rows_of_member, with_tolerance, after_freeze, freeze_answer, after_begin, limits_answer, after_post, post_answer, plan_answer, after_accept, accept_answer, after_decline, after_cancel, cycle_after_end}
 use Rattle.command_types.specs.Trades.{is_alleged, is_live, is_ended, gross_of, sold_by, bought_by, submitted_count, trade_numbered, with_alleged, affirmed, ended_by, held_by, freed_by, hold_of, is_marked_by}
+use Rattle.units_core.specs.declared.limits.TheConstants.{MOST_GROSS, MOST_SUBMITTED, MOST_TRADE_AMOUNT}
 
 -- the state before the first command
 abbrev pub empty_state : Rows → State
@@ -48,10 +49,10 @@ trade_refusals s by seller buyer product amount day =
     ∷ (is_none (product_place s.roster product), UnknownProduct)
     ∷ (bytes_eq seller buyer, OwnTrade)
     ∷ (not (bytes_eq by seller || bytes_eq by buyer), NotParty)
-    ∷ (nat_lt 1000000000000000 amount, AmountOver)
+    ∷ (nat_lt MOST_TRADE_AMOUNT amount, AmountOver)
     ∷ maturity_refusal (slice_get s.roster.products (product_of s product)) day
-    ∷ (nat_lt 1000000000000000000 (gross_of (product_of s product) s.trades + amount), GrossOver)
-    ∷ (nat_le 100000 (submitted_count s.trades), TradesFull)
+    ∷ (nat_lt MOST_GROSS (gross_of (product_of s product) s.trades + amount), GrossOver)
+    ∷ (nat_le MOST_SUBMITTED (submitted_count s.trades), TradesFull)
     ∷ []
 
 -- the party stands on this side of the trade

@@ -7,6 +7,7 @@ use Rattle.command_types.specs.declared.roster.Role.TheVariants.{Dealer}
 use Rattle.command_types.specs.declared.roster.MemberRow.{MemberRow}
 use Rattle.command_types.specs.declared.roster.ProductRow.{ProductRow}
 use Rattle.command_types.specs.declared.roster.OperatorRow.{OperatorRow}
+use Rattle.units_core.specs.declared.limits.TheConstants.{MOST_DEALERS, MOST_MEMBERS, MOST_PRODUCTS}
 
 -- the rows of a roster
 pub record Rows : Type 0 where
@@ -74,7 +75,7 @@ is_dealer role = false
 
 -- what the rows of a roster keep
 pub record IsRoster (rows : Rows) : Type 0 where
-  pub few_members : length rows.members ≤ 256
-  pub few_dealers : length (filter (λ row. is_dealer row.role) rows.members) ≤ 64
-  pub few_products : length rows.products ≤ 64
+  pub few_members : length rows.members ≤ MOST_MEMBERS
+  pub few_dealers : length (filter (λ row. is_dealer row.role) rows.members) ≤ MOST_DEALERS
+  pub few_products : length rows.products ≤ MOST_PRODUCTS
   pub different : IsTrue (are_different (names_of rows))

@@ -23,6 +23,7 @@ use Rattle.command_types.specs.History.{History, recorded, is_recorded, entries_
 use Rattle.command_types.specs.Told.{IsTold}
 use Rattle.command_types.specs.Grammar.{line_within}
 use Rattle.command_types.specs.Details.{reply_text}
+use Rattle.units_core.specs.declared.limits.TheConstants.{MOST_GROSS}
 
 -- a row of a draft: an amount for a product and a pair of members, by their names
 pub record DraftRow : Type 0 where
@@ -72,7 +73,7 @@ draft_sum product rows = sum_by (λ row. if bytes_eq row.product product then ro
 
 -- a sum as a command carries it: one above the largest gross stands for all that are above it
 abbrev pub capped : ℕ → ℕ
-capped sum = if nat_lt 1000000000000000000 sum then 1000000000000000001 else sum
+capped sum = if nat_lt MOST_GROSS sum then MOST_GROSS + 1 else sum
 
 abbrev pub noted_row : Draft → List ℕ → List ℕ → List ℕ → ℕ → Draft
 noted_row draft product seller buyer amount =

@@ -1,6 +1,7 @@
 -- How many bytes a journal takes for a change: a name has one byte more than its text, a number eight bytes, a day four; a record begins with the seat's four bytes, the party and one byte for the kind; its frame has five bytes more.
 use Rattle.std.specs.Prelude.{ℕ, ◌+◌, ◌*◌, List, [], length, sum_by, Option, Some, None, unwrap_or}
 use Rattle.network_laws.specs.Solutions.{SolutionData}
+use Rattle.units_core.specs.declared.limits.TheConstants.{MOST_JOURNAL}
 use Rattle.command_types.specs.declared.ask.Ask.{Ask}
 use Rattle.command_types.specs.declared.ask.Entry.{Entry}
 use Rattle.command_types.specs.declared.ask.What.{What}
@@ -8,7 +9,7 @@ use Rattle.command_types.specs.declared.ask.What.TheVariants.{Trade, Affirm, End
 
 -- the most bytes that a journal may have
 abbrev pub journal_limit : ℕ
-journal_limit = 268435456
+journal_limit = MOST_JOURNAL
 
 abbrev pub name_size : List ℕ → ℕ
 name_size name = 1 + length name

@@ -14,10 +14,11 @@ use Rattle.command_types.specs.declared.trade.Side.TheVariants.{Out, In}
 use Rattle.command_types.specs.declared.ask.Entry.{Entry}
 use Rattle.command_types.specs.declared.ask.What.{What}
 use Rattle.command_types.specs.declared.ask.What.TheVariants.{Trade, Affirm, End, Hold, Free, Tol, Freeze, Begin, Post, Accept, Decline, Cancel}
+use Rattle.units_core.specs.declared.limits.TheConstants.{MOST_GROSS, MOST_PRODUCTS}
 
 -- the most solutions that a change may post
 abbrev pub most_solutions : ℕ
-most_solutions = 64
+most_solutions = MOST_PRODUCTS
 
 -- ---- the fields
 
@@ -106,7 +107,7 @@ abbrev pub IsNumber : ℕ → Type 0
 IsNumber n = n < 2 ^ 64
 
 abbrev pub IsLevel : ℕ → Type 0
-IsLevel n = n ≤ 1000000000000000000
+IsLevel n = n ≤ MOST_GROSS
 
 abbrev pub IsDay : DayParts → Type 0
 IsDay d = (d.year ≤ 9999) × IsTrue (is_civil d)

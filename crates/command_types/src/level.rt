@@ -1,8 +1,10 @@
 //! Floors, ceilings and other amounts that may be nothing.
 
 ghost use Rattle.std.specs.Prelude.{◌≡◌, ◌≤◌, nat_le, if◌then◌else◌, Some, None};
+ghost use Rattle.units_core.specs.declared.limits.TheConstants.{MOST_GROSS};
 
 use std::marker::Model;
+use units_core::MOST_GROSS;
 
 /// A whole number from 0 to 10^18, in units of the contract's currency. Contracts see it as the number.
 #[derive(Clone, Copy)]
@@ -12,23 +14,24 @@ pub struct Level {
 
 impl Model for Level {
     ghost use Rattle.std.specs.Prelude.{ℕ, ◌≤◌};
+    ghost use Rattle.units_core.specs.declared.limits.TheConstants.{MOST_GROSS};
 
     ghost Value = { ℕ };
 
     ghost view = { λ l. l.value };
 
-    ghost invariant = { λ l. l.value ≤ 1000000000000000000 };
+    ghost invariant = { λ l. l.value ≤ MOST_GROSS };
 
     ghost inverse = { λ n. record { value = n } };
 }
 
 impl Level {
     /// The largest level, 10^18.
-    pub const MOST: u64 = 1_000_000_000_000_000_000;
+    pub const MOST: u64 = MOST_GROSS;
 
     /// The level of this number, exactly where the number is at most 10^18.
     pub fn new(n: u64) -> Option<Level>
-        ensures { result ≡ (if nat_le n 1000000000000000000 then Some n else None) }
+        ensures { result ≡ (if nat_le n MOST_GROSS then Some n else None) }
     {
         if n <= Level::MOST {
             Some(Level { value: n })
@@ -40,7 +43,7 @@ impl Level {
     /// The number, from 0 to 10^18.
     pub fn get(self) -> u64
         ensures value { result ≡ self }
-        ensures most { result ≤ 1000000000000000000 }
+        ensures most { result ≤ MOST_GROSS }
     {
         self.value
     }

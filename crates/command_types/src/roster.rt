@@ -55,6 +55,7 @@ ghost use Rattle.std.specs.Prelude.{◌≡◌, ◌≤◌, ◌<◌, ◌&&◌, IfO
 ghost use Rattle.std.specs.List.{list_any};
 ghost use Rattle.std.specs.Str.{bytes_eq};
 ghost use Rattle.command_types.specs.Roster.{Rows, IsRoster, member_place, product_place, is_operator, is_operator_row, is_key, is_member_key, is_operator_key};
+ghost use Rattle.units_core.specs.declared.limits.TheConstants.{MOST_MEMBERS, MOST_PRODUCTS};
 
 impl Roster {
     /// The roster of these rows.
@@ -89,7 +90,7 @@ impl Roster {
     /// The members, in their order.
     pub fn members(&self) -> &[MemberRow]
         ensures rows { result.now ≡ self.now.members }
-        ensures few { length result.now ≤ 256 }
+        ensures few { length result.now ≤ MOST_MEMBERS }
         ensures roster { IsRoster self.now }
     {
         &self.members
@@ -98,7 +99,7 @@ impl Roster {
     /// The products, in their order.
     pub fn products(&self) -> &[ProductRow]
         ensures rows { result.now ≡ self.now.products }
-        ensures few { length result.now ≤ 64 }
+        ensures few { length result.now ≤ MOST_PRODUCTS }
     {
         &self.products
     }

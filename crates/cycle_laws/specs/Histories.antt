@@ -10,11 +10,12 @@ use Rattle.command_types.specs.Roster.{Rows}
 use Rattle.command_types.specs.Cycles.{problems_of}
 use Rattle.command_types.specs.Machine.{empty_state, answer_to}
 use Rattle.command_types.specs.History.{History, IsLegal, replayed_from}
+use Rattle.units_core.specs.declared.limits.TheConstants.{MOST_MEMBERS, MOST_PRODUCTS}
 
 -- a legal history of a roster's market, from the state before the first command on
 pub record IsMarketHistory (roster : Rows) (h : History) : Type 0 where
-  pub few_members : length roster.members ≤ 256
-  pub few_products : length roster.products ≤ 64
+  pub few_members : length roster.members ≤ MOST_MEMBERS
+  pub few_products : length roster.products ≤ MOST_PRODUCTS
   pub base : h.base.state ≡ empty_state roster
   pub legal : IsLegal h
 

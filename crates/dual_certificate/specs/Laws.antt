@@ -8,6 +8,7 @@ use Rattle.dual_certificate.specs.declared.proposal_part.ProposalPart.{ProposalP
 use Rattle.dual_certificate.specs.ProposalText.{proposal_text}
 use Rattle.dual_certificate.specs.Proposal.{proposal_of}
 use Rattle.dual_certificate.specs.Writing.{SolveMembers}
+use Rattle.units_core.specs.declared.limits.TheConstants.{MOST_FILE}
 
 -- a network and a solution over the roster's members for each product
 pub record AreOfRoster (roster : Rows) (olds : List NetworkData) (news : List SolutionData) : Type 0 where
@@ -38,4 +39,4 @@ parts_for [] news = []
 abbrev pub WhatIsWrittenReadsBack : Type 0
 WhatIsWrittenReadsBack =
     (roster : Rows) (olds : List NetworkData) (news : List SolutionData) → IsRoster roster → HasNames roster → AreOfRoster roster olds news →
-    length (proposal_text roster olds news) ≤ 67108864 → proposal_of roster (proposal_text roster olds news) ≡ Ok (parts_for olds news)
+    length (proposal_text roster olds news) ≤ MOST_FILE → proposal_of roster (proposal_text roster olds news) ≡ Ok (parts_for olds news)

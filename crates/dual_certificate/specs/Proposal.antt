@@ -12,6 +12,7 @@ use Rattle.dual_certificate.specs.declared.proposal_line.Figures.{Figures}
 use Rattle.dual_certificate.specs.declared.proposal_line.ProposalLine.{ProposalLine}
 use Rattle.dual_certificate.specs.declared.proposal_line.ProposalLine.TheVariants.{Product, Row, Pot, Bound, End}
 use Rattle.dual_certificate.specs.ProposalLine.{pieces, line_of}
+use Rattle.units_core.specs.declared.limits.TheConstants.{MOST_FILE, MOST_GROSS}
 
 -- what was read so far: the finished parts, the part that is begun, and whether the last line came
 pub record Reading : Type 0 where
@@ -45,7 +46,7 @@ is_behind (Some last) row = nat_lt (place last) (place row)
 -- the row is of different members, stands behind the last one, and keeps the gross within 10^18
 abbrev pub fits : List NetworkRow → NetworkRow → Bool
 fits rows row =
-    not (row.seller == row.buyer) && is_behind (slice_get rows (length rows - 1)) row && nat_le (total rows + row.amount) 1000000000000000000
+    not (row.seller == row.buyer) && is_behind (slice_get rows (length rows - 1)) row && nat_le (total rows + row.amount) MOST_GROSS
 
 abbrev pub with_network_row : Reading → NetworkRow → Option Reading
 with_network_row r row =
@@ -116,4 +117,4 @@ with_pieces roster n r (piece ∷ more) =
 
 -- the parts that a text says, or its first line that can't stand, counted from 1
 abbrev pub proposal_of : Rows → List ℕ → Result (List ProposalPart) FileFault
-proposal_of roster bytes = if nat_lt 67108864 (length bytes) then Err TooLong else with_pieces roster 1 nothing_read (pieces 10 bytes)
+proposal_of roster bytes = if nat_lt MOST_FILE (length bytes) then Err TooLong else with_pieces roster 1 nothing_read (pieces 10 bytes)

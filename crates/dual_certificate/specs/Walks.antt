@@ -8,10 +8,11 @@ use Rattle.network_laws.specs.Limits.{lower_in, upper_in, reduced, limit_place, 
 use Rattle.network_laws.specs.Clash.{bounds_clash, price_clash}
 use Rattle.dual_certificate.specs.declared.pair_cursor.Pairs.{Pairs}
 use Rattle.dual_certificate.specs.declared.pair_cursor.PairCursor.{PairCursor}
+use Rattle.units_core.specs.declared.limits.TheConstants.{MOST_MEMBERS}
 
 -- rows of limits and of a network between the same members
 pub record ArePairs (pairs : Pairs) : Type 0 where
-  pub few : pairs.members ≤ 256
+  pub few : pairs.members ≤ MOST_MEMBERS
   pub limits : AreLimitRows pairs.members pairs.limits.now
   pub rows : AreRows pairs.members pairs.rows.now
 

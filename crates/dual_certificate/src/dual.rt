@@ -3,6 +3,7 @@
 ghost use Rattle.std.specs.Prelude.{◌≡◌, ◌↔◌, ℕ, ◌+◌, ◌*◌, ◌^◌, ◌<◌, ◌≤◌, length, MatchOption, IsSome, IfSome, ℤ, pos, ◌*ℤ◌, ◌-ℤ◌};
 ghost use Rattle.network_laws.specs.Limits.{HasBound, IsRisingLimits, bound_of, member_cost, int_sum_below};
 ghost use Rattle.dual_certificate.specs.Bounds.{IsOpenPriced, AreOpenPriced, IsBetween, rows_cost, seller_sum};
+ghost use Rattle.units_core.specs.declared.limits.TheConstants.{MOST_GROSS, MOST_MEMBERS};
 
 use crate::cost::{cost_of, reduced_cost};
 use net_positions::positions_of;
@@ -42,8 +43,8 @@ fn member_costs(old: &Network, potentials: &[i32]) -> i128
 
 /// What was sold less what was bought.
 fn difference(sold: u64, bought: u64) -> i64
-    requires sold { sold ≤ 10 ^ 18 }
-    requires bought { bought ≤ 10 ^ 18 }
+    requires sold { sold ≤ MOST_GROSS }
+    requires bought { bought ≤ MOST_GROSS }
     ensures { result ≡ pos sold -ℤ pos bought }
 {
     sold as i64 - bought as i64
@@ -60,7 +61,7 @@ fn priced_net(potential: i32, amount: i64) -> i128
 /// The least costs of all pairs.
 fn pair_costs(limits: &[LimitRow], potentials: &[i32], members: u16) -> Option<i128>
     requires limits { IsRisingLimits limits.now }
-    requires few { members ≤ 256 }
+    requires few { members ≤ MOST_MEMBERS }
     requires potentials { length potentials.now ≡ members }
     ensures { MatchOption result (AreOpenPriced limits.now potentials.now members → ⊥) (λ sum. AreOpenPriced limits.now potentials.now members × (sum ≡ int_sum_below members (seller_sum limits.now potentials.now members)) × IsBetween (2 ^ 114) sum) }
 {
@@ -77,7 +78,7 @@ fn pair_costs(limits: &[LimitRow], potentials: &[i32], members: u16) -> Option<i
 /// The least costs of a seller's pairs.
 fn seller_cost(limits: &[LimitRow], potentials: &[i32], seller: u16, members: u16) -> Option<i128>
     requires limits { IsRisingLimits limits.now }
-    requires few { members ≤ 256 }
+    requires few { members ≤ MOST_MEMBERS }
     requires seller { seller < members }
     requires potentials { length potentials.now ≡ members }
     ensures { MatchOption result ((j : ℕ) × (j < members) × (IsOpenPriced limits.now potentials.now seller j → ⊥)) (λ sum. ((j : ℕ) → j < members → IsOpenPriced limits.now potentials.now seller j) × (sum ≡ int_sum_below members (rows_cost limits.now potentials.now seller)) × IsBetween (2 ^ 106) sum) }

@@ -5,15 +5,16 @@ ghost use Rattle.network_laws.specs.Networks.{place, total as total_of};
 ghost use Rattle.command_types.specs.Roster.{Rows, member_place};
 ghost use Rattle.dual_certificate.specs.Proposal.{nothing_read, is_between, is_behind, fits, with_product, with_network_row, with_row, with_pot, with_bound, with_end, with_said, with_line};
 ghost use Rattle.dual_certificate.specs.ProposalDraft.{reading_of, IsDraft, ReadSteps};
+ghost use Rattle.units_core.specs.declared.limits.TheConstants.{MOST_GROSS};
 
 use crate::member_search::Members;
 use crate::proposal_line::{Figures, Potential, ProposalLine, read_line};
 use crate::proposal_part::ProposalPart;
 use command_types::{FileFault, Roster};
-use network_laws::{MOST_GROSS, Network, Row, Solution};
+use network_laws::{Network, Row, Solution};
 use std::alloc::Global;
 use std::mem;
-use units_core::{Amount, Name};
+use units_core::{Amount, MOST_GROSS, Name};
 
 /// The parts so far, and the part that is begun.
 #[derive(Drop)]
@@ -103,7 +104,7 @@ impl ProposalDraft {
         requires seller { added.seller < length roster.now.members }
         requires buyer { added.buyer < length roster.now.members }
         requires least { 1 ≤ added.amount }
-        requires most { added.amount ≤ 1000000000000000000 }
+        requires most { added.amount ≤ MOST_GROSS }
         ensures { ReadSteps roster.now row (with_network_row (reading_of self.old) added) self.new result }
     {
         if self.figures.is_none()

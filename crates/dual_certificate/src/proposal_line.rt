@@ -6,7 +6,7 @@ ghost use Rattle.dual_certificate.specs.ProposalLine.{next, ended, taken_of, pro
 
 use crate::pieces::Words;
 use std::marker::Model;
-use units_core::{Amount, Name, read_number, read_signed};
+use units_core::{Amount, MOST_NUMBER, Name, read_number, read_signed};
 
 /// The figures of a product's original network, and the gross of its least one, as they are written.
 #[derive(Clone, Copy)]
@@ -81,7 +81,7 @@ fn amount_of(word: &[u8]) -> Option<Amount>
 fn number_of(word: &[u8]) -> Option<u64>
     ensures { result ≡ number_word word.now }
 {
-    read_number(word, 1_000_000_000_000_000_000).ok()
+    read_number(word, MOST_NUMBER).ok()
 }
 
 // A potential, from -1,000,000 to 1,000,000.

@@ -6,6 +6,7 @@ ghost use Rattle.dual_certificate.specs.Proposal.{at_end, proposal_of, with_piec
 ghost use Rattle.dual_certificate.specs.ProposalLine.{pieces};
 ghost use Rattle.dual_certificate.specs.ProposalDraft.{reading_of};
 ghost use Rattle.dual_certificate.specs.Parts.{AreParts};
+ghost use Rattle.units_core.specs.declared.limits.TheConstants.{MOST_FILE};
 
 use crate::member_search::Members;
 use crate::pieces::cut;
@@ -13,6 +14,7 @@ use crate::proposal_draft::ProposalDraft;
 use crate::proposal_part::ProposalPart;
 use command_types::{FileFault, Roster};
 use std::alloc::Global;
+use units_core::MOST_FILE;
 
 // The parts, if the last line came and nothing stands behind its line feed; else the line with this number is missing,
 // or one too many.
@@ -33,7 +35,7 @@ fn read_lines(
     bytes: &[u8],
     members: &Members<'_>,
 ) -> Result<Vec<ProposalPart>, FileFault>
-    requires { length bytes.now ≤ 67108864 }
+    requires { length bytes.now ≤ MOST_FILE }
     ensures parts { IfOk result (λ parts. with_pieces members.now 1 nothing_read (pieces 10 bytes.now) ≡ Ok parts.items) }
     ensures solutions { IfOk result (λ parts. All (λ part. IsSolution part.solution) parts.items) }
     ensures fault { IfErr result (λ fault. (fault ≡ Memory) ⊎ (with_pieces members.now 1 nothing_read (pieces 10 bytes.now) ≡ Err fault)) }
@@ -66,7 +68,7 @@ pub fn read_proposal(
     ensures within { IfOk result (λ parts. AreParts roster.now parts.items) }
     ensures fault { IfErr result (λ fault. (fault ≡ Memory) ⊎ (proposal_of roster.now bytes.now ≡ Err fault)) }
 {
-    if bytes.len() > 67_108_864 {
+    if bytes.len() > MOST_FILE {
         return Err(FileFault::TooLong);
     }
     let Ok(members) = Members::of(alloc, roster) else {

@@ -16,6 +16,7 @@ use Rattle.file_market.specs.Market.{market_limits}
 use Rattle.file_market.specs.Check.{has_figures, first_failing, IsChecked}
 use Rattle.file_market.specs.Solve.{IsSolvedText}
 use Rattle.file_market.specs.Summary.{IsSummaryText}
+use Rattle.units_core.specs.declared.limits.TheConstants.{MOST_FILE}
 
 -- the part of a product passes: its network is certified within the product's limits, and its figures are right
 pub record IsPassed (rows : Rows) (mode : Mode) (product : ℕ) (network : NetworkData) (part : ProposalPart) : Type 0 where
@@ -52,7 +53,7 @@ pub record PassesAsRead (rows : Rows) (mode : Mode) (trades : List FileTrade) (t
 -- what is solved for a market passes, where its text is not too long to be read
 abbrev pub WhatIsSolvedPasses : Type 0
 WhatIsSolvedPasses =
-    (rows : Rows) (mode : Mode) (trades : List FileTrade) (text : List ℕ) → IsRoster rows → HasNames rows → IsSolvedText rows mode trades text → length text ≤ 67108864 → PassesAsRead rows mode trades text
+    (rows : Rows) (mode : Mode) (trades : List FileTrade) (text : List ℕ) → IsRoster rows → HasNames rows → IsSolvedText rows mode trades text → length text ≤ MOST_FILE → PassesAsRead rows mode trades text
 
 -- a market has one summary, whoever solves it
 abbrev pub SummariesAreOne : Type 0

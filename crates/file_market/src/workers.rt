@@ -1,6 +1,7 @@
 //! The workers that solve a market.
 ghost use Rattle.std.specs.Prelude.{◌≡◌, ◌≤◌, IfOk};
 ghost use Rattle.network_laws.specs.Solved.{AreSolved};
+ghost use Rattle.units_core.specs.declared.limits.TheConstants.{MOST_WORKERS};
 
 use network_laws::{Problem, Solution, Solver};
 use outside::Gate;
@@ -14,13 +15,13 @@ pub struct Workers<'a, R: Threads + Sync, G: Gate> {
     rt: &'a R,
     count: u32,
     gate: &'a G,
-    ghost few: { (1 ≤ count) × (count ≤ 64) },
+    ghost few: { (1 ≤ count) × (count ≤ MOST_WORKERS) },
 }
 
 impl<'a, R: Threads + Sync, G: Gate> Workers<'a, R, G> {
     /// So many workers.
     pub fn new(rt: &'a R, count: u32, gate: &'a G) -> Workers<'a, R, G>
-        requires { (1 ≤ count) × (count ≤ 64) }
+        requires { (1 ≤ count) × (count ≤ MOST_WORKERS) }
     {
         Workers { rt, count, gate }
     }

@@ -2,6 +2,7 @@
 use Rattle.std.specs.Prelude.{◌≡◌, ◌≢◌, ◌⊎◌, ◌<◌, ◌≤◌, ℕ, ◌+◌, List, [], ◌∷◌, ◌++◌, length, codes}
 use Rattle.std.specs.Int.{w32, to_le_bytes}
 use Rattle.std.specs.List.{flat_map}
+use Rattle.units_core.specs.declared.limits.TheConstants.{MOST_JOURNAL}
 
 -- the first bytes of each journal
 abbrev pub header : List ℕ
@@ -9,7 +10,7 @@ header = codes "OTCJRNL1"
 
 -- the most bytes that a journal has
 abbrev pub limit : ℕ
-limit = 268435456
+limit = MOST_JOURNAL
 
 -- the bytes that a record takes: an open gate, its length as four bytes with the lowest first, and its own bytes
 abbrev pub frame : List ℕ → List ℕ

@@ -10,9 +10,10 @@ ghost use Rattle.journal_core.specs.Journal.{DiskHolds, IsAtRest, disk_of, size_
 use crate::Frame;
 use crate::put::put;
 use outside::{Disk, Failed};
+use units_core::MOST_JOURNAL;
 
 /// The most bytes that a journal has.
-pub(crate) const LIMIT: u64 = 268_435_456;
+pub(crate) const LIMIT: u64 = MOST_JOURNAL;
 
 /// A journal on a disk, whose records end before a closed gate.
 #[derive(Drop)]

@@ -2,10 +2,10 @@
 
 use crate::bad_records::is_told;
 use command_types::What;
-use network_laws::MOST_GROSS;
 use record_codec::{decode, encode};
 use std::alloc::Global;
 use std::test::Fail;
+use units_core::MOST_GROSS;
 
 // POST 1 2 by OPS with one solution: three members, rows (0, 1, 5) and (1, 2, 7), potentials 1, 0 and -1.
 const POST: [u8; 69] = [

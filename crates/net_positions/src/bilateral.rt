@@ -5,6 +5,7 @@ ghost use Rattle.std.specs.Prelude.{◌≡◌, ℕ, ◌+◌, ◌*◌, ◌<◌, �
 ghost use Rattle.network_laws.specs.declared.rows.Row.{Row};
 ghost use Rattle.network_laws.specs.Networks.{bilateral, amount_in, place, IsRising, IsCursor};
 ghost use Rattle.net_positions.specs.Cursors.{AreCursors};
+ghost use Rattle.units_core.specs.declared.limits.TheConstants.{MOST_MEMBERS};
 
 use network_laws::{Network, Row, amount_at, first_row};
 
@@ -30,7 +31,7 @@ pub fn bilateral_gross(network: &Network) -> u64
 // For each member the cursor of its first row.
 fn first_cursors(rows: &[Row], members: u16) -> [usize; 256]
     requires rising { IsRising rows.now }
-    requires few { members ≤ 256 }
+    requires few { members ≤ MOST_MEMBERS }
     ensures { AreCursors rows.now result 0 }
 {
     let mut cursors = [0; PLACES];
@@ -43,7 +44,7 @@ fn first_cursors(rows: &[Row], members: u16) -> [usize; 256]
 // What a row's buyer sold to its seller.
 fn amount_back(cursors: &mut [usize], rows: &[Row], row: Row) -> u64
     requires rising { IsRising rows.now }
-    requires buyer { row.buyer < 256 }
+    requires buyer { row.buyer < MOST_MEMBERS }
     requires cursors { AreCursors rows.now cursors.old row.seller }
     ensures amount { result ≡ amount_in rows.now row.buyer row.seller }
     ensures cursors { AreCursors rows.now cursors.new row.seller }

@@ -3,6 +3,7 @@
 ghost use Rattle.std.specs.Prelude.{◌≡◌, ◌≤◌, ◌<◌, ◌^◌, ◌-ℤ◌, pos, [], length, slice_index};
 ghost use Rattle.network_laws.specs.Networks.{gross, net, sum_below, AreRows, IsNetwork, total};
 ghost use Rattle.net_positions.specs.Tables.{AreTotals, positive_at};
+ghost use Rattle.units_core.specs.declared.limits.TheConstants.{MOST_GROSS, MOST_MEMBERS};
 
 use network_laws::{Network, Row};
 
@@ -37,7 +38,7 @@ pub fn positions_of(network: &Network) -> Positions
 /// Adds each row to its seller's and its buyer's place, and answers the sum of the amounts.
 fn add_rows(sold: &mut [u64], bought: &mut [u64], rows: &[Row], members: u16) -> u64
     requires empty { AreTotals [] sold.old bought.old }
-    requires few { members ≤ 256 }
+    requires few { members ≤ MOST_MEMBERS }
     requires rows { AreRows members rows.now }
     ensures totals { AreTotals rows.now sold.new bought.new }
     ensures gross { result ≡ total rows.now }
@@ -55,7 +56,7 @@ fn add_rows(sold: &mut [u64], bought: &mut [u64], rows: &[Row], members: u16) ->
 pub fn positive_sum(sold: &[u64], bought: &[u64], members: u16) -> u64
     requires sold { members ≤ length sold.now }
     requires bought { members ≤ length bought.now }
-    requires fits { sum_below members (positive_at sold.now bought.now) ≤ 10 ^ 18 }
+    requires fits { sum_below members (positive_at sold.now bought.now) ≤ MOST_GROSS }
     ensures { result ≡ sum_below members (positive_at sold.now bought.now) }
 {
     let mut sum = 0;

@@ -4,10 +4,11 @@ use Rattle.network_laws.specs.declared.rows.LimitRow.{LimitRow}
 use Rattle.network_laws.specs.declared.limits.LimitFault.{LimitFault}
 use Rattle.network_laws.specs.declared.limits.LimitFault.TheVariants.{Members, Member, Same, Order, Crossed}
 use Rattle.network_laws.specs.Limits.{AreLimitRows, IsWithin, limit_place}
+use Rattle.units_core.specs.declared.limits.TheConstants.{MOST_MEMBERS}
 
 -- the rows before are those of limits, and there is a row here
 pub record IsFirstBadLimit (members : ℕ) (rows : List LimitRow) (at : ℕ) : Type 0 where
-  pub few : members ≤ 256
+  pub few : members ≤ MOST_MEMBERS
   pub before : AreLimitRows members (take at rows)
   pub here : at < length rows
 
@@ -17,7 +18,7 @@ IsLimitMember members row = (row.seller < members) × (row.buyer < members)
 
 -- the fault is the first of the rows: at most one fault is, and none where the rows are limits
 abbrev pub IsLimitFault : ℕ → List LimitRow → LimitFault → Type 0
-IsLimitFault members rows Members = 256 < members
+IsLimitFault members rows Members = MOST_MEMBERS < members
 IsLimitFault members rows (Member at) =
     IsFirstBadLimit members rows at × ((d : LimitRow) → IsLimitMember members (slice_index_or rows at d) → ⊥)
 IsLimitFault members rows (Same at) =

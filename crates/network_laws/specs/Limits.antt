@@ -3,6 +3,7 @@
 use Rattle.std.specs.Prelude.{◌≡◌, ℕ, zero, suc, ◌+◌, ◌*◌, ◌<◌, ◌≤◌, ◌==◌, ◌&&◌, if◌then◌else◌, Bool, List, [], ◌∷◌, length, Option, Some, None, slice_index_or, All, AllPairs, ◌≢◌, ℤ, pos, negsuc, ◌+ℤ◌, ◌-ℤ◌, ◌*ℤ◌, ◌≤ℤ◌}
 use Rattle.network_laws.specs.declared.rows.LimitRow.{LimitRow}
 use Rattle.network_laws.specs.Networks.{NetworkData, at, gross, net, AreInRange}
+use Rattle.units_core.specs.declared.limits.TheConstants.{MOST_MEMBERS}
 
 -- a number of members, and the bounds of their pairs
 pub record LimitsData : Type 0 where
@@ -127,7 +128,7 @@ pub record AreLimitRows (members : ℕ) (rows : List LimitRow) : Type 0 where
 
 -- what limits keep
 pub record AreLimits (limits : LimitsData) : Type 0 where
-  pub few : limits.members ≤ 256
+  pub few : limits.members ≤ MOST_MEMBERS
   pub rows : AreLimitRows limits.members limits.rows
 
 -- where row number m is the first at or behind a place, or the rows' end is

@@ -1,6 +1,7 @@
 -- What a network is, and its figures. Amounts are in the contract's currency unit.
 use Rattle.std.specs.Prelude.{ℕ, zero, suc, ◌+◌, ◌-◌, ◌*◌, ◌<◌, ◌≤◌, ◌==◌, ◌&&◌, if◌then◌else◌, List, sum_by, All, AllPairs, length, slice_index_or, ◌≢◌, ◌^◌, ℤ, pos, ◌-ℤ◌}
 use Rattle.network_laws.specs.declared.rows.Row.{Row}
+use Rattle.units_core.specs.declared.limits.TheConstants.{MOST_GROSS, MOST_MEMBERS}
 
 -- a number of members, and what they sold to one another
 pub record NetworkData : Type 0 where
@@ -103,11 +104,11 @@ IsRising rows = AllPairs (λ a b. place a < place b) rows
 pub record AreRows (members : ℕ) (rows : List Row) : Type 0 where
   pub good : All (IsGoodRow members) rows
   pub rising : IsRising rows
-  pub within : total rows ≤ 10 ^ 18
+  pub within : total rows ≤ MOST_GROSS
 
 -- what a network keeps
 pub record IsNetwork (y : NetworkData) : Type 0 where
-  pub few : y.members ≤ 256
+  pub few : y.members ≤ MOST_MEMBERS
   pub rows : AreRows y.members y.rows
 
 -- where row number m is the first at or behind a place, or the rows' end is

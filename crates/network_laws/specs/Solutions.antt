@@ -2,6 +2,7 @@
 use Rattle.std.specs.Prelude.{◌≡◌, List, length, All, ℤ, pos, neg_ℤ, ◌≤ℤ◌}
 use Rattle.network_laws.specs.Networks.{NetworkData, IsNetwork, gross}
 use Rattle.network_laws.specs.Limits.{LimitsData, AreLimits, IsWithinLimits, IsCertified}
+use Rattle.units_core.specs.declared.limits.TheConstants.{MOST_POTENTIAL}
 
 -- a network and a potential for each of its members
 pub record SolutionData : Type 0 where
@@ -10,8 +11,8 @@ pub record SolutionData : Type 0 where
 
 -- a potential lies between -1,000,000 and 1,000,000
 pub record IsPotential (p : ℤ) : Type 0 where
-  pub least : neg_ℤ (pos 1000000) ≤ℤ p
-  pub most : p ≤ℤ pos 1000000
+  pub least : neg_ℤ (pos MOST_POTENTIAL) ≤ℤ p
+  pub most : p ≤ℤ pos MOST_POTENTIAL
 
 -- what a solution keeps
 pub record IsSolution (s : SolutionData) : Type 0 where

@@ -22,9 +22,9 @@ pub use laws::{
     free_limits_reach_floor, no_clash_is_certified, no_cycle_is_left,
 };
 pub use limits::{Bounds, LimitFault, Limits};
-pub use network::{MOST_GROSS, MOST_MEMBERS, Network, NetworkFault};
+pub use network::{Network, NetworkFault};
 pub use problem::Problem;
 pub use rows::{LimitRow, Row};
-pub use solution::{MOST_POTENTIAL, Solution};
+pub use solution::Solution;
 pub use solver::Solver;
 pub use walk::{amount_at, bounds_at, first_limit, first_row, next_limit, next_row};

@@ -3,13 +3,14 @@
 ghost use Rattle.std.specs.Prelude.{◌≡◌, ◌≢◌, ◌↔◌, ℕ, ◌+◌, ◌*◌, ◌<◌, ◌≤◌, length, MatchResult, IsOk, IfOk};
 ghost use Rattle.network_laws.specs.Limits.{LimitsData, AreLimits, AreLimitRows, IsRisingLimits, limit_place, lower, upper};
 ghost use Rattle.network_laws.specs.LimitFaults.{IsLimitFault};
+ghost use Rattle.units_core.specs.declared.limits.TheConstants.{MOST_MEMBERS};
 
-use crate::network::MOST_MEMBERS;
 use crate::rows::LimitRow;
 use crate::walk::{bounds_at, first_limit, limit_place_of};
 use std::alloc::AllocError;
 use std::marker::Model;
 use thiserror::Error;
+use units_core::MOST_MEMBERS;
 
 /// What keeps rows from being limits. `at` is the place of the first row that is bad, from 0; of one
 /// row's faults the first in this order is told.
@@ -126,7 +127,7 @@ impl Limits {
 
 /// The first fault among the rows.
 fn check_limit_rows(members: u16, rows: &[LimitRow]) -> Result<(), LimitFault>
-    requires { members ≤ 256 }
+    requires { members ≤ MOST_MEMBERS }
     ensures { MatchResult result (λ _. AreLimitRows members rows.now) (IsLimitFault members rows.now) }
 {
     for at in 0..rows.len() {

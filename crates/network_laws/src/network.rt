@@ -3,18 +3,14 @@
 ghost use Rattle.std.specs.Prelude.{◌≡◌, ◌≢◌, ◌↔◌, ℕ, ◌+◌, ◌*◌, ◌<◌, ◌≤◌, ◌^◌, length, MatchResult, IsOk, IfOk, All};
 ghost use Rattle.network_laws.specs.Networks.{NetworkData, IsNetwork, AreRows, IsRising, at, place, total};
 ghost use Rattle.network_laws.specs.Faults.{IsFault};
+ghost use Rattle.units_core.specs.declared.limits.TheConstants.{MOST_MEMBERS};
 
 use crate::rows::Row;
 use crate::walk::{amount_at, first_row, place_of};
 use std::alloc::AllocError;
 use std::marker::Model;
 use thiserror::Error;
-
-/// The most gross notional that a network may have, in the contract's currency unit.
-pub const MOST_GROSS: u64 = 1_000_000_000_000_000_000;
-
-/// The most members that a network or limits may have.
-pub const MOST_MEMBERS: u16 = 256;
+use units_core::{MOST_GROSS, MOST_MEMBERS};
 
 /// What keeps rows from being a network. `at` is the place of the first row that is bad, from 0; of one
 /// row's faults the first in this order is told.
@@ -125,7 +121,7 @@ impl Network {
 
 /// The first fault among the rows.
 fn check_rows(members: u16, rows: &[Row]) -> Result<(), NetworkFault>
-    requires { members ≤ 256 }
+    requires { members ≤ MOST_MEMBERS }
     ensures { MatchResult result (λ _. AreRows members rows.now) (IsFault members rows.now) }
 {
     let mut sum = 0;

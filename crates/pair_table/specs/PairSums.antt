@@ -3,6 +3,7 @@ use Rattle.std.specs.Prelude.{◌≡◌, ℕ, ◌+◌, ◌*◌, ◌≤◌, ◌^�
 use Rattle.network_laws.specs.declared.rows.Row.{Row}
 use Rattle.network_laws.specs.Networks.{sum_below}
 use Rattle.command_types.specs.Books.{amount_row}
+use Rattle.units_core.specs.declared.limits.TheConstants.{MOST_GROSS, MOST_MEMBERS}
 
 -- a number of members, and a line of 256 sums for each seller, with a sum for each buyer
 pub record PairSums : Type 0 where
@@ -19,10 +20,10 @@ gross_in table = sum_below table.members (λ i. sum_below table.members (sum_in 
 
 -- what each table keeps
 pub record IsPairTable (table : PairSums) : Type 0 where
-  pub few : table.members ≤ 256
+  pub few : table.members ≤ MOST_MEMBERS
   pub size : length table.sums ≡ table.members * 256
   pub different : (i : ℕ) → sum_in table i i ≡ 0
-  pub within : gross_in table ≤ 10 ^ 18
+  pub within : gross_in table ≤ MOST_GROSS
 
 -- the row that the cell of a pair gives; 0 gives none
 abbrev pub cell_row : List ℕ → ℕ → ℕ → List Row

@@ -5,15 +5,16 @@ ghost use Rattle.network_laws.specs.Networks.{IsNetwork, at};
 ghost use Rattle.command_types.specs.Books.{listed_below, listed_pairs, network_by};
 ghost use Rattle.pair_table.specs.PairSums.{sum_in, gross_in, cell_row};
 ghost use Rattle.pair_table.specs.Buyers.{HasBuyers, AreBuyers, AreEmpty, IsCleared};
+ghost use Rattle.units_core.specs.declared.limits.TheConstants.{MOST_GROSS, MOST_MEMBERS};
 
 use member_set::MemberSet;
 use network_laws::{Network, Row};
 use std::alloc::{AllocError, Global};
 use std::marker::Model;
-use units_core::MemberNo;
+use units_core::{MOST_MEMBERS, MemberNo};
 
-/// The most members, and so the cells of a seller's line.
-const MOST_MEMBERS: usize = 256;
+/// The cells of a seller's line: one for each member that there may be.
+const LINE: usize = MOST_MEMBERS as usize;
 
 // Adds a row for each member to which the seller sold something.
 fn add_seller(
@@ -23,7 +24,7 @@ fn add_seller(
     seller: u16,
     members: u16,
 ) -> Result<(), AllocError>
-    requires few { members ≤ 256 }
+    requires few { members ≤ MOST_MEMBERS }
     requires seller { seller < members }
     requires size { length sums.now ≡ members * 256 }
     requires buyers { HasBuyers members sums.now seller buyers }
@@ -32,7 +33,7 @@ fn add_seller(
     let mut left = buyers;
     while let Some(buyer) = left.lowest() {
         left.drop_member(buyer);
-        let amount = sums[seller as usize * MOST_MEMBERS + buyer as usize];
+        let amount = sums[seller as usize * LINE + buyer as usize];
         if amount > 0 {
             rows.push(Row {
                 seller,
@@ -51,7 +52,7 @@ fn rows_of(
     buyers: &[MemberSet],
     members: u16,
 ) -> Result<Vec<Row>, AllocError>
-    requires few { members ≤ 256 }
+    requires few { members ≤ MOST_MEMBERS }
     requires size { length sums.now ≡ members * 256 }
     requires buyers { AreBuyers members sums.now buyers.now }
     ensures { IfOk result (λ rows. rows.items ≡ listed_pairs members (cell_row sums.now)) }
@@ -77,7 +78,7 @@ fn no_buyers(alloc: Global, members: u16) -> Result<Vec<MemberSet>, AllocError>
 
 // Sets a seller's sums to 0.
 fn clear_seller(sums: &mut [u64], buyers: MemberSet, seller: u16, members: u16)
-    requires few { members ≤ 256 }
+    requires few { members ≤ MOST_MEMBERS }
     requires seller { seller < members }
     requires size { length sums.old ≡ members * 256 }
     requires buyers { HasBuyers members sums.old seller buyers }
@@ -86,13 +87,13 @@ fn clear_seller(sums: &mut [u64], buyers: MemberSet, seller: u16, members: u16)
     let mut left = buyers;
     while let Some(buyer) = left.lowest() {
         left.drop_member(buyer);
-        sums[seller as usize * MOST_MEMBERS + buyer as usize] = 0;
+        sums[seller as usize * LINE + buyer as usize] = 0;
     }
 }
 
 // Sets the sums of all pairs to 0, and leaves no seller a buyer.
 fn clear_all(sums: &mut [u64], buyers: &mut [MemberSet], members: u16)
-    requires few { members ≤ 256 }
+    requires few { members ≤ MOST_MEMBERS }
     requires size { length sums.old ≡ members * 256 }
     requires buyers { AreBuyers members sums.old buyers.old }
     ensures sums { IsCleared members 0 members sums.old sums.new }
@@ -128,12 +129,12 @@ impl Model for PairTable {
 impl PairTable {
     /// A table in which each sum is 0. The only error is want of memory.
     pub fn new(alloc: Global, members: u16) -> Result<PairTable, AllocError>
-        requires { members ≤ 256 }
+        requires { members ≤ MOST_MEMBERS }
         ensures members { IfOk result (λ table. table.members ≡ members) }
         ensures sums { IfOk result (λ table. (i j : ℕ) → sum_in table i j ≡ 0) }
         ensures gross { IfOk result (λ table. gross_in table ≡ 0) }
     {
-        let sums = vec![in alloc; 0u64; members as usize * MOST_MEMBERS]?;
+        let sums = vec![in alloc; 0u64; members as usize * LINE]?;
         let buyers = no_buyers(alloc, members)?;
         Ok(PairTable {
             members,
@@ -147,12 +148,12 @@ impl PairTable {
         requires seller { seller < self.old.members }
         requires buyer { buyer < self.old.members }
         requires different { seller ≢ buyer }
-        requires bound { gross_in self.old + amount ≤ 10 ^ 18 }
+        requires bound { gross_in self.old + amount ≤ MOST_GROSS }
         ensures members { self.new.members ≡ self.old.members }
         ensures sums { (i j : ℕ) → i < self.old.members → j < self.old.members → sum_in self.new i j ≡ sum_in self.old i j + (if (seller == i) && (buyer == j) then amount else 0) }
         ensures gross { gross_in self.new ≡ gross_in self.old + amount }
     {
-        self.sums[seller.index() * MOST_MEMBERS + buyer.index()] += amount;
+        self.sums[seller.index() * LINE + buyer.index()] += amount;
         self.buyers[seller.index()].put(buyer.0);
     }
 

@@ -18,13 +18,14 @@ use Rattle.acceptance.specs.Parties.{IsPlanBelow}
 use Rattle.acceptance.specs.Renewals.{IsLiveIfFrozen}
 use Rattle.acceptance.specs.Laws.{position, frozen_of}
 use Rattle.product_book.specs.Book.{AreTrades}
+use Rattle.units_core.specs.declared.limits.TheConstants.{MOST_GROSS, MOST_MEMBERS, MOST_PRODUCTS}
 
 -- a roster's trades, of which the frozen ones are live
 pub record IsFrozenMarket (roster : Rows) (rows : List TradeRow) : Type 0 where
-  pub few_members : length roster.members ≤ 256
-  pub few_products : length roster.products ≤ 64
+  pub few_members : length roster.members ≤ MOST_MEMBERS
+  pub few_products : length roster.products ≤ MOST_PRODUCTS
   pub trades : AreTrades (length roster.members) (length roster.products) 1 rows
-  pub bounded : (product : ℕ) → gross_of product rows ≤ 10 ^ 18
+  pub bounded : (product : ℕ) → gross_of product rows ≤ MOST_GROSS
   pub live : All IsLiveIfFrozen rows
 
 -- solutions of the problems that these settings give, and nothing is wrong with them

@@ -3,6 +3,7 @@
 ghost use Rattle.std.specs.Prelude.{◌≡◌, ◌≤◌, length, IfOk};
 ghost use Rattle.command_types.specs.Cycles.{old_networks, new_networks};
 ghost use Rattle.command_types.specs.Plans.{plan_of};
+ghost use Rattle.units_core.specs.declared.limits.TheConstants.{MOST_PRODUCTS};
 
 use acceptance::add_change;
 use command_types::{PlanRow, TradeRow};
@@ -19,7 +20,7 @@ pub fn posted_plan(
     solutions: &[Solution],
     day: Day,
 ) -> Result<Vec<PlanRow>, AllocError>
-    requires few { length problems.now ≤ 64 }
+    requires few { length problems.now ≤ MOST_PRODUCTS }
     requires one_each { length solutions.now ≡ length problems.now }
     ensures { IfOk result (λ plan. plan.items ≡ plan_of trades.now (old_networks problems.now) (new_networks solutions.now) day) }
 {

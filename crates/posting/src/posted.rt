@@ -6,6 +6,7 @@ ghost use Rattle.std.specs.List.{list_all};
 ghost use Rattle.network_laws.specs.Clash.{first_clash};
 ghost use Rattle.command_types.specs.Cycles.{is_of_members, has_shape, bad_post};
 ghost use Rattle.posting.specs.Posted.{AreOfMembers};
+ghost use Rattle.units_core.specs.declared.limits.TheConstants.{MOST_PRODUCTS};
 
 use command_types::BadPost;
 use dual_certificate::check;
@@ -48,7 +49,7 @@ fn first_clash(problem: &Problem, solution: &Solution) -> Option<Clash>
 /// What is wrong with posted solutions of these problems, which have so many members; `None` exactly where there is
 /// one for each problem, each with a network of as many members, and all are certified. It takes no memory.
 pub fn bad_post(members: u16, problems: &[Problem], solutions: &[Solution]) -> Option<BadPost>
-    requires few { length problems.now ≤ 64 }
+    requires few { length problems.now ≤ MOST_PRODUCTS }
     requires same_members { AreOfMembers members problems.now }
     ensures { result ≡ bad_post members problems.now solutions.now }
 {

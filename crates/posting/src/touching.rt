@@ -4,22 +4,23 @@ ghost use Rattle.std.specs.Prelude.{◌≡◌, ◌↔◌, ℕ, ◌≤◌, ◌<�
 ghost use Rattle.command_types.specs.CycleRefusals.{has_voted};
 ghost use Rattle.command_types.specs.Plans.{touched_by};
 ghost use Rattle.acceptance.specs.Parties.{IsPlanBelow};
+ghost use Rattle.units_core.specs.declared.limits.TheConstants.{MOST_MEMBERS};
 
 use acceptance::{Votes, touched};
 use command_types::{PlanRow, TradeRow};
-use units_core::MemberNo;
+use units_core::{MOST_MEMBERS, MemberNo};
 
 // Whether the plan needs the member's vote, and waits for it.
 fn is_open(votes: &Votes, voter: MemberNo) -> bool
-    ensures { result ≡ (nat_lt voter 256 && has_voted votes.now.needed voter && not (has_voted votes.now.accepted voter)) }
+    ensures { result ≡ (nat_lt voter MOST_MEMBERS && has_voted votes.now.needed voter && not (has_voted votes.now.accepted voter)) }
 {
-    voter.0 < 256 && votes.needs(voter) && !votes.has(voter)
+    voter.0 < MOST_MEMBERS && votes.needs(voter) && !votes.has(voter)
 }
 
 // Takes a vote that the plan waits for; any other counts for nothing.
 fn add_vote(votes: &mut Votes, voter: MemberNo)
     ensures needed { votes.new.needed ≡ votes.old.needed }
-    ensures accepted { (m : ℕ) → m < 256 → IsTrue (has_voted votes.old.needed m) → has_voted votes.new.accepted m ≡ has_voted (voter ∷ votes.old.accepted) m }
+    ensures accepted { (m : ℕ) → m < MOST_MEMBERS → IsTrue (has_voted votes.old.needed m) → has_voted votes.new.accepted m ≡ has_voted (voter ∷ votes.old.accepted) m }
 {
     if is_open(votes, voter) {
         votes.accept(voter);
@@ -35,7 +36,7 @@ pub fn left_after(
     votes: &[MemberNo],
     member: MemberNo,
 ) -> u32
-    requires few { members ≤ 256 }
+    requires few { members ≤ MOST_MEMBERS }
     requires below { IsPlanBelow trades.now members plan.now }
     ensures { result ≡ length (filter (λ voter. not (has_voted (member ∷ votes.now) voter)) (touched_by members trades.now plan.now)) }
 {
@@ -49,8 +50,8 @@ pub fn left_after(
 
 /// Whether no member is a party of a step of the plan. It takes no memory.
 pub fn touches_nobody(trades: &[TradeRow], plan: &[PlanRow]) -> bool
-    requires { IsPlanBelow trades.now 256 plan.now }
-    ensures { (n : ℕ) → n ≤ 256 → IsPlanBelow trades.now n plan.now → ((result ≡ true) ↔ (touched_by n trades.now plan.now ≡ [])) }
+    requires { IsPlanBelow trades.now MOST_MEMBERS plan.now }
+    ensures { (n : ℕ) → n ≤ MOST_MEMBERS → IsPlanBelow trades.now n plan.now → ((result ≡ true) ↔ (touched_by n trades.now plan.now ≡ [])) }
 {
     touched(trades, plan).left() == 0
 }

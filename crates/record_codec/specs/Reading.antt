@@ -15,6 +15,7 @@ use Rattle.command_types.specs.declared.ask.Entry.{Entry}
 use Rattle.command_types.specs.declared.ask.What.{What}
 use Rattle.command_types.specs.declared.ask.What.TheVariants.{Trade, Affirm, End, Hold, Free, Tol, Freeze, Begin, Post, Accept, Decline, Cancel}
 use Rattle.command_types.specs.Spelling.{most_solutions}
+use Rattle.units_core.specs.declared.limits.TheConstants.{MOST_GROSS, MOST_MEMBERS, MOST_POTENTIAL}
 
 -- What is read of the bytes' front is a value and the bytes behind it. A field that breaks the grammar is told by how many bytes are left from its first on.
 abbrev pub Read : Type 0 → Type 0
@@ -50,7 +51,7 @@ amount_in text = if is_amount (from_le_bytes w64 text) then Some (from_le_bytes 
 
 abbrev pub level_in : List ℕ → Option ℕ
 level_in text =
-    if nat_le (from_le_bytes w64 text) 1000000000000000000 then Some (from_le_bytes w64 text) else None
+    if nat_le (from_le_bytes w64 text) MOST_GROSS then Some (from_le_bytes w64 text) else None
 
 abbrev pub day_in : List ℕ → Option DayParts
 day_in text = day_numbered (from_le_bytes w16 text) (slice_index text 2) (slice_index text 3)
@@ -136,7 +137,7 @@ rows_at (suc count) members next room bytes = do
   Ok (row.0 ∷ others.0, others.1)
 
 abbrev pub is_potential : ℤ → Bool
-is_potential p = int_le (neg_ℤ (pos 1000000)) p && int_le p (pos 1000000)
+is_potential p = int_le (neg_ℤ (pos MOST_POTENTIAL)) p && int_le p (pos MOST_POTENTIAL)
 
 abbrev pub potential_if : Bool → ℤ → Option ℤ
 potential_if true p = Some p
@@ -161,9 +162,9 @@ row_count_at bytes = field 4 (number_in w32) bytes
 
 unfoldable pub solution_at : List ℕ → Read SolutionData
 solution_at bytes = do
-  members ← count_at 256 bytes
+  members ← count_at MOST_MEMBERS bytes
   count ← row_count_at members.1
-  rows ← rows_at count.0 members.0 0 1000000000000000000 count.1
+  rows ← rows_at count.0 members.0 0 MOST_GROSS count.1
   potentials ← potentials_at members.0 rows.1
   Ok (record { network = record { members = members.0; rows = rows.0 }; potentials = potentials.0 }, potentials.1)
 

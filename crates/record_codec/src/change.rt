@@ -8,9 +8,7 @@ use crate::fields::Unread;
 use crate::solution::read_solutions;
 use command_types::{Listed, What};
 use std::alloc::Global;
-
-// The most solutions that a change may post.
-const MOST_SOLUTIONS: u16 = 64;
+use units_core::MOST_PRODUCTS;
 
 #[tactic(auto, unfolding(crate::specs::Reading::trade_fields))]
 fn read_trade(unread: &mut Unread) -> Result<What, ReadFault>
@@ -71,7 +69,7 @@ fn read_post(alloc: Global, unread: &mut Unread) -> Result<What, ReadFault>
 {
     let cycle = unread.number()?;
     let version = unread.number()?;
-    let count = unread.count(MOST_SOLUTIONS)?;
+    let count = unread.count(MOST_PRODUCTS as u16)?;
     let solutions = read_solutions(alloc, count, unread)?;
     Ok(What::Post {
         cycle,

@@ -3,6 +3,7 @@ ghost use Rattle.std.specs.Prelude.{◌≡◌, ◌≤◌, ◌+◌, ◌*◌, leng
 ghost use Rattle.command_types.specs.Machine.{changes};
 ghost use Rattle.command_types.specs.Sizes.{name_size, ceiling_size, solution_size, fields_size, record_size};
 ghost use Rattle.command_types.specs.Spelling.{spelling, posted, most_solutions};
+ghost use Rattle.units_core.specs.declared.limits.TheConstants.{MOST_MEMBERS};
 
 use command_types::{Entry, Level, What};
 use network_laws::{Row, Solution};
@@ -30,7 +31,7 @@ fn ceiling_size(ceiling: Option<Level>) -> u64
 pub(crate) fn rows_of(solution: &Solution) -> &[Row]
     ensures rows { result.now ≡ solution.now.network.rows }
     ensures few { length solution.now.network.rows ≤ 16777216 }
-    ensures few_potentials { length solution.now.potentials ≤ 256 }
+    ensures few_potentials { length solution.now.potentials ≤ MOST_MEMBERS }
 {
     solution.network().rows()
 }

@@ -5,11 +5,13 @@ ghost use Rattle.network_laws.specs.Networks.{AreRows, place};
 ghost use Rattle.network_laws.specs.Solutions.{IsPotential};
 ghost use Rattle.record_codec.specs.Laws.{Gives};
 ghost use Rattle.record_codec.specs.Reading.{row_of, is_row, row_at, rows_at, is_potential, potential_at, potentials_at, solution_at, solutions_at};
+ghost use Rattle.units_core.specs.declared.limits.TheConstants.{MOST_GROSS, MOST_MEMBERS};
 
 use crate::fault::ReadFault;
 use crate::fields::Unread;
-use network_laws::{MOST_GROSS, MOST_MEMBERS, MOST_POTENTIAL, Network, Row, Solution};
+use network_laws::{Network, Row, Solution};
 use std::alloc::Global;
+use units_core::{MOST_GROSS, MOST_MEMBERS, MOST_POTENTIAL};
 
 // The row that twelve bytes write.
 fn row_in(text: &[u8; 12]) -> Row
@@ -26,7 +28,7 @@ fn row_in(text: &[u8; 12]) -> Row
 
 // The solution of rows and potentials that were read.
 fn solution_of(members: u16, rows: Vec<Row>, potentials: Vec<i32>) -> Solution
-    requires few { members ≤ 256 }
+    requires few { members ≤ MOST_MEMBERS }
     requires rows { AreRows members rows.items }
     requires one_each { length potentials.items ≡ members }
     requires in_range { All IsPotential potentials.items }
@@ -78,8 +80,8 @@ fn read_rows(
     members: u16,
     unread: &mut Unread,
 ) -> Result<Vec<Row>, ReadFault>
-    requires { members ≤ 256 }
-    ensures { Gives (λ rows. (rows.items, unread.new.rest.now)) result (rows_at count members 0 1000000000000000000 unread.old.rest.now) }
+    requires { members ≤ MOST_MEMBERS }
+    ensures { Gives (λ rows. (rows.items, unread.new.rest.now)) result (rows_at count members 0 MOST_GROSS unread.old.rest.now) }
 {
     let mut rows = Vec::new(alloc);
     let mut next = 0;
@@ -96,7 +98,7 @@ fn read_rows(
 fn is_potential(p: i32) -> bool
     ensures { result ≡ is_potential p }
 {
-    -MOST_POTENTIAL <= p && p <= MOST_POTENTIAL
+    -(MOST_POTENTIAL as i32) <= p && p <= MOST_POTENTIAL as i32
 }
 
 #[tactic(auto, unfolding(crate::specs::Reading::field))]

@@ -6,6 +6,7 @@ ghost use Rattle.cycle_lock.specs.Passes.{IsPassOf, seen};
 ghost use Rattle.outside.specs.Faults.{Rose};
 ghost use Rattle.session.specs.Serving.{of_pass, Grows};
 ghost use Rattle.seats.specs.Sessions.{SeatServes};
+ghost use Rattle.units_core.specs.declared.limits.TheConstants.{MOST_WORKERS};
 
 use command_types::{Desk, Roster};
 use cycle_lock::{Pass, Turns};
@@ -42,7 +43,7 @@ pub struct Service<'a, R: Threads + Wait + Sync, V: Solver, G: Gate> {
     pub gate: &'a G,
     pub roster: &'a Roster,
     pub most: u64,
-    pub ghost few: { (1 ≤ workers) × (workers ≤ 64) },
+    pub ghost few: { (1 ≤ workers) × (workers ≤ MOST_WORKERS) },
 }
 
 impl<'a, R: Threads + Wait + Sync, V: Solver, G: Gate> Service<'a, R, V, G> {

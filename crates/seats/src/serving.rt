@@ -6,6 +6,7 @@ ghost use Rattle.cycle_lock.specs.Passes.{IsPassOf, seat_of, figures_of, seen, s
 ghost use Rattle.session.specs.Serving.{of_pass, roster_of};
 ghost use Rattle.seats.specs.Final.{seated};
 ghost use Rattle.seats.specs.Places.{EachPlace, HasPass, Belongs, TakesIn, HasWorked};
+ghost use Rattle.units_core.specs.declared.limits.TheConstants.{MOST_SEATS};
 
 use crate::place::Place;
 use crate::seat::Service;
@@ -93,7 +94,7 @@ impl<'a, R: Threads + Wait + Sync, V: Solver, G: Gate> Service<'a, R, V, G> {
         requires own { IsPassOf turns pass }
         requires roster { self.now.roster.now ≡ roster_of (of_pass pass) }
         requires first { may_split pass + 1 ≡ 2 ^ 32 }
-        requires few { length places.old ≤ 64 }
+        requires few { length places.old ≤ MOST_SEATS }
         ensures figures { T.figures result ≡ figures_of pass }
         ensures seen { Continues (T.history result) (seen pass) }
         ensures own { entries_of_seat (T.history result) (seat_of pass) (T.figures result).opening ≡ made pass }

@@ -8,6 +8,7 @@ use Rattle.command_types.specs.declared.cycle.Mode.TheVariants.{Free}
 use Rattle.command_types.specs.declared.roster.MemberRow.{MemberRow}
 use Rattle.command_types.specs.declared.tolerance.ToleranceRow.{ToleranceRow}
 use Rattle.command_types.specs.Tolerances.{limits_of, pair_floor, pair_ceiling, pair_lower, pair_upper, may_grow}
+use Rattle.units_core.specs.declared.limits.TheConstants.{MOST_MEMBERS}
 
 -- a network of so many members lies within the limits that are made for it
 abbrev pub NetworkIsWithin : Type 0
@@ -33,7 +34,7 @@ BoundsAreThePairs =
 -- the limits of a network are limits
 abbrev pub LimitsAreGood : Type 0
 LimitsAreGood =
-    (mode : Mode) (members : List MemberRow) (settings : List ToleranceRow) (product : ℕ) (network held : NetworkData) → length members ≤ 256 → IsNetwork network → AreLimits (limits_of mode members settings product network held)
+    (mode : Mode) (members : List MemberRow) (settings : List ToleranceRow) (product : ℕ) (network held : NetworkData) → length members ≤ MOST_MEMBERS → IsNetwork network → AreLimits (limits_of mode members settings product network held)
 
 -- no member set a floor for a pair of the product
 abbrev pub AreNoFloors : ℕ → List ToleranceRow → ℕ → Type 0

@@ -6,14 +6,15 @@ ghost use Rattle.network_laws.specs.Networks.{IsRising};
 ghost use Rattle.command_types.specs.Books.{listed_below, listed_pairs};
 ghost use Rattle.command_types.specs.Tolerances.{smaller_of, pair_floor, pair_ceiling, is_dealer_row, is_open, may_grow, pair_upper, pair_lower, limit_row};
 ghost use Rattle.tolerance_sets.specs.Market.{IsMarket, AreNoDealers, IsAtPair, HaveNone, market_limit};
+ghost use Rattle.units_core.specs.declared.limits.TheConstants.{MOST_MEMBERS};
 
 use crate::open_pairs::{add_open_seller, is_unbounded};
 use crate::pair_cursor::PairCursor;
 use crate::settings::Settings;
 use command_types::{Level, MemberRow, Mode, Role, Side};
-use network_laws::{LimitRow, MOST_MEMBERS, Row, amount_at};
+use network_laws::{LimitRow, Row, amount_at};
 use std::alloc::{AllocError, Global};
-use units_core::{MemberNo, ProductNo};
+use units_core::{MOST_MEMBERS, MemberNo, ProductNo};
 
 /// What the limits of a product follow from.
 #[derive(Clone, Copy)]
@@ -42,7 +43,7 @@ pub(super) fn is_dealer(members: &[MemberRow], place: u16) -> bool
 
 /// The place behind the last dealer's.
 pub(super) fn dealers_end(members: &[MemberRow]) -> u16
-    requires { length members.now ≤ 256 }
+    requires { length members.now ≤ MOST_MEMBERS }
     ensures { AreNoDealers members.now result }
 {
     let mut end = 0;
@@ -163,7 +164,7 @@ fn add_seller(
     members: u16,
 ) -> Result<(), AllocError>
     requires market { IsMarket market.now }
-    requires few { length market.now.members.now ≤ 256 }
+    requires few { length market.now.members.now ≤ MOST_MEMBERS }
     requires members { members ≡ length market.now.members.now }
     ensures { OnOk result (rows.new.items ≡ rows.old.items ++ listed_below members (market_limit market.now seller)) }
 {
@@ -187,7 +188,7 @@ fn room_for(market: &Market) -> usize {
 /// The rows of all pairs, in their order.
 pub(super) fn all_limits(alloc: Global, market: &Market) -> Result<Vec<LimitRow>, AllocError>
     requires market { IsMarket market.now }
-    requires few { length market.now.members.now ≤ 256 }
+    requires few { length market.now.members.now ≤ MOST_MEMBERS }
     ensures { IfOk result (λ rows. rows.items ≡ listed_pairs (length market.now.members.now) (market_limit market.now)) }
 {
     let members = market.members.len() as u16;

@@ -5,6 +5,7 @@ ghost use Rattle.std.specs.Prelude.{◌≡◌, true, ◌+◌, ◌-◌, ◌≤◌
 ghost use Rattle.command_types.specs.Books.{listed_below};
 ghost use Rattle.tolerance_sets.specs.Market.{IsMarket, market_limit};
 ghost use Rattle.tolerance_sets.specs.OpenPairs.{IsUnbounded, open_row, listed_from};
+ghost use Rattle.units_core.specs.declared.limits.TheConstants.{MOST_MEMBERS};
 
 use crate::limits::{Market, add_pair};
 use crate::pair_cursor::{PairCursor, buyer_at};
@@ -52,7 +53,7 @@ pub(super) fn add_open_seller(
 ) -> Result<(), AllocError>
     requires market { IsMarket market.now }
     requires unbounded { IsUnbounded market.now }
-    requires few { length market.now.members.now ≤ 256 }
+    requires few { length market.now.members.now ≤ MOST_MEMBERS }
     requires members { members ≡ length market.now.members.now }
     ensures { OnOk result (rows.new.items ≡ rows.old.items ++ listed_below members (market_limit market.now seller)) }
 {

@@ -6,6 +6,7 @@ ghost use Rattle.network_laws.specs.declared.rows.Row.{Row};
 ghost use Rattle.network_laws.specs.Networks.{IsRising, IsCursor, place};
 ghost use Rattle.command_types.specs.Tolerances.{may_grow};
 ghost use Rattle.tolerance_sets.specs.Market.{IsMarket, IsAtPair, HaveNone, market_limit};
+ghost use Rattle.units_core.specs.declared.limits.TheConstants.{MOST_MEMBERS};
 
 use crate::limits::{Market, is_dealer, may_grow};
 use command_types::Mode;
@@ -29,7 +30,7 @@ impl PairCursor {
     /// At the first pair of a seller that may have limits.
     pub(super) fn first(market: &Market, seller: u16) -> PairCursor
         requires market { IsMarket market.now }
-        requires few { length market.now.members.now ≤ 256 }
+        requires few { length market.now.members.now ≤ MOST_MEMBERS }
         ensures pair { IsAtPair market.now result }
         ensures seller { result.seller ≡ seller }
         ensures passed { HaveNone market.now seller 0 result.buyer }
@@ -47,7 +48,7 @@ impl PairCursor {
     /// At the seller's next pair that may have limits.
     pub(super) fn next(self, market: &Market) -> PairCursor
         requires market { IsMarket market.now }
-        requires few { length market.now.members.now ≤ 256 }
+        requires few { length market.now.members.now ≤ MOST_MEMBERS }
         requires pair { IsAtPair market.now self }
         requires within { self.buyer < length market.now.members.now }
         ensures pair { IsAtPair market.now result }
@@ -68,7 +69,7 @@ impl PairCursor {
     #[inline(always)]
     fn found(self, market: &Market) -> PairCursor
         requires market { IsMarket market.now }
-        requires few { length market.now.members.now ≤ 256 }
+        requires few { length market.now.members.now ≤ MOST_MEMBERS }
         requires pair { IsAtPair market.now self }
         ensures pair { IsAtPair market.now result }
         ensures seller { result.seller ≡ self.seller }
@@ -95,7 +96,7 @@ impl PairCursor {
 // The place of a buyer from which on no pair of a seller may grow.
 fn growing_end(market: &Market, seller: u16) -> u16
     requires market { IsMarket market.now }
-    requires few { length market.now.members.now ≤ 256 }
+    requires few { length market.now.members.now ≤ MOST_MEMBERS }
     ensures { (buyer : ℕ) → result ≤ buyer → buyer < length market.now.members.now → may_grow market.now.mode market.now.members.now seller buyer ≡ false }
 {
     match market.mode {
@@ -108,7 +109,7 @@ fn growing_end(market: &Market, seller: u16) -> u16
 // The first buyer from one on with whom a seller's pair may grow, or the number of members.
 fn growing_from(market: &Market, seller: u16, from: u16) -> u16
     requires market { IsMarket market.now }
-    requires few { length market.now.members.now ≤ 256 }
+    requires few { length market.now.members.now ≤ MOST_MEMBERS }
     requires from { from ≤ length market.now.members.now }
     ensures from { from ≤ result }
     ensures passed { (buyer : ℕ) → from ≤ buyer → buyer < result → may_grow market.now.mode market.now.members.now seller buyer ≡ false }

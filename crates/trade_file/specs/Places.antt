@@ -5,6 +5,7 @@ use Rattle.std.specs.Str.{bytes_eq}
 use Rattle.command_types.specs.Roster.{Rows}
 use Rattle.command_types.specs.declared.roster.MemberRow.{MemberRow}
 use Rattle.command_types.specs.declared.roster.ProductRow.{ProductRow}
+use Rattle.units_core.specs.declared.limits.TheConstants.{MOST_PRODUCTS}
 
 -- the place of a name
 abbrev pub place_in : List (List ℕ × ℕ) → List ℕ → Option ℕ
@@ -26,4 +27,4 @@ KnowsProducts rows places = (name : List ℕ) → place_in places name ≡ posit
 pub record IsDirectory (rows : Rows) (of_members of_products : List (List ℕ × ℕ)) : Type 0 where
   pub members : KnowsMembers rows.members of_members
   pub products : KnowsProducts rows.products of_products
-  pub few : length rows.products ≤ 64
+  pub few : length rows.products ≤ MOST_PRODUCTS

@@ -9,6 +9,7 @@ use Rattle.command_types.specs.declared.file_fault.FileFault.TheVariants.{TooLon
 use Rattle.trade_file.specs.declared.roster_row.RosterRow.{RosterRow}
 use Rattle.trade_file.specs.declared.roster_row.RosterRow.TheVariants.{Member, Product, Operator}
 use Rattle.trade_file.specs.RosterRow.{is_header, row_of}
+use Rattle.units_core.specs.declared.limits.TheConstants.{MOST_DEALERS, MOST_FILE, MOST_MEMBERS, MOST_PRODUCTS}
 
 -- nobody and nothing yet
 abbrev pub no_rows : Rows
@@ -36,8 +37,8 @@ comes_twice rows (Operator row) = is_taken rows row.name || is_some rows.operato
 
 -- the row is the 257th member, the 65th dealer or the 65th product
 abbrev pub is_one_too_many : Rows → RosterRow → Bool
-is_one_too_many rows (Member row) = nat_le 256 (length rows.members) || (is_dealer row.role && nat_le 64 (dealers_of rows))
-is_one_too_many rows (Product row) = nat_le 64 (length rows.products)
+is_one_too_many rows (Member row) = nat_le MOST_MEMBERS (length rows.members) || (is_dealer row.role && nat_le MOST_DEALERS (dealers_of rows))
+is_one_too_many rows (Product row) = nat_le MOST_PRODUCTS (length rows.products)
 is_one_too_many rows (Operator row) = false
 
 -- the rows with one more behind those of its kind
@@ -81,4 +82,4 @@ records_of bytes = records default_config (strip_bom bytes)
 
 -- the rows of a roster file with these bytes, or the first fault
 abbrev pub roster_file : List ℕ → Result Rows FileFault
-roster_file bytes = if nat_lt 67108864 (length bytes) then Err TooLong else roster_of (records_of bytes)
+roster_file bytes = if nat_lt MOST_FILE (length bytes) then Err TooLong else roster_of (records_of bytes)

@@ -5,6 +5,7 @@ use Rattle.command_types.specs.declared.file_fault.FileFault.TheVariants.{Memory
 use Rattle.trade_file.specs.declared.file_trade.FileTrade.{FileTrade}
 use Rattle.trade_file.specs.declared.trade_draft.TradeDraft.{TradeDraft}
 use Rattle.trade_file.specs.TradeFile.{product_total}
+use Rattle.units_core.specs.declared.limits.TheConstants.{MOST_GROSS, MOST_PRODUCTS}
 
 -- the trades of a draft
 abbrev pub trades_of_draft : TradeDraft → List FileTrade
@@ -12,7 +13,7 @@ trades_of_draft d = d.trades.items
 
 -- the draft knows the sums of its trades, and none passes the most
 abbrev pub IsTradeDraft : TradeDraft → Type 0
-IsTradeDraft d = (product : ℕ) → product < 64 → (slice_index d.totals product ≡ product_total (trades_of_draft d) product) × (slice_index d.totals product ≤ 1000000000000000000)
+IsTradeDraft d = (product : ℕ) → product < MOST_PRODUCTS → (slice_index d.totals product ≡ product_total (trades_of_draft d) product) × (slice_index d.totals product ≤ MOST_GROSS)
 
 -- a step from a draft answered this: the trades that are due, or the fault that is due, or want of memory
 abbrev pub TradeSteps : Result (List FileTrade) FileFault → TradeDraft → Result Unit FileFault → Type 0

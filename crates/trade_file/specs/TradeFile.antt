@@ -9,6 +9,7 @@ use Rattle.command_types.specs.declared.file_fault.FileFault.{FileFault}
 use Rattle.command_types.specs.declared.file_fault.FileFault.TheVariants.{TooLong, Columns, RowLimit, UnknownName, SameParty, BadAmount, GrossLimit}
 use Rattle.trade_file.specs.declared.file_trade.FileTrade.{FileTrade}
 use Rattle.trade_file.specs.RosterFile.{records_of}
+use Rattle.units_core.specs.declared.limits.TheConstants.{MOST_FILE, MOST_FILE_TRADES, MOST_GROSS, MOST_TRADE_AMOUNT}
 
 -- the fields of the first record
 abbrev pub is_trade_header : List (List ℕ) → Bool
@@ -28,7 +29,7 @@ product_of rows field = if is_name field then product_place rows field else None
 abbrev pub with_amount : ℕ → ℕ → ℕ → ℕ → Result ℕ NumberFault → Result FileTrade FileFault
 with_amount n seller buyer product (Err fault) = Err (BadAmount n)
 with_amount n seller buyer product (Ok amount) =
-    if nat_lt 1000000000000000 amount then Err (BadAmount n)
+    if nat_lt MOST_TRADE_AMOUNT amount then Err (BadAmount n)
     else Ok (record { seller = seller; buyer = buyer; product = product; amount = amount })
 
 -- the trade of record n, by whom its first three fields name
@@ -55,14 +56,14 @@ product_total trades product = sum_by (product_part product) trades
 abbrev pub with_trade : ℕ → List FileTrade → Result FileTrade FileFault → Result (List FileTrade) FileFault
 with_trade n trades (Err fault) = Err fault
 with_trade n trades (Ok trade) =
-    if nat_lt 1000000000000000000 (product_total trades trade.product + trade.amount) then Err (GrossLimit n)
+    if nat_lt MOST_GROSS (product_total trades trade.product + trade.amount) then Err (GrossLimit n)
     else Ok (trades ++ trade ∷ [])
 
 -- the trades after record n: record 1 is the header, each other one a trade, of at most 100,000
 abbrev pub with_trade_record : Rows → ℕ → List FileTrade → List (List ℕ) → Result (List FileTrade) FileFault
 with_trade_record rows n trades fields =
     if n == 1 then (if is_trade_header fields then Ok trades else Err (Columns 1))
-    else if nat_le 100000 (length trades) then Err (RowLimit n)
+    else if nat_le MOST_FILE_TRADES (length trades) then Err (RowLimit n)
     else with_trade n trades (trade_of rows n fields)
 
 -- goes on from trades, or stays at a fault
@@ -83,7 +84,7 @@ trades_of rows (fields ∷ more) = with_trade_records rows 1 [] (fields ∷ more
 
 -- the trades of a trade file with these bytes, or the first fault
 abbrev pub trade_file : Rows → List ℕ → Result (List FileTrade) FileFault
-trade_file rows bytes = if nat_lt 67108864 (length bytes) then Err TooLong else trades_of rows (records_of bytes)
+trade_file rows bytes = if nat_lt MOST_FILE (length bytes) then Err TooLong else trades_of rows (records_of bytes)
 
 -- a trade between different members, of a product
 pub record IsFileTrade (rows : Rows) (trade : FileTrade) : Type 0 where
@@ -96,4 +97,4 @@ pub record IsFileTrade (rows : Rows) (trade : FileTrade) : Type 0 where
 -- trades as a trade file has them
 pub record AreFileTrades (rows : Rows) (trades : List FileTrade) : Type 0 where
   pub each : All (IsFileTrade rows) trades
-  pub within : (product : ℕ) → product_total trades product ≤ 10 ^ 18
+  pub within : (product : ℕ) → product_total trades product ≤ MOST_GROSS

@@ -28,9 +28,10 @@ impl<'a> Model for Directory<'a> {
 ghost use Rattle.std.specs.Prelude.{◌≡◌, ◌≤◌, ◌<◌, length, IfOk, IfSome};
 ghost use Rattle.trade_file.specs.TradeFile.{member_of, product_of};
 ghost use Rattle.trade_file.specs.Places.{KnowsMembers, KnowsProducts};
+ghost use Rattle.units_core.specs.declared.limits.TheConstants.{MOST_MEMBERS, MOST_PRODUCTS};
 
 fn member_places(alloc: Global, rows: &[MemberRow]) -> Result<Places, AllocError>
-    requires { length rows.now ≤ 256 }
+    requires { length rows.now ≤ MOST_MEMBERS }
     ensures { IfOk result (KnowsMembers rows.now) }
 {
     let mut places = Places::new(alloc);
@@ -41,7 +42,7 @@ fn member_places(alloc: Global, rows: &[MemberRow]) -> Result<Places, AllocError
 }
 
 fn product_places(alloc: Global, rows: &[ProductRow]) -> Result<Places, AllocError>
-    requires { length rows.now ≤ 64 }
+    requires { length rows.now ≤ MOST_PRODUCTS }
     ensures { IfOk result (KnowsProducts rows.now) }
 {
     let mut places = Places::new(alloc);
@@ -77,7 +78,7 @@ impl<'a> Directory<'a> {
     /// The product whose name the field is.
     pub(crate) fn product(&self, field: &[u8]) -> Option<ProductNo>
         ensures place { result ≡ product_of self.now field.now }
-        ensures few { IfSome result (λ place. place < 64) }
+        ensures few { IfSome result (λ place. place < MOST_PRODUCTS) }
     {
         match self.products.place_of(field) {
             Some(place) => Some(ProductNo(place)),

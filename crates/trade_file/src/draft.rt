@@ -6,6 +6,7 @@ use crate::names::Names;
 use crate::roster_row::RosterRow;
 use command_types::{FileFault, MemberRow, OperatorRow, ProductRow, Role, Roster};
 use std::alloc::Global;
+use units_core::{MOST_DEALERS, MOST_MEMBERS, MOST_PRODUCTS};
 
 /// The rows so far, and their names.
 #[derive(Drop)]
@@ -19,6 +20,7 @@ pub(crate) struct Draft {
 ghost use Rattle.trade_file.specs.RosterFile.{no_rows, with_read};
 ghost use Rattle.trade_file.specs.Draft.{IsDraft, rows_of, Steps};
 ghost use Rattle.trade_file.specs.declared.roster_row.RosterRow.TheVariants as line;
+ghost use Rattle.units_core.specs.declared.limits.TheConstants.{MOST_DEALERS, MOST_MEMBERS, MOST_PRODUCTS};
 
 // How many of the members are dealers.
 fn count_dealers(members: &[MemberRow]) -> usize
@@ -32,16 +34,17 @@ fn count_dealers(members: &[MemberRow]) -> usize
 
 // Whether there is no room for one more member of this role.
 fn is_full_of_members(members: &[MemberRow], role: Role) -> bool
-    ensures { result ≡ (nat_le 256 (length members.now) || (is_dealer role && nat_le 64 (length (filter (λ row. is_dealer row.role) members.now)))) }
+    ensures { result ≡ (nat_le MOST_MEMBERS (length members.now) || (is_dealer role && nat_le MOST_DEALERS (length (filter (λ row. is_dealer row.role) members.now)))) }
 {
-    members.len() >= 256 || (role == Role::Dealer && count_dealers(members) >= 64)
+    members.len() >= MOST_MEMBERS as usize
+        || (role == Role::Dealer && count_dealers(members) >= MOST_DEALERS)
 }
 
 // Whether there is no room for one more product.
 fn is_full_of_products(products: &[ProductRow]) -> bool
-    ensures { result ≡ nat_le 64 (length products.now) }
+    ensures { result ≡ nat_le MOST_PRODUCTS (length products.now) }
 {
-    products.len() >= 64
+    products.len() >= MOST_PRODUCTS
 }
 
 impl Draft {

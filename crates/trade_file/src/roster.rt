@@ -5,12 +5,14 @@ ghost use Rattle.command_types.specs.Roster.{IsRoster};
 ghost use Rattle.command_types.specs.declared.file_fault.FileFault.TheVariants.{Memory};
 ghost use Rattle.trade_file.specs.RosterFile.{roster_file, roster_of, records_of, with_record};
 ghost use Rattle.trade_file.specs.Draft.{IsDraft, rows_of, Steps};
+ghost use Rattle.units_core.specs.declared.limits.TheConstants.{MOST_FILE};
 
 use crate::draft::Draft;
 use crate::roster_row::{read_row, reads_header};
 use command_types::{FileFault, Roster};
 use csv::{ByteRecord, ReaderBuilder};
 use std::alloc::Global;
+use units_core::MOST_FILE;
 
 // Takes the record with this number into the draft.
 fn take_record(draft: &mut Draft, number: u64, record: &ByteRecord) -> Result<(), FileFault>
@@ -31,7 +33,7 @@ fn take_record(draft: &mut Draft, number: u64, record: &ByteRecord) -> Result<()
 
 // The draft of all records of a file.
 fn read_records(alloc: Global, bytes: &[u8]) -> Result<Draft, FileFault>
-    requires { length bytes.now ≤ 67108864 }
+    requires { length bytes.now ≤ MOST_FILE }
     ensures rows { IfOk result (λ draft. roster_of (records_of bytes.now) ≡ Ok (rows_of draft)) }
     ensures draft { IfOk result (λ draft. IsDraft draft) }
     ensures fault { IfErr result (λ fault. (fault ≡ Memory) ⊎ (roster_of (records_of bytes.now) ≡ Err fault)) }
@@ -66,7 +68,7 @@ pub fn read_roster(alloc: Global, bytes: &[u8]) -> Result<Roster, FileFault>
     ensures roster { IfOk result (λ rows. IsRoster rows) }
     ensures fault { IfErr result (λ fault. (fault ≡ Memory) ⊎ (roster_file bytes.now ≡ Err fault)) }
 {
-    if bytes.len() > 67_108_864 {
+    if bytes.len() > MOST_FILE {
         return Err(FileFault::TooLong);
     }
     match read_records(alloc, bytes) {

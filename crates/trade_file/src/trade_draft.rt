@@ -2,16 +2,12 @@
 ghost use Rattle.std.specs.Prelude.{◌≡◌, ◌<◌, [], nat_le, length, Ok};
 ghost use Rattle.trade_file.specs.TradeFile.{with_trade};
 ghost use Rattle.trade_file.specs.TradeDraft.{IsTradeDraft, trades_of_draft, TradeSteps};
+ghost use Rattle.units_core.specs.declared.limits.TheConstants.{MOST_FILE_TRADES, MOST_PRODUCTS};
 
 use crate::file_trade::FileTrade;
 use command_types::FileFault;
 use std::alloc::Global;
-
-/// The most trades that a file may have.
-const MOST_TRADES: usize = 100_000;
-
-/// The most that a product's amounts may add up to.
-const MOST_GROSS: u64 = 1_000_000_000_000_000_000;
+use units_core::{MOST_FILE_TRADES, MOST_GROSS};
 
 /// The trades so far, and the sum of each product's amounts.
 #[derive(Drop)]
@@ -33,15 +29,15 @@ impl TradeDraft {
 
     /// Whether there is no room for one more trade.
     pub(crate) fn is_full(&self) -> bool
-        ensures { result ≡ nat_le 100000 (length (trades_of_draft self.now)) }
+        ensures { result ≡ nat_le MOST_FILE_TRADES (length (trades_of_draft self.now)) }
     {
-        self.trades.len() >= MOST_TRADES
+        self.trades.len() >= MOST_FILE_TRADES
     }
 
     /// Puts the trade of the record with this number last.
     pub(crate) fn add(&mut self, number: u64, trade: FileTrade) -> Result<(), FileFault>
         requires draft { IsTradeDraft self.old }
-        requires product { trade.product < 64 }
+        requires product { trade.product < MOST_PRODUCTS }
         ensures { TradeSteps (with_trade number (trades_of_draft self.old) (Ok trade)) self.new result }
     {
         let product = trade.product.index();

@@ -3,15 +3,13 @@ ghost use Rattle.std.specs.Prelude.{◌≡◌, ◌≢◌, ◌<◌, ◌∷◌, []
 ghost use Rattle.csv.specs.Records.{fields_of};
 ghost use Rattle.units_core.specs.Number.{amount_of};
 ghost use Rattle.trade_file.specs.TradeFile.{is_trade_header, member_of, product_of, with_amount, between, trade_of};
+ghost use Rattle.units_core.specs.declared.limits.TheConstants.{MOST_PRODUCTS};
 
 use crate::directory::Directory;
 use crate::file_trade::FileTrade;
 use command_types::FileFault;
 use csv::ByteRecord;
-use units_core::{Amount, MemberNo, ProductNo};
-
-/// The most that one trade's amount may be.
-const MOST_AMOUNT: u64 = 1_000_000_000_000_000;
+use units_core::{Amount, MOST_TRADE_AMOUNT, MemberNo, ProductNo};
 
 fn read_amount(
     row: u64,
@@ -26,7 +24,7 @@ fn read_amount(
     let Ok(amount) = Amount::read(text) else {
         return Err(FileFault::BadAmount { row });
     };
-    if amount.get() > MOST_AMOUNT {
+    if amount.get() > MOST_TRADE_AMOUNT {
         return Err(FileFault::BadAmount { row });
     }
     Ok(FileTrade {
@@ -46,7 +44,7 @@ fn read_fields(
     amount: &[u8],
 ) -> Result<FileTrade, FileFault>
     ensures trade { result ≡ trade_of directory.now row (seller.now ∷ buyer.now ∷ product.now ∷ amount.now ∷ []) }
-    ensures product { IfOk result (λ trade. trade.product < 64) }
+    ensures product { IfOk result (λ trade. trade.product < MOST_PRODUCTS) }
 {
     let Some(seller) = directory.member(seller) else {
         return Err(FileFault::UnknownName { row });
@@ -114,7 +112,7 @@ pub(crate) fn read_row(
     record: &ByteRecord,
 ) -> Result<FileTrade, FileFault>
     ensures trade { result ≡ trade_of directory.now row (fields_of record.now) }
-    ensures product { IfOk result (λ trade. trade.product < 64) }
+    ensures product { IfOk result (λ trade. trade.product < MOST_PRODUCTS) }
 {
     match four_fields(record) {
         Some((seller, buyer, product, amount)) => {

@@ -5,6 +5,7 @@ ghost use Rattle.command_types.specs.declared.file_fault.FileFault.TheVariants.{
 ghost use Rattle.trade_file.specs.RosterFile.{records_of};
 ghost use Rattle.trade_file.specs.TradeFile.{trade_file, trades_of, with_trade_record, AreFileTrades};
 ghost use Rattle.trade_file.specs.TradeDraft.{IsTradeDraft, trades_of_draft, TradeSteps};
+ghost use Rattle.units_core.specs.declared.limits.TheConstants.{MOST_FILE};
 
 use crate::directory::Directory;
 use crate::file_trade::FileTrade;
@@ -13,6 +14,7 @@ use crate::trade_row::{read_row, reads_header};
 use command_types::{FileFault, Roster};
 use csv::{ByteRecord, ReaderBuilder};
 use std::alloc::Global;
+use units_core::MOST_FILE;
 
 // Takes the record with this number into the draft.
 fn take_record(
@@ -56,7 +58,7 @@ fn read_records(
     bytes: &[u8],
     directory: &Directory<'_>,
 ) -> Result<TradeDraft, FileFault>
-    requires { length bytes.now ≤ 67108864 }
+    requires { length bytes.now ≤ MOST_FILE }
     ensures trades { IfOk result (λ draft. trades_of directory.now (records_of bytes.now) ≡ Ok (trades_of_draft draft)) }
     ensures fault { IfErr result (λ fault. (fault ≡ Memory) ⊎ (trades_of directory.now (records_of bytes.now) ≡ Err fault)) }
 {
@@ -94,7 +96,7 @@ pub fn read_trades(
     ensures within { IfOk result (λ trades. AreFileTrades roster.now trades.items) }
     ensures fault { IfErr result (λ fault. (fault ≡ Memory) ⊎ (trade_file roster.now bytes.now ≡ Err fault)) }
 {
-    if bytes.len() > 67_108_864 {
+    if bytes.len() > MOST_FILE {
         return Err(FileFault::TooLong);
     }
     let Ok(directory) = Directory::of(alloc, roster) else {

@@ -2,6 +2,7 @@
 use Rattle.std.specs.Prelude.{ℕ, ◌+◌, ◌-◌, ◌*◌, ◌==◌, ◌&&◌, not, nat_le, nat_lt, Bool, List, length, fold, position, slice_index, Option, Some, None, Result, Ok, Err, if◌then◌else◌}
 use Rattle.units_core.specs.declared.number.NumberFault.{NumberFault}
 use Rattle.units_core.specs.declared.number.NumberFault.TheVariants.{Empty, NotDigit, LeadingZero, Zero, TooLarge}
+use Rattle.units_core.specs.declared.limits.TheConstants.{MOST_GROSS}
 
 -- a byte from '0' to '9'
 abbrev pub is_digit : ℕ → Bool
@@ -33,7 +34,7 @@ number_of text most =
 
 -- a number from 1 to 10^18
 abbrev pub is_amount : ℕ → Bool
-is_amount n = nat_le 1 n && nat_le n 1000000000000000000
+is_amount n = nat_le 1 n && nat_le n MOST_GROSS
 
 -- what was read, with 0 refused
 abbrev pub of_amount : Result ℕ NumberFault → Result ℕ NumberFault
@@ -42,4 +43,4 @@ of_amount (Err fault) = Err fault
 
 -- the amount that a text writes, or the text's first fault
 abbrev pub amount_of : List ℕ → Result ℕ NumberFault
-amount_of text = of_amount (number_of text 1000000000000000000)
+amount_of text = of_amount (number_of text MOST_GROSS)

@@ -3,6 +3,7 @@ use Rattle.std.specs.Prelude.{ℕ, ℤ, pos, neg_ℤ, ◌+◌, ◌==◌, ◌&&�
 use Rattle.units_core.specs.declared.number.NumberFault.{NumberFault}
 use Rattle.units_core.specs.declared.number.NumberFault.TheVariants.{NotDigit, Zero}
 use Rattle.units_core.specs.Number.{number_of}
+use Rattle.units_core.specs.declared.limits.TheConstants.{MOST_POTENTIAL}
 
 -- the text has a '-' in front
 abbrev pub has_minus : List ℕ → Bool
@@ -21,4 +22,4 @@ minus_of (Err fault) = Err fault
 
 -- the number from -1,000,000 to 1,000,000 that a text writes, or the text's first fault
 abbrev pub signed_of : List ℕ → Result ℤ NumberFault
-signed_of text = if has_minus text then minus_of (number_of (drop 1 text) 1000000) else plus_of (number_of text 1000000)
+signed_of text = if has_minus text then minus_of (number_of (drop 1 text) MOST_POTENTIAL) else plus_of (number_of text MOST_POTENTIAL)

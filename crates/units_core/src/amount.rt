@@ -1,7 +1,9 @@
 //! The notional amount of a trade.
 ghost use Rattle.std.specs.Prelude.{◌≡◌, ◌≤◌, ◌&&◌, nat_le, if◌then◌else◌, Some, None};
 ghost use Rattle.units_core.specs.Number.{is_amount, amount_of};
+ghost use Rattle.units_core.specs.declared.limits.TheConstants.{MOST_GROSS};
 
+use crate::limits::MOST_GROSS;
 use crate::number::{NumberFault, read_number};
 use std::marker::Model;
 
@@ -13,19 +15,20 @@ pub struct Amount {
 
 impl Model for Amount {
     ghost use Rattle.std.specs.Prelude.{ℕ, ◌≤◌};
+    ghost use Rattle.units_core.specs.declared.limits.TheConstants.{MOST_GROSS};
 
     ghost Value = { ℕ };
 
     ghost view = { λ a. a.value };
 
-    ghost invariant = { λ a. (1 ≤ a.value) × (a.value ≤ 1000000000000000000) };
+    ghost invariant = { λ a. (1 ≤ a.value) × (a.value ≤ MOST_GROSS) };
 
     ghost inverse = { λ n. record { value = n } };
 }
 
 impl Amount {
     /// The largest amount, 10^18.
-    pub const MOST: u64 = 1_000_000_000_000_000_000;
+    pub const MOST: u64 = MOST_GROSS;
 
     /// The amount of this number, exactly where the number is from 1 to 10^18.
     pub fn new(n: u64) -> Option<Amount>
@@ -57,7 +60,7 @@ impl Amount {
     pub fn get(self) -> u64
         ensures value { result ≡ self }
         ensures least { 1 ≤ result }
-        ensures most { result ≤ 1000000000000000000 }
+        ensures most { result ≤ MOST_GROSS }
     {
         self.value
     }

@@ -2,17 +2,16 @@
 ghost use Rattle.std.specs.Prelude.{◌≡◌};
 ghost use Rattle.units_core.specs.Number.{number_of};
 ghost use Rattle.units_core.specs.Signed.{signed_of, minus_of, plus_of};
+ghost use Rattle.units_core.specs.declared.limits.TheConstants.{MOST_POTENTIAL};
 
+use crate::limits::MOST_POTENTIAL;
 use crate::number::{NumberFault, read_number};
-
-// The most that a number may be above or below 0.
-const MOST: u64 = 1_000_000;
 
 // The number of the digits behind a minus sign.
 fn read_minus(digits: &[u8]) -> Result<i32, NumberFault>
-    ensures { result ≡ minus_of (number_of digits.now 1000000) }
+    ensures { result ≡ minus_of (number_of digits.now MOST_POTENTIAL) }
 {
-    match read_number(digits, MOST) {
+    match read_number(digits, MOST_POTENTIAL as u64) {
         Ok(0) => Err(NumberFault::Zero),
         Ok(size) => Ok(-(size as i32)),
         Err(NumberFault::NotDigit { at }) => Err(NumberFault::NotDigit { at: at + 1 }),
@@ -22,9 +21,9 @@ fn read_minus(digits: &[u8]) -> Result<i32, NumberFault>
 
 // The number of digits with no sign in front.
 fn read_plus(digits: &[u8]) -> Result<i32, NumberFault>
-    ensures { result ≡ plus_of (number_of digits.now 1000000) }
+    ensures { result ≡ plus_of (number_of digits.now MOST_POTENTIAL) }
 {
-    match read_number(digits, MOST) {
+    match read_number(digits, MOST_POTENTIAL as u64) {
         Ok(size) => Ok(size as i32),
         Err(fault) => Err(fault),
     }
