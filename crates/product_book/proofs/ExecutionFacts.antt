@@ -15,7 +15,7 @@ use Rattle.command_types.specs.Trades.{counts, is_live, gross_of, submitted_coun
 use Rattle.command_types.specs.Plans.{ended_row, cut_row, made_row, after_step, executed, count_of, is_new}
 use Rattle.product_book.specs.Book.{IsTrade, AreTrades, IsBook, gross_limit}
 use Rattle.command_types.specs.Execution.{IsLiveTrade, MayFall, IsStep, IsExecutable}
-use Rattle.product_book.specs.Execution.{CanRun, IsMade, added_by}
+use Rattle.product_book.specs.Execution.{CanRun, IsMade, IsPassing, added_by}
 use Rattle.product_book.proofs.BookFacts.{gross_part, placed, trades_push, trades_set, trades_at, submitted_by_nobody, submitted_set}
 use Rattle.product_book.proofs.PlaceFacts.{there_by, within_by}
 
@@ -74,6 +74,16 @@ added_more plan i step l is =
 pub added_le : (plan : List PlanRow) (i : ℕ) (step : PlanRow) → i < length plan → step ≡ get_or plan i step → count_of is_new (take i plan) + added_by step ≤ count_of is_new plan
 added_le plan i step l is =
     omega (arith, added_more plan i step l is, length-filter is_new (take (i + 1) plan), length-filter is_new plan, sum_by-take-drop added_by plan (i + 1))
+
+-- what the rows are on the way after a step that changes a trade
+pub passing_changed : (change : TradeRow → TradeRow) (rows : List TradeRow) (number : ℕ) (row : TradeRow) → trade_numbered rows number ≡ Some row → IsPassing (with_row rows number (changed_row change (trade_numbered rows number)))
+    → IsPassing (with_row rows number (Some (change row)))
+passing_changed change rows number row is h = subst (λ (o : Option TradeRow). IsPassing (with_row rows number (changed_row change o))) is h
+
+-- the amount that a cut leaves
+pub left_is : {A : Type 0} (t : Bool) (left to : A) → Some left ≡ (if t then Some to else None) → to ≡ left
+left_is true left to e = cc
+left_is false left to e = cc
 
 live_counts : (state : TradeState) → IsTrue (is_live state) → IsTrue (counts state)
 live_counts Alleged h = cc

@@ -16,9 +16,6 @@ at_part key test n row = if (key row == n) && test row then row.amount else 0
 at_own : (key : TradeRow → ℕ) (test : TradeRow → Bool) (n : ℕ) (row : TradeRow) → key row ≡ n → at_part key test n row ≡ own_part test row
 at_own key test n row e = rw (eq-eqb (key row) n e) refl
 
-pub own_at : (key : TradeRow → ℕ) (test : TradeRow → Bool) (row : TradeRow) → (if (key row == key row) && test row then row.amount else 0) ≡ (if test row then row.amount else 0)
-own_at key test row = at_own key test (key row) row refl
-
 at_other : (key : TradeRow → ℕ) (test : TradeRow → Bool) (n : ℕ) (row : TradeRow) → (key row ≡ n → ⊥) → at_part key test n row ≡ 0
 at_other key test n row ne = rw (ne_eqb (key row) n ne) refl
 
@@ -70,6 +67,19 @@ kept_set key test sums rows i old new kept within is same small n low =
     (λ (ne : key old ≡ n → ⊥).
     omega (arith, get_or-set_other sums (key old) n sum 0 (λ e. ne (sym e)), kept n (omega (arith, low, size)), more, there, at_other key test n old ne, at_other key test n new (λ e. ne (sym same ∙ e))))
     (cases_eq (key old) n)
+
+-- what the sum is then
+pub raised_is : (key : TradeRow → ℕ) (test : TradeRow → Bool) (sums : List ℕ) (rows : List TradeRow) (row : TradeRow) → AreSums key test sums rows → key row < length sums
+    → get_or sums (key row) 0 + own_part test row ≡ sum_by (at_part key test (key row)) (rows ++ row ∷ [])
+raised_is key test sums rows row kept small =
+    let sum : ℕ = get_or sums (key row) 0 + own_part test row in
+    sym (get_or-set_same sums (key row) sum 0 small) ∙ kept_push key test sums rows row kept small (key row) (omega (arith, small, length-set sums (key row) sum))
+
+pub moved_is : (key : TradeRow → ℕ) (test : TradeRow → Bool) (sums : List ℕ) (rows : List TradeRow) (i : ℕ) (old new : TradeRow) → AreSums key test sums rows → i < length rows → get_or rows i old ≡ old → key new ≡ key old → key old < length sums
+    → get_or sums (key old) 0 - own_part test old + own_part test new ≡ sum_by (at_part key test (key old)) (set rows i new)
+moved_is key test sums rows i old new kept within is same small =
+    let sum : ℕ = get_or sums (key old) 0 - own_part test old + own_part test new in
+    sym (get_or-set_same sums (key old) sum 0 small) ∙ kept_set key test sums rows i old new kept within is same small (key old) (omega (arith, small, length-set sums (key old) sum))
 
 -- what a trade adds is in its sum
 pub part_in : (key : TradeRow → ℕ) (test : TradeRow → Bool) (sums : List ℕ) (rows : List TradeRow) (i : ℕ) (old : TradeRow) → AreSums key test sums rows → i < length rows → get_or rows i old ≡ old → key old < length sums → own_part test old ≤ get_or sums (key old) 0

@@ -6,7 +6,9 @@ pub mod HeldFacts
 pub mod ExecutionFacts
 pub mod FrozenFacts
 pub mod KeptFacts
+pub mod PairFacts
 pub mod SumFacts
+pub mod PassingFacts
 pub mod EntryFacts
 pub mod ListedFacts
 pub mod WalkFacts

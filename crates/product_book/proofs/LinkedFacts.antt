@@ -1,31 +1,23 @@
 -- What keeps a book's lists right: a new trade, one that ends, and changes that leave each where it stands.
 use Rattle.std.proofs.Common.{◌≡◌, ℕ, zero, suc, ◌+◌, ◌-◌, ◌*◌, ◌≤◌, ◌<◌, ◌==◌, ◌&&◌, Bool, true, false, List, [], ◌∷◌, ◌++◌, length, map, take, drop, filter, cond, not, replicate, slice_index_or, Some, arith, refl, ap, sym, subst, ◌∙◌, ⊎_elim}
-use Rattle.std.proofs.lemmas.Bool.{cases_eq, cases_lt, eq-eqb, ne_eqb, and_parts, false≢true}
+use Rattle.std.proofs.lemmas.Bool.{cases_lt, and_parts, false≢true}
 use Rattle.std.proofs.lemmas.Bool.Decides.{Decides-eqb}
-use Rattle.std.proofs.lemmas.Nat.{mul-add-lt}
 use Rattle.std.proofs.lemmas.List.{length-replicate, get_or_past}
 use Rattle.command_types.specs.declared.trade.TradeRow.{TradeRow}
 use Rattle.command_types.specs.declared.trade.TradeState.{TradeState}
 use Rattle.command_types.specs.declared.trade.TradeState.TheVariants.{Alleged, Ended, Live}
-use Rattle.command_types.specs.Trades.{counts, is_live, pair_sum_of, gross_of, trade_numbered, with_row}
-use Rattle.product_book.specs.Book.{IsTrade, AreTrades, live_between, gross_limit}
+use Rattle.command_types.specs.Trades.{counts, is_live, trade_numbered, with_row}
+use Rattle.product_book.specs.Book.{IsTrade, AreTrades, live_between}
 use Rattle.command_types.specs.Books.{is_between}
 use Rattle.linked_rows.specs.Rows.{list_of}
 use Rattle.product_book.specs.Walks.{rows_at, live_among, EachThere}
-use Rattle.std.specs.Prelude.{sum_by, if◌then◌else◌}
-use Rattle.std.proofs.lemmas.List.Sums.{sum_by-cons}
-use Rattle.product_book.specs.Kept.{member_place, live_part}
+use Rattle.product_book.specs.Kept.{pair_place, trade_place}
 use Rattle.product_book.specs.OpenLists.{OpenView, numbers_in, numbers_of}
-use Rattle.product_book.specs.Links.{pair_place, trade_place, is_open_at, AreListed, IsPushed, IsTakenOut, AreLinked}
-use Rattle.product_book.proofs.BookFacts.{KeepsTerms, pair_le, rows_written, placed, trades_at, trades_set}
-use Rattle.product_book.proofs.SumFacts.{same_product, same_member}
+use Rattle.product_book.specs.Links.{is_open_at, AreListed, IsPushed, IsTakenOut, AreLinked}
+use Rattle.product_book.proofs.BookFacts.{KeepsTerms, rows_written, placed, trades_at, trades_set}
+use Rattle.product_book.proofs.PairFacts.{place_low, same_test}
 use Rattle.product_book.proofs.WalkFacts.{rows_open, list_numbers, none_at}
 use Rattle.product_book.proofs.ListedFacts.{count_pushed, count_taken, listed_pushed, listed_taken, listed_same, listed_mapped}
-
--- the place of a pair is among all
-pub place_low : (members products product seller buyer : ℕ) → product < products → seller < members → buyer < members → pair_place members product seller buyer < members * (members * products)
-place_low members products product seller buyer low small less =
-    mul-add-lt (member_place members product seller) members buyer (members * products) (mul-add-lt product members seller products low small) less
 
 -- lists of no trades
 none_listed : (key : TradeRow → ℕ) (v : OpenView) (n : ℕ) → v.lists ≡ replicate n [] → v.count ≡ 0 → AreListed key v []
@@ -81,6 +73,13 @@ module _ (members products : ℕ) (p q : OpenView) (spare : ℕ) (rows : List Tr
     product_room = omega (arith, first.spare, all.product_room, e);
     pair_room = omega (arith, second.spare, all.pair_room, e);
   }
+
+  -- the number of a trade is among those that were put into the lists
+  pub left_product : (number : ℕ) (old : TradeRow) → trade_numbered rows number ≡ Some old → number ≤ p.count
+  left_product number old found = let at = placed rows number old found in omega (arith, at.0, at.1, all.of_products.count)
+
+  pub left_pair : (number : ℕ) (old : TradeRow) → trade_numbered rows number ≡ Some old → number ≤ q.count
+  left_pair number old found = let at = placed rows number old found in omega (arith, at.0, at.1, all.of_pairs.count)
 
   pub linked_left : (p' q' : OpenView) (rest number : ℕ) (old new : TradeRow) → IsTakenOut p p' number → IsTakenOut q q' number → AreTrades members products 1 rows → trade_numbered rows number ≡ Some old → counts new.state ≡ false → rest ≡ spare → AreLinked members products p' q' rest (with_row rows number (Some new))
   linked_left p' q' rest number old new first second are found gone e = record {
@@ -150,32 +149,6 @@ pair_numbers members products p q spare place rows all are low =
     rw own (on.0, on.1)
 
 -- the live ones of a pair
-place_parts : (members p s b q t c : ℕ) → s < members → t < members → b < members → c < members → pair_place members p s b ≡ pair_place members q t c → (p ≡ q) × (s ≡ t) × (b ≡ c)
-place_parts members p s b q t c ls lt lb lc e =
-    let line = same_product members (member_place members p s) b (member_place members q t) c lb lc e in
-    let product = same_product members p s q t ls lt line in
-    (product, same_member members p s q t product line, same_member members (member_place members p s) b (member_place members q t) c line e)
-
-same_test : (members product seller buyer : ℕ) (row : TradeRow) → row.seller < members → row.buyer < members → seller < members → buyer < members
-    → (trade_place members row == pair_place members product seller buyer) ≡ is_between product seller buyer row
-same_test members product seller buyer row ls lb ms mb =
-    ⊎_elim (λ (e : trade_place members row ≡ pair_place members product seller buyer).
-    let parts = place_parts members row.product row.seller row.buyer product seller buyer ls ms lb mb e in
-    rw (eq-eqb (trade_place members row) (pair_place members product seller buyer) e, eq-eqb row.product product parts.0, eq-eqb row.seller seller parts.1, eq-eqb row.buyer buyer parts.2) refl)
-    (λ (ne : trade_place members row ≡ pair_place members product seller buyer → ⊥).
-    rw (ne_eqb (trade_place members row) (pair_place members product seller buyer) ne) (sym (not_between (is_between product seller buyer row) refl ne)))
-    (cases_eq (trade_place members row) (pair_place members product seller buyer))
-  where
-    not_between : (b : Bool) → is_between product seller buyer row ≡ b → (trade_place members row ≡ pair_place members product seller buyer → ⊥) → is_between product seller buyer row ≡ false
-    not_between false e ne = e
-    not_between true e ne =
-        let outer = and_parts ((row.product == product) && (row.seller == seller)) (row.buyer == buyer) e in
-        let inner = and_parts (row.product == product) (row.seller == seller) outer.0 in
-        let p : row.product ≡ product = (Decides-eqb row.product product).0 inner.0 in
-        let s : row.seller ≡ seller = (Decides-eqb row.seller seller).0 inner.1 in
-        let b : row.buyer ≡ buyer = (Decides-eqb row.buyer buyer).0 outer.1 in
-        absurd (ne (ap (λ n. pair_place members n row.seller row.buyer) p ∙ ap (λ n. pair_place members product n row.buyer) s ∙ ap (λ n. pair_place members product seller n) b))
-
 live_once : (a c : Bool) (state : TradeState) → (cond (a && counts state) (is_live state) false) ≡ (a && is_live state)
 live_once true c Alleged = refl
 live_once true c Live = refl
@@ -222,60 +195,3 @@ pub trades_still : (members products : ℕ) (rows : List TradeRow) (number : ℕ
 trades_still members products rows number old new are found keeps =
     let at = placed rows number old found in
     trades_set members products 1 rows (number - 1) new are (keeps (1 + (number - 1)) (trades_at members products 1 rows (number - 1) old are at.2))
-
--- what the live trades of a pair come to
-whole_part : (p s t : Bool) (state : TradeState) (row : TradeRow) → (if (p && s && t) && counts state then (if is_live state then row.amount else 0) else 0) ≡ (if p && is_live state && s && t then row.amount else 0)
-whole_part false s t state row = refl
-whole_part true false t Alleged row = refl
-whole_part true false t Live row = refl
-whole_part true false t Ended row = refl
-whole_part true true false Alleged row = refl
-whole_part true true false Live row = refl
-whole_part true true false Ended row = refl
-whole_part true true true Alleged row = refl
-whole_part true true true Live row = refl
-whole_part true true true Ended row = refl
-
-first_part : (b : Bool) (row : TradeRow) (xs : List TradeRow) → sum_by live_part (cond b (row ∷ xs) xs) ≡ (if b then live_part row else 0) + sum_by live_part xs
-first_part true row xs = sum_by-cons live_part row xs
-first_part false row xs = omega arith
-
-abbrev pair_part : ℕ → ℕ → ℕ → TradeRow → ℕ
-pair_part product seller buyer row = if (row.product == product) && is_live row.state && (row.seller == seller) && (row.buyer == buyer) then row.amount else 0
-
-pub pair_total : (members products n product seller buyer : ℕ) (rows : List TradeRow) → AreTrades members products n rows → seller < members → buyer < members
-    → sum_by live_part (filter (is_open_at (trade_place members) (pair_place members product seller buyer)) rows) ≡ pair_sum_of product seller buyer rows
-pair_total members products n product seller buyer [] are ls lb = refl
-pair_total members products n product seller buyer (row ∷ rows) (here, later) ls lb =
-    let test = same_test members product seller buyer row here.seller here.buyer ls lb in
-    let xs = filter (is_open_at (trade_place members) (pair_place members product seller buyer)) rows in
-    let open_is : (if is_open_at (trade_place members) (pair_place members product seller buyer) row then live_part row else 0) ≡ (if is_between product seller buyer row && counts row.state then live_part row else 0) = ap (λ (b : Bool). if b && counts row.state then live_part row else 0) test in
-    let whole : (if is_between product seller buyer row && counts row.state then live_part row else 0) ≡ pair_part product seller buyer row = whole_part (row.product == product) (row.seller == seller) (row.buyer == buyer) row.state row in
-    omega (
-      arith,
-      first_part (is_open_at (trade_place members) (pair_place members product seller buyer) row) row xs,
-      open_is,
-      whole,
-      pair_total members products (n + 1) product seller buyer rows later ls lb,
-      sum_by-cons (pair_part product seller buyer) row rows,
-    )
-
--- out of range it is nothing
-pub no_total : (members products n product seller buyer : ℕ) (rows : List TradeRow) → AreTrades members products n rows → (product < products → seller < members → buyer < members → ⊥) → pair_sum_of product seller buyer rows ≡ 0
-no_total members products n product seller buyer [] are out = refl
-no_total members products n product seller buyer (row ∷ rows) (here, later) out =
-    omega (arith, sum_by-cons (pair_part product seller buyer) row rows, none ((row.product == product) && is_live row.state && (row.seller == seller) && (row.buyer == buyer)) refl, no_total members products (n + 1) product seller buyer rows later out)
-  where
-    none : (b : Bool) → ((row.product == product) && is_live row.state && (row.seller == seller) && (row.buyer == buyer)) ≡ b → pair_part product seller buyer row ≡ 0
-    none false e = ap (λ (b : Bool). if b then row.amount else 0) e
-    none true e =
-        let outer = and_parts ((row.product == product) && is_live row.state && (row.seller == seller)) (row.buyer == buyer) e in
-        let middle = and_parts ((row.product == product) && is_live row.state) (row.seller == seller) outer.0 in
-        let inner = and_parts (row.product == product) (is_live row.state) middle.0 in
-        let p : row.product ≡ product = (Decides-eqb row.product product).0 inner.0 in
-        let s : row.seller ≡ seller = (Decides-eqb row.seller seller).0 middle.1 in
-        let b : row.buyer ≡ buyer = (Decides-eqb row.buyer buyer).0 outer.1 in
-        absurd (out (omega (arith, here.product, p)) (omega (arith, here.seller, s)) (omega (arith, here.buyer, b)))
-
-pub pair_most : (product seller buyer : ℕ) (rows : List TradeRow) → gross_of product rows ≤ gross_limit → pair_sum_of product seller buyer rows ≤ gross_limit
-pair_most product seller buyer rows most = omega (arith, pair_le product seller buyer rows, most)

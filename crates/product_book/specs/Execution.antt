@@ -1,12 +1,14 @@
 -- What the walk over a plan rests on.
-use Rattle.std.specs.Prelude.{◌≢◌, ℕ, ◌≤◌, ◌<◌, List, is_some, IsTrue, if◌then◌else◌}
+use Rattle.std.specs.Prelude.{◌≢◌, ℕ, ◌*◌, ◌≤◌, ◌<◌, List, is_some, IsTrue, if◌then◌else◌}
 use Rattle.command_types.specs.declared.plan.PlanRow.{PlanRow}
 use Rattle.command_types.specs.declared.plan.PlanRow.TheVariants.{End, Cut, New}
 use Rattle.command_types.specs.declared.trade.TradeRow.{TradeRow}
-use Rattle.command_types.specs.Trades.{trade_numbered}
+use Rattle.command_types.specs.Trades.{gross_of, trade_numbered}
 use Rattle.command_types.specs.Plans.{is_new}
 use Rattle.product_book.specs.Book.{gross_limit, AreTrades}
 use Rattle.product_book.specs.OpenLists.{OpenView}
+use Rattle.product_book.specs.declared.kept.KeptSums.{KeptSums}
+use Rattle.product_book.specs.Kept.{AreKept}
 use Rattle.product_book.specs.Links.{AreLinked}
 
 -- at a step: the trade is there, and what is left of it is an amount
@@ -21,12 +23,17 @@ IsMade members products (End trade) = Unit {0}
 IsMade members products (Cut trade from to) = Unit {0}
 IsMade members products (New product seller buyer amount day) = (product < products) × (seller < members) × (buyer < members) × (seller ≢ buyer)
 
--- before and after each step: the trades have their numbers, and the lists are theirs
-pub record IsRunning (members products : ℕ) (by_product by_pair : OpenView) (spare : ℕ) (rows : List TradeRow) : Type 0 where
+-- before and after each step: the trades have their numbers, and the sums and the lists are theirs
+pub record IsRunning (members products : ℕ) (sums : KeptSums) (by_product by_pair : OpenView) (spare : ℕ) (rows : List TradeRow) : Type 0 where
   pub few : members ≤ 256
   pub few_products : products ≤ 64
   pub trades : AreTrades members products 1 rows
+  pub kept : AreKept members products sums rows
   pub linked : AreLinked members products by_product by_pair spare rows
+
+-- on the way through a plan: the new trades of a product may stand there before as much of it has fallen
+abbrev pub IsPassing : List TradeRow → Type 0
+IsPassing rows = (product : ℕ) → gross_of product rows ≤ 2 * gross_limit
 
 -- how many trades a step adds
 abbrev pub added_by : PlanRow → ℕ

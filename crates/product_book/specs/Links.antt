@@ -3,14 +3,8 @@ use Rattle.std.specs.Prelude.{◌≡◌, ℕ, ◌+◌, ◌-◌, ◌*◌, ◌≤�
 use Rattle.command_types.specs.declared.trade.TradeRow.{TradeRow}
 use Rattle.command_types.specs.Trades.{counts}
 use Rattle.product_book.specs.OpenLists.{OpenView, numbers_of, with_number, without_number}
-use Rattle.product_book.specs.Kept.{member_place, IsSummedBook}
-
--- the place of an ordered pair in a product, and that of a trade
-abbrev pub pair_place : ℕ → ℕ → ℕ → ℕ → ℕ
-pair_place members product seller buyer = member_place members (member_place members product seller) buyer
-
-abbrev pub trade_place : ℕ → TradeRow → ℕ
-trade_place members row = pair_place members row.product row.seller row.buyer
+use Rattle.product_book.specs.declared.kept.KeptSums.{KeptSums}
+use Rattle.product_book.specs.Kept.{trade_place, IsSummedBook}
 
 -- the numbers of the alleged and live trades with this place, in rising order
 abbrev pub is_open_at : (TradeRow → ℕ) → ℕ → TradeRow → Bool
@@ -45,7 +39,7 @@ pub record AreLinked (members products : ℕ) (by_product by_pair : OpenView) (s
   pub pair_room : spare ≤ by_pair.spare
 
 -- what each book keeps, with its sums and its lists
-pub record IsLinkedBook (members products submitted : ℕ) (product_sums sold_sums bought_sums : List ℕ) (rows : List TradeRow) (by_product by_pair : OpenView) (spare rows_room : ℕ) : Type 0 where
-  pub summed : IsSummedBook members products submitted product_sums sold_sums bought_sums rows
+pub record IsLinkedBook (members products submitted : ℕ) (sums : KeptSums) (rows : List TradeRow) (by_product by_pair : OpenView) (spare rows_room : ℕ) : Type 0 where
+  pub summed : IsSummedBook members products submitted sums rows
   pub linked : AreLinked members products by_product by_pair spare rows
   pub room : spare ≤ rows_room

@@ -10,10 +10,11 @@ ghost use Rattle.product_book.specs.Freezes.{rows_by_choice, frozen_among, Froze
 ghost use Rattle.product_book.specs.Networks.{network_of, AllCount};
 
 use crate::kept::KeptSums;
-use crate::links::{Links, place_of};
+use crate::links::Links;
 use crate::networks::{self, Which};
+use crate::places::place_of;
 use crate::row::{append, ended_by, has_ended, live, put_row, row_at, with_hold};
-use crate::{execution, freezes, picks, sums};
+use crate::{execution, freezes, picks};
 use command_types::{PlanRow, Side, TradeRow, TradeState};
 use network_laws::Network;
 use std::alloc::{AllocError, Global};
@@ -60,7 +61,7 @@ impl Model for Book {
 
     ghost view = { λ b. record { rows = b.rows.items; spare = b.links.spare; members = b.sums.members; products = b.products } };
 
-    ghost invariant = { λ b. IsLinkedBook b.sums.members b.products b.submitted b.sums.products.items b.sums.sold.items b.sums.bought.items b.rows.items b.links.by_product b.links.by_pair b.links.spare (vec_capacity b.rows - vec_len b.rows) };
+    ghost invariant = { λ b. IsLinkedBook b.sums.members b.products b.submitted b.sums b.rows.items b.links.by_product b.links.by_pair b.links.spare (vec_capacity b.rows - vec_len b.rows) };
 }
 
 impl Book {
@@ -136,7 +137,7 @@ impl Book {
     {
         let pair = (product.index(), seller.index(), buyer.index());
         match place_of(self.sums.members, self.products, pair) {
-            Some(place) => sums::live_total(&self.rows, &self.links.by_pair, place),
+            Some(place) => self.sums.of_pair(place),
             None => 0,
         }
     }
@@ -324,7 +325,6 @@ impl Book {
         requires plan { IsExecutable self.old.members self.old.products self.old.rows plan.now }
         ensures { self.new ≡ record self.old { rows = executed plan.now self.old.rows; spare = self.old.spare - count_of is_new plan.now } }
     {
-        execution::execute(&mut self.rows, &mut self.links, self.sums.members, plan);
-        self.sums.recount(&self.rows);
+        execution::execute(&mut self.rows, &mut self.sums, &mut self.links, plan);
     }
 }

@@ -10,8 +10,8 @@ mod links;
 mod networks;
 mod open_lists;
 mod picks;
+mod places;
 mod row;
-mod sums;
 
 pub use book::{Book, Position};
 pub use laws::{freezes_by_maturity, held_is_within_frozen};

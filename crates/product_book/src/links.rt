@@ -1,10 +1,12 @@
 //! The lists of a book: of each product, and of each ordered pair of members in it, its alleged and live trades. Who asks
 //! for a product or for a pair goes to its open trades alone.
 
-ghost use Rattle.std.specs.Prelude.{ℕ, ◌≡◌, ◌-◌, ◌*◌, ◌<◌, ◌≤◌, [], length, max, replicate, None, OnOk, OnErr, IfOk, IfSome};
-ghost use Rattle.product_book.specs.Links.{pair_place, trade_place, IsPushed, IsTakenOut};
+ghost use Rattle.std.specs.Prelude.{ℕ, ◌≡◌, ◌-◌, ◌*◌, ◌<◌, ◌≤◌, [], length, max, replicate, OnOk, OnErr, IfOk};
+ghost use Rattle.product_book.specs.Kept.{trade_place};
+ghost use Rattle.product_book.specs.Links.{IsPushed, IsTakenOut};
 
 use crate::open_lists::OpenLists;
+use crate::places::pair_place;
 use command_types::TradeRow;
 use std::alloc::{AllocError, Global};
 
@@ -14,41 +16,6 @@ pub(super) struct Links {
     pub by_product: OpenLists,
     pub by_pair: OpenLists,
     pub spare: u64,
-}
-
-// The place of an ordered pair in a product.
-fn pair_place(members: u16, product: usize, seller: usize, buyer: usize) -> u32
-    requires members { members ≤ 256 }
-    requires product { product < 64 }
-    requires seller { seller < members }
-    requires buyer { buyer < members }
-    ensures { result ≡ pair_place members product seller buyer }
-{
-    let line = product as u32 * members as u32 + seller as u32;
-    line * members as u32 + buyer as u32
-}
-
-/// The place of a product, a seller and a buyer; none where there is no such product or member.
-pub(super) fn place_of(members: u16, products: u16, pair: (usize, usize, usize)) -> Option<u32>
-    requires few { members ≤ 256 }
-    requires few_products { products ≤ 64 }
-    ensures found { IfSome result (λ place. place ≡ pair_place members pair.0 pair.1 pair.2) }
-    ensures product { IfSome result (λ _. pair.0 < products) }
-    ensures seller { IfSome result (λ _. pair.1 < members) }
-    ensures buyer { IfSome result (λ _. pair.2 < members) }
-    ensures none { result ≡ None → pair.0 < products → pair.1 < members → pair.2 < members → ⊥ }
-{
-    let (product, seller, buyer) = pair;
-    if product >= products as usize {
-        return None;
-    }
-    if seller >= members as usize {
-        return None;
-    }
-    if buyer >= members as usize {
-        return None;
-    }
-    Some(pair_place(members, product, seller, buyer))
 }
 
 impl Links {

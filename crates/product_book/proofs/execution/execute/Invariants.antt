@@ -8,6 +8,7 @@ invariant-loop-step l = record {
   items : l.rows.items ≡ executed (take l.step-index l.plan) l.initial.rows.items;
   len : vec_len l.rows ≡ vec_len l.initial.rows + count_of is_new (take l.step-index l.plan);
   capacity : vec_capacity l.rows ≡ vec_capacity l.initial.rows;
+  members : l.sums.members ≡ l.initial.sums.members;
   spare : l.links.spare + count_of is_new (take l.step-index l.plan) ≡ l.initial.links.spare;
-  running : IsRunning l.members (length l.initial.links.by_product.lists) l.links.by_product l.links.by_pair l.links.spare l.rows.items;
+  running : IsRunning l.initial.sums.members (length l.initial.links.by_product.lists) l.sums l.links.by_product l.links.by_pair l.links.spare l.rows.items;
 }

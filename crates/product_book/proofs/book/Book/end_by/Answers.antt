@@ -1,54 +1,24 @@
 use Rattle.std.proofs.Common.{arith}
 use Rattle.command_types.specs.Trades.{counts, row_ended_by}
 use Rattle.product_book.proofs.BookFacts.{ended_keeps}
-use Rattle.product_book.proofs.SumFacts.{old_placed, product_part, sold_part, bought_part, product_fits, sold_fits, bought_fits, settled}
+use Rattle.product_book.proofs.SumFacts.{can_change, changed_with_sums}
 use Rattle.product_book.proofs.LinkedFacts.{linked_kept, linked_left, not_counted, both_count}
 use Rattle.product_book.proofs.book.Book.end_by.Goals as goal
 
-pub settle-requires-clause-placed : goal.settle-requires-clause-placed
-settle-requires-clause-placed c =
+pub settle-requires : goal.settle-requires
+settle-requires c =
     let there = rw c.deref.ensures.value at c.row_at-row.ensures in
-    old_placed c.self.inside.sums.members c.self.inside.products c.self.inside.submitted c.self.inside.sums.products.items c.self.inside.sums.sold.items c.self.inside.sums.bought.items c.self.inside.rows.items c.args.trade c.row_at-row.result (row_ended_by c.args.side c.row_at-row.result) c.self.invariant.summed there (ended_keeps c.args.side c.row_at-row.result)
-
-pub settle-requires-clause-product_part : goal.settle-requires-clause-product_part
-settle-requires-clause-product_part c =
-    let there = rw c.deref.ensures.value at c.row_at-row.ensures in
-    product_part c.self.inside.sums.members c.self.inside.products c.self.inside.submitted c.self.inside.sums.products.items c.self.inside.sums.sold.items c.self.inside.sums.bought.items c.self.inside.rows.items c.args.trade c.row_at-row.result (row_ended_by c.args.side c.row_at-row.result) c.self.invariant.summed there (ended_keeps c.args.side c.row_at-row.result)
-
-pub settle-requires-clause-sold_part : goal.settle-requires-clause-sold_part
-settle-requires-clause-sold_part c =
-    let there = rw c.deref.ensures.value at c.row_at-row.ensures in
-    sold_part c.self.inside.sums.members c.self.inside.products c.self.inside.submitted c.self.inside.sums.products.items c.self.inside.sums.sold.items c.self.inside.sums.bought.items c.self.inside.rows.items c.args.trade c.row_at-row.result (row_ended_by c.args.side c.row_at-row.result) c.self.invariant.summed there (ended_keeps c.args.side c.row_at-row.result)
-
-pub settle-requires-clause-bought_part : goal.settle-requires-clause-bought_part
-settle-requires-clause-bought_part c =
-    let there = rw c.deref.ensures.value at c.row_at-row.ensures in
-    bought_part c.self.inside.sums.members c.self.inside.products c.self.inside.submitted c.self.inside.sums.products.items c.self.inside.sums.sold.items c.self.inside.sums.bought.items c.self.inside.rows.items c.args.trade c.row_at-row.result (row_ended_by c.args.side c.row_at-row.result) c.self.invariant.summed there (ended_keeps c.args.side c.row_at-row.result)
-
-pub settle-requires-clause-product_fits : goal.settle-requires-clause-product_fits
-settle-requires-clause-product_fits c =
-    let there = rw c.deref.ensures.value at c.row_at-row.ensures in
-    rw c.ended_by-asked.ensures (product_fits c.self.inside.sums.members c.self.inside.products c.self.inside.submitted c.self.inside.sums.products.items c.self.inside.sums.sold.items c.self.inside.sums.bought.items c.self.inside.rows.items c.args.trade c.row_at-row.result (row_ended_by c.args.side c.row_at-row.result) c.self.invariant.summed there (ended_keeps c.args.side c.row_at-row.result))
-
-pub settle-requires-clause-sold_fits : goal.settle-requires-clause-sold_fits
-settle-requires-clause-sold_fits c =
-    let there = rw c.deref.ensures.value at c.row_at-row.ensures in
-    rw c.ended_by-asked.ensures (sold_fits c.self.inside.sums.members c.self.inside.products c.self.inside.submitted c.self.inside.sums.products.items c.self.inside.sums.sold.items c.self.inside.sums.bought.items c.self.inside.rows.items c.args.trade c.row_at-row.result (row_ended_by c.args.side c.row_at-row.result) c.self.invariant.summed there (ended_keeps c.args.side c.row_at-row.result))
-
-pub settle-requires-clause-bought_fits : goal.settle-requires-clause-bought_fits
-settle-requires-clause-bought_fits c =
-    let there = rw c.deref.ensures.value at c.row_at-row.ensures in
-    rw c.ended_by-asked.ensures (bought_fits c.self.inside.sums.members c.self.inside.products c.self.inside.submitted c.self.inside.sums.products.items c.self.inside.sums.sold.items c.self.inside.sums.bought.items c.self.inside.rows.items c.args.trade c.row_at-row.result (row_ended_by c.args.side c.row_at-row.result) c.self.invariant.summed there (ended_keeps c.args.side c.row_at-row.result))
+    rw c.ended_by-asked.ensures (can_change c.self.inside.sums.members c.self.inside.products c.self.inside.submitted c.self.inside.sums c.self.inside.rows.items c.self.invariant.summed c.args.trade c.row_at-row.result (row_ended_by c.args.side c.row_at-row.result) there (ended_keeps c.args.side c.row_at-row.result))
 
 pub invariant_of-self : goal.invariant_of-self
 invariant_of-self c =
     let there = rw c.deref.ensures.value at c.row_at-row.ensures in
     record {
       summed =
-          rw (c.put_row.ensures.items, c.settle.ensures.members, c.settle.ensures.products, c.settle.ensures.sold, c.settle.ensures.bought, c.ended_by-asked.ensures)
-          (settled c.self.inside.sums.members c.self.inside.products c.self.inside.submitted c.self.inside.sums.products.items c.self.inside.sums.sold.items c.self.inside.sums.bought.items c.self.inside.rows.items c.args.trade c.row_at-row.result (row_ended_by c.args.side c.row_at-row.result) c.self.invariant.summed there (ended_keeps c.args.side c.row_at-row.result));
+          rw (c.put_row.ensures.items, c.ended_by-asked.ensures)
+          (changed_with_sums c.self.inside.sums.members c.self.inside.products c.self.inside.submitted c.self.inside.sums c.self.inside.rows.items c.self.invariant.summed c.args.trade c.row_at-row.result (row_ended_by c.args.side c.row_at-row.result) there (ended_keeps c.args.side c.row_at-row.result) c.settle.new.self c.settle.ensures.members_is (rw c.ended_by-asked.ensures at c.settle.ensures));
       linked =
-          rw (c.put_row.ensures.items, c.settle.ensures.members, c.ended_by-asked.ensures)
+          rw (c.put_row.ensures.items, c.settle.ensures.members_is, c.ended_by-asked.ensures)
           (linked_left c.self.inside.sums.members c.self.inside.products c.self.inside.links.by_product c.self.inside.links.by_pair c.self.inside.links.spare c.self.inside.rows.items c.self.invariant.linked c.leave.new.self.by_product c.leave.new.self.by_pair c.leave.new.self.spare c.args.trade c.row_at-row.result (row_ended_by c.args.side c.row_at-row.result) c.leave.ensures.products c.leave.ensures.pairs
           c.self.invariant.summed.book.trades there (not_counted (counts (row_ended_by c.args.side c.row_at-row.result).state) (rw c.ended_by-asked.ensures at c.if-has_ended.ensures)) c.leave.ensures.spare);
       room = omega (arith, c.put_row.ensures.len, c.put_row.ensures.capacity, c.self.invariant.room, c.leave.ensures.spare);
@@ -59,10 +29,10 @@ invariant_of-self-else-has_ended c =
     let there = rw c.deref.ensures.value at c.row_at-row.ensures in
     record {
       summed =
-          rw (c.put_row.ensures.items, c.settle.ensures.members, c.settle.ensures.products, c.settle.ensures.sold, c.settle.ensures.bought, c.ended_by-asked.ensures)
-          (settled c.self.inside.sums.members c.self.inside.products c.self.inside.submitted c.self.inside.sums.products.items c.self.inside.sums.sold.items c.self.inside.sums.bought.items c.self.inside.rows.items c.args.trade c.row_at-row.result (row_ended_by c.args.side c.row_at-row.result) c.self.invariant.summed there (ended_keeps c.args.side c.row_at-row.result));
+          rw (c.put_row.ensures.items, c.ended_by-asked.ensures)
+          (changed_with_sums c.self.inside.sums.members c.self.inside.products c.self.inside.submitted c.self.inside.sums c.self.inside.rows.items c.self.invariant.summed c.args.trade c.row_at-row.result (row_ended_by c.args.side c.row_at-row.result) there (ended_keeps c.args.side c.row_at-row.result) c.settle.new.self c.settle.ensures.members_is (rw c.ended_by-asked.ensures at c.settle.ensures));
       linked =
-          rw (c.put_row.ensures.items, c.settle.ensures.members, c.ended_by-asked.ensures)
+          rw (c.put_row.ensures.items, c.settle.ensures.members_is, c.ended_by-asked.ensures)
           (linked_kept c.self.inside.sums.members c.self.inside.products c.self.inside.links.by_product c.self.inside.links.by_pair c.self.inside.links.spare c.self.inside.rows.items c.self.invariant.linked c.args.trade c.row_at-row.result (row_ended_by c.args.side c.row_at-row.result) there (ended_keeps c.args.side c.row_at-row.result)
           (both_count c.row_at-row.result (row_ended_by c.args.side c.row_at-row.result) (ended_keeps c.args.side c.row_at-row.result) (rw c.ended_by-asked.ensures at c.if-has_ended.ensures)));
       room = omega (arith, c.put_row.ensures.len, c.put_row.ensures.capacity, c.self.invariant.room);

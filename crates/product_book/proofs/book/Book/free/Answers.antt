@@ -11,7 +11,7 @@ invariant_of-self c =
     record {
       summed =
           rw (c.put_row.ensures.items, c.with_hold.ensures)
-          (held_with_sums c.self.inside.sums.members c.self.inside.products c.self.inside.submitted c.self.inside.sums.products.items c.self.inside.sums.sold.items c.self.inside.sums.bought.items c.self.inside.rows.items c.self.invariant.summed c.args.trade c.row_at-row.result (row_with_hold false c.args.side c.row_at-row.result) there (hold_keeps false c.args.side c.row_at-row.result) (hold_state false c.args.side c.row_at-row.result));
+          (held_with_sums c.self.inside.sums.members c.self.inside.products c.self.inside.submitted c.self.inside.sums c.self.inside.rows.items c.self.invariant.summed c.args.trade c.row_at-row.result (row_with_hold false c.args.side c.row_at-row.result) there (hold_keeps false c.args.side c.row_at-row.result) (hold_state false c.args.side c.row_at-row.result));
       linked =
           rw (c.put_row.ensures.items, c.with_hold.ensures)
           (linked_kept c.self.inside.sums.members c.self.inside.products c.self.inside.links.by_product c.self.inside.links.by_pair c.self.inside.links.spare c.self.inside.rows.items c.self.invariant.linked c.args.trade c.row_at-row.result (row_with_hold false c.args.side c.row_at-row.result) there (hold_keeps false c.args.side c.row_at-row.result) (ap counts (hold_state false c.args.side c.row_at-row.result)));

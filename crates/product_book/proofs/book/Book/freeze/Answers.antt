@@ -17,7 +17,7 @@ pub invariant_of-self : goal.invariant_of-self
 invariant_of-self c =
     record {
       summed =
-          written_with_sums c.self.inside.sums.members c.self.inside.products c.self.inside.submitted c.self.inside.sums.products.items c.self.inside.sums.sold.items c.self.inside.sums.bought.items c.self.inside.rows.items c.self.invariant.summed c.self.inside.rows.len c.freeze.new.rows (row_by_choice c.args.products.now)
+          written_with_sums c.self.inside.sums.members c.self.inside.products c.self.inside.submitted c.self.inside.sums c.self.inside.rows.items c.self.invariant.summed c.self.inside.rows.len c.freeze.new.rows (row_by_choice c.args.products.now)
           (λ row. flag_keeps (is_live row.state && is_chosen c.args.products.now row.product) row) (λ row. refl) c.self.inside.rows.ok.0 (rw c.deref_mut.ensures.value at c.freeze.ensures.rows);
       linked =
           linked_written c.self.inside.sums.members c.self.inside.products c.self.inside.links.by_product c.self.inside.links.by_pair c.self.inside.links.spare c.self.inside.rows.items c.self.invariant.linked c.self.inside.rows.len c.freeze.new.rows (row_by_choice c.args.products.now)

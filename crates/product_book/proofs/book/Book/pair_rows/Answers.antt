@@ -1,6 +1,7 @@
 use Rattle.std.proofs.Common.{◌≡◌, ◌<◌, ◌∙◌, refl, sym, arith}
-use Rattle.product_book.specs.Links.{pair_place}
-use Rattle.product_book.proofs.LinkedFacts.{pair_numbers, place_low, live_pair, no_live}
+use Rattle.product_book.specs.Kept.{pair_place}
+use Rattle.product_book.proofs.LinkedFacts.{pair_numbers, live_pair, no_live}
+use Rattle.product_book.proofs.PairFacts.{place_low}
 use Rattle.product_book.proofs.book.Book.pair_rows.Goals as goal
 
 pub live_in-requires : goal.live_in-requires
