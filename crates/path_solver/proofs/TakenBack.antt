@@ -64,3 +64,13 @@ one_back old flows surplus lack k f h l is in_s in_b =
       few_to_send = λ i. omega (arith, h.few_to_send i, less, amount_more surplus f.seller x i in_s, share_le x i f.seller);
       few_to_receive = λ i. omega (arith, h.few_to_receive i, less, amount_more lack f.buyer x i in_b, share_le x i f.buyer);
     }
+
+-- a pair has nothing to be taken back
+pub none_back : (old flows : List Flow) (surplus lack : List ℕ) (k : ℕ) → IsTakenBack old flows surplus lack k → (flow_at flows k).back ≡ 0 → IsTakenBack old flows surplus lack (k + 1)
+none_back old flows surplus lack k h none = record {
+  pairs = h.pairs;
+  lowest = λ j lj. ⊎_elim (λ (e : j ≡ k). ap (λ y. (flow_at flows y).back) e ∙ none) (λ (ne : j ≢ k). h.lowest j (omega arith)) (cases_eq j k);
+  owed = h.owed;
+  few_to_send = h.few_to_send;
+  few_to_receive = h.few_to_receive;
+}

@@ -36,9 +36,11 @@ fn take_back(residual: &mut Residual, surplus: &mut [u64], lack: &mut [u64])
 {
     for pair in 0..residual.flows().len() {
         let flow = residual.flows()[pair];
-        residual.push(2 * pair as u32 + 1, flow.back);
-        surplus[flow.seller as usize] += flow.back;
-        lack[flow.buyer as usize] += flow.back;
+        if flow.back > 0 {
+            residual.push(2 * pair as u32 + 1, flow.back);
+            surplus[flow.seller as usize] += flow.back;
+            lack[flow.buyer as usize] += flow.back;
+        }
     }
 }
 

@@ -1,4 +1,5 @@
 pub mod Residual
 pub mod Arcs
 pub mod Labels
+pub mod NextRow
 pub mod Built

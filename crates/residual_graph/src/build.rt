@@ -1,14 +1,13 @@
 //! From limit rows to pairs, and from pairs to the rows of a network.
 
-ghost use Rattle.std.specs.Prelude.{◌≡◌, ℕ, ◌<◌, ◌≤◌, length, slice_index_or, map, filter, All, IfOk};
-ghost use Rattle.network_laws.specs.declared.rows.Row.{Row};
-ghost use Rattle.network_laws.specs.Networks.{IsRising, IsCursor, place};
-ghost use Rattle.network_laws.specs.Limits.{IsRisingLimits, limit_place};
+ghost use Rattle.std.specs.Prelude.{◌≡◌, ◌≤◌, map, filter, All, IfOk};
+ghost use Rattle.network_laws.specs.Limits.{IsRisingLimits};
 ghost use Rattle.residual_graph.specs.Residual.{capped, flow_with, flow_of, flow_rows, has_amount, IsFlow};
 ghost use Rattle.residual_graph.specs.Built.{IsBetween, IsSmall};
 
 use crate::flow::Flow;
-use network_laws::{LimitRow, Network, Row, amount_at};
+use crate::next_row::{NextRow, place_of};
+use network_laws::{LimitRow, Network, Row};
 use std::alloc::{AllocError, Global};
 
 /// A pair for each limit row, with the network's amount. The network's rows are walked in step.
@@ -25,36 +24,17 @@ pub fn flows_of(
 {
     let sales = network.rows();
     let mut flows = Vec::with_capacity(alloc, rows.len())?;
-    let mut at = 0;
+    let mut next = NextRow::search(sales, 0, 0);
     for row in rows {
-        at = cursor_from(sales, at, *row);
-        let amount = amount_at(sales, at, row.seller, row.buyer);
-        flows.push(flow_of(*row, amount, cap))?;
+        next = next.moved_to(sales, place_of(row.seller, row.buyer));
+        let amount = next.amount(sales, row.seller, row.buyer);
+        flows.push_reserved(flow_of(*row, amount, cap));
     }
     Ok(flows)
 }
 
-/// The cursor of a limit row's pair, from that of an earlier pair on.
-fn cursor_from(sales: &[Row], from: usize, limit: LimitRow) -> usize
-    requires rising { IsRising sales.now }
-    requires from { from ≤ length sales.now }
-    requires before { (k : ℕ) (d : Row) → k < from → place (slice_index_or sales.now k d) < limit_place limit }
-    ensures end { result ≤ length sales.now }
-    ensures cursor { IsCursor sales.now result (limit_place limit) }
-{
-    let wanted = limit.seller as u32 * 65536 + limit.buyer as u32;
-    let mut at = from;
-    while at < sales.len() {
-        let row = sales[at];
-        if row.seller as u32 * 65536 + row.buyer as u32 >= wanted {
-            break;
-        }
-        at += 1;
-    }
-    at
-}
-
 /// The pair of a limit row with an amount.
+#[inline(always)]
 fn flow_of(row: LimitRow, amount: u64, cap: u64) -> Flow
     requires low { row.lower ≤ amount }
     requires high { amount ≤ capped cap row.upper }

@@ -6,6 +6,7 @@
 mod arcs;
 mod build;
 mod flow;
+mod next_row;
 mod residual;
 
 pub use flow::Flow;

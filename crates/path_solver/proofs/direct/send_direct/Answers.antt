@@ -32,23 +32,23 @@ loop-pair-preserved c =
     elim c.if-amount-gt0.branch [
       | then-amount-gt0 w ↦
           let some = w.if-amount-gt0.true in
-          let sends = c.requires.senders f.seller (inv.senders f.seller (omega (arith, some, c.min-amount.ensures, c.min-both.ensures))) in
-          let receives = c.requires.receivers f.buyer (inv.receivers f.buyer (omega (arith, some, c.min-amount.ensures, c.min-both.ensures))) in
-          let one = sent_straight p c.loop-pair.residual w.push.new.self c.loop-pair.surplus c.loop-pair.lack k f.seller f.buyer c.min-amount.result in_k (sym at_s) (sym at_b)
-          (omega (arith, c.min-amount.ensures, ap (λ (g : Flow). g.room) at))
+          let sends = c.requires.senders f.seller (inv.senders f.seller (omega (arith, some, c.straight_amount-amount.ensures))) in
+          let receives = c.requires.receivers f.buyer (inv.receivers f.buyer (omega (arith, some, c.straight_amount-amount.ensures))) in
+          let one = sent_straight p c.loop-pair.residual w.push.new.self c.loop-pair.surplus c.loop-pair.lack k f.seller f.buyer c.straight_amount-amount.result in_k (sym at_s) (sym at_b)
+          (omega (arith, c.straight_amount-amount.ensures, ap (λ (g : Flow). g.room) at))
           some
           (omega (arith, sends, receives))
           (omega (arith, good.seller, at_s, inv.members, c.loop-pair.auto.surplus, c.requires.surplus))
           (omega (arith, good.buyer, at_b, inv.members, c.loop-pair.auto.lack, c.requires.lack))
           (omega (arith, good.buyer, at_b, inv.members, c.requires.prices))
-          (omega (arith, c.min-amount.ensures, c.min-both.ensures))
-          (omega (arith, c.min-amount.ensures, c.min-both.ensures))
+          (omega (arith, c.straight_amount-amount.ensures))
+          (omega (arith, c.straight_amount-amount.ensures))
           (ap (λ (r : ResidualData). r.members) w.push.ensures)
           (ap (λ (r : ResidualData). r.flows) w.push.ensures) in
-          let all = sent_more p old c.loop-pair.residual w.push.new.self s l c.loop-pair.surplus c.loop-pair.lack (set c.loop-pair.surplus f.seller (get_or c.loop-pair.surplus f.seller 0 - c.min-amount.result)) (set c.loop-pair.lack f.buyer (get_or c.loop-pair.lack f.buyer 0 - c.min-amount.result)) inv one in
+          let all = sent_more p old c.loop-pair.residual w.push.new.self s l c.loop-pair.surplus c.loop-pair.lack (set c.loop-pair.surplus f.seller (get_or c.loop-pair.surplus f.seller 0 - c.straight_amount-amount.result)) (set c.loop-pair.lack f.buyer (get_or c.loop-pair.lack f.buyer 0 - c.straight_amount-amount.result)) inv one in
           subst (λ r. IsSentAlong p old r s l c.if-amount-gt0.surplus c.if-amount-gt0.lack) (sym w.residual-is)
           (subst (λ xs. IsSentAlong p old w.push.new.self s l xs c.if-amount-gt0.lack) (sym w.surplus-is)
-          (subst (IsSentAlong p old w.push.new.self s l (set c.loop-pair.surplus f.seller (get_or c.loop-pair.surplus f.seller 0 - c.min-amount.result))) (sym w.lack-is) all))
+          (subst (IsSentAlong p old w.push.new.self s l (set c.loop-pair.surplus f.seller (get_or c.loop-pair.surplus f.seller 0 - c.straight_amount-amount.result))) (sym w.lack-is) all))
       | else-amount-gt0 w ↦
           subst (λ r. IsSentAlong p old r s l c.if-amount-gt0.surplus c.if-amount-gt0.lack) (sym w.residual-is)
           (subst (λ xs. IsSentAlong p old c.loop-pair.residual s l xs c.if-amount-gt0.lack) (sym w.surplus-is)

@@ -4,12 +4,13 @@ use Rattle.residual_graph.specs.declared.flow.Flow.{Flow}
 use Rattle.residual_graph.specs.Residual.{ResidualData}
 use Rattle.residual_graph.specs.Arcs.{flow_at, no_flow, pushed}
 use Rattle.residual_graph.proofs.Kept.{few_pairs}
-use Rattle.path_solver.proofs.TakenBack.{IsTakenBack, one_back, back_le}
+use Rattle.path_solver.proofs.TakenBack.{IsTakenBack, one_back, none_back, back_le}
 use Rattle.path_solver.proofs.lowest.take_back.Goals as goal
+use Rattle.path_solver.proofs.lowest.take_back.Goals.{then-flow-gt0, else-flow-gt0}
 
 pub bounds-flows-pair : goal.bounds-flows-pair
 bounds-flows-pair c =
-    omega (arith, c.loop-pair-test.true, ap length c.flows.ensures.value, ap length c.flows-pair-end.ensures.value, c.loop-pair.invariant.pairs.same_length)
+    omega (arith, c.loop-pair-test.true, ap length c.flows.ensures.value, ap length c.flows-pair-end.ensures.value, c.loop-pair.invariant.taken.pairs.same_length)
 
 pub overflow_cast-pair : goal.overflow_cast-pair
 overflow_cast-pair c = omega (arith, c.loop-pair-test.true, ap length c.flows-pair-end.ensures.value, few_pairs c.args.residual.now c.flows-pair-end.ensures.residual)
@@ -24,29 +25,48 @@ pub overflow_add-surplus : goal.overflow_add-surplus
 overflow_add-surplus c =
     let f = get_or c.flows.result.now c.loop-pair.pair no_flow in
     let at : get_or c.flows.result.now c.loop-pair.pair no_flow ≡ flow_at c.loop-pair.residual.flows c.loop-pair.pair = ap (λ (fs : List Flow). get_or fs c.loop-pair.pair no_flow) c.flows.ensures.value in
-    let l : c.loop-pair.pair < length c.loop-pair.residual.flows = omega (arith, c.loop-pair-test.true, ap length c.flows-pair-end.ensures.value, c.loop-pair.invariant.pairs.same_length) in
+    let l : c.loop-pair.pair < length c.loop-pair.residual.flows = omega (arith, c.loop-pair-test.true, ap length c.flows-pair-end.ensures.value, c.loop-pair.invariant.taken.pairs.same_length) in
     let le = back_le c.loop-pair.residual.flows c.loop-pair.pair l in
-    omega (arith, le, ap (λ (g : Flow). g.back) at, c.loop-pair.invariant.few_to_send f.seller, c.requires.gross)
+    omega (arith, le, ap (λ (g : Flow). g.back) at, c.loop-pair.invariant.taken.few_to_send f.seller, c.requires.gross)
 
 pub overflow_add-lack : goal.overflow_add-lack
 overflow_add-lack c =
     let f = get_or c.flows.result.now c.loop-pair.pair no_flow in
     let at : get_or c.flows.result.now c.loop-pair.pair no_flow ≡ flow_at c.loop-pair.residual.flows c.loop-pair.pair = ap (λ (fs : List Flow). get_or fs c.loop-pair.pair no_flow) c.flows.ensures.value in
-    let l : c.loop-pair.pair < length c.loop-pair.residual.flows = omega (arith, c.loop-pair-test.true, ap length c.flows-pair-end.ensures.value, c.loop-pair.invariant.pairs.same_length) in
+    let l : c.loop-pair.pair < length c.loop-pair.residual.flows = omega (arith, c.loop-pair-test.true, ap length c.flows-pair-end.ensures.value, c.loop-pair.invariant.taken.pairs.same_length) in
     let le = back_le c.loop-pair.residual.flows c.loop-pair.pair l in
-    omega (arith, le, ap (λ (g : Flow). g.back) at, c.loop-pair.invariant.few_to_receive f.buyer, c.requires.gross)
+    omega (arith, le, ap (λ (g : Flow). g.back) at, c.loop-pair.invariant.taken.few_to_receive f.buyer, c.requires.gross)
+
+-- what was taken back, by other names
+named : (old flows flows' : List Flow) (s s' l l' : List ℕ) (n : ℕ) → flows' ≡ flows → s' ≡ s → l' ≡ l → IsTakenBack old flows s l n → IsTakenBack old flows' s' l' n
+named old flows flows' s s' l l' n is_f is_s is_l h =
+    subst (λ fs. IsTakenBack old fs s' l' n) (sym is_f) (subst (λ xs. IsTakenBack old flows xs l' n) (sym is_s) (subst (λ xs. IsTakenBack old flows s xs n) (sym is_l) h))
 
 pub loop-pair-preserved : goal.loop-pair-preserved
 loop-pair-preserved c =
     let inv = c.loop-pair.invariant in
+    let k = c.loop-pair.pair in
+    let start = c.args.residual.now.flows in
+    let flows = c.loop-pair.residual.flows in
+    let sends = c.loop-pair.surplus in
+    let lacks = c.loop-pair.lack in
     let f = get_or c.flows.result.now c.loop-pair.pair no_flow in
     let at : get_or c.flows.result.now c.loop-pair.pair no_flow ≡ flow_at c.loop-pair.residual.flows c.loop-pair.pair = ap (λ (fs : List Flow). get_or fs c.loop-pair.pair no_flow) c.flows.ensures.value in
-    let l : c.loop-pair.pair < length c.loop-pair.residual.flows = omega (arith, c.loop-pair-test.true, ap length c.flows-pair-end.ensures.value, inv.pairs.same_length) in
+    let l : c.loop-pair.pair < length c.loop-pair.residual.flows = omega (arith, c.loop-pair-test.true, ap length c.flows-pair-end.ensures.value, inv.taken.pairs.same_length) in
     let good = c.flows.ensures.residual.good c.loop-pair.pair no_flow l in
-    let old : IsTakenBack c.args.residual.now.flows c.loop-pair.residual.flows c.loop-pair.surplus c.loop-pair.lack c.loop-pair.pair = record { pairs = inv.pairs; lowest = inv.lowest; owed = inv.owed; few_to_send = inv.few_to_send; few_to_receive = inv.few_to_receive } in
-    let new = one_back c.args.residual.now.flows c.loop-pair.residual.flows c.loop-pair.surplus c.loop-pair.lack c.loop-pair.pair f old l at
-    (omega (arith, good.seller, ap (λ (g : Flow). g.seller) at, inv.members, c.loop-pair.auto.surplus, ap length c.requires.surplus, length-replicate {A = ℕ} c.args.residual.now.members 0))
-    (omega (arith, good.buyer, ap (λ (g : Flow). g.buyer) at, inv.members, c.loop-pair.auto.lack, ap length c.requires.lack, length-replicate {A = ℕ} c.args.residual.now.members 0)) in
-    let now : c.push.new.self.flows ≡ pushed f.back c.loop-pair.residual.flows (2 * c.loop-pair.pair + 1) = ap (λ (r : ResidualData). r.flows) c.push.ensures in
-    let all = subst (λ (fs : List Flow). IsTakenBack c.args.residual.now.flows fs (set c.loop-pair.surplus f.seller (get_or c.loop-pair.surplus f.seller 0 + f.back)) (set c.loop-pair.lack f.buyer (get_or c.loop-pair.lack f.buyer 0 + f.back)) (c.loop-pair.pair + 1)) (sym now) new in
-    record { members = ap (λ (r : ResidualData). r.members) c.push.ensures ∙ inv.members; pairs = all.pairs; lowest = all.lowest; owed = all.owed; few_to_send = all.few_to_send; few_to_receive = all.few_to_receive }
+    elim c.if-flow-gt0.branch [
+      | then-flow-gt0 w ↦
+          let one = one_back start flows sends lacks k f inv.taken l at
+          (omega (arith, good.seller, ap (λ (g : Flow). g.seller) at, inv.members, c.loop-pair.auto.surplus, ap length c.requires.surplus, length-replicate {A = ℕ} c.args.residual.now.members 0))
+          (omega (arith, good.buyer, ap (λ (g : Flow). g.buyer) at, inv.members, c.loop-pair.auto.lack, ap length c.requires.lack, length-replicate {A = ℕ} c.args.residual.now.members 0)) in
+          record {
+            members = ap (λ (r : ResidualData). r.members) w.residual-is ∙ ap (λ (r : ResidualData). r.members) w.push.ensures ∙ inv.members;
+            taken = named start (pushed f.back flows (2 * k + 1)) c.if-flow-gt0.residual.flows (set sends f.seller (get_or sends f.seller 0 + f.back)) c.if-flow-gt0.surplus (set lacks f.buyer (get_or lacks f.buyer 0 + f.back)) c.if-flow-gt0.lack (k + 1)
+            (ap (λ (r : ResidualData). r.flows) w.residual-is ∙ ap (λ (r : ResidualData). r.flows) w.push.ensures) w.surplus-is w.lack-is one;
+          }
+      | else-flow-gt0 w ↦ record {
+        members = ap (λ (r : ResidualData). r.members) w.residual-is ∙ inv.members;
+        taken = named start flows c.if-flow-gt0.residual.flows sends c.if-flow-gt0.surplus lacks c.if-flow-gt0.lack (k + 1) (ap (λ (r : ResidualData). r.flows) w.residual-is) w.surplus-is w.lack-is
+        (none_back start flows sends lacks k inv.taken (omega (arith, w.if-flow-gt0.false, ap (λ (g : Flow). g.back) at)));
+      }
+    ]
