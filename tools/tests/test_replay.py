@@ -1,11 +1,13 @@
-"""A replay of the real file: beside a program that has it locked, of one that is not there, and of a folder."""
+"""A replay of the real file: beside a program that has it locked or writes to it, of one that is not there, and of a folder."""
 
 import fcntl
 import tempfile
+import threading
 import unittest
 from pathlib import Path
 
 from running import EXAMPLES, Ran, program, run
+from serving import InService
 
 ROSTER = EXAMPLES / "roster.csv"
 
@@ -47,6 +49,39 @@ class Replay(unittest.TestCase):
 
     def test_a_folder_is_a_fault_of_the_disk(self) -> None:
         self.assertEqual(replay(self.journal.parent), Ran(6, b"", b"disk fault\n"))
+
+
+def of_trades(count: int) -> bytes:
+    """What a replay tells of A's first so many trades, of 1, 2 and so on to B."""
+    rows = "".join(f"trade {number} A B P {number} 2026-03-02 alleged -\n" for number in range(1, count + 1))
+    return f"member A {count}\n{rows}member B {count}\n{rows}member C 0\nend {count}\n".encode()
+
+
+class Beside(InService):
+    def test_a_journal_that_a_service_writes_to_meanwhile(self) -> None:
+        """Each replay tells the trades up to one, of which all were asked for, and all that were acknowledged before it."""
+        self.start("--seats", "1")
+        session = self.session("A")
+        asked = acknowledged = 0
+
+        def trade() -> None:
+            nonlocal asked, acknowledged
+            for asked in range(1, 1501):
+                acknowledged = session.trade("A", "B", "P", asked, "2026-03-02").position
+
+        thread = threading.Thread(target=trade)
+        thread.start()
+        counts: list[int] = []
+        while thread.is_alive():
+            least = acknowledged
+            ran = replay(self.journal)
+            count = int(ran.output.rsplit(maxsplit=1)[-1])
+            self.assertTrue(least <= count <= asked, (least, count, asked))
+            self.assertEqual(ran, Ran(0, of_trades(count), b""))
+            counts.append(count)
+        self.assertEqual(counts, sorted(counts))
+        self.assertGreater(len(set(counts)), 2)
+        self.assertEqual(replay(self.journal), Ran(0, of_trades(1500), b""))
 
 
 if __name__ == "__main__":
