@@ -1,2 +1,2 @@
 pub mod Words
-mod Sizes
+pub mod Sizes

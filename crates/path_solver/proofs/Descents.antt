@@ -1,15 +1,12 @@
 -- Walks down the levels.
-use Rattle.std.proofs.Common.{◌≡◌, ◌≢◌, ℕ, ◌+◌, ◌<◌, ◌≤◌, List, [], ◌∷◌, ◌++◌, length, get_or, Option, None, refl, sym, ap, ◌∙◌, subst, arith, ⊎_elim}
-use Rattle.std.specs.Prelude.{All, AllPairs, IsSome}
+use Rattle.std.proofs.Common.{◌≡◌, ◌≢◌, ℕ, ◌+◌, ◌<◌, ◌≤◌, List, [], ◌∷◌, ◌++◌, length, get_or, refl, sym, ap, ◌∙◌, subst, arith, ⊎_elim}
+use Rattle.std.specs.Prelude.{All, AllPairs}
 use Rattle.std.proofs.lemmas.Bool.{cases_eq}
 use Rattle.std.proofs.lemmas.List.{get_or_append_left, get_or_push, length_push}
 use Rattle.residual_graph.specs.declared.flow.Flow.{Flow}
-use Rattle.residual_graph.specs.Residual.{ResidualData}
 use Rattle.residual_graph.specs.Arcs.{arc_count, head, tail}
-use Rattle.path_solver.specs.declared.exits.Exit.{Exit}
 use Rattle.path_solver.specs.Prices.{IsOpen}
-use Rattle.path_solver.specs.Exits.{AreExits, exits_at, exit_in}
-use Rattle.path_solver.specs.Levels.{IsReached, AreLevels, LeadsDown}
+use Rattle.path_solver.specs.Levels.{LeadsDown}
 use Rattle.path_solver.specs.Paths.{IsWalkBack, IsPathDown}
 
 walk_push : (flows : List Flow) (w : ℕ) (arcs : List ℕ) (v a : ℕ) → IsWalkBack flows w arcs v → head flows a ≡ v → a < arc_count flows → IsWalkBack flows w (arcs ++ a ∷ []) (tail flows a)
@@ -60,21 +57,3 @@ path_none flows p levels lack here receives member = record {
   receives = receives;
   member = member;
 }
-
--- some exit of a reached member that does not receive leads down
-pub some_leads_down : (r : ResidualData) (p levels lack : List ℕ) (exits : List (List Exit)) (here : ℕ) → AreExits r exits → AreLevels r.flows p lack levels → here < length levels → IsReached levels here → get_or lack here 0 ≤ 0 → ((x : ℕ) → x < length (exits_at exits here) → LeadsDown r.flows p levels here (exit_in (exits_at exits here) x).arc → ⊥) → ⊥
-some_leads_down r p levels lack exits here are h inside reached none tried =
-    ⊎_elim (λ (e : get_or levels here 0 ≡ 0). omega (arith, h.lowest here inside e))
-    (λ (ne : get_or levels here 0 ≢ 0).
-    let d = h.down here inside reached (omega arith) in
-    let has = are.whole d.0 d.1.arc in
-    let own = ap (exits_at exits) d.1.tail in
-    tried has.0 (subst (λ l. has.0 < length l) own has.1)
-    (subst (LeadsDown r.flows p levels here) (sym has.2 ∙ ap (λ l. (exit_in l has.0).arc) own) d.1))
-    (cases_eq (get_or levels here 0) 0)
-
-pub none_is_not_some : (o : Option ℕ) → o ≡ None → IsSome o → ⊥
-none_is_not_some o e h = let x : IsSome {T = ℕ} None = subst IsSome e h in absurd_none x
-  where
-    absurd_none : IsSome {T = ℕ} None → ⊥
-    absurd_none x = cc

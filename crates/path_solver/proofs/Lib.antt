@@ -6,7 +6,11 @@ pub mod Straight
 pub mod Shortest
 pub mod Cuts
 pub mod Pigeons
-pub mod OneMoreExit
+pub mod Ends
+pub mod Turned
+pub mod Numbers
+pub mod Ways
+pub mod Trails
 pub mod Twins
 pub mod Spreads
 pub mod TakenBack

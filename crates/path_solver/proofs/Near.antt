@@ -13,26 +13,26 @@ use Rattle.path_solver.specs.Entries.{entry_at, AreEntries, IsOpenTwin, is_open_
 use Rattle.path_solver.specs.Groups.{group_at, AreGroups}
 
 -- the arc of a pair that leaves its buyer
-record Back (flows : List Flow) (k : ℕ) : Type 0 where
+pub record Back (flows : List Flow) (k : ℕ) : Type 0 where
   pub pair_is : pair (2 * k + 1) ≡ k
   pub tail_is : tail flows (2 * k + 1) ≡ (flow_at flows k).buyer
   pub head_is : head flows (2 * k + 1) ≡ (flow_at flows k).seller
   pub twin_is : twin_room flows (2 * k + 1) ≡ (flow_at flows k).room
 
-back : (flows : List Flow) (k : ℕ) → Back flows k
+pub back : (flows : List Flow) (k : ℕ) → Back flows k
 back flows k =
     let e : (2 * k + 1) / 2 ≡ k = omega arith in
     let b : eqb ((2 * k + 1) % 2) 0 ≡ false = ne_eqb ((2 * k + 1) % 2) 0 (λ q. omega (arith, q)) in
     record { pair_is = e; tail_is = rw (b, e) refl; head_is = rw (b, e) refl; twin_is = rw (b, e) refl }
 
 -- the arc of a pair that leaves its seller
-record Forth (flows : List Flow) (k : ℕ) : Type 0 where
+pub record Forth (flows : List Flow) (k : ℕ) : Type 0 where
   pub pair_is : pair (2 * k) ≡ k
   pub tail_is : tail flows (2 * k) ≡ (flow_at flows k).seller
   pub head_is : head flows (2 * k) ≡ (flow_at flows k).buyer
   pub twin_is : twin_room flows (2 * k) ≡ (flow_at flows k).back
 
-forth : (flows : List Flow) (k : ℕ) → Forth flows k
+pub forth : (flows : List Flow) (k : ℕ) → Forth flows k
 forth flows k =
     let e : (2 * k) / 2 ≡ k = omega arith in
     let b : eqb ((2 * k) % 2) 0 ≡ true = eq-eqb ((2 * k) % 2) 0 (omega arith) in
@@ -77,7 +77,7 @@ module _ (r : ResidualData) (p : List ℕ) (entries : List Entry) (groups : List
         | inr buying ↦ let both = and_parts (has (entry_at entries here).buyers u) (has (group_at groups (get_or p here 0)) u) buying in from_buyer u both.0 both.1
       ]
 
-  of_forward : (k : ℕ) → k < length r.flows → (flow_at r.flows k).buyer ≡ here → 0 < (flow_at r.flows k).room → IsTight p (flow_at r.flows k) → is_open_to entries groups (get_or p here 0) here (flow_at r.flows k).seller ≡ true
+  pub of_forward : (k : ℕ) → k < length r.flows → (flow_at r.flows k).buyer ≡ here → 0 < (flow_at r.flows k).room → IsTight p (flow_at r.flows k) → is_open_to entries groups (get_or p here 0) here (flow_at r.flows k).seller ≡ true
   of_forward k l buyer some tight =
       let u = (flow_at r.flows k).seller in
       let good = residual.good k no_flow l in
@@ -88,7 +88,7 @@ module _ (r : ResidualData) (p : List ℕ) (entries : List Entry) (groups : List
       or_left (has (entry_at entries here).sellers u && has (group_at groups (get_or p here 0 + 2)) u) (has (entry_at entries here).buyers u && has (group_at groups (get_or p here 0)) u)
       (and_from (has (entry_at entries here).sellers u) (has (group_at groups (get_or p here 0 + 2)) u) known grouped)
 
-  of_backward : (k : ℕ) → k < length r.flows → (flow_at r.flows k).seller ≡ here → 0 < (flow_at r.flows k).back → IsTight p (flow_at r.flows k) → is_open_to entries groups (get_or p here 0) here (flow_at r.flows k).buyer ≡ true
+  pub of_backward : (k : ℕ) → k < length r.flows → (flow_at r.flows k).seller ≡ here → 0 < (flow_at r.flows k).back → IsTight p (flow_at r.flows k) → is_open_to entries groups (get_or p here 0) here (flow_at r.flows k).buyer ≡ true
   of_backward k l seller some tight =
       let u = (flow_at r.flows k).buyer in
       let good = residual.good k no_flow l in

@@ -9,7 +9,7 @@ use Rattle.path_solver.specs.declared.entries.Entry.{Entry}
 use Rattle.path_solver.specs.Entries.{entry_at, AreEntriesTo, IsNoted}
 
 -- two pairs of the same members are one
-one_pair : (flows : List Flow) → AreRising flows → (j k : ℕ) → j < length flows → k < length flows
+pub one_pair : (flows : List Flow) → AreRising flows → (j k : ℕ) → j < length flows → k < length flows
     → (flow_at flows j).seller ≡ (flow_at flows k).seller → (flow_at flows j).buyer ≡ (flow_at flows k).buyer → j ≡ k
 one_pair flows rising j k lj lk seller buyer =
     elim (cases_order j k) [

@@ -2,13 +2,10 @@
 use Rattle.std.proofs.Common.{◌≡◌, ◌≢◌, ℕ, ◌+◌, ◌<◌, ◌≤◌, Bool, true, false, List, length, get_or, refl, sym, ap, ◌∙◌, subst, arith, ⊎_elim, length-set, get_or-set_same, get_or-set_other}
 use Rattle.std.proofs.lemmas.Bool.{cases_eq}
 use Rattle.residual_graph.specs.declared.flow.Flow.{Flow}
-use Rattle.residual_graph.specs.Residual.{ResidualData}
 use Rattle.residual_graph.specs.Arcs.{arc_count, pair, is_forward, no_flow, flow_at, room, room_in, head, head_in, tail, tail_in, moved, pushed}
 use Rattle.residual_graph.proofs.Kept.{pair_below}
-use Rattle.path_solver.specs.declared.exits.Exit.{Exit}
 use Rattle.path_solver.specs.Prices.{IsTight, IsPriced, ArePrices}
 use Rattle.path_solver.specs.Rests.{IsSamePair, AreSamePairs}
-use Rattle.path_solver.specs.Exits.{AreExits, exits_at, exit_in}
 
 pub same_refl : (flows : List Flow) → AreSamePairs flows flows
 same_refl flows = record { same_length = refl; each = λ k l. record { seller = refl; buyer = refl; lower = refl; most = refl } }
@@ -62,22 +59,6 @@ same_ends old new h a l = tail_same (flow_at old (pair a)) (flow_at new (pair a)
 
 pub same_tight : (p : List ℕ) (f g : Flow) → IsSamePair f g → IsTight p f → IsTight p g
 same_tight p f g h t = ap (λ v. get_or p v 0) h.seller ∙ t ∙ ap (λ v. get_or p v 0 + 1) (sym h.buyer)
-
-pub exits_kept : (old new : ResidualData) (exits : List (List Exit)) → new.members ≡ old.members → AreSamePairs old.flows new.flows → AreExits old exits → AreExits new exits
-exits_kept old new exits members same h = record {
-  one_each = h.one_each ∙ sym members;
-  own = λ v x l.
-      let e = h.own v x l in
-      let ends = same_ends old.flows new.flows same (exit_in (exits_at exits v) x).arc e.arc in
-      record { arc = omega (arith, e.arc, same.same_length); tail = ends.0 ∙ e.tail; head = ends.1 ∙ e.head };
-  heads = λ v x l. omega (arith, h.heads v x l, members);
-  whole = λ a l.
-      let in_old : a < arc_count old.flows = omega (arith, same.same_length) in
-      let ends = same_ends old.flows new.flows same a in_old in
-      let has = h.whole a in_old in
-      let at_new : exits_at exits (tail old.flows a) ≡ exits_at exits (tail new.flows a) = ap (exits_at exits) (sym ends.0) in
-      (has.0, subst (λ own. has.0 < length own) at_new has.1, ap (λ own. (exit_in own has.0).arc) (sym at_new) ∙ has.2);
-}
 
 moved_priced : (x : ℕ) (p : List ℕ) (f : Flow) (b : Bool) → IsTight p f → IsPriced p (moved x b f)
 moved_priced x p f true t = record { growing = λ _. omega (arith, t); falling = λ _. omega (arith, t) }

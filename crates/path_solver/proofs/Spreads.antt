@@ -1,9 +1,9 @@
 -- A search goes on by a level.
-use Rattle.std.proofs.Common.{◌≡◌, ℕ, ◌+◌, ◌<◌, ◌≤◌, ◌↔◌, true, false, not, ◌&&◌, ◌||◌, List, length, get_or, refl, sym, ap, ◌∙◌, subst, arith, inl, inr, true≢false}
+use Rattle.std.proofs.Common.{◌≡◌, ℕ, ◌+◌, ◌<◌, ◌≤◌, ◌↔◌, true, false, not, ◌&&◌, ◌||◌, List, length, get_or, set, refl, sym, ap, ◌∙◌, subst, arith, inl, inr, true≢false, get_or-set_same, get_or-set_other}
 use Rattle.std.proofs.lemmas.Bool.{cases_eq, cases_lt, cases_Bool, and_parts, and_from, not-true, or_cases, or_left, or_right, false_from_ne_true}
 use Rattle.std.proofs.lemmas.List.{get_or_past}
 use Rattle.member_set.specs.declared.set.MemberSet.{MemberSet}
-use Rattle.member_set.specs.Members.{has}
+use Rattle.member_set.specs.Members.{has, no_members}
 use Rattle.residual_graph.specs.declared.flow.Flow.{Flow}
 use Rattle.residual_graph.specs.Residual.{ResidualData, IsResidual}
 use Rattle.residual_graph.specs.Arcs.{arc_count, flow_at, head, tail}
@@ -12,9 +12,9 @@ use Rattle.path_solver.specs.Prices.{IsTight, IsOpen}
 use Rattle.path_solver.specs.Entries.{AreEntries, IsOpenInto, is_open_to}
 use Rattle.path_solver.specs.Groups.{AreGroups}
 use Rattle.path_solver.specs.Rests.{HaveSome}
-use Rattle.path_solver.specs.Levels.{IsReached, LeadsDown, AreLevels, AreFewest, AreShortest, AreCut, IsSource}
+use Rattle.path_solver.specs.Levels.{IsReached, LeadsDown, AreLevels, AreFewest, AreShortest, AreCut, IsSource, layer_at, AreLayers, AreWholeLayers}
 use Rattle.path_solver.proofs.Near.{near_open, open_near}
-use Rattle.path_solver.proofs.OneMoreExit.{ends_in}
+use Rattle.path_solver.proofs.Ends.{ends_in}
 use Rattle.path_solver.proofs.Pigeons.{few_values, IsTaken}
 use Rattle.path_solver.proofs.Twins.{twin_of}
 
@@ -197,6 +197,35 @@ module _ (r : ResidualData) (p surplus lack levels new : List ℕ) (level : ℕ)
         down = λ v l is above. down_more v (omega (arith, l, h.one_each, one_each)) is above;
       },
     )
+
+    -- they are the layer of this level
+    pub layers_more : (layers : List MemberSet) → level < length layers → AreLayers levels layers level → AreLayers new (set layers level some) (level + 1)
+    layers_more layers long old k v lt on =
+        elim (cases_eq k level) [
+          | inl e ↦
+              let here : has some v ≡ true = ap (λ s. has s v) (sym (get_or-set_same layers level some no_members long)) ∙ subst (λ i. has (layer_at (set layers level some) i) v ≡ true) e on in
+              (omega (arith, h.next.member v (subset v here), h.one_each, one_each), marked v here ∙ sym e)
+          | inr ne ↦
+              let was = old k v (omega (arith, lt, ne)) (ap (λ s. has s v) (sym (get_or-set_other layers level k some no_members ne)) ∙ on) in
+              (omega (arith, was.0, one_each), was_there v (λ q. omega (arith, q, was.1, lt, low)) ∙ was.1)
+        ]
+
+    pub whole_more : (layers : List MemberSet) → level < length layers → AreWholeLayers levels layers level → AreWholeLayers new (set layers level some) (level + 1)
+    whole_more layers long old k v lt inside at =
+        elim (cases_eq k level) [
+          | inl e ↦
+              elim (cases_Bool (has some v)) [
+                | inl on ↦ subst (λ i. has (layer_at (set layers level some) i) v ≡ true) (sym e) (ap (λ s. has s v) (get_or-set_same layers level some no_members long) ∙ on)
+                | inr off ↦
+                    let same = others v off in
+                    absurd (omega (arith, h.below v (omega (arith, inside, one_each, h.one_each)) (λ q. omega (arith, q, same, at, e, low)), same, at, e))
+              ]
+          | inr ne ↦
+              elim (cases_Bool (has some v)) [
+                | inl on ↦ absurd (omega (arith, marked v on, at, ne))
+                | inr off ↦ ap (λ s. has s v) (get_or-set_other layers level k some no_members ne) ∙ old k v (omega (arith, lt, ne)) (omega (arith, inside, one_each)) (sym (others v off) ∙ at)
+              ]
+        ]
 
   -- all of them are put there, none of them has to send, and there is one
   module _ (entries : List Entry) (groups : List MemberSet) (near rest more : MemberSet) (are : AreEntries r entries) (sorted : AreGroups p groups) (prices : r.members ≡ length p) (long : (v : ℕ) → get_or p v 0 + 2 < length groups)

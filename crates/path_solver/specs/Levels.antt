@@ -1,5 +1,7 @@
 -- Levels: how many open arcs a search went back from a member that has to receive.
-use Rattle.std.specs.Prelude.{◌≡◌, ◌≢◌, ℕ, ◌+◌, ◌<◌, ◌≤◌, List, length, slice_index, Option, Some, None}
+use Rattle.std.specs.Prelude.{◌≡◌, ◌≢◌, ℕ, ◌+◌, ◌<◌, ◌≤◌, true, List, length, slice_index, slice_index_or, Option, Some, None}
+use Rattle.member_set.specs.declared.set.MemberSet.{MemberSet}
+use Rattle.member_set.specs.Members.{has, no_members}
 use Rattle.residual_graph.specs.declared.flow.Flow.{Flow}
 use Rattle.residual_graph.specs.Arcs.{arc_count, pair, flow_at, tail, head, room}
 use Rattle.path_solver.specs.Prices.{IsTight, IsOpen}
@@ -55,3 +57,16 @@ pub record IsSource (surplus levels : List ℕ) (s : ℕ) : Type 0 where
 abbrev pub IsLayered : List Flow → List ℕ → List ℕ → List ℕ → List ℕ → Option ℕ → Type 0
 IsLayered flows p surplus lack levels None = AreCut flows p surplus lack levels
 IsLayered flows p surplus lack levels (Some s) = IsSource surplus levels s × AreLevels flows p lack levels
+
+abbrev pub layer_at : List MemberSet → ℕ → MemberSet
+layer_at layers k = slice_index_or layers k no_members
+
+-- who is in one of the first n layers has its number as level
+abbrev pub AreLayers : List ℕ → List MemberSet → ℕ → Type 0
+AreLayers levels layers n =
+    (k v : ℕ) → k < n → has (layer_at layers k) v ≡ true → (v < length levels) × (slice_index levels v ≡ k)
+
+-- and each member of such a level is in its layer
+abbrev pub AreWholeLayers : List ℕ → List MemberSet → ℕ → Type 0
+AreWholeLayers levels layers n =
+    (k v : ℕ) → k < n → v < length levels → slice_index levels v ≡ k → has (layer_at layers k) v ≡ true

@@ -1,5 +1,5 @@
 -- Paths, from their last arc to their first.
-use Rattle.std.specs.Prelude.{◌≡◌, ℕ, ◌+◌, ◌<◌, ◌≤◌, List, [], ◌∷◌, length, slice_index, fold, All, AllPairs, Option, Some, None}
+use Rattle.std.specs.Prelude.{◌≡◌, ℕ, ◌+◌, ◌<◌, ◌≤◌, List, [], ◌∷◌, length, slice_index, fold, All, AllPairs}
 use Rattle.residual_graph.specs.declared.flow.Flow.{Flow}
 use Rattle.residual_graph.specs.Arcs.{arc_count, tail, head, pushed}
 use Rattle.path_solver.specs.Prices.{IsOpen}
@@ -29,12 +29,3 @@ pub record IsPathDown (flows : List Flow) (p levels lack : List ℕ) (from end :
 abbrev pub NoneIsShorter : List Flow → List ℕ → List ℕ → List ℕ → ℕ → Type 0
 NoneIsShorter flows p surplus lack n =
     (v w : ℕ) (arcs : List ℕ) → 0 < slice_index surplus v → 0 < slice_index lack w → IsWalkBack flows w arcs v → All (IsOpen flows p) arcs → n ≤ length arcs
-
--- what a walk finds
-abbrev pub IsWalked : List Flow → List ℕ → List ℕ → List ℕ → ℕ → List ℕ → Option ℕ → Type 0
-IsWalked flows p levels lack from path None = path ≡ []
-IsWalked flows p levels lack from path (Some end) = IsPathDown flows p levels lack from end path
-
--- no exit at or below a level was tried
-abbrev pub IsFresh : List ℕ → List ℕ → ℕ → Type 0
-IsFresh levels current most = (v : ℕ) → v < length levels → slice_index levels v ≤ most → slice_index current v ≡ 0

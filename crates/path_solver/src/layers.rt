@@ -5,7 +5,7 @@ ghost use Rattle.member_set.specs.Members.{has};
 ghost use Rattle.path_solver.specs.Entries.{AreEntries, IsOpenInto, is_open_to};
 ghost use Rattle.path_solver.specs.Groups.{AreGroups};
 ghost use Rattle.path_solver.specs.Rests.{AreApart, HaveSome};
-ghost use Rattle.path_solver.specs.Levels.{IsReached, IsLayered, AreShortest};
+ghost use Rattle.path_solver.specs.Levels.{IsReached, IsLayered, AreShortest, AreLayers, AreWholeLayers};
 
 use crate::entries::Entry;
 use member_set::MemberSet;
@@ -27,6 +27,7 @@ pub fn layer(
     senders: &MemberSet,
     receivers: &MemberSet,
     levels: &mut [u16],
+    layers: &mut [MemberSet],
     reached: &mut MemberSet,
 ) -> Option<u16>
     requires entries { AreEntries residual.now entries.now }
@@ -39,9 +40,13 @@ pub fn layer(
     requires surplus { residual.now.members ≡ length surplus.now }
     requires lack { residual.now.members ≡ length lack.now }
     requires levels { residual.now.members ≡ length levels.old }
+    requires layers { residual.now.members + 1 ≤ length layers.old }
     requires apart { AreApart surplus.now lack.now }
     ensures layered { IsLayered residual.now.flows prices.now surplus.now lack.now levels.new result }
     ensures shortest { IfSome result (λ s. AreShortest residual.now.flows prices.now surplus.now lack.now levels.new (slice_index levels.new s)) }
+    ensures layers { IfSome result (λ s. AreLayers levels.new layers.new (slice_index levels.new s + 1)) }
+    ensures whole { IfSome result (λ s. AreWholeLayers levels.new layers.new (slice_index levels.new s + 1)) }
+    ensures low { IfSome result (λ s. slice_index levels.new s ≤ residual.now.members) }
     ensures reached { IsNone result → (v : ℕ) → (has reached.new v ≡ true) ↔ ((v < residual.now.members) × IsReached levels.new v) }
 {
     let _members = residual.members();
@@ -52,9 +57,11 @@ pub fn layer(
     while !now.is_empty() {
         let met = now.and(senders);
         if let Some(source) = met.lowest() {
+            layers[level as usize] = met;
             mark(met, level, levels);
             return Some(source);
         }
+        layers[level as usize] = now;
         *reached = reached.or(&now);
         let near = visit(entries, groups, prices, now, level, levels);
         now = near.without(reached);

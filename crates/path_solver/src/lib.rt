@@ -10,11 +10,10 @@
 
 mod direct;
 mod entries;
-mod exit_lists;
-mod exits;
 mod groups;
 mod layers;
 mod lowest;
+mod neighbours;
 mod paths;
 mod prices;
 mod sending;

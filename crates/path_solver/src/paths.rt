@@ -3,9 +3,9 @@
 ghost use Rattle.std.specs.Prelude.{◌≡◌, ◌≢◌, ℕ, ◌-◌, ◌^◌, ◌<◌, ◌≤◌, length, slice_index, All, AllPairs};
 ghost use Rattle.residual_graph.specs.Arcs.{arc_count, room};
 ghost use Rattle.path_solver.specs.Paths.{pushed_all};
-ghost use Rattle.path_solver.specs.Entries.{AreEntries};
+ghost use Rattle.path_solver.specs.Neighbours.{AreNeighbours};
 
-use crate::entries::{Entry, note};
+use crate::neighbours::Neighbours;
 use residual_graph::Residual;
 
 /// The most that every arc can take.
@@ -27,17 +27,17 @@ pub fn least_room(residual: &Residual, arcs: &[u32]) -> u64
 }
 
 /// Moves an amount along each of these arcs, and notes what their pairs can then do.
-pub fn push_all(residual: &mut Residual, entries: &mut [Entry], arcs: &[u32], amount: u64)
+pub fn push_all(residual: &mut Residual, neighbours: &mut Neighbours, arcs: &[u32], amount: u64)
     requires arc { All (λ a. a < arc_count residual.old.flows) arcs.now }
     requires room { All (λ a. amount ≤ room residual.old.flows a) arcs.now }
     requires different { AllPairs (λ a b. a ≢ b) arcs.now }
-    requires entries { AreEntries residual.old entries.old }
+    requires neighbours { AreNeighbours residual.old neighbours.old }
     ensures members { residual.new.members ≡ residual.old.members }
     ensures flows { residual.new.flows ≡ pushed_all amount residual.old.flows arcs.now }
-    ensures entries { AreEntries residual.new entries.new }
+    ensures neighbours { AreNeighbours residual.new neighbours.new }
 {
     for arc in arcs {
         residual.push(*arc, amount);
-        note(entries, residual.flows()[(*arc / 2) as usize]);
+        neighbours.note(residual.flows()[(*arc / 2) as usize], amount);
     }
 }

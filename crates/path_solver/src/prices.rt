@@ -1,8 +1,6 @@
-//! Prices of members, and which arcs are open.
+//! Prices of members.
 
-ghost use Rattle.std.specs.Prelude.{◌≡◌, ◌↔◌, ℕ, ◌+◌, ◌<◌, ◌≤◌, true, length, slice_index, IsTrue};
-ghost use Rattle.residual_graph.specs.Arcs.{arc_count};
-ghost use Rattle.path_solver.specs.Prices.{IsTight, IsOpen};
+ghost use Rattle.std.specs.Prelude.{◌≡◌, ◌↔◌, ℕ, ◌+◌, ◌<◌, ◌≤◌, true, length, slice_index};
 ghost use Rattle.member_set.specs.Members.{has};
 ghost use Rattle.path_solver.specs.Groups.{AreGroups};
 ghost use Rattle.path_solver.specs.Levels.{IsReached};
@@ -11,28 +9,6 @@ ghost use Rattle.path_solver.specs.Phases.{raised_price};
 use crate::groups::move_up;
 use crate::layers::UNREACHED;
 use member_set::MemberSet;
-use residual_graph::{Flow, Residual};
-
-/// Whether the seller's price is that of the buyer and the cost of a unit, so that a unit moves either way
-/// at no loss.
-fn is_tight(flow: Flow, prices: &[u16]) -> bool
-    requires seller { flow.seller < length prices.now }
-    requires buyer { flow.buyer < length prices.now }
-    ensures { IsTrue result ↔ IsTight prices.now flow }
-{
-    prices[flow.seller as usize] as u32 == prices[flow.buyer as usize] as u32 + 1
-}
-
-/// Whether an arc has room and is tight.
-pub fn can_leave(residual: &Residual, prices: &[u16], arc: u32) -> bool
-    requires arc { arc < arc_count residual.now.flows }
-    requires prices { residual.now.members ≡ length prices.now }
-    ensures { IsTrue result ↔ IsOpen residual.now.flows prices.now arc }
-{
-    let flow = residual.flows()[(arc / 2) as usize];
-    let room = if arc % 2 == 0 { flow.room } else { flow.back };
-    room > 0 && is_tight(flow, prices)
-}
 
 /// Raises by 1 the prices of the members that are not reached, each of which moves to the next group.
 pub fn raise(

@@ -6,10 +6,9 @@ ghost use Rattle.path_solver.specs.Rests.{IsFeasible, AreApart, HaveSome};
 ghost use Rattle.path_solver.specs.Phases.{IsPhase, IsSettled};
 
 use crate::direct::{first_prices, send_direct};
-use crate::entries::entries_of;
-use crate::exits::Exits;
 use crate::groups::sort_by_price;
 use crate::layers::{UNREACHED, layer};
+use crate::neighbours::Neighbours;
 use crate::prices::raise;
 use crate::sending::send_phase;
 use member_set::MemberSet;
@@ -121,13 +120,12 @@ fn settle_rest(
 {
     let members = residual.members();
     let mut prices = first;
-    let exits = Exits::of(alloc, residual)?;
-    let mut entries = entries_of(alloc, residual)?;
+    let mut neighbours = Neighbours::of(alloc, residual)?;
     let mut groups = all_of(alloc, members + 3, MemberSet::new())?;
     sort_by_price(&prices, &mut groups);
     let mut levels = all_of(alloc, members, UNREACHED)?;
-    let mut current = all_of(alloc, members, 0usize)?;
-    let mut path = Vec::new(alloc);
+    let mut layers = all_of(alloc, members + 1, MemberSet::new())?;
+    let mut path = all_of(alloc, members, 0u32)?;
     let mut senders = those_with(surplus);
     let mut receivers = those_with(lack);
     let mut reached = MemberSet::new();
@@ -135,7 +133,7 @@ fn settle_rest(
     'phases: while !senders.is_empty() {
         match layer(
             residual,
-            &entries,
+            &neighbours.entries,
             &prices,
             surplus,
             lack,
@@ -143,6 +141,7 @@ fn settle_rest(
             &senders,
             &receivers,
             &mut levels,
+            &mut layers,
             &mut reached,
         ) {
             None => {
@@ -152,16 +151,16 @@ fn settle_rest(
             Some(source) => {
                 send_phase(
                     residual,
-                    &exits,
-                    &mut entries,
+                    &mut neighbours,
+                    &groups,
                     &prices,
                     &levels,
                     surplus,
                     lack,
-                    &mut current,
+                    &mut layers,
                     &mut path,
                     source,
-                )?;
+                );
                 senders = still_with(surplus, senders);
                 receivers = still_with(lack, receivers);
             }

@@ -1,66 +1,70 @@
-//! Depth first down the levels.
+//! Down the levels of a search, back where there is no way on.
 
-ghost use Rattle.std.specs.Prelude.{◌≡◌, ◌↔◌, [], ◌<◌, length, slice_index, IfOk, IsSome, IsTrue};
-ghost use Rattle.path_solver.specs.Exits.{AreExits, IsExit};
-ghost use Rattle.path_solver.specs.Levels.{IsReached, AreLevels, LeadsDown};
-ghost use Rattle.path_solver.specs.Paths.{IsWalked, IsFresh};
+ghost use Rattle.std.specs.Prelude.{◌≡◌, ◌+◌, ℕ, ◌<◌, ◌≤◌, length, slice_index, take, IfSome, IsSome};
+ghost use Rattle.path_solver.specs.Groups.{AreGroups};
+ghost use Rattle.path_solver.specs.Neighbours.{AreNeighbours};
+ghost use Rattle.path_solver.specs.Levels.{IsReached, AreLevels, AreLayers, AreWholeLayers};
+ghost use Rattle.path_solver.specs.Paths.{IsPathDown};
 
-use crate::exits::{Exit, Exits};
-use crate::prices::can_leave;
+use crate::neighbours::Neighbours;
+use member_set::MemberSet;
 use residual_graph::Residual;
-use std::alloc::AllocError;
 
-/// From here down the levels along open arcs to a member that has to receive, with a current exit for each
-/// member, before which no exit is tried again. The path has the arcs from the last to the first. The first
-/// walk over new levels always finds one.
+/// From a member down the levels along open arcs to one that has to receive. The path has the arcs from the last
+/// to the first, as many as the member's level tells. A member from which there is no way on is taken out of
+/// its layer: no later walk comes there again. The first walk over new levels always finds a way.
 pub fn walk(
     residual: &Residual,
-    exits: &Exits,
+    neighbours: &Neighbours,
+    groups: &[MemberSet],
     prices: &[u16],
     levels: &[u16],
     lack: &[u64],
-    current: &mut [usize],
-    path: &mut Vec<u32>,
-    here: u16,
-) -> Result<Option<u16>, AllocError>
-    requires exits { AreExits residual.now exits.now }
+    layers: &mut [MemberSet],
+    path: &mut [u32],
+    from: u16,
+) -> Option<u16>
+    requires neighbours { AreNeighbours residual.now neighbours.now }
+    requires groups { length groups.now ≡ residual.now.members + 3 }
+    requires sorted { AreGroups prices.now groups.now }
+    requires low { (v : ℕ) → slice_index prices.now v ≤ residual.now.members }
     requires prices { residual.now.members ≡ length prices.now }
     requires levels { residual.now.members ≡ length levels.now }
     requires lack { residual.now.members ≡ length lack.now }
-    requires current { residual.now.members ≡ length current.old }
-    requires here { here < residual.now.members }
-    requires empty { path.old.items ≡ [] }
-    ensures walked { IfOk result (IsWalked residual.now.flows prices.now levels.now lack.now here path.new.items) }
-    ensures fresh { AreLevels residual.now.flows prices.now lack.now levels.now → IsReached levels.now here → IsFresh levels.now current.old (slice_index levels.now here) → IfOk result IsSome }
+    requires layers { AreLayers levels.now layers.old (slice_index levels.now from + 1) }
+    requires top { slice_index levels.now from ≤ residual.now.members }
+    requires room { residual.now.members < length layers.old }
+    requires path { residual.now.members ≤ length path.old }
+    requires from { from < residual.now.members }
+    ensures path { IfSome result (λ end. IsPathDown residual.now.flows prices.now levels.now lack.now from end (take (slice_index levels.now from) path.new)) }
+    ensures layers { AreLayers levels.now layers.new (slice_index levels.now from + 1) }
+    ensures fresh { AreLevels residual.now.flows prices.now lack.now levels.now → AreWholeLayers levels.now layers.old (slice_index levels.now from + 1) → IsSome result }
 {
-    if lack[here as usize] > 0 {
-        return Ok(Some(here));
-    }
-    let own = exits.leaving(here);
-    for place in current[here as usize]..own.len() {
-        current[here as usize] = place;
-        let exit = own[place];
-        if leads_down(residual, prices, levels, exit, here) {
-            if let Some(end) = walk(
-                residual, exits, prices, levels, lack, current, path, exit.head,
-            )? {
-                path.push(exit.arc)?;
-                return Ok(Some(end));
+    let _members = residual.members();
+    let top = levels[from as usize] as usize;
+    let mut level = top;
+    let mut here = from;
+    'steps: loop {
+        if level == 0 {
+            if lack[here as usize] > 0 {
+                return Some(here);
             }
+        } else if let Some(exit) = neighbours.way_into(
+            groups,
+            prices[here as usize],
+            here,
+            &layers[level - 1],
+        ) {
+            level -= 1;
+            path[level] = exit.arc;
+            here = exit.head;
+            continue 'steps;
         }
+        layers[level].drop_member(here);
+        if level == top {
+            return None;
+        }
+        here = residual.tail(path[level]);
+        level += 1;
     }
-    current[here as usize] = own.len();
-    Ok(None)
-}
-
-/// Whether an exit is open and leads one level down.
-fn leads_down(residual: &Residual, prices: &[u16], levels: &[u16], exit: Exit, here: u16) -> bool
-    requires exit { IsExit residual.now.flows here exit }
-    requires head { exit.head < length levels.now }
-    requires here { here < length levels.now }
-    requires prices { residual.now.members ≡ length prices.now }
-    ensures { IsTrue result ↔ LeadsDown residual.now.flows prices.now levels.now here exit.arc }
-{
-    levels[exit.head as usize] as u32 + 1 == levels[here as usize] as u32
-        && can_leave(residual, prices, exit.arc)
 }

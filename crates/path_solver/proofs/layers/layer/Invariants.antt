@@ -1,9 +1,14 @@
 use Rattle.std.proofs.Common.{◌+◌, ◌-◌}
+use Rattle.path_solver.specs.Levels.{AreLayers, AreWholeLayers}
 use Rattle.path_solver.proofs.Spreads.{IsSpread}
 use Rattle.path_solver.proofs.layers.layer.Given as goal
 
 abbrev pub invariant-loop-now : goal.invariant-loop-now
-invariant-loop-now l = IsSpread l.residual l.prices l.surplus l.lack l.levels l.level l.now l.reached
+invariant-loop-now l = record {
+  spread : IsSpread l.residual l.prices l.surplus l.lack l.levels l.level l.now l.reached;
+  layers : AreLayers l.levels l.layers l.level;
+  whole : AreWholeLayers l.levels l.layers l.level;
+}
 
 abbrev pub decreases-loop-now : goal.decreases-loop-now
 decreases-loop-now l = l.residual.members + 1 - l.level

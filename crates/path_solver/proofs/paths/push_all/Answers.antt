@@ -6,9 +6,10 @@ use Rattle.residual_graph.specs.Residual.{ResidualData}
 use Rattle.residual_graph.specs.Arcs.{arc_count, room, pair, is_forward, flow_at, moved, pushed}
 use Rattle.residual_graph.proofs.Kept.{pair_below}
 use Rattle.residual_graph.proofs.PushSteps.{room_kept}
-use Rattle.path_solver.specs.Entries.{AreEntriesTo, IsNoted}
-use Rattle.path_solver.proofs.Same.{pushed_same, flow_at_other}
-use Rattle.path_solver.proofs.Noted.{IsNext, noted_more}
+use Rattle.path_solver.specs.Neighbours.{IsChanged}
+use Rattle.path_solver.proofs.Same.{pushed_same, flow_at_pushed, flow_at_other}
+use Rattle.path_solver.proofs.Noted.{IsNext}
+use Rattle.path_solver.proofs.Turned.{neighbours_more}
 use Rattle.path_solver.proofs.paths.push_all.Goals as goal
 
 pub loop-arc-preserved : goal.loop-arc-preserved
@@ -37,11 +38,11 @@ loop-arc-preserved c =
       rest = λ j lj ne. lj;
       all = omega (arith, long);
     } in
-    let noted : IsNoted (flow_at c.push.new.self.flows (pair (get_or c.args.arcs.now c.loop-arc.arc-index 0))) c.loop-arc.entries c.note.new.entries =
-    subst (λ (fs : List Flow). IsNoted (flow_at fs (pair (get_or c.args.arcs.now c.loop-arc.arc-index 0))) c.loop-arc.entries c.note.new.entries) c.flows.ensures.value c.note.ensures in
-    let more = noted_more (length flows) (length flows) (pair a) c.loop-arc.residual c.push.new.self c.loop-arc.entries c.note.new.entries c.flows.ensures.residual next inv.entries noted in
+    let changed : IsChanged (flow_at c.push.new.self.flows (pair (get_or c.args.arcs.now c.loop-arc.arc-index 0))) c.args.amount c.loop-arc.neighbours c.note.new.self =
+    subst (λ (fs : List Flow). IsChanged (flow_at fs (pair (get_or c.args.arcs.now c.loop-arc.arc-index 0))) c.args.amount c.loop-arc.neighbours c.note.new.self) c.flows.ensures.value c.note.ensures in
+    let at_pair = ap (λ (fs : List Flow). flow_at fs (pair a)) now ∙ flow_at_pushed x flows a in_pairs in
     record {
-      entries = subst (λ n. AreEntriesTo n c.push.new.self c.note.new.entries) (sym long) more;
+      neighbours = neighbours_more x c.loop-arc.residual c.push.new.self (pair a) (is_forward a) c.loop-arc.neighbours c.note.new.self c.flows.ensures.residual next at_pair room_a inv.neighbours changed;
       members = ap (λ (r : ResidualData). r.members) c.push.ensures ∙ inv.members;
       flows = now ∙ ap (λ (fs : List Flow). pushed x fs a) inv.flows ∙ sym (fold_more (pushed x) c.args.residual.now.flows arcs m 0 c.loop-arc-test.true);
       count = ap length now ∙ length-set flows (pair a) (moved x (is_forward a) (flow_at flows (pair a))) ∙ inv.count;

@@ -1,13 +1,19 @@
-use Rattle.std.proofs.Common.{get_or, sum, ◌<◌}
+use Rattle.std.proofs.Common.{◌≡◌, ℕ, ◌+◌, ◌<◌, true, length, get_or, sum}
+use Rattle.member_set.specs.Members.{has, size}
 use Rattle.path_solver.specs.Rests.{IsSentAlong}
-use Rattle.path_solver.specs.Levels.{AreShortest}
-use Rattle.path_solver.specs.Entries.{AreEntries}
+use Rattle.path_solver.specs.Levels.{AreShortest, AreLayers}
+use Rattle.path_solver.specs.Neighbours.{AreNeighbours}
 use Rattle.path_solver.proofs.sending.send_phase.Given as goal
 
-abbrev pub invariant-loop-member : goal.invariant-loop-member
-invariant-loop-member l = record {
-  entries : AreEntries l.residual l.entries;
+abbrev pub invariant-senders : goal.invariant-senders
+invariant-senders l = record {
+  neighbours : AreNeighbours l.residual l.neighbours;
+  layers : AreLayers l.levels l.layers (get_or l.levels l.source 0 + 1);
+  left : (v : ℕ) → has l.left v ≡ true → (v < length l.levels) × (get_or l.levels v 0 ≡ get_or l.levels l.source 0);
   shortest : AreShortest l.residual.flows l.prices l.surplus l.lack l.levels (get_or l.levels l.source 0);
   along : IsSentAlong l.prices l.fn.residual l.residual l.fn.surplus l.fn.lack l.surplus l.lack;
   sent : sum l.surplus < sum l.fn.surplus;
 }
+
+abbrev pub decreases-senders : goal.decreases-senders
+decreases-senders l = size l.left

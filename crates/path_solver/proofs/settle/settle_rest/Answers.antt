@@ -1,18 +1,19 @@
 use Rattle.std.proofs.Common.{◌≡◌, ℕ, ◌+◌, ◌<◌, List, length, get_or, Option, refl, sym, ap, ◌∙◌, subst, arith}
 use Rattle.std.proofs.lemmas.List.{with_items_is}
 use Rattle.std.specs.Prelude.{IsNone}
+use Rattle.std.specs.Vec.{with_items}
+use Rattle.member_set.specs.declared.set.MemberSet.{MemberSet}
 use Rattle.path_solver.specs.Entries.{AreEntries}
 use Rattle.path_solver.specs.Groups.{AreGroups}
-use Rattle.path_solver.specs.Levels.{IsReached, AreCut}
+use Rattle.path_solver.specs.Levels.{IsReached, AreCut, AreLayers, AreWholeLayers}
 use Rattle.path_solver.specs.Rests.{IsSentAlong}
 use Rattle.path_solver.specs.Phases.{IsPhase, raised_price}
-use Rattle.path_solver.proofs.Same.{exits_kept}
 use Rattle.path_solver.proofs.Spreads.{amount_in}
 use Rattle.path_solver.proofs.Phased.{none_left, settled, raised_phase, phase_sent}
 use Rattle.path_solver.proofs.settle.settle_rest.Goals as goal
 
 pub layer-requires-clause-entries : goal.layer-requires-clause-entries
-layer-requires-clause-entries c = subst (AreEntries c.phases.residual) (sym c.deref-in-phases.ensures.value) c.phases.invariant.entries
+layer-requires-clause-entries c = subst (AreEntries c.phases.residual) (sym c.deref-in-phases.ensures.value) c.phases.invariant.neighbours.entries
 
 pub layer-requires-clause-sorted : goal.layer-requires-clause-sorted
 layer-requires-clause-sorted c =
@@ -49,26 +50,49 @@ still_with-senders-requires-clause-small c v on =
     amount_in c.phases.surplus v ((c.phases.invariant.senders v).0 on) (length c.send_phase.new.surplus) (sym c.send_phase.auto.surplus)
 
 pub still_with-senders-requires-clause-all : goal.still_with-senders-requires-clause-all
-still_with-senders-requires-clause-all c v some = (c.phases.invariant.senders v).1 (c.in_ok-send_phase-in-Some.ensures.along.senders v some)
+still_with-senders-requires-clause-all c v some = (c.phases.invariant.senders v).1 (c.send_phase.ensures.along.senders v some)
 
 pub still_with-receivers-requires-clause-small : goal.still_with-receivers-requires-clause-small
 still_with-receivers-requires-clause-small c v on =
     amount_in c.phases.lack v ((c.phases.invariant.receivers v).0 on) (length c.send_phase.new.lack) (sym c.send_phase.auto.lack)
 
 pub still_with-receivers-requires-clause-all : goal.still_with-receivers-requires-clause-all
-still_with-receivers-requires-clause-all c v some = (c.phases.invariant.receivers v).1 (c.in_ok-send_phase-in-Some.ensures.along.receivers v some)
+still_with-receivers-requires-clause-all c v some = (c.phases.invariant.receivers v).1 (c.send_phase.ensures.along.receivers v some)
 
 pub layer-requires-clause-low : goal.layer-requires-clause-low
 layer-requires-clause-low c v =
     let inv = c.phases.invariant in
     omega (arith, ap (λ (xs : List ℕ). get_or xs v 0) c.deref-in-phases-2.ensures.value, inv.phase.rated.most v, inv.phase.few, inv.phase.members)
 
-pub send_phase-requires-clause-entries : goal.send_phase-requires-clause-entries
-send_phase-requires-clause-entries c = subst (AreEntries c.phases.residual) (sym c.deref_mut-in-Some.ensures.value) c.phases.invariant.entries
+pub send_phase-requires-clause-layers : goal.send_phase-requires-clause-layers
+send_phase-requires-clause-layers c =
+    let levels = with_items_is c.phases.levels c.layer.new.levels (c.layer.auto.levels ∙ c.deref_mut-in-phases.ensures.len) in
+    let layers = with_items_is c.phases.layers c.layer.new.layers (c.layer.auto.layers ∙ c.deref_mut-in-phases-2.ensures.len) in
+    let at_levels : c.deref-in-Some-3.result.now ≡ c.layer.new.levels = c.deref-in-Some-3.ensures.value ∙ levels in
+    let at_layers : c.deref_mut-in-Some.result.now ≡ c.layer.new.layers = c.deref_mut-in-Some.ensures.value ∙ layers in
+    let found : AreLayers c.layer.new.levels c.layer.new.layers (get_or c.layer.new.levels c.in-Some.source 0 + 1) = rw c.in-Some.is at c.layer.ensures.layers in
+    subst (λ (xs : List ℕ). AreLayers xs c.deref_mut-in-Some.result.now (get_or xs c.in-Some.source 0 + 1)) (sym at_levels)
+    (subst (λ (ys : List MemberSet). AreLayers c.layer.new.levels ys (get_or c.layer.new.levels c.in-Some.source 0 + 1)) (sym at_layers) found)
 
-pub send_phase-requires-clause-exits : goal.send_phase-requires-clause-exits
-send_phase-requires-clause-exits c =
-    exits_kept c.args.residual.now c.phases.residual c.in_ok-exits.exits c.phases.invariant.phase.members c.phases.invariant.phase.pairs c.in_ok-exits.ensures.exits
+pub send_phase-requires-clause-whole : goal.send_phase-requires-clause-whole
+send_phase-requires-clause-whole c =
+    let levels = with_items_is c.phases.levels c.layer.new.levels (c.layer.auto.levels ∙ c.deref_mut-in-phases.ensures.len) in
+    let layers = with_items_is c.phases.layers c.layer.new.layers (c.layer.auto.layers ∙ c.deref_mut-in-phases-2.ensures.len) in
+    let at_levels : c.deref-in-Some-3.result.now ≡ c.layer.new.levels = c.deref-in-Some-3.ensures.value ∙ levels in
+    let at_layers : c.deref_mut-in-Some.result.now ≡ c.layer.new.layers = c.deref_mut-in-Some.ensures.value ∙ layers in
+    let found : AreWholeLayers c.layer.new.levels c.layer.new.layers (get_or c.layer.new.levels c.in-Some.source 0 + 1) = rw c.in-Some.is at c.layer.ensures.whole in
+    subst (λ (xs : List ℕ). AreWholeLayers xs c.deref_mut-in-Some.result.now (get_or xs c.in-Some.source 0 + 1)) (sym at_levels)
+    (subst (λ (ys : List MemberSet). AreWholeLayers c.layer.new.levels ys (get_or c.layer.new.levels c.in-Some.source 0 + 1)) (sym at_layers) found)
+
+pub send_phase-requires-clause-sorted : goal.send_phase-requires-clause-sorted
+send_phase-requires-clause-sorted c =
+    subst (λ (xs : List ℕ). AreGroups xs c.deref-in-Some.result.now) (sym c.deref-in-Some-2.ensures.value)
+    (subst (AreGroups c.phases.prices.items) (sym c.deref-in-Some.ensures.value) c.phases.invariant.sorted)
+
+pub send_phase-requires-clause-low : goal.send_phase-requires-clause-low
+send_phase-requires-clause-low c v =
+    let inv = c.phases.invariant in
+    omega (arith, ap (λ (xs : List ℕ). get_or xs v 0) c.deref-in-Some-2.ensures.value, inv.phase.rated.most v, inv.phase.few, inv.phase.members)
 
 pub phases-preserved-in-None : goal.phases-preserved-in-None
 phases-preserved-in-None c =
@@ -91,9 +115,10 @@ phases-preserved-in-None c =
     let source = c.is_empty.ensures.some c.phases-test.true in
     let sends : 0 < get_or c.phases.surplus source.0 0 = (c.phases.invariant.senders source.0).0 source.1 in
     let all = raised_phase old r c.args.surplus.now c.args.lack.now c.phases.surplus c.phases.lack p p' found c.phases.top source.0 c.members-members.ensures.residual c.requires.feasible inv.prices len_new len_found (c.phases.auto.surplus ∙ sym c.requires.surplus) sends inv.phase cut raised in
+    let layers = with_items_is c.phases.layers c.layer.new.layers (c.layer.auto.layers ∙ c.deref_mut-in-phases-2.ensures.len) in
     let groups = with_items_is c.phases.groups c.raise.new.groups (c.raise.auto.groups ∙ c.deref_mut-in-None-2.ensures.len) in
     record {
-      entries = inv.entries;
+      neighbours = inv.neighbours;
       groups = ap length groups ∙ c.raise.auto.groups ∙ ap length c.deref_mut-in-None-2.ensures.value ∙ inv.groups;
       sorted = rw (prices, groups) c.raise.ensures.sorted;
       phase = subst (λ (xs : List ℕ). IsPhase c.args.residual.now c.phases.residual c.args.surplus.now c.args.lack.now c.phases.surplus c.phases.lack xs (c.phases.top + 1)) (sym prices) all.1;
@@ -101,19 +126,21 @@ phases-preserved-in-None c =
       levels = ap length levels ∙ len_found;
       senders = inv.senders;
       receivers = inv.receivers;
-      current = inv.current;
+      layers = ap length layers ∙ c.layer.auto.layers ∙ ap length c.deref_mut-in-phases-2.ensures.value ∙ inv.layers;
+      path = inv.path;
     }
 
 pub phases-preserved : goal.phases-preserved
 phases-preserved c =
     let inv = c.phases.invariant in
     let levels = with_items_is c.phases.levels c.layer.new.levels (c.layer.auto.levels ∙ c.deref_mut-in-phases.ensures.len) in
-    let current = with_items_is c.phases.current c.send_phase.new.current (c.send_phase.auto.current ∙ c.deref_mut-in-Some-2.ensures.len) in
+    let layers = with_items_is c.phases.layers c.layer.new.layers (c.layer.auto.layers ∙ c.deref_mut-in-phases-2.ensures.len) in
     let sent : IsSentAlong c.phases.prices.items c.phases.residual c.send_phase.new.residual c.phases.surplus c.phases.lack c.send_phase.new.surplus c.send_phase.new.lack =
-    subst (λ (xs : List ℕ). IsSentAlong xs c.phases.residual c.send_phase.new.residual c.phases.surplus c.phases.lack c.send_phase.new.surplus c.send_phase.new.lack) c.deref-in-Some.ensures.value c.in_ok-send_phase-in-Some.ensures.along in
-    let entries = with_items_is c.phases.entries c.send_phase.new.entries (c.send_phase.auto.entries ∙ c.deref_mut-in-Some.ensures.len) in
+    subst (λ (xs : List ℕ). IsSentAlong xs c.phases.residual c.send_phase.new.residual c.phases.surplus c.phases.lack c.send_phase.new.surplus c.send_phase.new.lack) c.deref-in-Some-2.ensures.value c.send_phase.ensures.along in
+    let sent_layers = with_items_is (with_items c.phases.layers c.layer.new.layers) c.send_phase.new.layers (c.send_phase.auto.layers ∙ c.deref_mut-in-Some.ensures.len) in
+    let path = with_items_is c.phases.path c.send_phase.new.path (c.send_phase.auto.path ∙ c.deref_mut-in-Some-2.ensures.len) in
     record {
-      entries = subst (AreEntries c.send_phase.new.residual) (sym entries) c.in_ok-send_phase-in-Some.ensures.entries;
+      neighbours = c.send_phase.ensures.neighbours;
       groups = inv.groups;
       sorted = inv.sorted;
       phase = phase_sent c.args.residual.now c.phases.residual c.send_phase.new.residual c.args.surplus.now c.args.lack.now c.phases.surplus c.phases.lack c.send_phase.new.surplus c.send_phase.new.lack c.phases.prices.items c.phases.top inv.phase sent;
@@ -121,7 +148,8 @@ phases-preserved c =
       levels = ap length levels ∙ c.layer.auto.levels ∙ ap length c.deref_mut-in-phases.ensures.value ∙ inv.levels;
       senders = c.still_with-senders.ensures;
       receivers = c.still_with-receivers.ensures;
-      current = ap length current ∙ c.send_phase.auto.current ∙ ap length c.deref_mut-in-Some-2.ensures.value ∙ inv.current;
+      layers = ap length sent_layers ∙ c.send_phase.auto.layers ∙ ap length c.deref_mut-in-Some.ensures.value ∙ ap length layers ∙ c.layer.auto.layers ∙ ap length c.deref_mut-in-phases-2.ensures.value ∙ inv.layers;
+      path = ap length path ∙ c.send_phase.auto.path ∙ ap length c.deref_mut-in-Some-2.ensures.value ∙ inv.path;
     }
 
 pub returns : goal.returns

@@ -1,6 +1,6 @@
 use Rattle.std.proofs.Common.{◌≡◌, ◌+◌, ◌-◌, ◌*◌, length, sum}
 use Rattle.path_solver.specs.Phases.{IsPhase}
-use Rattle.path_solver.specs.Entries.{AreEntries}
+use Rattle.path_solver.specs.Neighbours.{AreNeighbours}
 use Rattle.path_solver.specs.Rests.{HaveSome}
 use Rattle.path_solver.specs.Groups.{AreGroups}
 use Rattle.path_solver.proofs.settle.settle_rest.Given as goal
@@ -8,14 +8,15 @@ use Rattle.path_solver.proofs.settle.settle_rest.Given as goal
 abbrev pub invariant-phases : goal.invariant-phases
 invariant-phases l = record {
   phase : IsPhase l.initial.residual l.residual l.initial.surplus l.initial.lack l.surplus l.lack l.prices.items l.top;
-  entries : AreEntries l.residual l.entries.items;
+  neighbours : AreNeighbours l.residual l.neighbours;
   groups : length l.groups.items ≡ l.initial.residual.members + 3;
   sorted : AreGroups l.prices.items l.groups.items;
   prices : length l.prices.items ≡ l.initial.residual.members;
   levels : length l.levels.items ≡ l.initial.residual.members;
   senders : HaveSome l.surplus l.senders;
   receivers : HaveSome l.lack l.receivers;
-  current : length l.current.items ≡ l.initial.residual.members;
+  layers : length l.layers.items ≡ l.initial.residual.members + 1;
+  path : length l.path.items ≡ l.initial.residual.members;
 }
 
 abbrev pub decreases-phases : goal.decreases-phases

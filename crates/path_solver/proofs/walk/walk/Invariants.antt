@@ -1,0 +1,14 @@
+use Rattle.std.proofs.Common.{◌≡◌, ◌+◌, ◌*◌, get_or}
+use Rattle.path_solver.specs.Levels.{AreLevels, AreLayers, AreWholeLayers}
+use Rattle.path_solver.proofs.Trails.{IsTrail, in_layers}
+use Rattle.path_solver.proofs.walk.walk.Given as goal
+
+abbrev pub invariant-steps : goal.invariant-steps
+invariant-steps l = record {
+  trail : IsTrail l.residual l.prices l.levels l.layers l.path l.level l.top l.here l.from;
+  layers : AreLayers l.levels l.layers (get_or l.levels l.from 0 + 1);
+  whole : AreLevels l.residual.flows l.prices l.lack l.levels → AreWholeLayers l.levels l.initial.layers (get_or l.levels l.from 0 + 1) → l.layers ≡ l.initial.layers;
+}
+
+abbrev pub decreases-steps : goal.decreases-steps
+decreases-steps l = 2 * in_layers l.layers + l.level
