@@ -6,6 +6,7 @@ ghost use Rattle.network_laws.specs.Limits.{IsWithinLimits};
 ghost use Rattle.network_laws.specs.Solutions.{Solves};
 ghost use Rattle.residual_graph.specs.Residual.{network_of};
 ghost use Rattle.cycle_cancel.specs.Cancels.{IsLabel, answer_of};
+ghost use Rattle.units_core.specs.declared.limits.TheConstants.{MOST_GROSS};
 
 use crate::settle::settle;
 use net_positions::positions_of;
@@ -48,7 +49,7 @@ fn solution_of(alloc: Global, limits: &Limits, network: &Network) -> Result<Solu
 
 /// The network of the residual graph, or the old one where no cycle was cancelled.
 fn answer_of(residual: &Residual, network: &Network, cancelled: bool) -> Result<Network, AllocError>
-    requires { gross (network_of residual.now) ≤ 10 ^ 18 }
+    requires { gross (network_of residual.now) ≤ MOST_GROSS }
     ensures { IfOk result (λ y. y ≡ answer_of cancelled residual.now network.now) }
 {
     if cancelled {

@@ -4,6 +4,7 @@ ghost use Rattle.std.specs.Prelude.{◌≡◌, ℕ, ◌+◌, ◌<◌, ◌≤◌,
 ghost use Rattle.network_laws.specs.Networks.{total};
 ghost use Rattle.residual_graph.specs.Residual.{flow_rows};
 ghost use Rattle.path_solver.specs.Rests.{AreSamePairs, AreApart, net_of, owed};
+ghost use Rattle.units_core.specs.declared.limits.TheConstants.{MOST_GROSS};
 
 use residual_graph::Residual;
 
@@ -12,7 +13,7 @@ use residual_graph::Residual;
 pub fn lower_all(residual: &mut Residual, surplus: &mut [u64], lack: &mut [u64])
     requires surplus { surplus.old ≡ replicate residual.old.members 0 }
     requires lack { lack.old ≡ replicate residual.old.members 0 }
-    requires gross { total (flow_rows residual.old.flows) ≤ 10 ^ 18 }
+    requires gross { total (flow_rows residual.old.flows) ≤ MOST_GROSS }
     ensures members { residual.new.members ≡ residual.old.members }
     ensures pairs { AreSamePairs residual.old.flows residual.new.flows }
     ensures lowest { All (λ f. f.back ≡ 0) residual.new.flows }
@@ -28,7 +29,7 @@ pub fn lower_all(residual: &mut Residual, surplus: &mut [u64], lack: &mut [u64])
 fn take_back(residual: &mut Residual, surplus: &mut [u64], lack: &mut [u64])
     requires surplus { surplus.old ≡ replicate residual.old.members 0 }
     requires lack { lack.old ≡ replicate residual.old.members 0 }
-    requires gross { total (flow_rows residual.old.flows) ≤ 10 ^ 18 }
+    requires gross { total (flow_rows residual.old.flows) ≤ MOST_GROSS }
     ensures members { residual.new.members ≡ residual.old.members }
     ensures pairs { AreSamePairs residual.old.flows residual.new.flows }
     ensures lowest { All (λ f. f.back ≡ 0) residual.new.flows }

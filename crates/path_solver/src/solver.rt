@@ -7,6 +7,7 @@ ghost use Rattle.network_laws.specs.Solutions.{Solves};
 ghost use Rattle.residual_graph.specs.Residual.{flow_rows};
 ghost use Rattle.path_solver.specs.Prices.{potentials};
 ghost use Rattle.path_solver.specs.Phases.{IsPricedAnew};
+ghost use Rattle.units_core.specs.declared.limits.TheConstants.{MOST_GROSS};
 
 use crate::lowest::lower_all;
 use crate::settle::{all_of, settle};
@@ -57,7 +58,7 @@ fn solution_of(alloc: Global, limits: &Limits, network: &Network) -> Result<Solu
 
 /// Moves amounts until prices fit them, from the lower bounds on, and answers the prices.
 fn find_prices(alloc: Global, residual: &mut Residual) -> Result<Vec<u16>, AllocError>
-    requires { total (flow_rows residual.old.flows) ≤ 10 ^ 18 }
+    requires { total (flow_rows residual.old.flows) ≤ MOST_GROSS }
     ensures { IfOk result (λ prices. IsPricedAnew residual.old residual.new prices.items) }
 {
     let members = residual.members();

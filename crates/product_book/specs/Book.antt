@@ -4,6 +4,7 @@ use Rattle.command_types.specs.declared.trade.TradeRow.{TradeRow}
 use Rattle.command_types.specs.declared.trade.Side.{Side}
 use Rattle.command_types.specs.Books.{is_between}
 use Rattle.command_types.specs.Trades.{is_alleged, is_live, is_ended, is_marked_by, hold_of, gross_of, submitted_count}
+use Rattle.units_core.specs.declared.limits.TheConstants.{MOST_GROSS, MOST_MEMBERS, MOST_PRODUCTS}
 
 -- the trades, for how many more there is room without memory, and how many members and products there are
 pub record BookView : Type 0 where
@@ -14,7 +15,7 @@ pub record BookView : Type 0 where
 
 -- the most that the alleged and live amounts of a product come to
 abbrev pub gross_limit : ℕ
-gross_limit = 1000000000000000000
+gross_limit = MOST_GROSS
 
 -- the trade with this number: its product and its two parties are places in range, and the parties differ
 pub record IsTrade (members products n : ℕ) (row : TradeRow) : Type 0 where
@@ -31,8 +32,8 @@ AreTrades members products n (row ∷ rows) = IsTrade members products n row × 
 
 -- what each book keeps: its trades are numbered from 1, the gross of each product is within the limit, and the submitted trades are counted
 pub record IsBook (members products submitted : ℕ) (rows : List TradeRow) : Type 0 where
-  pub few_members : members ≤ 256
-  pub few_products : products ≤ 64
+  pub few_members : members ≤ MOST_MEMBERS
+  pub few_products : products ≤ MOST_PRODUCTS
   pub trades : AreTrades members products 1 rows
   pub bounded : (product : ℕ) → gross_of product rows ≤ gross_limit
   pub counted : submitted ≡ submitted_count rows

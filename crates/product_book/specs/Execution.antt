@@ -10,6 +10,7 @@ use Rattle.product_book.specs.OpenLists.{OpenView}
 use Rattle.product_book.specs.declared.kept.KeptSums.{KeptSums}
 use Rattle.product_book.specs.Kept.{AreKept}
 use Rattle.product_book.specs.Links.{AreLinked}
+use Rattle.units_core.specs.declared.limits.TheConstants.{MOST_MEMBERS, MOST_PRODUCTS}
 
 -- at a step: the trade is there, and what is left of it is an amount
 abbrev pub CanRun : List TradeRow → PlanRow → Type 0
@@ -25,8 +26,8 @@ IsMade members products (New product seller buyer amount day) = (product < produ
 
 -- before and after each step: the trades have their numbers, and the sums and the lists are theirs
 pub record IsRunning (members products : ℕ) (sums : KeptSums) (by_product by_pair : OpenView) (spare : ℕ) (rows : List TradeRow) : Type 0 where
-  pub few : members ≤ 256
-  pub few_products : products ≤ 64
+  pub few : members ≤ MOST_MEMBERS
+  pub few_products : products ≤ MOST_PRODUCTS
   pub trades : AreTrades members products 1 rows
   pub kept : AreKept members products sums rows
   pub linked : AreLinked members products by_product by_pair spare rows

@@ -8,6 +8,7 @@ ghost use Rattle.product_book.specs.Book.{gross_limit, AreTrades, IsTrade, live_
 ghost use Rattle.command_types.specs.Execution.{IsExecutable};
 ghost use Rattle.product_book.specs.Freezes.{rows_by_choice, frozen_among, FrozenCount};
 ghost use Rattle.product_book.specs.Networks.{network_of, AllCount};
+ghost use Rattle.units_core.specs.declared.limits.TheConstants.{MOST_MEMBERS, MOST_PRODUCTS};
 
 use crate::kept::KeptSums;
 use crate::links::Links;
@@ -67,8 +68,8 @@ impl Model for Book {
 impl Book {
     /// A book without trades, of so many members and products: at most 256 and 64. The only error is want of memory.
     pub fn new(alloc: Global, members: u16, products: u16) -> Result<Book, AllocError>
-        requires few_members { members ≤ 256 }
-        requires few_products { products ≤ 64 }
+        requires few_members { members ≤ MOST_MEMBERS }
+        requires few_products { products ≤ MOST_PRODUCTS }
         ensures rows { IfOk result (λ book. book.rows ≡ []) }
         ensures members { IfOk result (λ book. book.members ≡ members) }
         ensures products { IfOk result (λ book. book.products ≡ products) }

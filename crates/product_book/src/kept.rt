@@ -9,6 +9,7 @@
 
 ghost use Rattle.std.specs.Prelude.{ℕ, ◌≡◌, ◌+◌, ◌-◌, ◌*◌, ◌<◌, ◌≤◌, ◌^◌, length, slice_index, [], IfOk};
 ghost use Rattle.product_book.specs.Kept.{member_place, counted_part, live_part, raised, moved, CanMove, CanEnter, IsEntered, CanSettle, IsSettled, AreKept};
+ghost use Rattle.units_core.specs.declared.limits.TheConstants.{MOST_MEMBERS, MOST_PRODUCTS};
 
 use crate::places::{member_place, pair_place};
 use command_types::{TradeRow, TradeState};
@@ -77,8 +78,8 @@ fn sum_at(sums: &[u64], at: usize) -> u64
 impl KeptSums {
     /// The sums of no trades. The only error is want of memory.
     pub(super) fn new(alloc: Global, members: u16, products: u16) -> Result<KeptSums, AllocError>
-        requires members { members ≤ 256 }
-        requires products { products ≤ 64 }
+        requires members { members ≤ MOST_MEMBERS }
+        requires products { products ≤ MOST_PRODUCTS }
         ensures members { IfOk result (λ sums. sums.members ≡ members) }
         ensures kept { IfOk result (λ sums. AreKept members products sums []) }
     {
@@ -133,8 +134,8 @@ impl KeptSums {
 
     /// What a member sold in a product, and what it bought.
     pub(super) fn of_member(&self, product: usize, member: usize) -> (u64, u64)
-        requires members { self.now.members ≤ 256 }
-        requires product { product < 64 }
+        requires members { self.now.members ≤ MOST_MEMBERS }
+        requires product { product < MOST_PRODUCTS }
         requires member { member < self.now.members }
         ensures sold { result.0 ≡ slice_index self.now.sold.items (member_place self.now.members product member) }
         ensures bought { result.1 ≡ slice_index self.now.bought.items (member_place self.now.members product member) }

@@ -4,6 +4,7 @@
 ghost use Rattle.std.specs.Prelude.{ℕ, ◌≡◌, ◌-◌, ◌*◌, ◌<◌, ◌≤◌, [], length, max, replicate, OnOk, OnErr, IfOk};
 ghost use Rattle.product_book.specs.Kept.{trade_place};
 ghost use Rattle.product_book.specs.Links.{IsPushed, IsTakenOut};
+ghost use Rattle.units_core.specs.declared.limits.TheConstants.{MOST_MEMBERS, MOST_PRODUCTS};
 
 use crate::open_lists::OpenLists;
 use crate::places::pair_place;
@@ -21,8 +22,8 @@ pub(super) struct Links {
 impl Links {
     /// The lists of no trades. The only error is want of memory.
     pub(super) fn new(alloc: Global, members: u16, products: u16) -> Result<Links, AllocError>
-        requires few { members ≤ 256 }
-        requires few_products { products ≤ 64 }
+        requires few { members ≤ MOST_MEMBERS }
+        requires few_products { products ≤ MOST_PRODUCTS }
         ensures products { IfOk result (λ made. made.by_product.lists ≡ replicate products []) }
         ensures pairs { IfOk result (λ made. made.by_pair.lists ≡ replicate (members * (members * products)) []) }
         ensures product_numbers { IfOk result (λ made. made.by_product.count ≡ 0) }
@@ -58,8 +59,8 @@ impl Links {
 
     /// Puts a trade last into its lists. It takes no memory.
     pub(super) fn enter(&mut self, members: u16, row: &TradeRow)
-        requires members { members ≤ 256 }
-        requires few { row.now.product < 64 }
+        requires members { members ≤ MOST_MEMBERS }
+        requires few { row.now.product < MOST_PRODUCTS }
         requires seller { row.now.seller < members }
         requires buyer { row.now.buyer < members }
         requires product { row.now.product < length self.old.by_product.lists }

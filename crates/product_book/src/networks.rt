@@ -7,6 +7,7 @@ ghost use Rattle.product_book.specs.Links.{is_open_at};
 ghost use Rattle.product_book.specs.OpenLists.{numbers_in};
 ghost use Rattle.product_book.specs.Walks.{rows_at, EachThere};
 ghost use Rattle.product_book.specs.Networks.{is_among, network_of, AllCount, HasParties};
+ghost use Rattle.units_core.specs.declared.limits.TheConstants.{MOST_MEMBERS};
 
 use crate::open_lists::OpenLists;
 use crate::row::row_at;
@@ -46,7 +47,7 @@ pub(super) fn network_of(
     product: ProductNo,
     which: Which,
 ) -> Result<Network, AllocError>
-    requires few { members ≤ 256 }
+    requires few { members ≤ MOST_MEMBERS }
     requires parties { All (HasParties members) trades.now }
     requires there { EachThere trades.now (numbers_in (list_of lists.now.lists product)) }
     requires open { rows_at trades.now (numbers_in (list_of lists.now.lists product)) ≡ filter (is_open_at (λ row. row.product) product) trades.now }

@@ -6,6 +6,7 @@ use Rattle.network_laws.specs.declared.rows.LimitRow.{LimitRow}
 use Rattle.network_laws.specs.Networks.{NetworkData, at}
 use Rattle.network_laws.specs.Limits.{LimitsData, upper}
 use Rattle.residual_graph.specs.declared.flow.Flow.{Flow}
+use Rattle.units_core.specs.declared.limits.TheConstants.{MOST_MEMBERS}
 
 -- a number of members, and their pairs
 pub record ResidualData : Type 0 where
@@ -68,6 +69,6 @@ AreRising flows = AllPairs (λ a b. flow_place a < flow_place b) flows
 
 -- what a residual graph keeps
 pub record IsResidual (r : ResidualData) : Type 0 where
-  pub few : r.members ≤ 256
+  pub few : r.members ≤ MOST_MEMBERS
   pub good : All (IsFlow r.members) r.flows
   pub rising : AreRising r.flows

@@ -5,6 +5,7 @@ ghost use Rattle.network_laws.specs.Networks.{IsNetwork, gross};
 ghost use Rattle.network_laws.specs.Limits.{AreLimits, IsWithinLimits};
 ghost use Rattle.residual_graph.specs.Residual.{ResidualData, IsResidual, IsCapped, residual_of, network_of};
 ghost use Rattle.residual_graph.specs.Arcs.{arc_count, tail, head, room, cost, pushed};
+ghost use Rattle.units_core.specs.declared.limits.TheConstants.{MOST_GROSS};
 
 use crate::arcs::{is_forward, moved_flow, pair_of};
 use crate::build::{flows_of, rows_of};
@@ -141,7 +142,7 @@ impl Residual {
 
     /// The network that the pairs are. The only error is want of memory.
     pub fn network(&self) -> Result<Network, AllocError>
-        requires { gross (network_of self.now) ≤ 10 ^ 18 }
+        requires { gross (network_of self.now) ≤ MOST_GROSS }
         ensures { IfOk result (λ y. y ≡ network_of self.now) }
     {
         let rows = rows_of(*self.flows.allocator(), &self.flows, self.members)?;
