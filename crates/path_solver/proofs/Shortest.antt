@@ -154,11 +154,3 @@ shortest_sent x p levels last old new surplus lack surplus' lack' from end path 
       receivers = λ v receives. s.receivers v (sent.receivers v receives);
       low = s.low;
     }
-
--- a path down has as many arcs as its level tells
-pub path_long : (flows : List Flow) (p surplus lack levels : List ℕ) (from end : ℕ) (path : List ℕ) → AreShortest flows p surplus lack levels (get_or levels from 0) → IsPathDown flows p levels lack from end path → length path ≡ get_or levels from 0
-path_long flows p surplus lack levels from end path s h =
-    elim (cases_lt 0 (get_or levels from 0)) [
-      | inl above ↦ omega (arith, h.long, s.receivers end h.receives above)
-      | inr none ↦ omega (arith, h.long, none)
-    ]

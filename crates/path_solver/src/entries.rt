@@ -10,7 +10,7 @@ use residual_graph::{Flow, Residual};
 use std::alloc::{AllocError, Global};
 
 /// From where arcs with room lead to one member: the sellers to it whose pair can grow, and the buyers
-/// from it whose pair can fall.
+/// from it whose pair can fall. In the graph that is turned round they tell to where arcs lead from it.
 #[derive(Clone, Copy)]
 pub struct Entry {
     pub sellers: MemberSet,

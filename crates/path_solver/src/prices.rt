@@ -29,8 +29,6 @@ pub fn raise(
 {
     move_up(groups, reached, top as usize + 1);
     for member in 0..prices.len() {
-        if levels[member] == UNREACHED {
-            prices[member] += 1;
-        }
+        prices[member] += u16::from(levels[member] == UNREACHED);
     }
 }
