@@ -1,0 +1,12 @@
+pub mod Joining
+pub mod Labelled
+pub mod Classes
+pub mod Partitions
+pub mod Numbers
+pub mod Kept
+pub mod OwnFacts
+pub mod Summing
+pub mod Together
+pub mod Whole
+pub mod Certified
+pub mod Good

@@ -1,0 +1,16 @@
+use Rattle.std.proofs.Common.{◌<◌, sym, subst}
+use Rattle.std.specs.Prelude.{All}
+use Rattle.network_laws.specs.Networks.{NetworkData}
+use Rattle.network_laws.specs.Limits.{LimitsData, IsWithinLimits}
+use Rattle.split_parts.specs.Own.{own_limits}
+use Rattle.split_parts.proofs.OwnFacts.{own_within}
+use Rattle.split_parts.proofs.own.problem_of.Goals as goal
+
+pub new-requires-clause-within : goal.new-requires-clause-within
+new-requires-clause-within c =
+    let limits = c.args.limits.now in
+    let y = c.args.network.now in
+    let part = c.args.part.now in
+    let within = subst (λ n. All (λ m. m < n) part) c.requires.same_members c.requires.within in
+    subst (λ (l : LimitsData). IsWithinLimits l c.in_ok-own_network.own_network) (sym c.in_ok-own_limits.ensures)
+    (subst (λ (z : NetworkData). IsWithinLimits (own_limits limits part) z) (sym c.in_ok-own_network.ensures) (own_within limits y part c.requires.network c.requires.rising within))

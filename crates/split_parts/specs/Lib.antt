@@ -1,0 +1,5 @@
+pub mod Chains
+pub mod Labels
+pub mod Parts
+pub mod Own
+pub mod Merged

@@ -1,0 +1,44 @@
+//! The members of each part, by their labels.
+
+ghost use Rattle.std.specs.Prelude.{◌≡◌, ℕ, ◌<◌, ◌≤◌, ◌^◌, length, slice_index, IfOk};
+ghost use Rattle.split_parts.specs.Labels.{AreSound, AreClassesTo, IsClassTo};
+
+use crate::part::Part;
+use std::alloc::{AllocError, Global};
+
+// The members that have a label, which is the first of them.
+fn members_with(alloc: Global, labels: &[u16], label: u16) -> Result<Vec<u16>, AllocError>
+    requires few { length labels.now ≤ 256 }
+    requires here { label < length labels.now }
+    requires own { slice_index labels.now label ≡ label }
+    requires low { (m : ℕ) → m < length labels.now → slice_index labels.now m ≤ m }
+    ensures { IfOk result (λ members. IsClassTo labels.now label (length labels.now) members.items) }
+{
+    let mut members = Vec::new(alloc);
+    members.push(label)?;
+    for member in label as usize + 1..labels.len() {
+        if labels[member] == label {
+            members.push(member as u16)?;
+        }
+    }
+    Ok(members)
+}
+
+/// The parts of two members and more, in order of the first.
+pub fn parts_with(alloc: Global, labels: &[u16]) -> Result<Vec<Part>, AllocError>
+    requires few { length labels.now ≤ 256 }
+    requires low { (m : ℕ) → m < length labels.now → slice_index labels.now m ≤ m }
+    requires own { (m : ℕ) → m < length labels.now → slice_index labels.now (slice_index labels.now m) ≡ slice_index labels.now m }
+    ensures { IfOk result (λ parts. AreClassesTo labels.now (length labels.now) parts.items) }
+{
+    let mut parts = Vec::new(alloc);
+    for member in 0..labels.len() {
+        if labels[member] as usize == member {
+            let members = members_with(alloc, labels, member as u16)?;
+            if members.len() > 1 {
+                parts.push(Part::from_members(members))?;
+            }
+        }
+    }
+    Ok(parts)
+}

@@ -1,0 +1,88 @@
+//! The parts of a problem.
+
+ghost use Rattle.std.specs.Prelude.{◌≡◌, map, IfOk};
+ghost use Rattle.network_laws.specs.Limits.{IsWithinLimits};
+ghost use Rattle.split_parts.specs.Own.{own_problem};
+ghost use Rattle.split_parts.specs.Parts.{PartsData, ArePartsOf, IsPartition};
+
+use crate::labels::labels_of;
+use crate::members::parts_with;
+use crate::own::problem_of;
+use crate::part::Part;
+use network_laws::{Limits, Network, Problem};
+use std::alloc::{AllocError, Global};
+use std::marker::Model;
+
+/// The parts of limits, in order of their smallest member, and the problem of each in its own numbers: the number of a
+/// member in its part is its place there.
+#[derive(Drop)]
+pub struct Parts {
+    members: Vec<Part>,
+    problems: Vec<Problem>,
+}
+
+impl Model for Parts {
+    ghost use Rattle.split_parts.specs.Parts.{PartsData};
+
+    ghost Value = { PartsData };
+
+    ghost view = { λ parts. record { members = parts.members.items; problems = parts.problems.items } };
+}
+
+impl Parts {
+    /// The members of each part.
+    pub fn members(&self) -> &[Part]
+        ensures { result.now ≡ self.now.members }
+    {
+        &self.members
+    }
+
+    /// The problem of each part.
+    pub fn problems(&self) -> &[Problem]
+        ensures { result.now ≡ self.now.problems }
+    {
+        &self.problems
+    }
+}
+
+// The parts of two members and more.
+fn members_of(alloc: Global, limits: &Limits) -> Result<Vec<Part>, AllocError>
+    ensures { IfOk result (λ parts. IsPartition limits.now parts.items) }
+{
+    let labels = labels_of(alloc, limits)?;
+    let _members = limits.members();
+    let parts = parts_with(alloc, &labels)?;
+    Ok(parts)
+}
+
+// The problem of each part.
+fn problems_of(
+    alloc: Global,
+    limits: &Limits,
+    network: &Network,
+    parts: &[Part],
+) -> Result<Vec<Problem>, AllocError>
+    requires same_members { limits.now.members ≡ network.now.members }
+    requires within { IsWithinLimits limits.now network.now }
+    requires parts { IsPartition limits.now parts.now }
+    ensures { IfOk result (λ problems. problems.items ≡ map (own_problem limits.now network.now) parts.now) }
+{
+    let _members = limits.members();
+    let mut problems = Vec::new(alloc);
+    for part in parts {
+        problems.push(problem_of(alloc, limits, network, part.members())?)?;
+    }
+    Ok(problems)
+}
+
+/// The parts of the limits, each with its own limits and network. Members that a chain of pairs joins whose upper bound
+/// is not 0 are one part. The only error is want of memory.
+pub fn split(alloc: Global, limits: &Limits, network: &Network) -> Result<Parts, AllocError>
+    requires same_members { limits.now.members ≡ network.now.members }
+    requires within { IsWithinLimits limits.now network.now }
+    ensures { IfOk result (ArePartsOf limits.now network.now) }
+{
+    let members = members_of(alloc, limits)?;
+    let problems = problems_of(alloc, limits, network, &members)?;
+    Ok(Parts { members, problems })
+}
