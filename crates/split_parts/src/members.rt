@@ -2,13 +2,14 @@
 
 ghost use Rattle.std.specs.Prelude.{◌≡◌, ℕ, ◌<◌, ◌≤◌, ◌^◌, length, slice_index, IfOk};
 ghost use Rattle.split_parts.specs.Labels.{AreSound, AreClassesTo, IsClassTo};
+ghost use Rattle.units_core.specs.declared.limits.TheConstants.{MOST_MEMBERS};
 
 use crate::part::Part;
 use std::alloc::{AllocError, Global};
 
 // The members that have a label, which is the first of them.
 fn members_with(alloc: Global, labels: &[u16], label: u16) -> Result<Vec<u16>, AllocError>
-    requires few { length labels.now ≤ 256 }
+    requires few { length labels.now ≤ MOST_MEMBERS }
     requires here { label < length labels.now }
     requires own { slice_index labels.now label ≡ label }
     requires low { (m : ℕ) → m < length labels.now → slice_index labels.now m ≤ m }
@@ -26,7 +27,7 @@ fn members_with(alloc: Global, labels: &[u16], label: u16) -> Result<Vec<u16>, A
 
 /// The parts of two members and more, in order of the first.
 pub fn parts_with(alloc: Global, labels: &[u16]) -> Result<Vec<Part>, AllocError>
-    requires few { length labels.now ≤ 256 }
+    requires few { length labels.now ≤ MOST_MEMBERS }
     requires low { (m : ℕ) → m < length labels.now → slice_index labels.now m ≤ m }
     requires own { (m : ℕ) → m < length labels.now → slice_index labels.now (slice_index labels.now m) ≡ slice_index labels.now m }
     ensures { IfOk result (λ parts. AreClassesTo labels.now (length labels.now) parts.items) }

@@ -4,6 +4,7 @@ ghost use Rattle.std.specs.Prelude.{◌≡◌, ◌<◌, ◌≤◌, ℕ, List, le
 ghost use Rattle.network_laws.specs.Limits.{IsWithinLimits};
 ghost use Rattle.split_parts.specs.Own.{number_in, numbered, numbered_bounds, own_limits, own_network, own_problem};
 ghost use Rattle.split_parts.specs.Parts.{IsRisingPart};
+ghost use Rattle.units_core.specs.declared.limits.TheConstants.{MOST_MEMBERS};
 
 use network_laws::{LimitRow, Limits, Network, Problem, Row};
 use std::alloc::{AllocError, Global};
@@ -12,7 +13,7 @@ use std::alloc::{AllocError, Global};
 fn numbers_in(alloc: Global, members: u16, part: &[u16]) -> Result<Vec<Option<u16>>, AllocError>
     requires rising { IsRisingPart part.now }
     requires within { All (λ m. m < members) part.now }
-    requires few { members ≤ 256 }
+    requires few { members ≤ MOST_MEMBERS }
     ensures size { IfOk result (λ numbers. length numbers.items ≡ members) }
     ensures own { IfOk result (λ numbers. (m : ℕ) → m < members → slice_index_or numbers.items m None ≡ number_in part.now m) }
 {
