@@ -1,6 +1,6 @@
 //! The first phase: straight from members that have to send to members that have to receive.
 
-ghost use Rattle.std.specs.Prelude.{◌≡◌, ℕ, ◌<◌, length, min, slice_index, map, IfOk};
+ghost use Rattle.std.specs.Prelude.{◌≡◌, ℕ, ◌<◌, length, slice_index, map, IfOk};
 ghost use Rattle.path_solver.specs.Prices.{first_price};
 ghost use Rattle.path_solver.specs.Rests.{IsSentAlong};
 
@@ -18,22 +18,46 @@ pub fn first_prices(alloc: Global, lack: &[u64]) -> Result<Vec<u16>, AllocError>
     Ok(prices)
 }
 
-/// How much can be sent over a pair. The buyer is looked at only where the seller has something to send.
+/// Sends over a pair as much as can be sent.
 #[inline(always)]
-fn straight_amount(surplus: &[u64], lack: &[u64], flow: Flow) -> u64
-    requires seller { flow.seller < length surplus.now }
-    requires buyer { flow.buyer < length lack.now }
-    ensures { result ≡ min (min (slice_index surplus.now flow.seller) (slice_index lack.now flow.buyer)) flow.room }
+fn send_over(
+    residual: &mut Residual,
+    prices: &[u16],
+    surplus: &mut [u64],
+    lack: &mut [u64],
+    pair: usize,
+)
+    requires prices { residual.old.members ≡ length prices.now }
+    requires surplus { residual.old.members ≡ length surplus.old }
+    requires lack { residual.old.members ≡ length lack.old }
+    requires senders { (v : ℕ) → 0 < slice_index surplus.old v → slice_index prices.now v ≡ 1 }
+    requires receivers { (v : ℕ) → 0 < slice_index lack.old v → slice_index prices.now v ≡ 0 }
+    requires pair { pair < length residual.old.flows }
+    ensures { IsSentAlong prices.now residual.old residual.new surplus.old lack.old surplus.new lack.new }
 {
-    let left = surplus[flow.seller as usize];
-    if left == 0 {
-        return 0;
+    let flow = residual.flows()[pair];
+    let both = surplus[flow.seller as usize].min(lack[flow.buyer as usize]);
+    let amount = both.min(flow.room);
+    if amount > 0 {
+        residual.push(2 * pair as u32, amount);
+        surplus[flow.seller as usize] -= amount;
+        lack[flow.buyer as usize] -= amount;
     }
-    left.min(lack[flow.buyer as usize]).min(flow.room)
+}
+
+/// The first pair of a later seller than this pair's.
+fn behind_seller(flows: &[Flow], pair: usize) -> usize
+    requires { pair < length flows.now }
+    ensures { pair < result }
+{
+    let seller = flows[pair].seller;
+    flows
+        .partition_point(|flow| flow.seller <= seller)
+        .max(pair + 1)
 }
 
 /// Sends over each pair from a member that has to send to one that has to receive as much as the three can take. At
-/// these prices such a pair is tight: its arc alone is a path.
+/// these prices such a pair is tight: its arc alone is a path. Pairs of a member that has nothing to send are passed over.
 pub fn send_direct(residual: &mut Residual, prices: &[u16], surplus: &mut [u64], lack: &mut [u64])
     requires prices { residual.old.members ≡ length prices.now }
     requires surplus { residual.old.members ≡ length surplus.old }
@@ -42,13 +66,14 @@ pub fn send_direct(residual: &mut Residual, prices: &[u16], surplus: &mut [u64],
     requires receivers { (v : ℕ) → 0 < slice_index lack.old v → slice_index prices.now v ≡ 0 }
     ensures { IsSentAlong prices.now residual.old residual.new surplus.old lack.old surplus.new lack.new }
 {
-    for pair in 0..residual.flows().len() {
-        let flow = residual.flows()[pair];
-        let amount = straight_amount(surplus, lack, flow);
-        if amount > 0 {
-            residual.push(2 * pair as u32, amount);
-            surplus[flow.seller as usize] -= amount;
-            lack[flow.buyer as usize] -= amount;
+    let mut pair = 0;
+    while pair < residual.flows().len() {
+        let seller = residual.flows()[pair].seller;
+        if surplus[seller as usize] > 0 {
+            send_over(residual, prices, surplus, lack, pair);
+            pair += 1;
+        } else {
+            pair = behind_seller(residual.flows(), pair);
         }
     }
 }

@@ -1,3 +1,4 @@
+pub mod NextRows
 pub mod Building
 pub mod Kept
 pub mod PushSteps

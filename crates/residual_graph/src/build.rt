@@ -26,11 +26,32 @@ pub fn flows_of(
     let mut flows = Vec::with_capacity(alloc, rows.len())?;
     let mut next = NextRow::search(sales, 0, 0);
     for row in rows {
-        next = next.moved_to(sales, place_of(row.seller, row.buyer));
-        let amount = next.amount(sales, row.seller, row.buyer);
-        flows.push_reserved(flow_of(*row, amount, cap));
+        let place = place_of(row.seller, row.buyer);
+        if place < next.place {
+            flows.push_reserved(idle_flow(*row, cap));
+        } else {
+            next = NextRow::search(sales, next.at, place);
+            let amount = next.amount(sales, row.seller, row.buyer);
+            flows.push_reserved(flow_of(*row, amount, cap));
+        }
     }
     Ok(flows)
+}
+
+/// The pair of a limit row without an amount.
+#[inline(always)]
+fn idle_flow(row: LimitRow, cap: u64) -> Flow
+    requires low { row.lower ≡ 0 }
+    ensures value { result ≡ flow_with cap row 0 }
+    ensures small { IsSmall result }
+{
+    Flow {
+        seller: row.seller,
+        buyer: row.buyer,
+        lower: 0,
+        back: 0,
+        room: most_of(row, cap),
+    }
 }
 
 /// The pair of a limit row with an amount.
@@ -41,16 +62,23 @@ fn flow_of(row: LimitRow, amount: u64, cap: u64) -> Flow
     ensures value { result ≡ flow_with cap row amount }
     ensures small { IsSmall result }
 {
-    let most = match row.upper {
-        Some(most) => most,
-        None => cap,
-    };
     Flow {
         seller: row.seller,
         buyer: row.buyer,
         lower: row.lower,
         back: amount - row.lower,
-        room: most - amount,
+        room: most_of(row, cap) - amount,
+    }
+}
+
+/// The most that a pair may have, with a cap where it has no upper bound.
+#[inline(always)]
+fn most_of(row: LimitRow, cap: u64) -> u64
+    ensures { result ≡ capped cap row.upper }
+{
+    match row.upper {
+        Some(most) => most,
+        None => cap,
     }
 }
 

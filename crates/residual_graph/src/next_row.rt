@@ -46,24 +46,7 @@ impl NextRow {
         }
     }
 
-    /// The first row from this one on that does not stand before a place.
-    #[inline(always)]
-    pub(super) fn moved_to(self, rows: &[Row], wanted: u64) -> NextRow
-        requires rising { IsRising rows.now }
-        requires next { IsNextRow rows.now self }
-        requires passed { ArePassed rows.now self.at wanted }
-        ensures next { IsNextRow rows.now result }
-        ensures cursor { IsCursor rows.now result.at wanted }
-    {
-        if self.place < wanted {
-            NextRow::search(rows, self.at, wanted)
-        } else {
-            self
-        }
-    }
-
     /// The amount of a pair before which no row comes any more.
-    #[inline(always)]
     pub(super) fn amount(self, rows: &[Row], seller: u16, buyer: u16) -> u64
         requires rising { IsRising rows.now }
         requires next { IsNextRow rows.now self }

@@ -1,5 +1,9 @@
+use Rattle.std.proofs.Common.{◌-◌, length}
 use Rattle.path_solver.specs.Rests.{IsSentAlong}
 use Rattle.path_solver.proofs.direct.send_direct.Given as goal
 
 abbrev pub invariant-loop-pair : goal.invariant-loop-pair
 invariant-loop-pair l = IsSentAlong l.prices l.initial.residual l.residual l.initial.surplus l.initial.lack l.surplus l.lack
+
+abbrev pub decreases-loop-pair : goal.decreases-loop-pair
+decreases-loop-pair l = length l.residual.flows - l.pair

@@ -1,0 +1,37 @@
+use Rattle.std.proofs.Common.{◌≡◌, ◌<◌, List, length, get_or, sym, ap, arith}
+use Rattle.residual_graph.specs.declared.flow.Flow.{Flow}
+use Rattle.residual_graph.specs.Residual.{ResidualData}
+use Rattle.residual_graph.specs.Arcs.{flow_at, no_flow}
+use Rattle.residual_graph.proofs.Kept.{few_pairs}
+use Rattle.path_solver.proofs.Straight.{sent_straight}
+use Rattle.path_solver.proofs.direct.send_over.Goals as goal
+
+pub overflow_cast-pair : goal.overflow_cast-pair
+overflow_cast-pair c = omega (arith, c.requires.pair, few_pairs c.args.residual.now c.flows.ensures.residual)
+
+pub overflow_mul-pair : goal.overflow_mul-pair
+overflow_mul-pair c = omega (arith, c.requires.pair, few_pairs c.args.residual.now c.flows.ensures.residual)
+
+pub returns-then-amount-gt0 : goal.returns-then-amount-gt0
+returns-then-amount-gt0 c =
+    let k = c.args.pair in
+    let f = get_or c.flows.result.now c.args.pair no_flow in
+    let at : get_or c.flows.result.now c.args.pair no_flow ≡ flow_at c.args.residual.now.flows c.args.pair = ap (λ (fs : List Flow). get_or fs c.args.pair no_flow) c.flows.ensures.value in
+    let in_k : c.args.pair < length c.args.residual.now.flows = c.requires.pair in
+    let good = c.flows.ensures.residual.good c.args.pair no_flow in_k in
+    let at_s = ap (λ (g : Flow). g.seller) at in
+    let at_b = ap (λ (g : Flow). g.buyer) at in
+    let some = c.if-amount-gt0.true in
+    let sends = c.requires.senders f.seller (omega (arith, some, c.min-amount.ensures, c.min-both.ensures)) in
+    let receives = c.requires.receivers f.buyer (omega (arith, some, c.min-amount.ensures, c.min-both.ensures)) in
+    sent_straight c.args.prices.now c.args.residual.now c.push.new.self c.args.surplus.now c.args.lack.now k f.seller f.buyer c.min-amount.result in_k (sym at_s) (sym at_b)
+    (omega (arith, c.min-amount.ensures, ap (λ (g : Flow). g.room) at))
+    some
+    (omega (arith, sends, receives))
+    (omega (arith, good.seller, at_s, c.requires.surplus))
+    (omega (arith, good.buyer, at_b, c.requires.lack))
+    (omega (arith, good.buyer, at_b, c.requires.prices))
+    (omega (arith, c.min-amount.ensures, c.min-both.ensures))
+    (omega (arith, c.min-amount.ensures, c.min-both.ensures))
+    (ap (λ (r : ResidualData). r.members) c.push.ensures)
+    (ap (λ (r : ResidualData). r.flows) c.push.ensures)
