@@ -1,9 +1,8 @@
 //! A walk over the rows of a network in step with pairs in rising order. It keeps the place of the row that comes next, so
 //! that a pair without a row costs one comparison.
 
-ghost use Rattle.std.specs.Prelude.{◌≡◌, ℕ, ◌+◌, ◌*◌, ◌^◌, ◌<◌, ◌≤◌, length, slice_index_or};
-ghost use Rattle.network_laws.specs.declared.rows.Row.{Row};
-ghost use Rattle.network_laws.specs.Networks.{IsRising, IsCursor, place, amount_in};
+ghost use Rattle.std.specs.Prelude.{◌≡◌, ◌+◌, ◌*◌, ◌≤◌, length};
+ghost use Rattle.network_laws.specs.Networks.{IsRising, IsCursor, amount_in};
 ghost use Rattle.residual_graph.specs.NextRow.{IsNextRow, ArePassed};
 
 use network_laws::Row;
