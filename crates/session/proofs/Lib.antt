@@ -19,3 +19,4 @@ pub mod ServedFacts
 pub mod StepFacts
 pub mod WholeFacts
 pub mod ReplyFacts
+pub mod AnsweredFacts

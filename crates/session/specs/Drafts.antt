@@ -1,9 +1,11 @@
 -- How a draft is kept: entries by the names of a product and its members.
-use Rattle.std.specs.Prelude.{◌≡◌, ℕ, ◌≤◌, ◌&&◌, ℤ, Bool, List, map, unwrap_or}
+use Rattle.std.specs.Prelude.{◌≡◌, ℕ, ◌≤◌, ◌&&◌, ℤ, Bool, List, length, map, unwrap_or}
 use Rattle.std.specs.Map.{lookup}
 use Rattle.std.specs.Str.{bytes_eq}
+use Rattle.network_laws.specs.Networks.{NetworkData}
 use Rattle.network_laws.specs.Solutions.{IsPotential}
-use Rattle.command_types.specs.Session.{DraftRow, DraftPotential, draft_amount, draft_sum, draft_potential}
+use Rattle.command_types.specs.declared.roster.MemberRow.{MemberRow}
+use Rattle.command_types.specs.Session.{DraftRow, DraftPotential, draft_amount, draft_sum, draft_potential, network_rows}
 use Rattle.session.specs.declared.draft_rows.PairKey.{PairKey}
 use Rattle.session.specs.declared.draft_potentials.PlaceKey.{PlaceKey}
 
@@ -24,6 +26,10 @@ potentials_of entries = map potential_of entries
 
 abbrev pub is_same_place : PlaceKey → PlaceKey → Bool
 is_same_place a b = bytes_eq a.product b.product && bytes_eq a.member b.member
+
+-- the network that rows make for a product: a row for each pair of members that they have an amount for
+abbrev pub draft_network : List MemberRow → List DraftRow → List ℕ → NetworkData
+draft_network members rows product = record { members = length members; rows = network_rows (λ seller buyer. draft_amount product seller buyer rows) members 0 members }
 
 -- what the draft has for a pair is found by its key
 abbrev pub AreFound : List (PairKey × ℕ) → Type 0

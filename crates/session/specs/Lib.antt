@@ -9,3 +9,4 @@ pub mod Serving
 pub mod Standing
 pub mod Proposing
 pub mod Ending
+pub mod Answered

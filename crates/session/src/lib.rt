@@ -6,6 +6,7 @@ mod asks;
 mod draft;
 mod draft_potentials;
 mod draft_rows;
+mod laws;
 mod line_buffer;
 mod member_places;
 mod outbox;
@@ -19,4 +20,5 @@ mod solutions;
 mod speaker;
 mod taking;
 
+pub use laws::every_line_is_answered;
 pub use serve::{SessionEnd, serve_session};

@@ -2,9 +2,8 @@
 
 ghost use Rattle.std.specs.Prelude.{◌≡◌, ◌+◌, ◌≤◌, ◌^◌, length, true, IfOk};
 ghost use Rattle.std.specs.Str.{bytes_eq};
-ghost use Rattle.command_types.specs.Session.{draft_amount, network_rows};
 ghost use Rattle.pair_table.specs.PairSums.{gross_in};
-ghost use Rattle.session.specs.Drafts.{row_of};
+ghost use Rattle.session.specs.Drafts.{row_of, draft_network};
 ghost use Rattle.session.specs.Kept.{kept_rows};
 ghost use Rattle.session.specs.Places.{product_part, HasMore};
 
@@ -45,7 +44,7 @@ pub fn product_network(
     draft: &DraftRows,
     product: &Name,
 ) -> Result<Network, AllocError>
-    ensures { IfOk result (λ network. network ≡ record { members = length places.now; rows = network_rows (λ seller buyer. draft_amount product.now seller buyer (kept_rows draft.now)) places.now 0 places.now }) }
+    ensures { IfOk result (λ network. network ≡ draft_network places.now (kept_rows draft.now) product.now) }
 {
     let mut table = PairTable::new(alloc, places.members().len() as u16)?;
     for place in 0..draft.len() {
