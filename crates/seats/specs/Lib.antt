@@ -1,3 +1,4 @@
 pub mod Sessions
 pub mod Final
 pub mod Places
+pub mod Answered
