@@ -13,13 +13,13 @@ use Rattle.compress_server.specs.declared.load.LoadFault.{LoadFault}
 use Rattle.compress_server.specs.declared.load.LoadFault.TheVariants.{Files, Faulty, Memory as NoMemory}
 use Rattle.compress_server.specs.declared.ending.End.{End}
 use Rattle.compress_server.specs.declared.ending.End.TheVariants.{Done, No, BadWords, Unloaded, Damaged, DiskFault, Stopped, ListenerFault, SourceFault, SinkFault, Limit, Memory}
-use Rattle.compress_server.specs.Complete.{Counts, IsUndisturbed, IsCheck, IsScript, HasJournal, IsAnswered, IsFormFault, AnswersWhatItCan}
+use Rattle.compress_server.specs.Complete.{IsUndisturbed, IsCheck, IsScript, HasJournal, IsAnswered, IsFormFault, AnswersWhatItCan}
 use Rattle.compress_server.specs.Ending.{IsFault, JournalRuns, CheckRuns, SolveRuns, GenRuns, Runs, IsCounted}
 use Rattle.compress_server.specs.Housed.{DiskState, OpeningFails}
 use Rattle.compress_server.specs.Replay.{ReplayEnds}
-use Rattle.compress_server.specs.Seen.{OutputState, Seen}
+use Rattle.compress_server.specs.Seen.{OutputState, World}
 use Rattle.compress_server.specs.Serve.{IsUnhoused, IsUnbegun, IsService, HouseServes, IsWritten, history_line, service_end}
-use Rattle.compress_server.specs.Telling.{TellsEnd}
+use Rattle.compress_server.specs.Telling.{TellsEnd, Ends}
 use Rattle.compress_server.specs.Words.{Market, Form}
 
 -- the ends that are left
@@ -197,42 +197,43 @@ unbegun_answered roster journal address seats connections workers before after e
 unbegun_answered roster journal address seats connections workers before after end (inr (e, rose)) held = absurd (held rose)
 
 -- a service over its house
-served_answered : {D : Type 0} (visits : D → Option Visits) (roster journal address : List ℕ) (seats connections workers : ℕ) (folder : Option Folder) (old new : Counts) (before after : Seen) (v w : HouseView) (end : End) →
-    (is_stopped w ≡ true → Rose before.disk.faults after.disk.faults) →
-    HouseServes visits (record { seats = seats; connections = connections }) v w before.output after.output before.listener after.listener end →
-    IsUndisturbed folder (Form.Serve roster journal address seats connections workers) old new before after → IsAnswer (Form.Serve roster journal address seats connections workers) end
-served_answered visits roster journal address seats connections workers folder old new before after v w end stops (inl u) held =
-    unbegun_answered roster journal address seats connections workers before.listener.faults after.listener.faults end u.why held.listener_held
-served_answered visits roster journal address seats connections workers folder old new before after v w end stops (inr s) held =
+served_answered : {D : Type 0} (visits : D → Option Visits) (roster journal address : List ℕ) (seats connections workers : ℕ) (before after : World) (v w : HouseView) (end : End) →
+    (is_stopped w ≡ true → Rose before.seen.disk.faults after.seen.disk.faults) →
+    HouseServes visits (record { seats = seats; connections = connections }) v w before.seen.output after.seen.output before.seen.listener after.seen.listener end →
+    IsUndisturbed (Form.Serve roster journal address seats connections workers) before after → IsAnswer (Form.Serve roster journal address seats connections workers) end
+served_answered visits roster journal address seats connections workers before after v w end stops (inl u) held =
+    unbegun_answered roster journal address seats connections workers before.seen.listener.faults after.seen.listener.faults end u.why held.listener_held
+served_answered visits roster journal address seats connections workers before after v w end stops (inr s) held =
     let A : End → Type 0 = λ x. IsAnswer (Form.Serve roster journal address seats connections workers) x in
     subst A (sym s.told) (seats_answered roster journal address seats connections workers _ _ (is_stopped w) s.written
-    (λ e. held.disk_held (stops e)) (λ e. held.output_held (count_rose before.output after.output (history_line (end_of w.history)) s.written s.wrote e)) (λ e. held.listener_held (s.counted (s.told ∙ e))))
+    (λ e. held.disk_held (stops e)) (λ e. held.output_held (count_rose before.seen.output after.seen.output (history_line (end_of w.history)) s.written s.wrote e)) (λ e. held.listener_held (s.counted (s.told ∙ e))))
 
 -- the end of any form
-end_answered : {D : Type 0} (visits : D → Option Visits) (folder : Option Folder) (form : Form) (opened flow : Option Flow) (old new : Counts) (before after : Seen) (end : End) →
-    Runs visits folder (Some form) opened flow before after end → IsCounted (Rose old.files new.files) (Rose old.input new.input) (Rose before.output.faults after.output.faults) end →
-    IsUndisturbed folder form old new before after → IsAnswer form end
-end_answered visits folder (Form.Script roster journal workers) opened flow old new before after end (same, inl (fault, e, unread, unwritten, kept, is)) counted held =
+end_answered : {D : Type 0} (visits : D → Option Visits) (form : Form) (before after : World) (end : End) →
+    Runs visits before.files.folder (Some form) before.input.flow after.input.flow before.seen after.seen end →
+    IsCounted (Rose before.files.faults after.files.faults) (Rose before.input.faults after.input.faults) (Rose before.seen.output.faults after.seen.output.faults) end →
+    IsUndisturbed form before after → IsAnswer form end
+end_answered visits (Form.Script roster journal workers) before after end (same, inl (fault, e, unread, unwritten, kept, is)) counted held =
     unloaded_answered (Form.Script roster journal workers) _ _ _ _ _ end fault e is counted held.files_held held.right
-end_answered visits folder (Form.Script roster journal workers) opened flow old new before after end (same, inr (rows, says, are, runs)) counted held =
-    journal_answered roster journal workers rows opened flow _ _ _ _ _ _ _ end runs counted held.input_held held.output_held held.disk_held
-end_answered visits folder (Form.Serve roster journal address seats connections workers) opened flow old new before after end (same, inl (fault, e, kept, is)) counted held =
+end_answered visits (Form.Script roster journal workers) before after end (same, inr (rows, says, are, runs)) counted held =
+    journal_answered roster journal workers rows before.input.flow after.input.flow _ _ _ _ _ _ _ end runs counted held.input_held held.output_held held.disk_held
+end_answered visits (Form.Serve roster journal address seats connections workers) before after end (same, inl (fault, e, kept, is)) counted held =
     unloaded_answered (Form.Serve roster journal address seats connections workers) _ _ _ _ _ end fault e is counted held.files_held held.right
-end_answered visits folder (Form.Serve roster journal address seats connections workers) opened flow old new before after end (same, inr (rows, says, are, inl u)) counted held =
-    unhoused_answered roster journal address seats connections workers rows before.disk after.disk end u.opening held.disk_held
-end_answered visits folder (Form.Serve roster journal address seats connections workers) opened flow old new before after end (same, inr (rows, says, are, inr (v, w, housed, serves))) counted held =
-    served_answered visits roster journal address seats connections workers folder old new before after v w end housed.stopped serves held
-end_answered visits folder (Form.Check market proposal) opened flow old new before after end (same, only, runs) counted held =
-    check_answered folder market proposal _ _ _ _ _ end runs counted held.files_held held.output_held held.right
-end_answered visits folder (Form.Solve market workers) opened flow old new before after end (same, only, runs) counted held =
-    solve_answered folder market workers _ _ _ _ _ end runs counted held.files_held held.output_held held.right
-end_answered visits folder (Form.Gen number workers) opened flow old new before after end (same, only, runs) counted held =
+end_answered visits (Form.Serve roster journal address seats connections workers) before after end (same, inr (rows, says, are, inl u)) counted held =
+    unhoused_answered roster journal address seats connections workers rows before.seen.disk after.seen.disk end u.opening held.disk_held
+end_answered visits (Form.Serve roster journal address seats connections workers) before after end (same, inr (rows, says, are, inr (v, w, housed, serves))) counted held =
+    served_answered visits roster journal address seats connections workers before after v w end housed.stopped serves held
+end_answered visits (Form.Check market proposal) before after end (same, only, runs) counted held =
+    check_answered before.files.folder market proposal _ _ _ _ _ end runs counted held.files_held held.output_held held.right
+end_answered visits (Form.Solve market workers) before after end (same, only, runs) counted held =
+    solve_answered before.files.folder market workers _ _ _ _ _ end runs counted held.files_held held.output_held held.right
+end_answered visits (Form.Gen number workers) before after end (same, only, runs) counted held =
     gen_answered number workers _ _ _ _ _ end runs counted held.output_held
-end_answered visits folder (Form.Replay roster journal) opened flow old new before after end (unread, same, inl (fault, e, unwritten, kept, is)) counted held =
+end_answered visits (Form.Replay roster journal) before after end (unread, same, inl (fault, e, unwritten, kept, is)) counted held =
     unloaded_answered (Form.Replay roster journal) _ _ _ _ _ end fault e is counted held.files_held held.right
-end_answered visits folder (Form.Replay roster journal) opened flow old new before after end (unread, same, inr (rows, says, are, (kept, ends))) counted held =
-    replay_answered roster journal rows before.output.taken after.output.taken before.disk after.disk (Rose old.files new.files) (Rose old.input new.input) (Rose before.output.faults after.output.faults) end ends counted held.output_held held.disk_held
+end_answered visits (Form.Replay roster journal) before after end (unread, same, inr (rows, says, are, (kept, ends))) counted held =
+    replay_answered roster journal rows before.seen.output.taken after.seen.output.taken before.seen.disk after.seen.disk (Rose before.files.faults after.files.faults) (Rose before.input.faults after.input.faults) (Rose before.seen.output.faults after.seen.output.faults) end ends counted held.output_held held.disk_held
 
 pub answers_what_it_can : {D : Type 0} (visits : D → Option Visits) → AnswersWhatItCan visits
-answers_what_it_can visits folder form opened flow old new before after end told then_told errors then_errors status runs tells counted held =
-    status_answered form told then_told errors then_errors end status tells (end_answered visits folder form opened flow old new before after end runs counted held)
+answers_what_it_can visits form before after status ends held =
+    status_answered form before.errors.taken after.errors.taken before.errors.faults after.errors.faults ends.end status ends.tells (end_answered visits form before after ends.end ends.runs ends.counted held)

@@ -20,7 +20,7 @@ use Rattle.compress_server.specs.Seen.{OutputState, ListenerState}
 use Rattle.compress_server.specs.Runs.{run_of, runs_of}
 use Rattle.compress_server.specs.Serve.{SeatRun, LendsMany, TakesBackAll, Returned, IsUnbegun, had_door_fault, service_end, trouble_end}
 
-lends_none : (doors : Option Doors) → LendsMany 0 doors doors
+pub lends_none : (doors : Option Doors) → LendsMany 0 doors doors
 lends_none None = refl
 lends_none (Some d) = ap (λ n. Some (record { lent = n; back = d.back })) (omega arith)
 

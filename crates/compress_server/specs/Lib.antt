@@ -18,3 +18,4 @@ pub mod Ending
 pub mod Telling
 pub mod Statuses
 pub mod Complete
+pub mod Answered

@@ -1,6 +1,8 @@
--- What the program sees of its output, its disk and its listener.
+-- What the program sees of what is outside: its files, its streams, its disk and its listener.
 use Rattle.std.specs.Prelude.{◌≡◌, ℕ, List, Option}
 use Rattle.doors.specs.Visits.{Doors}
+use Rattle.outside.specs.Files.{Folder}
+use Rattle.outside.specs.Flow.{Flow}
 use Rattle.compress_server.specs.Housed.{DiskState}
 
 -- the bytes that an output took, where it tells them, and the count of its faults
@@ -26,6 +28,23 @@ listener_of doors faults = record { doors = doors; faults = faults }
 
 abbrev pub seen_of : OutputState → DiskState → ListenerState → Seen
 seen_of output disk listener = record { output = output; disk = disk; listener = listener }
+
+-- the files, where they tell what they hold, and the count of their faults
+pub record FilesState : Type 0 where
+  pub folder : Option Folder
+  pub faults : ℕ
+
+-- the bytes that an input gave and has left, where it tells them, and the count of its faults
+pub record InputState : Type 0 where
+  pub flow : Option Flow
+  pub faults : ℕ
+
+-- all that is outside
+pub record World : Type 0 where
+  pub files : FilesState
+  pub input : InputState
+  pub errors : OutputState
+  pub seen : Seen
 
 -- neither the disk nor the listener was asked for anything
 pub record IsOnlyOutput (before after : Seen) : Type 0 where

@@ -3,8 +3,13 @@ use Rattle.std.specs.Prelude.{◌≡◌, ◌⊎◌, ℕ, List, Option}
 use Rattle.compress_server.specs.declared.load.LoadFault.TheVariants.{Files, Faulty, Memory as NoMemory}
 use Rattle.compress_server.specs.declared.ending.End.{End}
 use Rattle.compress_server.specs.declared.ending.End.TheVariants.{Done, No, BadWords, Unloaded, Damaged, DiskFault, Stopped, ListenerFault, SourceFault, SinkFault, Limit, Memory}
+use Rattle.doors.specs.Visits.{Visits}
+use Rattle.outside.specs.Faults.{Rose}
+use Rattle.compress_server.specs.Ending.{Runs, IsCounted}
 use Rattle.compress_server.specs.Faults.{fault_line, damage_line}
 use Rattle.compress_server.specs.Run.{status_line, IsReported}
+use Rattle.compress_server.specs.Seen.{World}
+use Rattle.compress_server.specs.Words.{Form}
 
 -- this status, with this line; or 9, where there was no memory for the line
 abbrev pub IsLine : Option (List ℕ) → Option (List ℕ) → ℕ → ℕ → ℕ → List ℕ → ℕ → Type 0
@@ -31,3 +36,10 @@ TellsEnd begun taken before after SourceFault status = IsStatus begun taken befo
 TellsEnd begun taken before after SinkFault status = IsStatus begun taken before after 5 status
 TellsEnd begun taken before after Limit status = IsStatus begun taken before after 8 status
 TellsEnd begun taken before after Memory status = IsStatus begun taken before after 9 status
+
+-- From before to after the program did what its words ask for, up to an end whose status this is.
+pub record Ends {D : Type 0} (visits : D → Option Visits) (form : Option Form) (before after : World) (status : ℕ) : Type 0 where
+  pub end : End
+  pub runs : Runs visits before.files.folder form before.input.flow after.input.flow before.seen after.seen end
+  pub tells : TellsEnd before.errors.taken after.errors.taken before.errors.faults after.errors.faults end status
+  pub counted : IsCounted (Rose before.files.faults after.files.faults) (Rose before.input.faults after.input.faults) (Rose before.seen.output.faults after.seen.output.faults) end

@@ -1,4 +1,5 @@
-//! The laws on statuses, the contracts of functions that do nothing.
+//! The laws on statuses and on lines, the contracts of functions that do nothing.
+ghost use Rattle.compress_server.specs.Answered.{ScriptsAreAnswered, ServicesAreAnswered};
 ghost use Rattle.compress_server.specs.Complete.{AnswersWhatItCan};
 ghost use Rattle.compress_server.specs.Statuses.{StatusesTellTheEnd};
 
@@ -14,4 +15,12 @@ pub fn statuses_tell_the_end()
 /// journal that is damaged, 8 of a script at its limit, or 9.
 pub fn answers_what_it_can<L: Listener>()
     ensures { AnswersWhatItCan L.Door.visits }
+{}
+
+/// Under the same premises every line of a script, unless the status is 7 or 9, and of each connection of a service, but one whose
+/// session found no memory at its start, is answered up to an accepted BYE or the session's limit: by the machine at a position
+/// of the one history, for a full journal, or for want of memory. No answer tells that the desk is stopped.
+pub fn every_line_is_answered<L: Listener>()
+    ensures scripts { ScriptsAreAnswered L.Door.visits }
+    ensures services { ServicesAreAnswered L.Door.visits }
 {}

@@ -18,5 +18,5 @@ mod solve;
 mod top;
 mod words;
 
-pub use laws::{answers_what_it_can, statuses_tell_the_end};
+pub use laws::{answers_what_it_can, every_line_is_answered, statuses_tell_the_end};
 pub use top::run;
