@@ -3,7 +3,7 @@ use Rattle.std.proofs.Common.{◌≡◌, ◌⊎◌, ◌<◌, ◌+◌, ℕ, Bool,
 use Rattle.std.specs.Prelude.{nat_lt}
 use Rattle.std.proofs.lemmas.Bool.{not-true}
 use Rattle.std.proofs.lemmas.Bool.Decides.{nat_tests}
-use Rattle.network_laws.specs.Solutions.{SolutionData, ProblemData}
+use Rattle.network_laws.specs.Solutions.{SolutionData}
 use Rattle.outside.specs.Flow.{Flow, Gives, IsAtEnd}
 use Rattle.command_types.specs.declared.answer.Answer.{Answer}
 use Rattle.command_types.specs.declared.answer.Answer.TheVariants.{Begun, Problems, No}
@@ -17,13 +17,12 @@ use Rattle.command_types.specs.declared.line.Line.{Line}
 use Rattle.command_types.specs.declared.line.Line.TheVariants.{Propose}
 use Rattle.command_types.specs.declared.refusal.Refusal.{Refusal}
 use Rattle.command_types.specs.declared.refusal.Refusal.TheVariants.{JournalFull, Stopped, DiskFault, Memory as NoMemory}
-use Rattle.command_types.specs.Details.{reply_text}
 use Rattle.command_types.specs.Grammar.{line_within}
 use Rattle.command_types.specs.History.{History, longer, recorded, is_recorded, replayed_from}
 use Rattle.command_types.specs.Lines.{cut_of, lines_of}
-use Rattle.command_types.specs.Machine.{first_of, answer_to}
+use Rattle.command_types.specs.Machine.{first_of}
 use Rattle.command_types.specs.Roster.{Rows}
-use Rattle.command_types.specs.Session.{Speaker, nobody, speaker_after, is_bye, Standing, Mark, mark_of, IsAsked, IsFetched, IsProposed, IsReplied, IsTalk, IsUnsolved, IsPosted, IsLast, GoesOnFetched, GoesOnBegun, ask_begin, ask_fetch, ask_post}
+use Rattle.command_types.specs.Session.{Speaker, nobody, speaker_after, is_bye, Standing, Mark, mark_of, IsAsked, IsProposed, IsReplied, IsTalk, GoesOnFetched, GoesOnBegun, ask_begin, ask_fetch, ask_post}
 use Rattle.command_types.specs.Sizes.{journal_limit, frame_size}
 use Rattle.command_types.specs.Told.{IsTold, IsRecorded, IsNotRecorded, IsHouse, IsMemory, journal_size, tells_stop}
 use Rattle.command_types.proofs.StopFacts.{machine_plain}
@@ -31,7 +30,7 @@ use Rattle.session.specs.declared.serve.SessionEnd.{SessionEnd}
 use Rattle.session.specs.declared.serve.SessionEnd.TheVariants.{Ended, SourceFault, SinkFault, Limit, Memory}
 use Rattle.session.specs.Answered.{IsOfMachine, IsOfFullJournal, IsAnswer, IsCommandOf, IsLineAnswered, AreAnswered, IsInputAnswered, EveryLineIsAnswered}
 use Rattle.session.specs.Ending.{session_limit, Ends}
-use Rattle.session.specs.Serving.{Sight, standing, mark, ask_read, Written, Left, CutOff}
+use Rattle.session.specs.Serving.{Sight, standing, ask_read, Written, Left, CutOff}
 
 -- ---- one command
 
