@@ -6,6 +6,7 @@ use Rattle.compress_server.specs.declared.parting.OptionName.{OptionName}
 use Rattle.compress_server.specs.declared.parting.OptionName.TheVariants.{Workers, Seats, Connections}
 use Rattle.compress_server.specs.declared.parting.Options.{Options as ReadOptions}
 use Rattle.compress_server.specs.declared.parting.Parts.{Parts as ReadParts}
+use Rattle.units_core.specs.declared.limits.TheConstants.{MOST_CONNECTIONS, MOST_SEATS, MOST_WORKERS}
 
 -- the options that are given, each with its number
 pub record Options : Type 0 where
@@ -34,13 +35,13 @@ abbrev pub count_of : ℕ → List ℕ → Option ℕ
 count_of most text = of_count (number_of text most)
 
 abbrev pub most_workers : ℕ
-most_workers = 64
+most_workers = MOST_WORKERS
 
 abbrev pub most_seats : ℕ
-most_seats = 64
+most_seats = MOST_SEATS
 
 abbrev pub most_connections : ℕ
-most_connections = 1000000
+most_connections = MOST_CONNECTIONS
 
 -- a number for an option; none where it had one
 abbrev pub once : Option ℕ → Option ℕ → Option ℕ

@@ -6,6 +6,7 @@ use Rattle.compress_server.specs.Parting.{Options, Parts, most_connections, coun
 use Rattle.compress_server.specs.declared.words.MarketFiles.{MarketFiles}
 use Rattle.compress_server.specs.declared.words.Form.{Form as ReadForm}
 use Rattle.compress_server.specs.declared.words.Form.TheVariants as read
+use Rattle.units_core.specs.declared.limits.TheConstants.{MOST_NUMBER}
 
 -- the names of a market's two files, and the mode in which it is compressed
 pub record Market : Type 0 where
@@ -67,7 +68,7 @@ solve_of options plain = None
 
 -- the most that a market's number may be
 abbrev pub most_number : ℕ
-most_number = 1000000000000000000
+most_number = MOST_NUMBER
 
 -- `gen NUMBER [--workers W]`
 abbrev pub gen_of : Options → List (List ℕ) → Option Form

@@ -15,9 +15,10 @@ use dual_certificate::{ProposalPart, read_proposal};
 use outside::{Files, Trouble};
 use std::alloc::Global;
 use trade_file::{FileTrade, read_roster, read_trades};
+use units_core::MOST_FILE;
 
 // As many bytes of a file as are read: one more than a file may have.
-const FILE_FRONT: u64 = 67_108_865;
+const FILE_FRONT: u64 = MOST_FILE as u64 + 1;
 
 /// What a file is to a form.
 #[derive(Clone, Copy)]

@@ -9,7 +9,7 @@ ghost use Rattle.compress_server.specs.Parting.{most_workers, most_seats, most_c
 
 use crate::count::Count;
 use arrayvec::ArrayVec;
-use units_core::read_number;
+use units_core::{MOST_CONNECTIONS, MOST_WORKERS, read_number};
 
 /// An option that a form may have.
 #[derive(Clone, Copy)]
@@ -27,11 +27,8 @@ pub struct Options {
     pub connections: Option<u64>,
 }
 
-/// How many workers and how many seats there may be.
-const MOST: u64 = 64;
-
-/// How many connections a seat may serve.
-pub const MOST_CONNECTIONS: u64 = 1_000_000;
+/// How many workers there may be, and how many seats: as many.
+const MOST: u64 = MOST_WORKERS as u64;
 
 /// How many plain words a form has at the most.
 const MOST_PLAIN: usize = 4;

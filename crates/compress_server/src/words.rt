@@ -6,11 +6,9 @@ ghost use Rattle.compress_server.specs.Words.{market_of, script_of, serve_of, ch
 ghost use Rattle.compress_server.specs.Parting.{read_options, read_parts};
 
 use crate::count::Count;
-use crate::parting::{MOST_CONNECTIONS, Options, Parts, count_of, parts_of};
+use crate::parting::{Options, Parts, count_of, parts_of};
 use command_types::Mode;
-
-/// The most that a market's number may be.
-const MOST_NUMBER: u64 = 1_000_000_000_000_000_000;
+use units_core::{MOST_CONNECTIONS, MOST_NUMBER};
 
 /// The names of a market's two files, and the mode in which it is compressed.
 #[derive(Clone, Copy)]

@@ -8,6 +8,7 @@ use Rattle.command_types.specs.declared.roster.MemberRow.{MemberRow}
 use Rattle.command_types.specs.Session.{DraftRow, DraftPotential, draft_amount, draft_sum, draft_potential, network_rows}
 use Rattle.session.specs.declared.draft_rows.PairKey.{PairKey}
 use Rattle.session.specs.declared.draft_potentials.PlaceKey.{PlaceKey}
+use Rattle.units_core.specs.declared.limits.TheConstants.{MOST_GROSS}
 
 abbrev pub row_of : PairKey × ℕ → DraftRow
 row_of entry = record { product = entry.0.product; seller = entry.0.seller; buyer = entry.0.buyer; amount = entry.1 }
@@ -41,7 +42,7 @@ AreSums entries sums = (product : List ℕ) → draft_sum product (rows_of entri
 
 -- no product passes the largest gross
 abbrev pub AreWithin : List (PairKey × ℕ) → Type 0
-AreWithin entries = (product : List ℕ) → draft_sum product (rows_of entries) ≤ 1000000000000000000
+AreWithin entries = (product : List ℕ) → draft_sum product (rows_of entries) ≤ MOST_GROSS
 
 -- no member has an amount to itself
 abbrev pub NoneWithItself : List (PairKey × ℕ) → Type 0

@@ -5,10 +5,11 @@ use Rattle.session.specs.declared.serve.SessionEnd.{SessionEnd}
 use Rattle.session.specs.declared.serve.SessionEnd.TheVariants.{Ended, SourceFault, SinkFault, Limit, Memory}
 use Rattle.command_types.specs.Lines.{cut_of, lines_of}
 use Rattle.session.specs.Serving.{Sight, Written, Left, CutOff}
+use Rattle.units_core.specs.declared.limits.TheConstants.{MOST_INPUT}
 
 -- how many bytes a session takes at most
 abbrev pub session_limit : ℕ
-session_limit = 1073741824
+session_limit = MOST_INPUT
 
 -- What was read and what was written, by the session's end.
 abbrev pub Ends : Sight → Option Flow → Option Flow → Option (List ℕ) → Option (List ℕ) → Sight → SessionEnd → Type 0

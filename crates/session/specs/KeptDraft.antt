@@ -8,6 +8,7 @@ use Rattle.command_types.specs.Session.{Draft as DraftData, draft_size, draft_su
 use Rattle.command_text.specs.declared.bad_line.BadLine.{BadLine}
 use Rattle.session.specs.declared.draft.Draft.{Draft}
 use Rattle.session.specs.Kept.{kept_rows, kept_potentials, HasRowRoom, HasPotentialRoom}
+use Rattle.units_core.specs.declared.limits.TheConstants.{MOST_DRAFT, MOST_GROSS}
 
 abbrev pub draft_of : Draft → DraftData
 draft_of draft = record { rows = kept_rows draft.rows; potentials = kept_potentials draft.potentials }
@@ -21,13 +22,13 @@ HasRoom draft read = Unit {0}
 -- A row that a draft can take: the parties differ, and neither the product's sum nor the draft's size passes its most.
 pub record IsRowFor (draft : DraftData) (product seller buyer : List ℕ) (amount : ℕ) : Type 0 where
   pub parties : bytes_eq seller buyer ≡ false
-  pub within : draft_sum product (noted_row draft product seller buyer amount).rows ≤ 1000000000000000000
-  pub few : draft_size (noted_row draft product seller buyer amount) ≤ 100000
+  pub within : draft_sum product (noted_row draft product seller buyer amount).rows ≤ MOST_GROSS
+  pub few : draft_size (noted_row draft product seller buyer amount) ≤ MOST_DRAFT
 
 -- A potential that a draft can take.
 pub record IsPotentialFor (draft : DraftData) (product member : List ℕ) (value : ℤ) : Type 0 where
   pub in_range : IsPotential value
-  pub few : draft_size (noted_potential draft product member value) ≤ 100000
+  pub few : draft_size (noted_potential draft product member value) ≤ MOST_DRAFT
 
 -- what a line says can go into the draft
 abbrev pub MayNote : DraftData → Result Line ℕ → Type 0

@@ -5,6 +5,7 @@ use Rattle.std.specs.Str.{bytes_eq}
 use Rattle.command_types.specs.declared.roster.MemberRow.{MemberRow}
 use Rattle.command_types.specs.Session.{DraftRow, draft_amount, draft_sum}
 use Rattle.pair_table.specs.PairSums.{PairSums, sum_in, gross_in}
+use Rattle.units_core.specs.declared.limits.TheConstants.{MOST_MEMBERS}
 
 abbrev pub is_there : Option ℕ → ℕ → Bool
 is_there None i = false
@@ -25,7 +26,7 @@ KnowsPlaces first members entries = (name : List ℕ) → IsPlaceOf first member
 
 -- the entries have the places of all members, of whom there are at most 256
 pub record ArePlaces (members : List MemberRow) (entries : List (List ℕ × ℕ)) : Type 0 where
-  pub few : length members ≤ 256
+  pub few : length members ≤ MOST_MEMBERS
   pub known : KnowsPlaces (length members) members entries
 
 -- what a row has for a product and a pair of names, and for the product

@@ -13,6 +13,7 @@ use Rattle.session.specs.declared.session.Session.{Session}
 use Rattle.session.specs.KeptSpeaker.{speaker_of}
 use Rattle.session.specs.Pending.{Says}
 use Rattle.session.specs.Serving.{Sight, of_pass, roster_of, standing, Grows, Answers, Written, Left, CutOff}
+use Rattle.units_core.specs.declared.limits.TheConstants.{MOST_LINE}
 
 -- what a session has seen of the desk, who speaks, and what waits for the sink
 pub record Stand : Type 0 where
@@ -48,7 +49,7 @@ pub record Served (start : Sight) (begun taken : Option (List ℕ)) (stand : Sta
   pub grows : Grows start stand.sight made
   pub said : Says begun taken [] stand.waits text
   pub talk : IsTalk start.seat.figures stand.sight.history start.seat.number (standing start nobody false) (cut_of bytes).whole text made (standing stand.sight stand.speaker false)
-  pub line : kept ≡ take 4097 (cut_of bytes).rest
+  pub line : kept ≡ take (MOST_LINE + 1) (cut_of bytes).rest
 
 -- whatever a session has served that stands here, with this begun line, and whose sink had taken this
 abbrev pub Serves : Stand → List ℕ → Option (List ℕ) → (Sight → Option (List ℕ) → List ℕ → Type 0) → Type 0

@@ -5,6 +5,7 @@ ghost use Rattle.command_types.specs.History.{end_of};
 ghost use Rattle.network_laws.specs.Solved.{AreSolved};
 ghost use Rattle.cycle_lock.specs.Passes.{IsPassOf, seen};
 ghost use Rattle.session.specs.Serving.{of_pass, Asks};
+ghost use Rattle.units_core.specs.declared.limits.TheConstants.{MOST_WORKERS};
 
 use command_types::{Ask, Desk, Reply};
 use cycle_lock::{Pass, Turns};
@@ -23,7 +24,7 @@ pub struct Asker<'a, T: Desk, R: Threads + Wait + Sync, V: Solver, G: Gate> {
     solver: &'a V,
     gate: &'a G,
     pass: Pass,
-    ghost few: { (1 ≤ workers) × (workers ≤ 64) },
+    ghost few: { (1 ≤ workers) × (workers ≤ MOST_WORKERS) },
     ghost own: { IsPassOf turns.now pass },
 }
 
@@ -38,7 +39,7 @@ impl<'a, T: Desk, R: Threads + Wait + Sync, V: Solver, G: Gate> Asker<'a, T, R, 
         pass: Pass,
     ) -> Asker<'a, T, R, V, G>
         requires own { IsPassOf turns.now pass }
-        requires workers { (1 ≤ workers) × (workers ≤ 64) }
+        requires workers { (1 ≤ workers) × (workers ≤ MOST_WORKERS) }
         ensures pass { result.pass ≡ pass }
         ensures turns { result.turns.now ≡ turns.entry.now }
     {

@@ -13,7 +13,7 @@ use crate::solutions::draft_solutions;
 use command_text::{BadLine, read_line};
 use command_types::{Line, Roster, What};
 use std::alloc::{AllocError, Global};
-use units_core::{Amount, Name};
+use units_core::{Amount, MOST_LINE, Name};
 
 // How long the line is without a carriage return at its end.
 fn size_without_return(line: &[u8]) -> usize
@@ -30,7 +30,7 @@ fn size_without_return(line: &[u8]) -> usize
 pub fn ended(line: &[u8]) -> &[u8]
     ensures { result.now ≡ ended_line line.now }
 {
-    if line.len() > 4096 {
+    if line.len() > MOST_LINE {
         return line;
     }
     &line[..size_without_return(line)]
@@ -40,8 +40,8 @@ pub fn ended(line: &[u8]) -> &[u8]
 pub fn read_within(line: &[u8]) -> Result<Line, BadLine>
     ensures { result ≡ read_within line.now }
 {
-    if line.len() > 4096 {
-        return Err(BadLine { at: 4096 });
+    if line.len() > MOST_LINE {
+        return Err(BadLine { at: MOST_LINE });
     }
     read_line(line)
 }

@@ -4,6 +4,7 @@ ghost use Rattle.std.specs.Prelude.{◌≡◌, ◌+◌, ◌≤◌, ℕ, ℤ, len
 ghost use Rattle.command_types.specs.Session.{empty_draft, draft_size, draft_sum, capped, noted_row, noted_potential, draft_after};
 ghost use Rattle.session.specs.Asks.{line_read};
 ghost use Rattle.session.specs.Kept.{kept_rows, kept_potentials};
+ghost use Rattle.units_core.specs.declared.limits.TheConstants.{MOST_DRAFT};
 
 use crate::draft_potentials::{DraftPotentials, PlaceKey};
 use crate::draft_rows::{DraftRows, PairKey};
@@ -17,7 +18,7 @@ use units_core::Amount;
 pub struct Draft {
     rows: DraftRows,
     potentials: DraftPotentials,
-    ghost few: { length (kept_rows rows) + length (kept_potentials potentials) ≤ 100000 },
+    ghost few: { length (kept_rows rows) + length (kept_potentials potentials) ≤ MOST_DRAFT },
 }
 
 impl Draft {

@@ -4,6 +4,7 @@ ghost use Rattle.std.specs.Prelude.{◌≡◌, ◌+◌, ◌≤◌, ◌<◌, ◌^
 ghost use Rattle.network_laws.specs.Solutions.{IsPotential};
 ghost use Rattle.command_types.specs.Session.{draft_potential, with_draft_potential};
 ghost use Rattle.session.specs.Drafts.{potential_of, AreInRange};
+ghost use Rattle.units_core.specs.declared.limits.TheConstants.{MOST_DRAFT};
 
 use indexmap::IndexMap;
 use std::alloc::{AllocError, Global};
@@ -25,6 +26,7 @@ pub struct DraftPotentials {
 
 impl DraftPotentials {
     ghost use Rattle.session.specs.Kept.{kept_potentials, HasPotentialRoom};
+    ghost use Rattle.units_core.specs.declared.limits.TheConstants.{MOST_DRAFT};
 
     /// No potentials, without memory.
     pub fn new(alloc: Global) -> DraftPotentials
@@ -44,7 +46,7 @@ impl DraftPotentials {
 
     /// How many potentials there would be with one of this member.
     pub fn len_with(&self, key: &PlaceKey) -> usize
-        requires { length (kept_potentials self.now) ≤ 100000 }
+        requires { length (kept_potentials self.now) ≤ MOST_DRAFT }
         ensures len { (value : ℤ) → result ≡ length (with_draft_potential (potential_of (key.now, value)) (kept_potentials self.now)) }
         ensures most { result ≤ length (kept_potentials self.now) + 1 }
     {

@@ -4,6 +4,7 @@ ghost use Rattle.std.specs.Prelude.{◌≡◌, ◌+◌, ◌≤◌, ◌<◌, ◌^
 ghost use Rattle.std.specs.Str.{bytes_eq};
 ghost use Rattle.command_types.specs.Session.{draft_amount, draft_sum, with_draft_row};
 ghost use Rattle.session.specs.Drafts.{row_of, AreFound, AreSums, AreWithin, NoneWithItself};
+ghost use Rattle.units_core.specs.declared.limits.TheConstants.{MOST_DRAFT, MOST_GROSS};
 
 use indexmap::IndexMap;
 use std::alloc::{AllocError, Global};
@@ -31,6 +32,7 @@ pub struct DraftRows {
 
 impl DraftRows {
     ghost use Rattle.session.specs.Kept.{kept_rows, HasRowRoom};
+    ghost use Rattle.units_core.specs.declared.limits.TheConstants.{MOST_DRAFT, MOST_GROSS};
 
     /// No rows, without memory.
     pub fn new(alloc: Global) -> DraftRows
@@ -51,7 +53,7 @@ impl DraftRows {
 
     /// How many rows there would be with a row of this pair.
     pub fn len_with(&self, key: &PairKey) -> usize
-        requires { length (kept_rows self.now) ≤ 100000 }
+        requires { length (kept_rows self.now) ≤ MOST_DRAFT }
         ensures len { (amount : ℕ) → result ≡ length (with_draft_row (row_of (key.now, amount)) (kept_rows self.now)) }
         ensures most { result ≤ length (kept_rows self.now) + 1 }
     {
@@ -83,7 +85,7 @@ impl DraftRows {
     /// The sum of a product's amounts.
     pub fn sum(&self, product: &Name) -> u64
         ensures sum { result ≡ draft_sum product.now (kept_rows self.now) }
-        ensures within { result ≤ 1000000000000000000 }
+        ensures within { result ≤ MOST_GROSS }
     {
         self.sums.get(product).copied().unwrap_or(0)
     }
@@ -108,7 +110,7 @@ impl DraftRows {
     pub fn note(&mut self, key: PairKey, amount: Amount)
         requires room { HasRowRoom self.old }
         requires parties { bytes_eq key.seller key.buyer ≡ false }
-        requires within { draft_sum key.product (with_draft_row (row_of (key, amount)) (kept_rows self.old)) ≤ 1000000000000000000 }
+        requires within { draft_sum key.product (with_draft_row (row_of (key, amount)) (kept_rows self.old)) ≤ MOST_GROSS }
         ensures { kept_rows self.new ≡ with_draft_row (row_of (key, amount)) (kept_rows self.old) }
     {
         let sum = self.sum_with(&key, amount);

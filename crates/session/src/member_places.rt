@@ -28,10 +28,11 @@ impl<'a> Model for MemberPlaces<'a> {
 ghost use Rattle.std.specs.Prelude.{◌≡◌, ◌≤◌, IfOk, length, map, true};
 ghost use Rattle.command_types.specs.Roster.{are_different};
 ghost use Rattle.session.specs.Places.{KnowsPlaces, IsPlaceOf};
+ghost use Rattle.units_core.specs.declared.limits.TheConstants.{MOST_MEMBERS};
 
 // The places of members whose names are all different. The only error is want of memory.
 fn places_of(alloc: Global, members: &[MemberRow]) -> Result<IndexMap<Name, u16>, AllocError>
-    requires few { length members.now ≤ 256 }
+    requires few { length members.now ≤ MOST_MEMBERS }
     requires different { are_different (map (λ row. row.name) members.now) ≡ true }
     ensures { IfOk result (λ places. KnowsPlaces (length members.now) members.now places.entries) }
 {
@@ -55,7 +56,7 @@ impl<'a> MemberPlaces<'a> {
     /// The members, in their order.
     pub fn members(&self) -> &[MemberRow]
         ensures rows { result.now ≡ self.now }
-        ensures few { length result.now ≤ 256 }
+        ensures few { length result.now ≤ MOST_MEMBERS }
     {
         self.members
     }

@@ -4,6 +4,7 @@ ghost use Rattle.std.specs.Prelude.{◌≡◌, ◌+◌, ◌≤◌, [], ◌++◌,
 ghost use Rattle.outside.specs.Faults.{Rose};
 ghost use Rattle.outside.specs.Flow.{Takes, TakesFront};
 ghost use Rattle.session.specs.Pending.{Says};
+ghost use Rattle.units_core.specs.declared.limits.TheConstants.{MOST_LINE};
 
 use outside::sink::write_all;
 use outside::{Failed, Sink};
@@ -69,7 +70,7 @@ impl Outbox {
 
     /// Puts a text behind what waits. Where there is no room for it, the sink is first given all that waits.
     pub fn put<K: Sink>(&mut self, text: &[u8], sink: &mut K) -> Result<(), Failed>
-        requires { length text.now ≤ 4096 }
+        requires { length text.now ≤ MOST_LINE }
         ensures said { OnOk result (Says (K.taken sink.old) (K.taken sink.new) self.old self.new text.now) }
         ensures front { OnErr result (TakesFront (K.taken sink.old) (K.taken sink.new) self.old) }
         ensures kept { OnErr result (self.new ≡ self.old) }

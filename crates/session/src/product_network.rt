@@ -6,6 +6,7 @@ ghost use Rattle.pair_table.specs.PairSums.{gross_in};
 ghost use Rattle.session.specs.Drafts.{row_of, draft_network};
 ghost use Rattle.session.specs.Kept.{kept_rows};
 ghost use Rattle.session.specs.Places.{product_part, HasMore};
+ghost use Rattle.units_core.specs.declared.limits.TheConstants.{MOST_GROSS};
 
 use crate::draft_rows::{DraftRows, PairKey};
 use crate::member_places::MemberPlaces;
@@ -18,7 +19,7 @@ use units_core::Name;
 fn add_row(table: &mut PairTable, places: &MemberPlaces, product: &Name, key: &PairKey, amount: u64)
     requires members { table.old.members ≡ length places.now }
     requires parties { bytes_eq key.now.seller key.now.buyer ≡ true → amount ≡ 0 }
-    requires bound { gross_in table.old + product_part product.now (row_of (key.now, amount)) ≤ 10 ^ 18 }
+    requires bound { gross_in table.old + product_part product.now (row_of (key.now, amount)) ≤ MOST_GROSS }
     ensures { HasMore places.now product.now (row_of (key.now, amount)) table.old table.new }
 {
     if !key.product.is(product) {

@@ -5,6 +5,7 @@ ghost use Rattle.outside.specs.Faults.{Rose};
 ghost use Rattle.cycle_lock.specs.Passes.{IsPassOf, seen};
 ghost use Rattle.session.specs.Ending.{Ends};
 ghost use Rattle.session.specs.Serving.{of_pass};
+ghost use Rattle.units_core.specs.declared.limits.TheConstants.{MOST_WORKERS};
 
 use crate::asker::Asker;
 use crate::line_buffer::LineBuffer;
@@ -52,7 +53,7 @@ pub fn serve_session<T: Desk, R: Threads + Wait + Sync, V: Solver, G: Gate, S: S
     sink: &mut K,
 ) -> (SessionEnd, Pass)
     requires own { IsPassOf turns.now pass }
-    requires workers { (1 ≤ workers) × (workers ≤ 64) }
+    requires workers { (1 ≤ workers) × (workers ≤ MOST_WORKERS) }
     requires roster { roster.now ≡ (seen pass).base.state.roster }
     ensures own { IsPassOf turns.now result.1 }
     ensures ends { Ends (of_pass pass) (S.flow source.old) (S.flow source.new) (K.taken sink.old) (K.taken sink.new) (of_pass result.1) result.0 }

@@ -24,9 +24,10 @@ use outside::{Failed, Sink, Source};
 use parallel_solver::Gate;
 use std::sync::Wait;
 use std::thread::Threads;
+use units_core::MOST_INPUT;
 
 // How many bytes a session takes at most.
-const LIMIT: usize = 1_073_741_824;
+const LIMIT: usize = MOST_INPUT;
 
 /// Whether a session goes on after a line.
 #[derive(Clone, Copy, Debug, PartialEq, Eq)]
