@@ -4,7 +4,7 @@ use Rattle.command_types.specs.declared.trade.TradeRow.{TradeRow}
 use Rattle.command_types.specs.Trades.{counts, is_live, total_where}
 use Rattle.product_book.specs.declared.kept.KeptSums.{KeptSums}
 use Rattle.product_book.specs.Book.{IsBook}
-use Rattle.units_core.specs.declared.limits.TheConstants.{MOST_MEMBERS}
+use Rattle.units_core.specs.declared.limits.TheConstants.{MOST_MEMBERS, MOST_PRODUCTS}
 
 -- the place of a member in a product, and that of an ordered pair
 abbrev pub member_place : ℕ → ℕ → ℕ → ℕ
@@ -55,7 +55,7 @@ pub record AreKept (members products : ℕ) (sums : KeptSums) (rows : List Trade
 -- a trade has its places among the sums
 pub record IsPlaced (members : ℕ) (sums : KeptSums) (row : TradeRow) : Type 0 where
   pub few : members ≤ MOST_MEMBERS
-  pub few_products : length sums.products.items ≤ 64
+  pub few_products : length sums.products.items ≤ MOST_PRODUCTS
   pub seller : row.seller < members
   pub buyer : row.buyer < members
   pub product : row.product < length sums.products.items
