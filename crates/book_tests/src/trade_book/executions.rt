@@ -122,9 +122,20 @@ fn is_shortened_to(alloc: Global, lines: &[Line], submitted: u64) -> Result<bool
     let is_owed = network.amount(0, 2) == 7
         && network.amount(0, 1) == 3
         && network.amount(1, 2) == 0;
+    let sums = (
+        book.pair_sum(P, A, B),
+        book.pair_sum(P, A, C),
+        book.pair_sum(P, B, C),
+    );
     let made = book.get(3);
     let is_plain = made.is_some_and(|row| row.day == day && row.submitter.is_none() && !row.frozen);
-    Ok(is_plain && is_owed && has_lines(&book, lines) && book.submitted_count() == submitted)
+    Ok(
+        is_plain
+            && is_owed
+            && sums == (3, 7, 0)
+            && has_lines(&book, lines)
+            && book.submitted_count() == submitted,
+    )
 }
 
 #[test]

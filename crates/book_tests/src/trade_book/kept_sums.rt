@@ -168,8 +168,8 @@ fn all_agree(book: &Book, plain: &[Line]) -> bool {
     true
 }
 
-// Whether the network of a product's live trades is that of the plain list.
-fn network_agrees(book: &Book, plain: &[Line], product: u16) -> Result<bool, AllocError> {
+// Whether the network of a product's live trades, and the sum of each pair in it, are those of the plain list.
+fn pairs_agree(book: &Book, plain: &[Line], product: u16) -> Result<bool, AllocError> {
     let network = book.network(ProductNo(product), Which::Live)?;
     for seller in 0..4 {
         for buyer in 0..4 {
@@ -177,7 +177,8 @@ fn network_agrees(book: &Book, plain: &[Line], product: u16) -> Result<bool, All
                 let is_between = line.seller == seller && line.buyer == buyer;
                 line.product == product && line.state == TradeState::Live && is_between
             });
-            if network.amount(seller, buyer) != owed {
+            let sum = book.pair_sum(ProductNo(product), MemberNo(seller), MemberNo(buyer));
+            if network.amount(seller, buyer) != owed || sum != owed {
                 return Ok(false);
             }
         }
@@ -205,7 +206,7 @@ fn command(
         _ => end(book, plain, trade, Side::In),
     }
     let product = roll(seed, 3) as u16;
-    Ok(all_agree(book, plain) && network_agrees(book, plain, product)?)
+    Ok(all_agree(book, plain) && pairs_agree(book, plain, product)?)
 }
 
 // Whether the sums and a network agree after each of so many commands.
