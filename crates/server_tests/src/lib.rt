@@ -4,19 +4,11 @@
 #[cfg(test)]
 mod checks;
 #[cfg(test)]
-mod cycles;
-#[cfg(test)]
-mod drafts;
-#[cfg(test)]
 mod exchanges;
-#[cfg(test)]
-mod executions;
 #[cfg(test)]
 mod failing_streams;
 #[cfg(test)]
 mod file_faults;
-#[cfg(test)]
-mod free_mode;
 #[cfg(test)]
 mod gates;
 #[cfg(test)]
@@ -27,6 +19,8 @@ mod generated_markets;
 mod in_step;
 #[cfg(test)]
 mod journals;
+#[cfg(test)]
+mod line_ends;
 #[cfg(test)]
 mod lock;
 #[cfg(test)]
@@ -42,15 +36,11 @@ mod phases;
 #[cfg(test)]
 mod program;
 #[cfg(test)]
-mod proposals;
-#[cfg(test)]
 mod replays;
 #[cfg(test)]
 mod served;
 #[cfg(test)]
 mod served_seats;
-#[cfg(test)]
-mod sessions;
 #[cfg(test)]
 mod sizes;
 #[cfg(test)]

@@ -150,30 +150,3 @@ fn a_script_walks_each_phase_and_asks_each_command_in_it(rt: HostRuntime) -> Res
     assert!(rt; all);
     Ok(())
 }
-
-const UNGREETED: Exchanges = &[
-    (
-        "TRADE A B P 1 2026-03-02\nAFFIRM 1\nEND 1\nHOLD 1\nFREE 1\nTOL A Q out 5 4\nNETS Q\nSTATEMENT\n",
-        "1 not-greeted",
-    ),
-    (
-        "FREEZE 2026-03-31\nBEGIN 0 hybrid\nLIMITS Q\nROW Q A A 1\nPOT Q OPS 1\nPOST 0 0\nPROPOSE 0 hybrid\nPLAN 0\nACCEPT 0 0\nDECLINE 0 0\nCANCEL 0\n",
-        "1 not-greeted",
-    ),
-    ("HELLO A KB\nHELLO X KA\n", "2 bad-key"),
-    ("CANCEL\nFREEZE\n", "3 bad-line 6"),
-    ("BYE\n", "bye"),
-];
-
-fn nothing_is_done<R: Threads + Wait + Sync + AllocGlobal>(rt: &R) -> Result<bool, AllocError> {
-    let mut script = Script::new(rt.alloc());
-    script.ask_all(UNGREETED, 0)?;
-    script.is_answered(rt, FIVE)
-}
-
-#[test]
-fn without_a_greeting_a_script_does_nothing(rt: HostRuntime) -> Result<(), Fail> {
-    let nothing = nothing_is_done(&rt)?;
-    assert!(rt; nothing);
-    Ok(())
-}
