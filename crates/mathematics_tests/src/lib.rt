@@ -21,6 +21,8 @@ mod networks;
 #[cfg(test)]
 mod pairs;
 #[cfg(test)]
+mod parts;
+#[cfg(test)]
 mod plans;
 #[cfg(test)]
 mod problems;

@@ -1,0 +1,104 @@
+//! Markets that are cut into parts, solved part by part, and put together again.
+
+use crate::networks::{Bound, Market, Sale, has_rows, unbounded};
+use crate::problems::problem_of;
+use outside::OpenGate;
+use parallel_solver::solve_all;
+use path_solver::PathSolver;
+use split_parts::{Parts, merge, split};
+use std::alloc::AllocGlobal;
+use std::test::Fail;
+use std::thread::Threads;
+
+// Two rings of three members each, which nobody may leave.
+const RINGS: [Sale; 6] = [
+    (0, 1, 10),
+    (1, 2, 10),
+    (2, 0, 10),
+    (3, 4, 4),
+    (4, 5, 4),
+    (5, 3, 4),
+];
+
+const RING_BOUNDS: [Bound; 6] = [
+    (0, 1, 0, Some(10)),
+    (1, 2, 0, Some(10)),
+    (2, 0, 0, Some(10)),
+    (3, 4, 0, Some(4)),
+    (4, 5, 0, Some(4)),
+    (5, 3, 0, Some(4)),
+];
+
+// Two pairs, one inside the other, and a closed pair between them; member 2 has no open pair.
+const PAIRS: [Sale; 4] = [(0, 4, 5), (1, 3, 7), (3, 1, 2), (4, 0, 1)];
+
+const PAIR_BOUNDS: [Bound; 5] = [
+    (0, 1, 0, Some(0)),
+    (0, 4, 0, None),
+    (1, 3, 3, Some(9)),
+    (3, 1, 0, None),
+    (4, 0, 1, Some(1)),
+];
+
+// A chain of pairs that are open in one direction alone, from its last member to its first.
+const CHAIN_BOUNDS: [Bound; 2] = [(1, 0, 0, None), (2, 1, 0, Some(3))];
+
+fn are_parts(parts: &Parts, members: &[&[u16]]) -> bool {
+    if parts.members().len() != members.len() {
+        return false;
+    }
+    for (part, list) in parts.members().iter().zip(members) {
+        if part.members() != *list {
+            return false;
+        }
+    }
+    true
+}
+
+/// Whether a market has these parts, and their solutions put together have these rows, with a potential of 0 for the
+/// members that are in none.
+fn is_solved_apart<R: Threads + Sync + AllocGlobal>(
+    rt: &R,
+    market: Market<'_>,
+    members: &[&[u16]],
+    least: &[Sale],
+) -> Result<bool, Fail> {
+    let problem = problem_of(rt.alloc(), market)?;
+    let parts = split(rt.alloc(), problem.limits(), problem.network())?;
+    let solver = PathSolver::new(rt.alloc());
+    let solutions = solve_all(rt, rt.alloc(), 2, parts.problems(), &solver, &OpenGate)?;
+    let merged = merge(rt.alloc(), &parts, problem.network().members(), &solutions)?;
+    for (member, potential) in merged.potentials().iter().enumerate() {
+        if *potential != 0 && members.iter().all(|list| !list.contains(&(member as u16))) {
+            return Ok(false);
+        }
+    }
+    Ok(are_parts(&parts, members) && has_rows(merged.network(), least))
+}
+
+#[test]
+fn parts_are_solved_apart(rt: HostRuntime) -> Result<(), Fail> {
+    let free = unbounded(rt.alloc(), 6)?;
+    let cases: [(u16, &[Sale], &[Bound], &[&[u16]], &[Sale]); 5] = [
+        (6, &RINGS, &RING_BOUNDS, &[&[0, 1, 2], &[3, 4, 5]], &[]),
+        (6, &RINGS, &free, &[&[0, 1, 2, 3, 4, 5]], &[]),
+        (
+            5,
+            &PAIRS,
+            &PAIR_BOUNDS,
+            &[&[0, 4], &[1, 3]],
+            &[(0, 4, 5), (1, 3, 5), (4, 0, 1)],
+        ),
+        (3, &[], &CHAIN_BOUNDS, &[&[0, 1, 2]], &[]),
+        (3, &[], &[], &[], &[]),
+    ];
+    for (members, sales, bounds, parts, least) in cases {
+        let market = Market {
+            members,
+            sales,
+            bounds,
+        };
+        assert!(rt; is_solved_apart(&rt, market, parts, least)?);
+    }
+    Ok(())
+}
