@@ -23,6 +23,7 @@ use Rattle.posting.specs.Laws.{AreBegun}
 use Rattle.command_types.specs.Trades.{is_live, gross_of, submitted_count}
 use Rattle.command_types.specs.Machine.{empty_state, maturity_refusal, member_of}
 use Rattle.command_types.specs.History.{solutions_posted}
+use Rattle.units_core.specs.declared.limits.TheConstants.{MOST_GROSS, MOST_MEMBERS, MOST_PRODUCTS, MOST_SUBMITTED, MOST_TRADE_AMOUNT}
 
 -- the machine's state, and for how many more trades and settings there is room without memory
 pub record MachineView : Type 0 where
@@ -69,15 +70,15 @@ pub record IsCycle (roster : Rows) (rows : List TradeRow) (cycle : Cycle) : Type
 
 -- what the machine keeps
 pub record IsMachine (roster : Rows) (members products : ℕ) (rows : List TradeRow) (cycle : Cycle) : Type 0 where
-  pub few_members : length roster.members ≤ 256
-  pub few_products : length roster.products ≤ 64
+  pub few_members : length roster.members ≤ MOST_MEMBERS
+  pub few_products : length roster.products ≤ MOST_PRODUCTS
   pub book : IsBookOf roster members products
   pub unbroken : IsUnbroken cycle.phase rows
   pub cycle_kept : IsCycle roster rows cycle
 
 -- in phase solving there are few problems, each of the roster's members
 pub record HasProblems (roster : Rows) (cycle : Cycle) : Type 0 where
-  pub few : IsTrue (is_solving cycle.phase) → length cycle.begun ≤ 64
+  pub few : IsTrue (is_solving cycle.phase) → length cycle.begun ≤ MOST_PRODUCTS
   pub members : IsTrue (is_solving cycle.phase) → AreOfMembers (length roster.members) cycle.begun
 
 -- both numbers may rise by one more
@@ -169,13 +170,13 @@ terms_refusals roster by seller buyer product amount =
     ∷ (is_none (product_place roster product), UnknownProduct)
     ∷ (bytes_eq seller buyer, OwnTrade)
     ∷ (not (bytes_eq by seller || bytes_eq by buyer), NotParty)
-    ∷ (nat_lt 1000000000000000 amount, AmountOver)
+    ∷ (nat_lt MOST_TRADE_AMOUNT amount, AmountOver)
     ∷ []
 
 -- and those that its product and the other trades tell
 abbrev pub product_refusals : Option ProductRow → ℕ → ℕ → DayParts → List TradeRow → List (Bool × Refusal)
 product_refusals row product amount day rows =
     maturity_refusal row day
-    ∷ (nat_lt 1000000000000000000 (gross_of product rows + amount), GrossOver)
-    ∷ (nat_le 100000 (submitted_count rows), TradesFull)
+    ∷ (nat_lt MOST_GROSS (gross_of product rows + amount), GrossOver)
+    ∷ (nat_le MOST_SUBMITTED (submitted_count rows), TradesFull)
     ∷ []

@@ -6,6 +6,7 @@ ghost use Rattle.claim_counter.specs.Workers.{IsWorkerOf, view_of};
 ghost use Rattle.network_laws.specs.Solved.{AreSolved};
 ghost use Rattle.parallel_solver.specs.Places.{SolvesAt};
 ghost use Rattle.parallel_solver.specs.Jobs.{IsRight, MayWork, HasWorked, AreRight, FindsToo, AreFound};
+ghost use Rattle.units_core.specs.declared.limits.TheConstants.{MOST_WORKERS};
 
 use crate::job::{Done, Job};
 use claim_counter::{Counter, Worker};
@@ -96,7 +97,7 @@ fn jobs(
     count: u32,
 ) -> Result<Vec<Job>, AllocError>
     requires own { IsWorkerOf table.now first.old }
-    requires count { count ≤ 64 }
+    requires count { count ≤ MOST_WORKERS }
     requires first { view_of first.old ≡ newcomer (length problems.now) }
     ensures jobs { IfOk result (λ jobs. (vec_len jobs ≡ count) × All (MayWork table.now problems.now) jobs.items) }
     ensures own { OnOk result (IsWorkerOf table.now first.new) }
@@ -149,7 +150,7 @@ fn put_jobs(
     requires own { IsWorkerOf table.now first.old }
     requires parts { (view_of first.old).parts + vec_len jobs ≡ 65 }
     requires none { (view_of first.old).taken ≡ [] }
-    requires count { (1 ≤ vec_len jobs) × (vec_len jobs ≤ 64) }
+    requires count { (1 ≤ vec_len jobs) × (vec_len jobs ≤ MOST_WORKERS) }
     requires jobs { All (HasWorked table.now problems.now) jobs.items }
     requires found { AreRight problems.now found.old }
     ensures right { OnOk result (AreRight problems.now found.new) }
@@ -204,7 +205,7 @@ pub fn solve_all<R: Threads + Sync, V: Solver, G: Gate>(
     solver: &V,
     gate: &G,
 ) -> Result<Vec<Solution>, AllocError>
-    requires { (1 ≤ workers) × (workers ≤ 64) }
+    requires { (1 ≤ workers) × (workers ≤ MOST_WORKERS) }
     ensures { IfOk result (λ solutions. AreSolved problems.now solutions.items) }
 {
     let mut found = places(alloc, problems)?;

@@ -7,6 +7,7 @@ ghost use Rattle.command_types.specs.Cycles.{bad_post};
 ghost use Rattle.command_types.specs.Machine.{first_of};
 ghost use Rattle.posting.specs.Posted.{AreOfMembers};
 ghost use Rattle.cycle_states.specs.Machine.{state_in, HasProblems};
+ghost use Rattle.units_core.specs.declared.limits.TheConstants.{MOST_PRODUCTS};
 
 use super::cycle::{Cycle, has_limits, is_broken, is_open, is_proposed, is_solving, may_begin};
 use super::parties::member_count;
@@ -126,7 +127,7 @@ pub(super) fn version_refusal(
 
 // The refusal of solutions that are not certified for the begun problems.
 fn uncertified(roster: &Roster, cycle: &Cycle, solutions: &[Solution]) -> Option<Refusal>
-    requires few { length cycle.now.begun ≤ 64 }
+    requires few { length cycle.now.begun ≤ MOST_PRODUCTS }
     requires members { AreOfMembers (length roster.now.members) cycle.now.begun }
     ensures { result ≡ first_of (if_bad_post (bad_post (length roster.now.members) cycle.now.begun solutions.now) ∷ []) }
 {

@@ -5,13 +5,7 @@ ghost use Rattle.command_types.specs.CycleRefusals.{row_refusals, pot_refusals};
 ghost use Rattle.command_types.specs.Machine.{empty_state, first_of};
 
 use command_types::{Refusal, Roster};
-use units_core::Name;
-
-/// The most that a draft's amounts of a product come to.
-const GROSS_LIMIT: u64 = 1_000_000_000_000_000_000;
-
-/// The most rows and potentials of a draft.
-const DRAFT_LIMIT: u32 = 100_000;
+use units_core::{MOST_DRAFT, MOST_GROSS, Name};
 
 /// The first refusal of the party's row of a draft that would then have this size, and this sum of the product's
 /// amounts, if there is one.
@@ -38,10 +32,10 @@ pub(super) fn row_refusal(
     if seller.is(buyer) {
         return Some(Refusal::OwnTrade);
     }
-    if sum > GROSS_LIMIT {
+    if sum > MOST_GROSS {
         return Some(Refusal::GrossOver);
     }
-    if size > DRAFT_LIMIT {
+    if size > MOST_DRAFT {
         return Some(Refusal::DraftFull);
     }
     None
@@ -66,7 +60,7 @@ pub(super) fn pot_refusal(
     if roster.product_named(product).is_none() {
         return Some(Refusal::UnknownProduct);
     }
-    if size > DRAFT_LIMIT {
+    if size > MOST_DRAFT {
         return Some(Refusal::DraftFull);
     }
     None

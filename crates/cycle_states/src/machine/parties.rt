@@ -2,6 +2,7 @@
 
 ghost use Rattle.std.specs.Prelude.{◌≡◌, ◌≤◌, Some, length, unwrap_or};
 ghost use Rattle.command_types.specs.Roster.{is_party, is_member_at, is_member_row, member_place, product_place};
+ghost use Rattle.units_core.specs.declared.limits.TheConstants.{MOST_MEMBERS};
 
 use command_types::{MemberRow, Roster};
 use units_core::{MemberNo, Name, ProductNo};
@@ -9,7 +10,7 @@ use units_core::{MemberNo, Name, ProductNo};
 /// How many members there are.
 pub(super) fn member_count(roster: &Roster) -> u16
     ensures count { result ≡ length roster.now.members }
-    ensures few { result ≤ 256 }
+    ensures few { result ≤ MOST_MEMBERS }
 {
     roster.members().len() as u16
 }

@@ -8,6 +8,7 @@ ghost use Rattle.command_types.specs.CycleSteps.{left_after, touched_in};
 ghost use Rattle.command_types.specs.Execution.{IsExecutable};
 ghost use Rattle.command_types.specs.Machine.{first_of, refusals};
 ghost use Rattle.cycle_states.specs.Machine.{plan_made, state_in, IsMachine};
+ghost use Rattle.units_core.specs.declared.limits.TheConstants.{MOST_PRODUCTS};
 
 use super::cycle::Cycle;
 use super::parties::member_count;
@@ -26,7 +27,7 @@ fn plan_posted(
     solutions: &[Solution],
 ) -> Result<Vec<PlanRow>, AllocError>
     requires day { IsTrue (is_some cycle.now.day) }
-    requires few { length cycle.now.begun ≤ 64 }
+    requires few { length cycle.now.begun ≤ MOST_PRODUCTS }
     requires one_each { length solutions.now ≡ length cycle.now.begun }
     ensures { IfOk result (λ plan. plan.items ≡ posted_plan cycle.now book.now.rows solutions.now) }
 {

@@ -8,16 +8,7 @@ ghost use Rattle.cycle_states.specs.Machine.{state_of, terms_refusals, product_r
 use super::parties::place_of_product;
 use command_types::{ProductRow, Refusal, Roster};
 use product_book::Book;
-use units_core::{Amount, Day, Name, ProductNo};
-
-/// The largest amount of a trade.
-const AMOUNT_LIMIT: u64 = 1_000_000_000_000_000;
-
-/// The most that the alleged and live amounts of a product come to.
-const GROSS_LIMIT: u64 = 1_000_000_000_000_000_000;
-
-/// How many trades the parties may submit.
-const TRADES_LIMIT: u64 = 100_000;
+use units_core::{Amount, Day, MOST_GROSS, MOST_SUBMITTED, MOST_TRADE_AMOUNT, Name, ProductNo};
 
 /// What a party alleges.
 #[derive(Clone, Copy)]
@@ -60,10 +51,10 @@ fn product_refusal(
     if let Some(refusal) = maturity_refusal(row, day) {
         return Some(refusal);
     }
-    if book.product_sum(product) + amount.get() > GROSS_LIMIT {
+    if book.product_sum(product) + amount.get() > MOST_GROSS {
         return Some(Refusal::GrossOver);
     }
-    if book.submitted_count() >= TRADES_LIMIT {
+    if book.submitted_count() >= MOST_SUBMITTED {
         return Some(Refusal::TradesFull);
     }
     None
@@ -91,7 +82,7 @@ fn terms_refusal(roster: &Roster, by: &Name, terms: &Terms) -> Option<Refusal>
     if !by.is(&terms.seller) && !by.is(&terms.buyer) {
         return Some(Refusal::NotParty);
     }
-    if terms.amount.get() > AMOUNT_LIMIT {
+    if terms.amount.get() > MOST_TRADE_AMOUNT {
         return Some(Refusal::AmountOver);
     }
     None
