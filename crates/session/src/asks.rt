@@ -41,7 +41,9 @@ pub fn read_within(line: &[u8]) -> Result<Line, BadLine>
     ensures { result ≡ read_within line.now }
 {
     if line.len() > MOST_LINE {
-        return Err(BadLine { at: MOST_LINE });
+        return Err(BadLine {
+            at: MOST_LINE as u32,
+        });
     }
     read_line(line)
 }
