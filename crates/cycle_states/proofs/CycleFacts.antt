@@ -22,7 +22,7 @@ use Rattle.command_types.specs.declared.trade.TradeRow.{TradeRow}
 use Rattle.command_types.specs.declared.trade.TradeState.{TradeState}
 use Rattle.command_types.specs.declared.trade.TradeState.TheVariants.{Alleged, Live, Ended}
 use Rattle.command_types.specs.Trades.{is_live, trade_numbered, with_row, with_changed, changed_row, live_row, row_ended_by, row_with_hold, ended_by, alleged_row}
-use Rattle.command_types.specs.CycleRefusals.{fetch_refusals, post_refusals, decline_refusals}
+use Rattle.command_types.specs.CycleRefusals.{post_refusals, decline_refusals}
 use Rattle.command_types.specs.Roster.{is_party}
 use Rattle.command_types.specs.Cycles.{is_solving, is_proposed, has_limits, may_begin, may_break, product_matures_after, row_at_freeze, posted_plan, broken_at}
 use Rattle.command_types.specs.CycleSteps.{is_frozen_and_marked, proposed_or_done, touched_in, after_vote, left_after}
@@ -118,10 +118,6 @@ solving_limits phase.Frozen h = absurd (false≢true h)
 solving_limits phase.Solving h = refl
 solving_limits phase.Proposed h = refl
 solving_limits phase.Broken h = absurd (false≢true h)
-
--- what may be done with a begun version comes in phase solving
-pub fetch_solves : (s : State) (by : List ℕ) (cycle version : ℕ) → first_of (fetch_refusals s by cycle version) ≡ None → IsTrue (is_solving s.cycle.phase)
-fetch_solves s by cycle version none = not_false (is_solving s.cycle.phase) (none_holds (fetch_refusals s by cycle version) none).1.1.1.0
 
 post_breaks : (s : State) (by : Option (List ℕ)) (cycle version : ℕ) (solutions : List SolutionData) → first_of (refusals s by (Post cycle version solutions)) ≡ None → IsTrue (may_break s.cycle.phase)
 post_breaks s by cycle version solutions none =

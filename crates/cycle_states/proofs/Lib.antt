@@ -9,3 +9,4 @@ pub mod PlanSizes
 pub mod DeskFacts
 pub mod CommandFacts
 pub mod RecordFacts
+pub mod RefusalFacts

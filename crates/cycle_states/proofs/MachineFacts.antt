@@ -1,5 +1,5 @@
 -- What is known of a command by its kind, and of one of which no refusal's condition holds.
-use Rattle.std.proofs.Common.{◌≡◌, ◌≢◌, ℕ, ◌+◌, ◌≤◌, ◌<◌, ◌&&◌, ◌||◌, not, nat_lt, Bool, true, false, List, [], ◌∷◌, ◌++◌, length, get_or, position, Option, Some, None, is_none, IsTrue, unwrap_or, if◌then◌else◌, arith, refl, ap, sym, subst, ◌∙◌}
+use Rattle.std.proofs.Common.{◌≡◌, ◌≢◌, ℕ, ◌+◌, ◌≤◌, ◌<◌, ◌&&◌, ◌||◌, not, nat_lt, Bool, true, false, List, [], ◌∷◌, length, get_or, position, Option, Some, None, is_none, IsTrue, unwrap_or, if◌then◌else◌, arith, refl, ap, sym, subst, ◌∙◌}
 use Rattle.std.proofs.lemmas.Bool.{false≢true}
 use Rattle.std.proofs.lemmas.Bool.Decides.{nat_tests}
 use Rattle.std.proofs.lemmas.List.Quantifiers.{position-Some}
@@ -11,7 +11,7 @@ use Rattle.command_types.specs.declared.ask.What.{What}
 use Rattle.command_types.specs.declared.ask.What.TheVariants.{Hello, Trade, Affirm, End, Hold, Free, Tol, Nets, Statement, Freeze, Begin, Limits, Row, Pot, Post, Fetch, Plan, Accept, Decline, Cancel, Bye, Unreadable}
 use Rattle.command_types.specs.declared.answer.Answer.{Answer}
 use Rattle.command_types.specs.declared.refusal.Refusal.{Refusal}
-use Rattle.command_types.specs.declared.refusal.Refusal.TheVariants.{NotGreeted, AlreadyAccepted}
+use Rattle.command_types.specs.declared.refusal.Refusal.TheVariants.{NotGreeted}
 use Rattle.network_laws.specs.Solutions.{SolutionData}
 use Rattle.command_types.specs.declared.figures.Cycle.{Cycle}
 use Rattle.command_types.specs.declared.figures.State.{State}
@@ -26,12 +26,12 @@ use Rattle.command_types.specs.Trades.{gross_of}
 use Rattle.command_types.specs.Machine.{first_of, refusals, command_refusals, trade_refusals, product_of, member_of, position_of, changes, is_refusal, refused_or, accepted, answer_to, state_by, state_after}
 use Rattle.command_types.specs.Cycles.{posted_plan}
 use Rattle.command_types.specs.Books.{live_network}
-use Rattle.command_types.specs.CycleRefusals.{is_crossed, has_voted_at, if_voted}
+use Rattle.command_types.specs.CycleRefusals.{is_crossed}
 use Rattle.command_types.specs.Tolerances.{with_setting}
 use Rattle.command_types.specs.CycleSteps.{with_tolerance, market_of, market_in, proposed_or_done, touched_in, after_vote, left_after}
 use Rattle.command_types.specs.History.{is_recorded}
 use Rattle.product_book.specs.Book.{gross_limit}
-use Rattle.cycle_states.specs.Machine.{looks_at_trades, state_in, state_with}
+use Rattle.cycle_states.specs.Machine.{state_in, state_with}
 
 roster_posted : (s : State) (solutions : List SolutionData) (plan : List PlanRow) (touched : List ℕ) → (proposed_or_done s solutions plan touched).roster ≡ s.roster
 roster_posted s solutions plan [] = refl
@@ -69,22 +69,6 @@ roster_by s by (Unreadable at) = refl
 -- no command changes the roster
 pub roster_after : (s : State) (ask : Ask) → (state_after s ask).roster ≡ s.roster
 roster_after s ask = roster_by s ask.by ask.what
-
--- what the first conditions refuse is refused, whatever follows
-pub first_of_front : (xs ys : List (Bool × Refusal)) (found : Refusal) → first_of xs ≡ Some found → first_of (xs ++ ys) ≡ Some found
-first_of_front [] ys found is = cc
-first_of_front ((true, refusal) ∷ xs) ys found is = is
-first_of_front ((false, refusal) ∷ xs) ys found is = first_of_front xs ys found is
-
--- and where none of them holds, the others tell
-pub first_of_behind : (xs ys : List (Bool × Refusal)) → first_of xs ≡ None → first_of (xs ++ ys) ≡ first_of ys
-first_of_behind [] ys none = refl
-first_of_behind ((true, refusal) ∷ xs) ys none = cc
-first_of_behind ((false, refusal) ∷ xs) ys none = first_of_behind xs ys none
-
--- a condition that does not hold is passed over
-pub passed : (test : Bool) (refusal : Refusal) (rows : List (Bool × Refusal)) → test ≡ false → first_of rows ≡ first_of ((test, refusal) ∷ rows)
-passed test refusal rows is = ap (λ (t : Bool). first_of ((t, refusal) ∷ rows)) (sym is)
 
 -- where no condition holds, the first doesn't, nor one of the others
 none_of : (test : Bool) (refusal : Refusal) (rows : List (Bool × Refusal)) → first_of ((test, refusal) ∷ rows) ≡ None → (test ≡ false) × (first_of rows ≡ None)
@@ -244,51 +228,6 @@ both_hold false b h = cc
 -- what is recorded is of a kind that changes the machine
 pub recorded_changes : (what : What) (answer : Answer) → IsTrue (is_recorded what answer) → changes what ≡ true
 recorded_changes what answer h = both_hold (changes what) (not (is_refusal answer)) h
-
--- what none of the seven is, looks at no trades
-pub not_looking : (what : What) → ((seller buyer product : List ℕ) (amount : ℕ) (day : DayParts) → what ≡ Trade seller buyer product amount day → ⊥) → ((trade : ℕ) → what ≡ Affirm trade → ⊥) → ((trade : ℕ) → what ≡ End trade → ⊥) →
-    ((trade : ℕ) → what ≡ Hold trade → ⊥) → ((trade : ℕ) → what ≡ Free trade → ⊥) → ((cycle version : ℕ) → what ≡ Accept cycle version → ⊥) → ((cycle version : ℕ) → what ≡ Decline cycle version → ⊥) → looks_at_trades what ≡ false
-not_looking (Trade seller buyer product amount day) t a e h f c d = absurd (t seller buyer product amount day refl)
-not_looking (Affirm trade) t a e h f c d = absurd (a trade refl)
-not_looking (End trade) t a e h f c d = absurd (e trade refl)
-not_looking (Hold trade) t a e h f c d = absurd (h trade refl)
-not_looking (Free trade) t a e h f c d = absurd (f trade refl)
-not_looking (Accept cycle version) t a e h f c d = absurd (c cycle version refl)
-not_looking (Decline cycle version) t a e h f c d = absurd (d cycle version refl)
-not_looking what t a e h f c d = refl
-
--- the trades are told of by no refusal of a command that looks at none
-pub rows_apart : (roster : Rows) (rows : List TradeRow) (cycle : Cycle) (by : List ℕ) (what : What) → looks_at_trades what ≡ false → first_of (command_refusals (state_in roster [] cycle) by what) ≡ first_of (command_refusals (state_in roster rows cycle) by what)
-rows_apart roster rows cycle by (Hello name key) apart = refl
-rows_apart roster rows cycle by (Trade seller buyer product amount day) apart = cc
-rows_apart roster rows cycle by (Affirm trade) apart = cc
-rows_apart roster rows cycle by (End trade) apart = cc
-rows_apart roster rows cycle by (Hold trade) apart = cc
-rows_apart roster rows cycle by (Free trade) apart = cc
-rows_apart roster rows cycle by (Tol other product side floor ceiling) apart = refl
-rows_apart roster rows cycle by (Nets product) apart = refl
-rows_apart roster rows cycle by Statement apart = refl
-rows_apart roster rows cycle by (Freeze day) apart = refl
-rows_apart roster rows cycle by (Begin number mode) apart = refl
-rows_apart roster rows cycle by (Limits product) apart = refl
-rows_apart roster rows cycle by (Row product seller buyer amount size sum) apart = refl
-rows_apart roster rows cycle by (Pot product member value size) apart = refl
-rows_apart roster rows cycle by (Post number version solutions) apart = refl
-rows_apart roster rows cycle by (Fetch number version) apart = refl
-rows_apart roster rows cycle by (Plan number) apart = refl
-rows_apart roster rows cycle by (Accept number version) apart = cc
-rows_apart roster rows cycle by (Decline number version) apart = cc
-rows_apart roster rows cycle by (Cancel number) apart = refl
-rows_apart roster rows cycle by Bye apart = refl
-rows_apart roster rows cycle by (Unreadable at) apart = refl
-
-voted_at : (roster : Rows) (rows : List TradeRow) (cycle : Cycle) (member : Option ℕ) → has_voted_at (state_in roster [] cycle) member ≡ has_voted_at (state_in roster rows cycle) member
-voted_at roster rows cycle None = refl
-voted_at roster rows cycle (Some member) = refl
-
--- nor by the refusal of a second vote
-pub voted_apart : (roster : Rows) (rows : List TradeRow) (cycle : Cycle) (by : List ℕ) → first_of (if_voted (state_in roster [] cycle) by ∷ []) ≡ first_of (if_voted (state_in roster rows cycle) by ∷ [])
-voted_apart roster rows cycle by = ap (λ (t : Bool). first_of ((t, AlreadyAccepted) ∷ [])) (voted_at roster rows cycle (member_place roster by))
 
 -- the setting that an accepted TOL makes
 pub tolerated : (s : State) (by : Option (List ℕ)) (name other product : List ℕ) (side : Side) (floor : ℕ) (ceiling : Option ℕ) (m p o : ℕ) (settings : List ToleranceRow) → by ≡ Some name → m ≡ member_of s name → p ≡ product_of s product → o ≡ member_of s other →

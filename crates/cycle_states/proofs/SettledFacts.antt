@@ -26,7 +26,7 @@ use Rattle.posting.specs.Laws.{IsFrozenMarket, IsSettled}
 use Rattle.posting.specs.Posted.{AreOfMembers}
 use Rattle.posting.proofs.CertifiedFacts.{shaped, shape_size}
 use Rattle.posting.proofs.Settled.{begun_size, begun_of_members, begun_is_settled}
-use Rattle.cycle_states.specs.Machine.{state_in, state_with, IsMachine, HasProblems}
+use Rattle.cycle_states.specs.Machine.{state_in, state_with, IsMachine}
 use Rattle.cycle_states.proofs.PlanSizes.{few_made}
 use Rattle.cycle_states.proofs.CycleFacts.{limits_break, proposed_limits, solving_limits}
 
@@ -35,11 +35,8 @@ module _ (roster : Rows) (members products : ℕ) (rows : List TradeRow) (cycle 
   pub few_problems : IsTrue (has_limits cycle.phase) → length cycle.begun ≤ 64
   few_problems stands = omega (arith, begun_size roster rows cycle.begun (kept.cycle_kept.begun stands), kept.few_products)
 
-  of_members : IsTrue (has_limits cycle.phase) → AreOfMembers (length roster.members) cycle.begun
+  pub of_members : IsTrue (has_limits cycle.phase) → AreOfMembers (length roster.members) cycle.begun
   of_members stands = begun_of_members roster rows cycle.begun (kept.cycle_kept.begun stands)
-
-  pub has_problems : HasProblems roster cycle
-  has_problems = record { few = λ on. few_problems (solving_limits cycle.phase on); members = λ on. of_members (solving_limits cycle.phase on) }
 
   -- its day is there
   pub has_day : IsTrue (is_solving cycle.phase) → IsTrue (is_some cycle.day)

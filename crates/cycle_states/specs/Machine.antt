@@ -1,8 +1,7 @@
 -- What contracts see of the machine, and what it keeps.
-use Rattle.std.specs.Str.{bytes_eq}
-use Rattle.std.specs.Prelude.{◌≡◌, ℕ, ◌+◌, ◌<◌, ◌≤◌, ◌^◌, Bool, true, false, not, ◌||◌, nat_lt, nat_le, is_none, is_some, List, [], ◌∷◌, ◌++◌, Option, None, unwrap_or, length, All, IsTrue}
+use Rattle.std.specs.Prelude.{◌≡◌, ℕ, ◌<◌, ◌≤◌, ◌^◌, Bool, true, false, is_some, List, [], ◌∷◌, ◌++◌, Option, None, unwrap_or, length, All, IsTrue}
 use Rattle.command_types.specs.declared.ask.What.{What}
-use Rattle.command_types.specs.declared.ask.What.TheVariants.{Hello, Trade, Affirm, End, Hold, Free, Tol, Begin, Post, Accept, Decline, Bye, Unreadable}
+use Rattle.command_types.specs.declared.ask.What.TheVariants.{Trade, Affirm, End, Hold, Free, Tol, Begin, Post, Accept}
 use Rattle.command_types.specs.declared.ask.Entry.{Entry}
 use Rattle.command_types.specs.declared.cycle.Phase.{Phase}
 use Rattle.command_types.specs.declared.figures.Cycle.{Cycle}
@@ -10,20 +9,15 @@ use Rattle.command_types.specs.declared.figures.State.{State}
 use Rattle.command_types.specs.declared.plan.PlanRow.{PlanRow}
 use Rattle.command_types.specs.declared.tolerance.ToleranceRow.{ToleranceRow}
 use Rattle.command_types.specs.declared.trade.TradeRow.{TradeRow}
-use Rattle.command_types.specs.declared.roster.ProductRow.{ProductRow}
-use Rattle.command_types.specs.declared.refusal.Refusal.{Refusal}
-use Rattle.command_types.specs.declared.refusal.Refusal.TheVariants.{UnknownMember, UnknownProduct, OwnTrade, NotParty, AmountOver, GrossOver, TradesFull}
-use Rattle.units_core.specs.Day.{DayParts}
-use Rattle.command_types.specs.Roster.{Rows, member_place, product_place}
+use Rattle.command_types.specs.Roster.{Rows}
 use Rattle.network_laws.specs.Solutions.{ProblemData, SolutionData, IsSolution}
-use Rattle.command_types.specs.Cycles.{may_break, has_limits, is_solving, is_proposed, problems_of, bad_post, posted_plan}
+use Rattle.command_types.specs.Cycles.{may_break, has_limits, is_proposed, problems_of, bad_post, posted_plan}
 use Rattle.command_types.specs.Plans.{count_of, is_new}
-use Rattle.posting.specs.Posted.{AreOfMembers}
 use Rattle.posting.specs.Laws.{AreBegun}
-use Rattle.command_types.specs.Trades.{is_live, gross_of, submitted_count}
-use Rattle.command_types.specs.Machine.{empty_state, maturity_refusal, member_of}
+use Rattle.command_types.specs.Trades.{is_live}
+use Rattle.command_types.specs.Machine.{empty_state, member_of}
 use Rattle.command_types.specs.History.{solutions_posted}
-use Rattle.units_core.specs.declared.limits.TheConstants.{MOST_GROSS, MOST_MEMBERS, MOST_PRODUCTS, MOST_SUBMITTED, MOST_TRADE_AMOUNT}
+use Rattle.units_core.specs.declared.limits.TheConstants.{MOST_MEMBERS, MOST_PRODUCTS}
 
 -- the machine's state, and for how many more trades and settings there is room without memory
 pub record MachineView : Type 0 where
@@ -76,11 +70,6 @@ pub record IsMachine (roster : Rows) (members products : ℕ) (rows : List Trade
   pub unbroken : IsUnbroken cycle.phase rows
   pub cycle_kept : IsCycle roster rows cycle
 
--- in phase solving there are few problems, each of the roster's members
-pub record HasProblems (roster : Rows) (cycle : Cycle) : Type 0 where
-  pub few : IsTrue (is_solving cycle.phase) → length cycle.begun ≤ MOST_PRODUCTS
-  pub members : IsTrue (is_solving cycle.phase) → AreOfMembers (length roster.members) cycle.begun
-
 -- both numbers may rise by one more
 pub record IsYoung (cycle : Cycle) : Type 0 where
   pub number : cycle.number < 2 ^ 63
@@ -131,13 +120,6 @@ abbrev pub settings_added : What → ℕ
 settings_added (Tol other product side floor ceiling) = 1
 settings_added what = 0
 
--- all commands but HELLO, BYE and what can't be read want a party of the roster
-abbrev pub wants_party : What → Bool
-wants_party (Hello name key) = false
-wants_party Bye = false
-wants_party (Unreadable at) = false
-wants_party what = true
-
 -- a command about a trade
 abbrev pub is_of_trade : What → Bool
 is_of_trade (Trade seller buyer product amount day) = true
@@ -156,27 +138,3 @@ is_post what = false
 abbrev pub is_accept : What → Bool
 is_accept (Accept cycle version) = true
 is_accept what = false
-
--- a command whose refusals look at the trades: one about a trade, or a vote
-abbrev pub looks_at_trades : What → Bool
-looks_at_trades (Accept cycle version) = true
-looks_at_trades (Decline cycle version) = true
-looks_at_trades what = is_of_trade what
-
--- the refusals of a TRADE that its names and its amount tell
-abbrev pub terms_refusals : Rows → List ℕ → List ℕ → List ℕ → List ℕ → ℕ → List (Bool × Refusal)
-terms_refusals roster by seller buyer product amount =
-    (is_none (member_place roster seller) || is_none (member_place roster buyer), UnknownMember)
-    ∷ (is_none (product_place roster product), UnknownProduct)
-    ∷ (bytes_eq seller buyer, OwnTrade)
-    ∷ (not (bytes_eq by seller || bytes_eq by buyer), NotParty)
-    ∷ (nat_lt MOST_TRADE_AMOUNT amount, AmountOver)
-    ∷ []
-
--- and those that its product and the other trades tell
-abbrev pub product_refusals : Option ProductRow → ℕ → ℕ → DayParts → List TradeRow → List (Bool × Refusal)
-product_refusals row product amount day rows =
-    maturity_refusal row day
-    ∷ (nat_lt MOST_GROSS (gross_of product rows + amount), GrossOver)
-    ∷ (nat_le MOST_SUBMITTED (submitted_count rows), TradesFull)
-    ∷ []

@@ -2,13 +2,12 @@
 
 mod answers;
 mod changes;
+mod conditions;
 mod cycle;
 mod cycle_refusals;
-mod draft_refusals;
 mod freezing;
 mod limit_lines;
 mod making;
-mod nets_refusals;
 mod parties;
 mod positions;
 mod problem_copies;
@@ -19,13 +18,10 @@ mod proposal_changes;
 mod ready;
 mod refusals;
 mod room;
-mod row_refusals;
 mod sides;
 mod solutions;
-mod statement;
-mod tol_refusals;
+mod terms;
 mod trade_refusals;
-mod vote_refusals;
 
 ghost use Rattle.std.specs.Prelude.{◌≡◌, ◌≤◌, All, IsTrue, IfOk, OnOk, is_some};
 ghost use Rattle.network_laws.specs.Solutions.{IsSolution};
@@ -43,7 +39,6 @@ use cycle::Cycle;
 use making::made_for;
 use product_book::Book;
 pub use ready::Ready;
-use refusals::refusal;
 use room::make_room;
 use std::alloc::{AllocError, Global};
 use std::marker::Model;
@@ -101,9 +96,10 @@ impl Machine {
         ensures party { IfOk result (λ answer. IsTrue (is_recorded ask.now.what answer) → IsTrue (is_some ask.now.by)) }
         ensures few { IfOk result (λ answer. IsTrue (is_recorded ask.now.what answer) → posted ask.now.what ≤ most_solutions) }
     {
-        match refusal(&self.roster, &self.book, &self.cycle, ask) {
-            Some(refusal) => Ok(Answer::No(refusal)),
-            None => accepted(&self.roster, &self.book, &self.cycle, ask),
+        let (roster, book, cycle) = (&self.roster, &self.book, &self.cycle);
+        match self.check(ask) {
+            Err(refusal) => Ok(Answer::No(refusal)),
+            Ok(()) => accepted(roster, book, cycle, ask),
         }
     }
 

@@ -13,8 +13,8 @@ use super::parties::{place_of_member, place_of_product};
 use super::proposal_changes::{accept, post};
 use super::ready::Made;
 use super::sides::{side_at, side_of};
-use super::trade_refusals::Terms;
-use command_types::{Ask, Level, Roster, Side, What};
+use super::terms::{Setting, Terms};
+use command_types::{Ask, Roster, Side, What};
 use product_book::Book;
 use tolerance_sets::Tolerances;
 use units_core::{MemberNo, Name};
@@ -94,16 +94,6 @@ fn change_trade(roster: &Roster, book: &mut Book, cycle: &mut Cycle, ask: &Ask)
         }
         _ => unreachable!(),
     }
-}
-
-// What a party sets towards another member.
-#[derive(Clone, Copy)]
-struct Setting {
-    other: Name,
-    product: Name,
-    side: Side,
-    floor: Level,
-    ceiling: Option<Level>,
 }
 
 // Makes the setting of an accepted TOL.

@@ -1,200 +1,174 @@
-//! Why a party's FREEZE, BEGIN, LIMITS, POST, PLAN or CANCEL is refused. The roster and the cycle tell, whatever the
-//! trades are.
+//! Why a party's command about the cycle is refused: one function a command, with the numbers of its refusals in their
+//! order. The first condition is tested by hand in each: the prover has no plan here for a `?` before a function's first branch.
 
-ghost use Rattle.std.specs.Prelude.{◌≡◌, ◌≤◌, [], ◌∷◌, length, unwrap_or};
-ghost use Rattle.command_types.specs.CycleRefusals.{freeze_refusals, begin_refusals, fetch_refusals, limits_refusals, if_bad_post, post_refusals, plan_refusals, cancel_refusals};
-ghost use Rattle.command_types.specs.Cycles.{bad_post};
+ghost use Rattle.std.specs.Prelude.{◌≡◌};
+ghost use Rattle.std.specs.Result.{result_err};
+ghost use Rattle.command_types.specs.CycleRefusals.{freeze_refusals, begin_refusals, fetch_refusals, limits_refusals, row_refusals, pot_refusals, post_refusals, plan_refusals, accept_refusals, decline_refusals, cancel_refusals};
 ghost use Rattle.command_types.specs.Machine.{first_of};
-ghost use Rattle.posting.specs.Posted.{AreOfMembers};
-ghost use Rattle.cycle_states.specs.Machine.{state_in, HasProblems};
-ghost use Rattle.units_core.specs.declared.limits.TheConstants.{MOST_PRODUCTS};
 
-use super::cycle::{Cycle, has_limits, is_broken, is_open, is_proposed, is_solving, may_begin};
-use super::parties::member_count;
-use command_types::{Refusal, Roster};
+use super::Machine;
+use super::conditions::{if_draft_full, refuse_if};
+use super::cycle::{has_limits, is_open, is_proposed, is_solving, may_begin};
+use super::terms::DraftRow;
+use command_types::Refusal;
 use network_laws::Solution;
-use posting::bad_post;
-use units_core::Name;
+use units_core::{MOST_GROSS, Name};
 
-/// The refusal that names the trade whose end broke the cycle.
-pub(super) fn broken(cycle: &Cycle) -> Refusal
-    ensures { result ≡ Refusal.CycleBroken (unwrap_or cycle.now.broken_by 0) }
-{
-    Refusal::CycleBroken {
-        trade: cycle.broken_by().unwrap_or(0),
+impl Machine {
+    /// FREEZE: 14, 15.
+    pub(super) fn check_freeze(&self, by: &Name) -> Result<(), Refusal>
+        ensures { result_err result ≡ first_of (freeze_refusals self.now.state by.now) }
+    {
+        let (cycle, open) = (self.cycle.number(), is_open(self.cycle.phase()));
+        if let Err(refusal) = self.unless_operator(by) {
+            return Err(refusal);
+        }
+        refuse_if(open, Refusal::CycleOpen { cycle })
     }
-}
 
-/// The first refusal of the party's FREEZE, if there is one.
-pub(super) fn freeze_refusal(roster: &Roster, cycle: &Cycle, by: &Name) -> Option<Refusal>
-    ensures { result ≡ first_of (freeze_refusals (state_in roster.now [] cycle.now) by.now) }
-{
-    if !roster.is_operator(by) {
-        return Some(Refusal::NotOperator);
+    /// BEGIN: 14, 16, 21, 17.
+    pub(super) fn check_begin(&self, by: &Name, cycle: u64) -> Result<(), Refusal>
+        ensures { result_err result ≡ first_of (begin_refusals self.now.state by.now cycle) }
+    {
+        let phase = self.cycle.phase();
+        if let Err(refusal) = self.unless_operator(by) {
+            return Err(refusal);
+        }
+        self.unless_cycle(cycle)?;
+        self.if_broken()?;
+        self.unless_phase(may_begin(phase))
     }
-    if is_open(cycle.phase()) {
-        return Some(Refusal::CycleOpen {
-            cycle: cycle.number(),
-        });
-    }
-    None
-}
 
-/// The first refusal of the party's BEGIN of a version of the cycle with this number, if there is one.
-pub(super) fn begin_refusal(
-    roster: &Roster,
-    cycle: &Cycle,
-    by: &Name,
-    number: u64,
-) -> Option<Refusal>
-    ensures { result ≡ first_of (begin_refusals (state_in roster.now [] cycle.now) by.now number) }
-{
-    if !roster.is_operator(by) {
-        return Some(Refusal::NotOperator);
+    /// FETCH: 14, 16, 21, 17, 18.
+    pub(super) fn check_fetch(&self, by: &Name, cycle: u64, version: u64) -> Result<(), Refusal>
+        ensures { result_err result ≡ first_of (fetch_refusals self.now.state by.now cycle version) }
+    {
+        let phase = self.cycle.phase();
+        if let Err(refusal) = self.unless_operator(by) {
+            return Err(refusal);
+        }
+        self.unless_cycle(cycle)?;
+        self.if_broken()?;
+        self.unless_phase(is_solving(phase))?;
+        self.unless_version(version)
     }
-    if number != cycle.number() {
-        return Some(Refusal::WrongCycle {
-            cycle: cycle.number(),
-        });
-    }
-    let phase = cycle.phase();
-    if is_broken(phase) {
-        return Some(broken(cycle));
-    }
-    if !may_begin(phase) {
-        return Some(Refusal::WrongPhase { phase });
-    }
-    None
-}
 
-/// The first refusal of the party's question about a product's limits, if there is one.
-pub(super) fn limits_refusal(
-    roster: &Roster,
-    cycle: &Cycle,
-    by: &Name,
-    product: &Name,
-) -> Option<Refusal>
-    ensures { result ≡ first_of (limits_refusals (state_in roster.now [] cycle.now) by.now product.now) }
-{
-    if !roster.is_operator(by) {
-        return Some(Refusal::NotOperator);
+    /// LIMITS: 14, 5, 21, 17.
+    pub(super) fn check_limits(&self, by: &Name, product: &Name) -> Result<(), Refusal>
+        ensures { result_err result ≡ first_of (limits_refusals self.now.state by.now product.now) }
+    {
+        let phase = self.cycle.phase();
+        if let Err(refusal) = self.unless_operator(by) {
+            return Err(refusal);
+        }
+        self.unless_product(product)?;
+        self.if_broken()?;
+        self.unless_phase(has_limits(phase))
     }
-    if roster.product_named(product).is_none() {
-        return Some(Refusal::UnknownProduct);
-    }
-    let phase = cycle.phase();
-    if is_broken(phase) {
-        return Some(broken(cycle));
-    }
-    if !has_limits(phase) {
-        return Some(Refusal::WrongPhase { phase });
-    }
-    None
-}
 
-// The first refusal of what the operator alone does with a begun version, as a POST, if there is one.
-pub(super) fn version_refusal(
-    roster: &Roster,
-    cycle: &Cycle,
-    by: &Name,
-    number: u64,
-    version: u64,
-) -> Option<Refusal>
-    ensures { result ≡ first_of (fetch_refusals (state_in roster.now [] cycle.now) by.now number version) }
-{
-    if !roster.is_operator(by) {
-        return Some(Refusal::NotOperator);
+    /// ROW: 14, 4, 5, 6, 9, 29.
+    pub(super) fn check_row(&self, by: &Name, row: &DraftRow) -> Result<(), Refusal>
+        ensures { result_err result ≡ first_of (row_refusals self.now.state by.now row.now.product row.now.seller row.now.buyer row.now.size row.now.sum) }
+    {
+        if let Err(refusal) = self.unless_operator(by) {
+            return Err(refusal);
+        }
+        self.unless_members(&row.seller, &row.buyer)?;
+        self.unless_product(&row.product)?;
+        refuse_if(row.seller.is(&row.buyer), Refusal::OwnTrade)?;
+        refuse_if(row.sum > MOST_GROSS, Refusal::GrossOver)?;
+        if_draft_full(row.size)
     }
-    if number != cycle.number() {
-        return Some(Refusal::WrongCycle {
-            cycle: cycle.number(),
-        });
-    }
-    let phase = cycle.phase();
-    if is_broken(phase) {
-        return Some(broken(cycle));
-    }
-    if !is_solving(phase) {
-        return Some(Refusal::WrongPhase { phase });
-    }
-    if version != cycle.version() {
-        return Some(Refusal::WrongVersion {
-            version: cycle.version(),
-        });
-    }
-    None
-}
 
-// The refusal of solutions that are not certified for the begun problems.
-fn uncertified(roster: &Roster, cycle: &Cycle, solutions: &[Solution]) -> Option<Refusal>
-    requires few { length cycle.now.begun ≤ MOST_PRODUCTS }
-    requires members { AreOfMembers (length roster.now.members) cycle.now.begun }
-    ensures { result ≡ first_of (if_bad_post (bad_post (length roster.now.members) cycle.now.begun solutions.now) ∷ []) }
-{
-    match bad_post(member_count(roster), cycle.begun(), solutions) {
-        None => None,
-        Some(post) => Some(Refusal::BadCertificate { post }),
+    /// POT: 14, 4, 5, 29.
+    pub(super) fn check_pot(
+        &self,
+        by: &Name,
+        product: &Name,
+        member: &Name,
+        size: u32,
+    ) -> Result<(), Refusal>
+        ensures { result_err result ≡ first_of (pot_refusals self.now.state by.now product.now member.now size) }
+    {
+        if let Err(refusal) = self.unless_operator(by) {
+            return Err(refusal);
+        }
+        self.unless_member(member)?;
+        self.unless_product(product)?;
+        if_draft_full(size)
     }
-}
 
-/// The first refusal of the party's POST of solutions for the cycle with this number and the version with that, if
-/// there is one.
-pub(super) fn post_refusal(
-    roster: &Roster,
-    cycle: &Cycle,
-    by: &Name,
-    number: u64,
-    version: u64,
-    solutions: &[Solution],
-) -> Option<Refusal>
-    requires { HasProblems roster.now cycle.now }
-    ensures { result ≡ first_of (post_refusals (state_in roster.now [] cycle.now) by.now number version solutions.now) }
-{
-    match version_refusal(roster, cycle, by, number, version) {
-        Some(refusal) => Some(refusal),
-        None => uncertified(roster, cycle, solutions),
+    /// POST: 14, 16, 21, 17, 18, 24.
+    pub(super) fn check_post(
+        &self,
+        by: &Name,
+        cycle: u64,
+        version: u64,
+        solutions: &[Solution],
+    ) -> Result<(), Refusal>
+        ensures { result_err result ≡ first_of (post_refusals self.now.state by.now cycle version solutions.now) }
+    {
+        let phase = self.cycle.phase();
+        if let Err(refusal) = self.unless_operator(by) {
+            return Err(refusal);
+        }
+        self.unless_cycle(cycle)?;
+        self.if_broken()?;
+        self.unless_phase(is_solving(phase))?;
+        self.unless_version(version)?;
+        self.if_bad_post(solutions)
     }
-}
 
-/// The first refusal of a party's question about the plan of the cycle with this number, if there is one.
-pub(super) fn plan_refusal(roster: &Roster, cycle: &Cycle, number: u64) -> Option<Refusal>
-    ensures { result ≡ first_of (plan_refusals (state_in roster.now [] cycle.now) number) }
-{
-    if number != cycle.number() {
-        return Some(Refusal::WrongCycle {
-            cycle: cycle.number(),
-        });
+    /// PLAN: 16, 21, 17.
+    pub(super) fn check_plan(&self, cycle: u64) -> Result<(), Refusal>
+        ensures { result_err result ≡ first_of (plan_refusals self.now.state cycle) }
+    {
+        let phase = self.cycle.phase();
+        if let Err(refusal) = self.unless_cycle(cycle) {
+            return Err(refusal);
+        }
+        self.if_broken()?;
+        self.unless_phase(is_proposed(phase))
     }
-    let phase = cycle.phase();
-    if is_broken(phase) {
-        return Some(broken(cycle));
-    }
-    if !is_proposed(phase) {
-        return Some(Refusal::WrongPhase { phase });
-    }
-    None
-}
 
-/// The first refusal of the party's CANCEL of the cycle with this number, if there is one.
-pub(super) fn cancel_refusal(
-    roster: &Roster,
-    cycle: &Cycle,
-    by: &Name,
-    number: u64,
-) -> Option<Refusal>
-    ensures { result ≡ first_of (cancel_refusals (state_in roster.now [] cycle.now) by.now number) }
-{
-    if !roster.is_operator(by) {
-        return Some(Refusal::NotOperator);
+    /// ACCEPT: 16, 21, 17, 18, 19, 20.
+    pub(super) fn check_accept(&self, by: &Name, cycle: u64, version: u64) -> Result<(), Refusal>
+        ensures { result_err result ≡ first_of (accept_refusals self.now.state by.now cycle version) }
+    {
+        let phase = self.cycle.phase();
+        if let Err(refusal) = self.unless_cycle(cycle) {
+            return Err(refusal);
+        }
+        self.if_broken()?;
+        self.unless_phase(is_proposed(phase))?;
+        self.unless_version(version)?;
+        self.unless_touched(by)?;
+        self.if_voted(by)
     }
-    if number != cycle.number() {
-        return Some(Refusal::WrongCycle {
-            cycle: cycle.number(),
-        });
+
+    /// DECLINE: 16, 21, 17, 18, 19.
+    pub(super) fn check_decline(&self, by: &Name, cycle: u64, version: u64) -> Result<(), Refusal>
+        ensures { result_err result ≡ first_of (decline_refusals self.now.state by.now cycle version) }
+    {
+        let phase = self.cycle.phase();
+        if let Err(refusal) = self.unless_cycle(cycle) {
+            return Err(refusal);
+        }
+        self.if_broken()?;
+        self.unless_phase(is_proposed(phase))?;
+        self.unless_version(version)?;
+        self.unless_touched(by)
     }
-    let phase = cycle.phase();
-    if !is_open(phase) {
-        return Some(Refusal::WrongPhase { phase });
+
+    /// CANCEL: 14, 16, 17.
+    pub(super) fn check_cancel(&self, by: &Name, cycle: u64) -> Result<(), Refusal>
+        ensures { result_err result ≡ first_of (cancel_refusals self.now.state by.now cycle) }
+    {
+        let phase = self.cycle.phase();
+        if let Err(refusal) = self.unless_operator(by) {
+            return Err(refusal);
+        }
+        self.unless_cycle(cycle)?;
+        self.unless_phase(is_open(phase))
     }
-    None
 }

@@ -1,179 +1,126 @@
-//! The refusals of a command, in their order: a line out of the grammar, then a party that is not known, then the
-//! command's own.
+//! Whether a command is refused: a line out of the grammar, then a party that is not known, then the command's own
+//! refusals, each kind in its order.
 
-ghost use Rattle.std.specs.Prelude.{◌≡◌, ◌∷◌, [], not, None, unwrap_or, IsTrue, false, true};
+ghost use Rattle.std.specs.Prelude.{◌≡◌, [], ◌∷◌, not, unwrap_or};
+ghost use Rattle.std.specs.Result.{result_err};
 ghost use Rattle.command_types.specs.Roster.{is_party};
-ghost use Rattle.command_types.specs.Machine.{empty_state, first_of, refusals, command_refusals};
-ghost use Rattle.cycle_states.specs.Machine.{state_in, looks_at_trades, wants_party, HasProblems};
+ghost use Rattle.command_types.specs.Machine.{first_of, refusals, command_refusals};
 
-use super::cycle::Cycle;
-use super::cycle_refusals::{
-    begin_refusal, cancel_refusal, freeze_refusal, limits_refusal, plan_refusal, post_refusal,
-    version_refusal,
-};
-use super::draft_refusals::{pot_refusal, row_refusal};
-use super::nets_refusals::nets_refusal;
+use super::Machine;
+use super::conditions::refuse_if;
 use super::parties::is_party;
-use super::row_refusals::{affirm_refusal, end_refusal, free_refusal, hold_refusal};
-use super::statement::statement_refusal;
-use super::tol_refusals::tol_refusal;
-use super::trade_refusals::{Terms, trade_refusal};
-use super::vote_refusals::{accept_refusal, decline_refusal};
-use command_types::{Ask, Refusal, Roster, What};
-use product_book::Book;
+use super::terms::{DraftRow, Setting, Terms};
+use command_types::{Ask, Refusal, What};
 use units_core::Name;
 
-// The first refusal of a party's command that is neither about a trade nor a vote. The roster and the cycle tell,
-// whatever the trades are.
-fn other_refusal(roster: &Roster, cycle: &Cycle, by: &Name, what: &What) -> Option<Refusal>
-    requires problems { HasProblems roster.now cycle.now }
-    requires other { looks_at_trades what.now ≡ false }
-    ensures { result ≡ first_of (command_refusals (state_in roster.now [] cycle.now) by.now what.now) }
-{
-    match what {
-        What::Tol {
-            other,
-            product,
-            floor,
-            ceiling,
-            ..
-        } => tol_refusal(roster, by, other, product, *floor, *ceiling),
-        What::Nets { product } => nets_refusal(roster, product),
-        What::Statement => statement_refusal(roster, by),
-        What::Freeze { .. } => freeze_refusal(roster, cycle, by),
-        What::Begin { cycle: number, .. } => begin_refusal(roster, cycle, by, *number),
-        What::Limits { product } => limits_refusal(roster, cycle, by, product),
-        What::Row {
-            product,
-            seller,
-            buyer,
-            size,
-            sum,
-            ..
-        } => row_refusal(roster, by, product, seller, buyer, *size, *sum),
-        What::Pot {
-            product,
-            member,
-            size,
-            ..
-        } => pot_refusal(roster, by, product, member, *size),
-        What::Post {
-            cycle: number,
-            version,
-            solutions,
-        } => post_refusal(roster, cycle, by, *number, *version, solutions.rows()),
-        What::Fetch {
-            cycle: number,
-            version,
-        } => version_refusal(roster, cycle, by, *number, *version),
-        What::Plan { cycle: number } => plan_refusal(roster, cycle, *number),
-        What::Cancel { cycle: number } => cancel_refusal(roster, cycle, by, *number),
-        What::Hello { .. } | What::Unreadable { .. } | What::Bye => None,
-        _ => unreachable!(),
-    }
-}
-
-// The first refusal of a command by a party of the roster.
-fn party_refusal(
-    roster: &Roster,
-    book: &Book,
-    cycle: &Cycle,
-    by: &Name,
-    what: &What,
-) -> Option<Refusal>
-    requires { HasProblems roster.now cycle.now }
-    ensures { result ≡ first_of (command_refusals (state_in roster.now book.now.rows cycle.now) by.now what.now) }
-{
-    let trades = book.rows();
-    match what {
-        What::Trade {
-            seller,
-            buyer,
-            product,
-            amount,
-            day,
-        } => {
-            let terms = Terms {
-                seller: *seller,
-                buyer: *buyer,
-                product: *product,
-                amount: *amount,
-                day: *day,
-            };
-            trade_refusal(roster, book, by, &terms)
-        }
-        What::Affirm { trade } => affirm_refusal(roster, by, book.get(*trade).copied()),
-        What::End { trade } => end_refusal(roster, by, book.get(*trade).copied()),
-        What::Hold { trade } => hold_refusal(roster, cycle, by, book.get(*trade).copied()),
-        What::Free { trade } => free_refusal(roster, cycle, by, book.get(*trade).copied()),
-        What::Accept {
-            cycle: number,
-            version,
-        } => accept_refusal(roster, trades, cycle, by, *number, *version),
-        What::Decline {
-            cycle: number,
-            version,
-        } => decline_refusal(roster, trades, cycle, by, *number, *version),
-        _ => other_refusal(roster, cycle, by, what),
-    }
-}
-
-// The first refusal of a command that wants a party of the roster.
-fn greeted_refusal(
-    roster: &Roster,
-    book: &Book,
-    cycle: &Cycle,
-    by: &Option<Name>,
-    what: &What,
-) -> Option<Refusal>
-    requires { HasProblems roster.now cycle.now }
-    ensures { result ≡ first_of ((not (is_party roster.now by.now), Refusal.NotGreeted) ∷ command_refusals (state_in roster.now book.now.rows cycle.now) (unwrap_or by.now []) what.now) }
-{
-    match by {
-        None => Some(Refusal::NotGreeted),
-        Some(name) => {
-            if !is_party(roster, name) {
-                return Some(Refusal::NotGreeted);
+impl Machine {
+    // The first refusal of a command by a party of the roster.
+    fn check_command(&self, by: &Name, what: &What) -> Result<(), Refusal>
+        ensures { result_err result ≡ first_of (command_refusals self.now.state by.now what.now) }
+    {
+        match what {
+            What::Trade {
+                seller,
+                buyer,
+                product,
+                amount,
+                day,
+            } => {
+                let terms = Terms {
+                    seller: *seller,
+                    buyer: *buyer,
+                    product: *product,
+                    amount: *amount,
+                    day: *day,
+                };
+                self.check_trade(by, &terms)
             }
-            party_refusal(roster, book, cycle, name, what)
-        }
-    }
-}
-
-// The first refusal of a command that wants no party, whatever the state and whoever asks.
-fn open_refusal(roster: &Roster, what: &What) -> Option<Refusal>
-    requires { wants_party what.now ≡ false }
-    ensures { result ≡ first_of (refusals (empty_state roster.now) None what.now) }
-{
-    match what {
-        What::Hello { name, key } => {
-            if !roster.is_key(name, key) {
-                return Some(Refusal::BadKey);
+            What::Affirm { trade } => self.check_affirm(by, *trade),
+            What::End { trade } => self.check_end(by, *trade),
+            What::Hold { trade } => self.check_hold(by, *trade),
+            What::Free { trade } => self.check_free(by, *trade),
+            What::Tol {
+                other,
+                product,
+                side,
+                floor,
+                ceiling,
+            } => {
+                let setting = Setting {
+                    other: *other,
+                    product: *product,
+                    side: *side,
+                    floor: *floor,
+                    ceiling: *ceiling,
+                };
+                self.check_tol(by, &setting)
             }
-            None
+            What::Nets { product } => self.check_nets(product),
+            What::Statement => self.check_statement(by),
+            What::Freeze { .. } => self.check_freeze(by),
+            What::Begin { cycle, .. } => self.check_begin(by, *cycle),
+            What::Fetch { cycle, version } => self.check_fetch(by, *cycle, *version),
+            What::Limits { product } => self.check_limits(by, product),
+            What::Row {
+                product,
+                seller,
+                buyer,
+                size,
+                sum,
+                ..
+            } => {
+                let row = DraftRow {
+                    product: *product,
+                    seller: *seller,
+                    buyer: *buyer,
+                    size: *size,
+                    sum: *sum,
+                };
+                self.check_row(by, &row)
+            }
+            What::Pot {
+                product,
+                member,
+                size,
+                ..
+            } => self.check_pot(by, product, member, *size),
+            What::Post {
+                cycle,
+                version,
+                solutions,
+            } => self.check_post(by, *cycle, *version, solutions.rows()),
+            What::Plan { cycle } => self.check_plan(*cycle),
+            What::Accept { cycle, version } => self.check_accept(by, *cycle, *version),
+            What::Decline { cycle, version } => self.check_decline(by, *cycle, *version),
+            What::Cancel { cycle } => self.check_cancel(by, *cycle),
+            What::Hello { .. } | What::Unreadable { .. } | What::Bye => Ok(()),
         }
-        What::Unreadable { at } => Some(Refusal::BadLine { at: *at }),
-        _ => None,
     }
-}
 
-fn wants_party(what: &What) -> bool
-    ensures { result ≡ wants_party what.now }
-{
-    !matches!(
-        what,
-        What::Hello { .. } | What::Bye | What::Unreadable { .. }
-    )
-}
+    // The first refusal of a command that wants a party of the roster.
+    fn check_greeted(&self, by: &Option<Name>, what: &What) -> Result<(), Refusal>
+        ensures { result_err result ≡ first_of ((not (is_party self.now.state.roster by.now), Refusal.NotGreeted) ∷ command_refusals self.now.state (unwrap_or by.now []) what.now) }
+    {
+        match by {
+            None => Err(Refusal::NotGreeted),
+            Some(name) => {
+                refuse_if(!is_party(&self.roster, name), Refusal::NotGreeted)?;
+                self.check_command(name, what)
+            }
+        }
+    }
 
-/// The first refusal of a command whose condition holds.
-pub(super) fn refusal(roster: &Roster, book: &Book, cycle: &Cycle, ask: &Ask) -> Option<Refusal>
-    requires { HasProblems roster.now cycle.now }
-    ensures { result ≡ first_of (refusals (state_in roster.now book.now.rows cycle.now) ask.now.by ask.now.what) }
-{
-    if wants_party(&ask.what) {
-        greeted_refusal(roster, book, cycle, &ask.by, &ask.what)
-    } else {
-        open_refusal(roster, &ask.what)
+    /// The first refusal of a command whose condition holds, if there is one.
+    pub(super) fn check(&self, ask: &Ask) -> Result<(), Refusal>
+        ensures { result_err result ≡ first_of (refusals self.now.state ask.now.by ask.now.what) }
+    {
+        match &ask.what {
+            What::Hello { name, key } => {
+                refuse_if(!self.roster.is_key(name, key), Refusal::BadKey)
+            }
+            What::Unreadable { at } => Err(Refusal::BadLine { at: *at }),
+            What::Bye => Ok(()),
+            what => self.check_greeted(&ask.by, what),
+        }
     }
 }

@@ -1,10 +1,12 @@
-//! Where a party stands in a trade. The roster and the trade itself tell, whatever the other trades are.
+//! Where a party stands in a trade, and how the trade stands. The roster and the trade itself tell, whatever the other
+//! trades are.
 
 ghost use Rattle.std.specs.Prelude.{◌≡◌};
+ghost use Rattle.command_types.specs.Trades.{is_alleged, is_live, is_ended, is_marked_by, hold_of};
 ghost use Rattle.command_types.specs.Machine.{empty_state, is_on_side, is_party_of, is_submitter, side_in, side_at, side_of};
 
 use super::parties::is_member_at;
-use command_types::{Roster, Side, TradeRow};
+use command_types::{Roster, Side, TradeRow, TradeState};
 use units_core::Name;
 
 // Whether the party stands on this side of the trade.
@@ -60,4 +62,46 @@ pub(super) fn side_of(by: &Name, seller: &Name) -> Side
     ensures { result ≡ side_of by.now seller.now }
 {
     if by.is(seller) { Side::Out } else { Side::In }
+}
+
+/// Whether the trade is alleged.
+pub(super) fn is_alleged(row: &TradeRow) -> bool
+    ensures { result ≡ is_alleged row.now.state }
+{
+    row.state == TradeState::Alleged
+}
+
+/// Whether the trade is live.
+pub(super) fn is_live(row: &TradeRow) -> bool
+    ensures { result ≡ is_live row.now.state }
+{
+    row.state == TradeState::Live
+}
+
+/// Whether the trade has ended.
+pub(super) fn is_ended(row: &TradeRow) -> bool
+    ensures { result ≡ is_ended row.now.state }
+{
+    row.state == TradeState::Ended
+}
+
+/// Whether the mark is this side's.
+pub(super) fn is_marked_by(mark: Option<Side>, side: Side) -> bool
+    ensures { result ≡ is_marked_by side mark }
+{
+    match (side, mark) {
+        (Side::Out, Some(Side::Out)) => true,
+        (Side::In, Some(Side::In)) => true,
+        _ => false,
+    }
+}
+
+/// Whether this side holds the trade.
+pub(super) fn is_held_by(row: &TradeRow, side: Side) -> bool
+    ensures { result ≡ hold_of side row.now }
+{
+    match side {
+        Side::Out => row.hold_out,
+        Side::In => row.hold_in,
+    }
 }

@@ -1,115 +1,177 @@
-//! Why a party's TRADE is refused.
+//! Why a party's command about trades, tolerances or positions is refused: one function a command, with the numbers of
+//! its refusals in their order.
 
-ghost use Rattle.std.specs.Prelude.{◌≡◌, [], ◌∷◌, is_some, slice_get};
-ghost use Rattle.command_types.specs.Roster.{member_place};
-ghost use Rattle.command_types.specs.Machine.{first_of, trade_refusals, maturity_refusal};
-ghost use Rattle.cycle_states.specs.Machine.{state_of, terms_refusals, product_refusals};
+ghost use Rattle.std.specs.Prelude.{◌≡◌, Some};
+ghost use Rattle.std.specs.Result.{result_err};
+ghost use Rattle.command_types.specs.CycleRefusals.{tol_refusals, statement_refusals};
+ghost use Rattle.command_types.specs.Machine.{first_of, product_of, trade_refusals, affirm_refusals, end_refusals, hold_refusals, free_refusals, nets_refusals};
+ghost use Rattle.command_types.specs.Trades.{trade_numbered};
+ghost use Rattle.cycle_states.specs.Refusals.{product_refusals};
 
+use super::Machine;
+use super::conditions::{is_crossed, refuse_if};
 use super::parties::place_of_product;
-use command_types::{ProductRow, Refusal, Roster};
-use product_book::Book;
-use units_core::{Amount, Day, MOST_GROSS, MOST_SUBMITTED, MOST_TRADE_AMOUNT, Name, ProductNo};
+use super::sides::{
+    is_alleged, is_ended, is_held_by, is_live, is_marked_by, is_party_of, is_submitter, side_in,
+};
+use super::terms::{Setting, Terms};
+use command_types::{Refusal, TradeRow};
+use units_core::{MOST_GROSS, MOST_SUBMITTED, MOST_TRADE_AMOUNT, Name, ProductNo};
 
-/// What a party alleges.
-#[derive(Clone, Copy)]
-pub(super) struct Terms {
-    pub seller: Name,
-    pub buyer: Name,
-    pub product: Name,
-    pub amount: Amount,
-    pub day: Day,
-}
+impl Machine {
+    // What the product of this place and the other trades refuse: 22, 9, 10.
+    fn check_place(&self, product: ProductNo, terms: &Terms) -> Result<(), Refusal>
+        ensures { result_err result ≡ first_of (product_refusals self.now.state product terms.now.amount terms.now.day) }
+    {
+        if let Err(refusal) = self.unless_before_maturity(product, terms.day) {
+            return Err(refusal);
+        }
+        let gross = self.book.product_sum(product) + terms.amount.get();
+        refuse_if(gross > MOST_GROSS, Refusal::GrossOver)?;
+        let full = self.book.submitted_count() >= MOST_SUBMITTED;
+        refuse_if(full, Refusal::TradesFull)
+    }
 
-// The refusal of a day that is not before the product's maturity.
-fn maturity_refusal(row: Option<ProductRow>, day: Day) -> Option<Refusal>
-    ensures { result ≡ first_of (maturity_refusal row day ∷ []) }
-{
-    match row {
-        None => None,
-        Some(product) => {
-            if day.comes_before(product.maturity) {
-                None
-            } else {
-                Some(Refusal::Matured {
-                    maturity: product.maturity,
-                })
-            }
+    // The place of the product with this name; 0 where there is none.
+    fn place_named(&self, name: &Name) -> ProductNo
+        ensures { result ≡ product_of self.now.state name.now }
+    {
+        place_of_product(&self.roster, name)
+    }
+
+    // What the product and the other trades refuse: 22, 9, 10.
+    fn check_product(&self, terms: &Terms) -> Result<(), Refusal>
+        ensures { result_err result ≡ first_of (product_refusals self.now.state (product_of self.now.state terms.now.product) terms.now.amount terms.now.day) }
+    {
+        let product = self.place_named(&terms.product);
+        self.check_place(product, terms)
+    }
+
+    /// TRADE: 4, 5, 6, 7, 8, 22, 9, 10.
+    pub(super) fn check_trade(&self, by: &Name, terms: &Terms) -> Result<(), Refusal>
+        ensures { result_err result ≡ first_of (trade_refusals self.now.state by.now terms.now.seller terms.now.buyer terms.now.product terms.now.amount terms.now.day) }
+    {
+        let (seller, buyer, amount) = (&terms.seller, &terms.buyer, terms.amount.get());
+        if let Err(refusal) = self.unless_members(seller, buyer) {
+            return Err(refusal);
+        }
+        self.unless_product(&terms.product)?;
+        refuse_if(seller.is(buyer), Refusal::OwnTrade)?;
+        refuse_if(!(by.is(seller) || by.is(buyer)), Refusal::NotParty)?;
+        refuse_if(amount > MOST_TRADE_AMOUNT, Refusal::AmountOver)?;
+        self.check_product(terms)
+    }
+
+    /// AFFIRM: 11, 7, 12.
+    pub(super) fn check_affirm(&self, by: &Name, trade: u64) -> Result<(), Refusal>
+        ensures { result_err result ≡ first_of (affirm_refusals self.now.state by.now (trade_numbered self.now.state.trades trade)) }
+    {
+        let Some(row) = self.book.get(trade) else {
+            return Err(Refusal::UnknownTrade);
+        };
+        let barred = !is_party_of(&self.roster, by, row) || is_submitter(&self.roster, by, row);
+        if let Err(refusal) = refuse_if(barred, Refusal::NotParty) {
+            return Err(refusal);
+        }
+        refuse_if(
+            !is_alleged(row),
+            Refusal::WrongTradeState { state: row.state },
+        )
+    }
+
+    /// END: 11, 7, 12.
+    pub(super) fn check_end(&self, by: &Name, trade: u64) -> Result<(), Refusal>
+        ensures { result_err result ≡ first_of (end_refusals self.now.state by.now (trade_numbered self.now.state.trades trade)) }
+    {
+        match self.book.get(trade) {
+            None => Err(Refusal::UnknownTrade),
+            Some(row) => self.check_end_of(by, row),
         }
     }
-}
 
-// The first refusal that the product and the other trades tell, if there is one.
-fn product_refusal(
-    book: &Book,
-    row: Option<ProductRow>,
-    product: ProductNo,
-    amount: Amount,
-    day: Day,
-) -> Option<Refusal>
-    ensures { result ≡ first_of (product_refusals row product amount day book.now.rows) }
-{
-    if let Some(refusal) = maturity_refusal(row, day) {
-        return Some(refusal);
-    }
-    if book.product_sum(product) + amount.get() > MOST_GROSS {
-        return Some(Refusal::GrossOver);
-    }
-    if book.submitted_count() >= MOST_SUBMITTED {
-        return Some(Refusal::TradesFull);
-    }
-    None
-}
-
-fn is_member(roster: &Roster, name: &Name) -> bool
-    ensures { result ≡ is_some (member_place roster.now name.now) }
-{
-    roster.member_named(name).is_some()
-}
-
-// The first refusal that the names and the amount tell, if there is one.
-fn terms_refusal(roster: &Roster, by: &Name, terms: &Terms) -> Option<Refusal>
-    ensures { result ≡ first_of (terms_refusals roster.now by.now terms.now.seller terms.now.buyer terms.now.product terms.now.amount) }
-{
-    if !is_member(roster, &terms.seller) || !is_member(roster, &terms.buyer) {
-        return Some(Refusal::UnknownMember);
-    }
-    if roster.product_named(&terms.product).is_none() {
-        return Some(Refusal::UnknownProduct);
-    }
-    if terms.seller.is(&terms.buyer) {
-        return Some(Refusal::OwnTrade);
-    }
-    if !by.is(&terms.seller) && !by.is(&terms.buyer) {
-        return Some(Refusal::NotParty);
-    }
-    if terms.amount.get() > MOST_TRADE_AMOUNT {
-        return Some(Refusal::AmountOver);
-    }
-    None
-}
-
-// The product at this place.
-fn product_at(roster: &Roster, product: ProductNo) -> Option<ProductRow>
-    ensures { result ≡ slice_get roster.now.products product }
-{
-    roster.products().get(product.0 as usize).copied()
-}
-
-/// The first refusal of the party's TRADE on these terms, if there is one.
-pub(super) fn trade_refusal(
-    roster: &Roster,
-    book: &Book,
-    by: &Name,
-    terms: &Terms,
-) -> Option<Refusal>
-    ensures { result ≡ first_of (trade_refusals (state_of roster.now book.now.rows) by.now terms.now.seller terms.now.buyer terms.now.product terms.now.amount terms.now.day) }
-{
-    match terms_refusal(roster, by, terms) {
-        Some(refusal) => Some(refusal),
-        None => {
-            let product = place_of_product(roster, &terms.product);
-            let row = product_at(roster, product);
-            product_refusal(book, row, product, terms.amount, terms.day)
+    // END of this trade: 7, 12.
+    fn check_end_of(&self, by: &Name, row: &TradeRow) -> Result<(), Refusal>
+        ensures { result_err result ≡ first_of (end_refusals self.now.state by.now (Some row.now)) }
+    {
+        let side = side_in(&self.roster, by, row);
+        if let Err(refusal) = self.unless_party(by, row) {
+            return Err(refusal);
         }
+        let over = is_ended(row) || is_marked_by(row.mark, side);
+        refuse_if(over, Refusal::WrongTradeState { state: row.state })
+    }
+
+    /// HOLD: 11, 7, 12, 13.
+    pub(super) fn check_hold(&self, by: &Name, trade: u64) -> Result<(), Refusal>
+        ensures { result_err result ≡ first_of (hold_refusals self.now.state by.now (trade_numbered self.now.state.trades trade)) }
+    {
+        match self.book.get(trade) {
+            None => Err(Refusal::UnknownTrade),
+            Some(row) => self.check_hold_of(by, row),
+        }
+    }
+
+    // HOLD of this trade: 7, 12, 13.
+    fn check_hold_of(&self, by: &Name, row: &TradeRow) -> Result<(), Refusal>
+        ensures { result_err result ≡ first_of (hold_refusals self.now.state by.now (Some row.now)) }
+    {
+        let side = side_in(&self.roster, by, row);
+        if let Err(refusal) = self.unless_party(by, row) {
+            return Err(refusal);
+        }
+        let held = !is_live(row) || is_held_by(row, side);
+        refuse_if(held, Refusal::WrongTradeState { state: row.state })?;
+        self.if_frozen(row)
+    }
+
+    /// FREE: 11, 7, 12, 13.
+    pub(super) fn check_free(&self, by: &Name, trade: u64) -> Result<(), Refusal>
+        ensures { result_err result ≡ first_of (free_refusals self.now.state by.now (trade_numbered self.now.state.trades trade)) }
+    {
+        match self.book.get(trade) {
+            None => Err(Refusal::UnknownTrade),
+            Some(row) => self.check_free_of(by, row),
+        }
+    }
+
+    // FREE of this trade: 7, 12, 13.
+    fn check_free_of(&self, by: &Name, row: &TradeRow) -> Result<(), Refusal>
+        ensures { result_err result ≡ first_of (free_refusals self.now.state by.now (Some row.now)) }
+    {
+        let side = side_in(&self.roster, by, row);
+        if let Err(refusal) = self.unless_party(by, row) {
+            return Err(refusal);
+        }
+        let free = !is_live(row) || !is_held_by(row, side);
+        refuse_if(free, Refusal::WrongTradeState { state: row.state })?;
+        self.if_frozen(row)
+    }
+
+    /// TOL: 4, 5, 6, 7, 23.
+    pub(super) fn check_tol(&self, by: &Name, setting: &Setting) -> Result<(), Refusal>
+        ensures { result_err result ≡ first_of (tol_refusals self.now.state by.now setting.now.other setting.now.product setting.now.floor setting.now.ceiling) }
+    {
+        if let Err(refusal) = self.unless_member(&setting.other) {
+            return Err(refusal);
+        }
+        self.unless_product(&setting.product)?;
+        refuse_if(setting.other.is(by), Refusal::OwnTrade)?;
+        refuse_if(self.roster.is_operator(by), Refusal::NotParty)?;
+        let crossed = is_crossed(setting.floor, setting.ceiling);
+        refuse_if(crossed, Refusal::FloorOverCeiling)
+    }
+
+    /// NETS: 5.
+    pub(super) fn check_nets(&self, product: &Name) -> Result<(), Refusal>
+        ensures { result_err result ≡ first_of (nets_refusals self.now.state product.now) }
+    {
+        self.unless_product(product)
+    }
+
+    /// STATEMENT: 7.
+    pub(super) fn check_statement(&self, by: &Name) -> Result<(), Refusal>
+        ensures { result_err result ≡ first_of (statement_refusals self.now.state by.now) }
+    {
+        refuse_if(self.roster.is_operator(by), Refusal::NotParty)
     }
 }

@@ -1,0 +1,181 @@
+//! The conditions of the refusals, in the words of their definitions: each refuses where its condition holds.
+
+ghost use Rattle.std.specs.Prelude.{◌≡◌, [], ◌∷◌, not, length, slice_get, IsTrue};
+ghost use Rattle.std.specs.Result.{result_err};
+ghost use Rattle.command_types.specs.CycleRefusals.{unless_operator, unless_member, unless_members, unless_product, unless_cycle, if_broken, unless_version, has_voted, unless_touched, if_voted, if_draft_full, if_bad_post, is_crossed};
+ghost use Rattle.command_types.specs.Cycles.{bad_post, is_solving};
+ghost use Rattle.command_types.specs.Machine.{first_of, if_frozen, is_party_of, maturity_refusal};
+
+use super::Machine;
+use super::cycle::{is_broken, is_open};
+use super::parties::member_count;
+use super::sides::is_party_of;
+use command_types::{Level, Refusal, TradeRow};
+use network_laws::Solution;
+use posting::{bad_post, is_touched};
+use units_core::{Day, MOST_DRAFT, MemberNo, Name, ProductNo};
+
+/// Refuses where the condition holds.
+pub(super) fn refuse_if(condition: bool, refusal: Refusal) -> Result<(), Refusal>
+    ensures { result_err result ≡ first_of ((condition, refusal) ∷ []) }
+{
+    if condition { Err(refusal) } else { Ok(()) }
+}
+
+/// If a draft of this size is too large.
+pub(super) fn if_draft_full(size: u32) -> Result<(), Refusal>
+    ensures { result_err result ≡ first_of (if_draft_full size ∷ []) }
+{
+    refuse_if(size > MOST_DRAFT, Refusal::DraftFull)
+}
+
+/// Whether a ceiling is given that is below the floor.
+pub(super) fn is_crossed(floor: Level, ceiling: Option<Level>) -> bool
+    ensures { result ≡ is_crossed floor ceiling }
+{
+    match ceiling {
+        None => false,
+        Some(most) => most.get() < floor.get(),
+    }
+}
+
+// Whether the member is among those that have voted.
+fn has_voted(votes: &[MemberNo], member: MemberNo) -> bool
+    ensures { result ≡ has_voted votes.now member }
+{
+    votes.iter().any(|voter| *voter == member)
+}
+
+impl Machine {
+    /// Unless the party is the operator.
+    pub(super) fn unless_operator(&self, by: &Name) -> Result<(), Refusal>
+        ensures { result_err result ≡ first_of (unless_operator self.now.state by.now ∷ []) }
+    {
+        refuse_if(!self.roster.is_operator(by), Refusal::NotOperator)
+    }
+
+    /// Unless the name is a member's.
+    pub(super) fn unless_member(&self, name: &Name) -> Result<(), Refusal>
+        ensures { result_err result ≡ first_of (unless_member self.now.state name.now ∷ []) }
+    {
+        let unknown = self.roster.member_named(name).is_none();
+        refuse_if(unknown, Refusal::UnknownMember)
+    }
+
+    /// Unless both names are members'.
+    pub(super) fn unless_members(&self, a: &Name, b: &Name) -> Result<(), Refusal>
+        ensures { result_err result ≡ first_of (unless_members self.now.state a.now b.now ∷ []) }
+    {
+        let unknown = self.roster.member_named(a).is_none()
+            || self.roster.member_named(b).is_none();
+        refuse_if(unknown, Refusal::UnknownMember)
+    }
+
+    /// Unless the name is a product's.
+    pub(super) fn unless_product(&self, name: &Name) -> Result<(), Refusal>
+        ensures { result_err result ≡ first_of (unless_product self.now.state name.now ∷ []) }
+    {
+        let unknown = self.roster.product_named(name).is_none();
+        refuse_if(unknown, Refusal::UnknownProduct)
+    }
+
+    /// Unless the number is the cycle's.
+    pub(super) fn unless_cycle(&self, cycle: u64) -> Result<(), Refusal>
+        ensures { result_err result ≡ first_of (unless_cycle self.now.state cycle ∷ []) }
+    {
+        let number = self.cycle.number();
+        refuse_if(cycle != number, Refusal::WrongCycle { cycle: number })
+    }
+
+    /// If the end of a frozen trade broke the cycle.
+    pub(super) fn if_broken(&self) -> Result<(), Refusal>
+        ensures { result_err result ≡ first_of (if_broken self.now.state ∷ []) }
+    {
+        let trade = self.cycle.broken_by().unwrap_or(0);
+        let broken = is_broken(self.cycle.phase());
+        refuse_if(broken, Refusal::CycleBroken { trade })
+    }
+
+    /// Unless the cycle's phase allows the command.
+    pub(super) fn unless_phase(&self, allowed: bool) -> Result<(), Refusal>
+        ensures { result_err result ≡ first_of ((not allowed, Refusal.WrongPhase self.now.state.cycle.phase) ∷ []) }
+    {
+        let phase = self.cycle.phase();
+        refuse_if(!allowed, Refusal::WrongPhase { phase })
+    }
+
+    /// Unless the number is the version's.
+    pub(super) fn unless_version(&self, version: u64) -> Result<(), Refusal>
+        ensures { result_err result ≡ first_of (unless_version self.now.state version ∷ []) }
+    {
+        let current = self.cycle.version();
+        let other = version != current;
+        refuse_if(other, Refusal::WrongVersion { version: current })
+    }
+
+    /// Unless the proposed plan touches the party.
+    pub(super) fn unless_touched(&self, by: &Name) -> Result<(), Refusal>
+        ensures { result_err result ≡ first_of (unless_touched self.now.state by.now ∷ []) }
+    {
+        match self.roster.member_named(by) {
+            None => Err(Refusal::NotTouched),
+            Some(member) => {
+                let touched = is_touched(self.book.rows(), self.cycle.plan(), member);
+                refuse_if(!touched, Refusal::NotTouched)
+            }
+        }
+    }
+
+    /// If the party has voted.
+    pub(super) fn if_voted(&self, by: &Name) -> Result<(), Refusal>
+        ensures { result_err result ≡ first_of (if_voted self.now.state by.now ∷ []) }
+    {
+        match self.roster.member_named(by) {
+            None => Ok(()),
+            Some(member) => {
+                let voted = has_voted(self.cycle.votes(), member);
+                refuse_if(voted, Refusal::AlreadyAccepted)
+            }
+        }
+    }
+
+    /// If the solutions are not certified for the begun problems.
+    pub(super) fn if_bad_post(&self, solutions: &[Solution]) -> Result<(), Refusal>
+        requires { IsTrue (is_solving self.now.state.cycle.phase) }
+        ensures { result_err result ≡ first_of (if_bad_post (bad_post (length self.now.state.roster.members) self.now.state.cycle.begun solutions.now) ∷ []) }
+    {
+        match bad_post(member_count(&self.roster), self.cycle.begun(), solutions) {
+            None => Ok(()),
+            Some(post) => Err(Refusal::BadCertificate { post }),
+        }
+    }
+
+    /// Unless the day is before the product's maturity.
+    pub(super) fn unless_before_maturity(&self, product: ProductNo, day: Day) -> Result<(), Refusal>
+        ensures { result_err result ≡ first_of (maturity_refusal (slice_get self.now.state.roster.products product) day ∷ []) }
+    {
+        match self.roster.products().get(product.index()) {
+            None => Ok(()),
+            Some(row) => {
+                let maturity = row.maturity;
+                refuse_if(!day.comes_before(maturity), Refusal::Matured { maturity })
+            }
+        }
+    }
+
+    /// Unless the party is one of the trade's two.
+    pub(super) fn unless_party(&self, by: &Name, row: &TradeRow) -> Result<(), Refusal>
+        ensures { result_err result ≡ first_of ((not (is_party_of self.now.state by.now row.now), Refusal.NotParty) ∷ []) }
+    {
+        refuse_if(!is_party_of(&self.roster, by, row), Refusal::NotParty)
+    }
+
+    /// If the trade takes part in an open cycle.
+    pub(super) fn if_frozen(&self, row: &TradeRow) -> Result<(), Refusal>
+        ensures { result_err result ≡ first_of (if_frozen self.now.state row.now ∷ []) }
+    {
+        let cycle = self.cycle.number();
+        let frozen = is_open(self.cycle.phase()) && row.frozen;
+        refuse_if(frozen, Refusal::TradeFrozen { cycle })
+    }
+}
