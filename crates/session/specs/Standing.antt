@@ -1,5 +1,5 @@
 -- Where a session stands between two lines, and how it goes on from there.
-use Rattle.std.specs.Prelude.{◌≡◌, ℕ, false, List, [], ◌++◌, take, Option, if◌then◌else◌}
+use Rattle.std.specs.Prelude.{◌≡◌, ℕ, ◌+◌, false, List, [], ◌++◌, take, Option, if◌then◌else◌}
 use Rattle.outside.specs.Flow.{TakesFront}
 use Rattle.command_types.specs.declared.ask.Entry.{Entry}
 use Rattle.command_types.specs.declared.answer.Answer.{Answer}

@@ -1,5 +1,4 @@
 //! The line that is being read.
-ghost use Rattle.units_core.specs.declared.limits.TheConstants.{MOST_LINE};
 
 use std::alloc::{AllocError, Global};
 use std::marker::Model;
@@ -15,18 +14,18 @@ pub struct LineBuffer {
 }
 
 impl Model for LineBuffer {
-    ghost use Rattle.std.specs.Prelude.{List, ℕ, ◌≤◌, vec_capacity, vec_len};
+    ghost use Rattle.std.specs.Prelude.{List, ℕ, ◌+◌, ◌≤◌, vec_capacity, vec_len};
     ghost use Rattle.units_core.specs.declared.limits.TheConstants.{MOST_LINE};
 
     ghost Value = { List ℕ };
 
     ghost view = { λ b. b.bytes.items };
 
-    ghost invariant = { λ b. (vec_len b.bytes ≤ (MOST_LINE + 1)) × ((MOST_LINE + 1) ≤ vec_capacity b.bytes) };
+    ghost invariant = { λ b. (vec_len b.bytes ≤ MOST_LINE + 1) × (MOST_LINE + 1 ≤ vec_capacity b.bytes) };
 }
 
 impl LineBuffer {
-    ghost use Rattle.std.specs.Prelude.{◌≡◌, [], ◌∷◌, ◌++◌, take, IfOk};
+    ghost use Rattle.std.specs.Prelude.{◌≡◌, ◌+◌, [], ◌∷◌, ◌++◌, take, IfOk};
     ghost use Rattle.units_core.specs.declared.limits.TheConstants.{MOST_LINE};
 
     /// An empty line. It takes all its memory now.
