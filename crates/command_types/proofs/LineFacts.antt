@@ -38,9 +38,6 @@ whole_grows xs ys =
 lt_true : (n m : ℕ) → n < m → nat_lt n m ≡ true
 lt_true n m h = grind (arith, nat_tests)
 
-lt_false : (n m : ℕ) → m ≤ n → nat_lt n m ≡ false
-lt_false n m h = grind (arith, nat_tests)
-
 lt_from : (n m : ℕ) → nat_lt n m ≡ true → n < m
 lt_from n m e = grind (arith, nat_tests)
 
@@ -54,9 +51,6 @@ line_long line long = ap (λ t. cond {A = Result Line ℕ} t (Err 4096) (line_of
 -- and stays as it is where a line feed ends it
 pub ended_long : (line : List ℕ) → 4096 < length line → ended_line line ≡ line
 ended_long line long = ap (λ t. cond {A = List ℕ} t line (without_return line)) (lt_true 4096 (length line) long)
-
-pub ended_short : (line : List ℕ) → length line ≤ 4096 → ended_line line ≡ without_return line
-ended_short line short = ap (λ t. cond {A = List ℕ} t line (without_return line)) (lt_false 4096 (length line) short)
 
 long_front : (line : List ℕ) → 4096 < length line → 4096 < length (take 4097 line)
 long_front line long = omega (arith, length-take 4097 line)

@@ -61,12 +61,6 @@ table_push {least = least} flows n levels next k t len wide r = record {
     plus : (k : ℕ) → k + 1 ≡ suc k
     plus k = omega arith
 
-pub table_one : {least : ℕ} (flows : List Flow) (n : ℕ) (first : Vec Step Global) → length first.items ≡ n → IsTable least flows n (first ∷ [])
-table_one flows n first wide = record {
-  wide = λ k d l. let q : k ≡ 0 = omega arith in rw q wide;
-  rounds = λ k d l. absurd (omega arith);
-}
-
 is_same : (least : ℕ) (flows : List Flow) (before : List Step) (v : ℕ) (l : ℤ) (o : Option ℕ) → o ≡ None → IsCaused least flows before v l o → l ≡ label_at before v
 is_same least flows before v l o e c = subst (IsCaused least flows before v l) e c
 
@@ -84,14 +78,6 @@ settled {least = least} r before last k one h wide level few round none = record
       let in_last : tail r.flows a < length last = omega (arith, round.same_length, wide, ends.0) in
       let same = is_same least r.flows before (tail r.flows a) (label_at last (tail r.flows a)) (arc_at last (tail r.flows a)) (none (tail r.flows a) in_last) (round.caused (tail r.flows a) in_last) in
       omega (arith, ints, round.relaxed a la (omega (arith, one, has)), same, any-get_or-map label_of last (tail r.flows a) first_step, any-get_or-map label_of last (head r.flows a) first_step);
-}
-
--- with no members there is no arc
-pub settled_empty : (r : ResidualData) → IsResidual r → r.members ≡ 0 → AreSettled r []
-settled_empty r h e = record {
-  one_each = sym e;
-  low = λ v d l. absurd (omega arith);
-  none_lower = λ a la has. absurd (omega (arith, (ends_in r.members r.flows h.good a la).0));
 }
 
 -- the level behind a table is as wide, and its labels are one lower at most

@@ -113,10 +113,6 @@ pub ok_maps : {T E A B : Type 0} (r : Result T E) → (A → B) → OnOk r A →
 ok_maps (Ok x) f a = f a
 ok_maps (Err e) f a = tt
 
-pub err_maps : {T E A B : Type 0} (r : Result T E) → (A → B) → OnErr r A → OnErr r B
-err_maps (Ok x) f a = tt
-err_maps (Err e) f a = f a
-
 -- A planned door is changed: the one in this place, where these doors stand as those do.
 pub record ChangesPlace (doors mid : List PlannedDoor) (number place : ℕ) (item : PlannedDoor) (new : MemoryVisits) : Type 0 where
   pub found : IsPlaceOf mid number place

@@ -3,9 +3,6 @@ use Rattle.std.proofs.Common.{ℕ, suc, ◌+◌, ◌*◌, ◌≤◌, ℤ, pos, n
 use Rattle.std.proofs.lemmas.Int.{ints}
 use Rattle.dual_certificate.specs.Bounds.{IsBetween}
 
-pub add_between : (m n k : ℕ) (a b : ℤ) → IsBetween m a → IsBetween n b → m + n ≤ k → IsBetween k (a +ℤ b)
-add_between m n k a b h h' le = record { low = omega (arith, ints, h.low, h'.low); high = omega (arith, ints, h.high, h'.high) }
-
 mul_le : (a b m n : ℕ) → a ≤ m → b ≤ n → a * b ≤ m * n
 mul_le a b m n h h' = grind arith
 

@@ -7,8 +7,5 @@ use Rattle.dual_certificate.specs.Bounds.{AreOpenPriced, seller_sum}
 pub has_bound : (limits : LimitsData) (p : List ℤ) (m : ℕ) (xs : List LimitRow) → m ≡ limits.members → xs ≡ limits.rows → AreOpenPriced xs p m → HasBound limits p
 has_bound limits p m xs e e' h = subst (λ n. AreOpenPriced limits.rows p n) e (subst (λ zs. AreOpenPriced zs p m) e' h)
 
-pub rows_priced : (limits : LimitsData) (p : List ℤ) (m : ℕ) (xs : List LimitRow) → m ≡ limits.members → xs ≡ limits.rows → HasBound limits p → AreOpenPriced xs p m
-rows_priced limits p m xs e e' h = subst (λ zs. AreOpenPriced zs p m) (sym e') (subst (λ n. AreOpenPriced limits.rows p n) (sym e) h)
-
 pub costs_of_rows : (limits : LimitsData) (p : List ℤ) (m n : ℕ) (xs : List LimitRow) → m ≡ n → xs ≡ limits.rows → int_sum_below m (seller_sum xs p m) ≡ int_sum_below n (seller_sum limits.rows p n)
 costs_of_rows limits p m n xs e e' = ap (λ k. int_sum_below k (seller_sum xs p k)) e ∙ ap (λ zs. int_sum_below n (seller_sum zs p n)) e'

@@ -148,35 +148,11 @@ module _ (records : List (List ℕ)) (bytes : List ℕ) where
       let next_is : next ≡ end_of (records ++ bytes ∷ []) = omega (arith, is, rest.2, size) in
       subst (λ (a : Option History). IsAtRest a next (records ++ bytes ∷ [])) (sym done.1) (done.3, opened done.0.content more split small, next_is)
 
--- what a write needs
-pub mid_settled : (o mid : Option History) (place : ℕ) (bytes : List ℕ) → Puts o place bytes mid → IsSettled mid
-mid_settled None mid place bytes puts = subst IsSettled (sym puts) tt
-mid_settled (Some h) mid place bytes puts = subst IsSettled (sym puts.1) puts.3
-
-pub ready_settled : (o : Option History) (end : ℕ) → IsReady o end → IsSettled o
-ready_settled None end ready = tt
-ready_settled (Some h) end ready = ready.1.0
-
 pub ready_place : (o : Option History) (end : ℕ) → IsReady o end → IsPlace o end
 ready_place None end ready = tt
 ready_place (Some h) end ready =
     let j = ready.1.1 in
     omega (arith, ready.1.2, ap length j.split, length-append (front ready.0) (j.gate ∷ j.rest))
-
-pub mid_place : (o mid : Option History) (end gate : ℕ) (bytes : List ℕ) → IsReady o end → gate ≤ end → Puts o end bytes mid → IsPlace mid gate
-mid_place None mid end gate bytes ready le puts = subst (λ (m : Option History). IsPlace m gate) (sym puts) tt
-mid_place (Some h) mid end gate bytes ready le puts =
-    let within : end ≤ length h.content = ready_place (Some h) end ready in
-    let long : end ≤ length (overwritten end bytes h.content) = overwritten_long end bytes h.content within in
-    subst (λ (m : Option History). IsPlace m gate) (sym puts.1) (omega (arith, le, long, ap length puts.2))
-  where
-    overwritten_long : (place : ℕ) (new old : List ℕ) → place ≤ length old → place ≤ length (take place old ++ new ++ drop (place + length new) old)
-    overwritten_long place new old fits =
-        omega (arith, fits, length-take place old, length-append (take place old ++ new) (drop (place + length new) old), length-append (take place old) new)
-
-pub place_zero : (o : Option History) → IsPlace o 0
-place_zero None = tt
-place_zero (Some h) = omega arith
 
 -- a file of fewer than ten bytes gets its header and a closed gate
 abbrev pub empty_journal : List ℕ
@@ -195,13 +171,6 @@ begun (Some h) after size records long short holds puts =
     subst (λ (a : Option History). IsAtRest a (end_of records) records) (sym puts.1)
     (subst (λ (r : List (List ℕ)). IsAtRest (Some puts.0) (end_of r) r) (sym none)
     (puts.3, record { gate = 0; rest = []; split = content; closed = omega arith; within = omega arith }, refl))
-
-pub begin_moments : (o after : Option History) (size : ℕ) (records : List (List ℕ)) → HasLength o size → size < 10 → DiskHolds o records → LeavesOnly o after (TornOf o 0 9)
-    → LeavesOnly o after (λ image. Holds image records)
-begin_moments None after size records long short holds leaves = leaves
-begin_moments (Some h) after size records long short holds leaves =
-    let none : records ≡ [] = no_records h.content records (omega (arith, long, short)) holds in
-    leaves_more (Some h) after (IsTorn 0 9 h.content) (λ image. Holds image records) (λ image torn. inl (omega (arith, torn.no_longer, long, short), none)) leaves
 
 -- and a longer one stays as it is
 pub stays : (o : Option History) (size : ℕ) (records : List (List ℕ)) → IsSettled o → HasLength o size → 10 ≤ size → DiskHolds o records → IsAtRest o (end_of records) records

@@ -196,19 +196,6 @@ none_named place rest body (r ∷ records) (inr on) is_open named =
     let whole : body ≡ to_le_bytes w32 (length r) ++ r ++ behind = ap (λ (l : List ℕ). drop 1 l) (sym is_open ∙ on.split ∙ append_assoc (frame r) (frames records) (on.gate ∷ on.rest)) in
     absurd (omega (arith, named r behind whole, on.within, frames_size r records))
 
--- the records of a file, from its first gate on
-pub ahead_in : (file : List ℕ) (records : List (List ℕ)) → Holds file records → 10 ≤ length file → AreAhead 8 (drop 8 file) records
-ahead_in file records (inl short) long = absurd (omega (arith, short.0, long))
-ahead_in file records (inr j) long =
-    let split : file ≡ header ++ (frames records ++ j.1.gate ∷ j.1.rest) = j.1.split ∙ append_assoc header (frames records) (j.1.gate ∷ j.1.rest) in
-    inr (record {
-      gate = j.1.gate;
-      rest = j.1.rest;
-      split = ap (λ (l : List ℕ). drop 8 l) split ∙ drop-append_seam header (frames records ++ j.1.gate ∷ j.1.rest);
-      closed = j.1.closed;
-      within = omega (arith, j.1.within, front_size records);
-    })
-
 pub none_in : (file : List ℕ) (records : List (List ℕ)) → Holds file records → length file < 10 → AreAhead 8 [] records
 none_in file records (inl none) short = inl (refl, none.1)
 none_in file records (inr j) short = absurd (omega (arith, j.0, short))

@@ -18,9 +18,6 @@ pub record SoFar (bytes : List ℕ) (at : ℕ) (rest : List ℕ) : Type 0 where
   pub here : at ≡ length (front records)
   pub within : at < limit
 
-pub at_header : (bytes rest : List ℕ) → bytes ≡ header ++ rest → SoFar bytes 8 rest
-at_header bytes rest is = record { records = []; split = is; here = refl; within = omega arith }
-
 pub one_more : (bytes : List ℕ) (at : ℕ) (rest body after b : List ℕ) → SoFar bytes at rest → rest ≡ 1 ∷ body
     → body ≡ to_le_bytes w32 (length b) ++ b ++ after → at + 5 + length b < limit → SoFar bytes (at + 5 + length b) after
 one_more bytes at rest body after b so_far is_open is_record small =
@@ -43,39 +40,8 @@ pub ends_there : (bytes : List ℕ) (at : ℕ) (rest : List ℕ) → SoFar bytes
 ends_there bytes at rest so_far some shut long =
     (so_far.records, inr (long, ended bytes at rest so_far some shut), ap (λ (n : ℕ). n + 1) so_far.here)
 
--- no gate at all
-pub no_gate : (bytes : List ℕ) (at : ℕ) (rest : List ℕ) → SoFar bytes at rest → length rest ≡ 0 → 10 ≤ length bytes → IsDamaged bytes at
-no_gate bytes at [] so_far none long = (long, inr (so_far.records, [], so_far.split, so_far.here, so_far.within, λ gate rest is. absurd (omega (arith, ap length is)), λ b rest is. absurd (omega (arith, ap length is, length-append (frame b) rest))))
-no_gate bytes at (x ∷ rest) so_far none long = absurd (omega (arith, none))
-
--- an open gate with no record behind it
-pub no_record : (bytes : List ℕ) (at : ℕ) (rest body : List ℕ) → SoFar bytes at rest → rest ≡ 1 ∷ body
-    → ((b more : List ℕ) → body ≡ to_le_bytes w32 (length b) ++ b ++ more → limit ≤ at + (5 + length b)) → 10 ≤ length bytes → IsDamaged bytes at
-no_record bytes at rest body so_far is_open none long = (
-  long,
-  inr (
-    so_far.records,
-    rest,
-    so_far.split,
-    so_far.here,
-    so_far.within,
-    λ gate more is. sym (ap (λ (l : List ℕ). get_or l 0 0) (sym is_open ∙ is)),
-    λ b more is. none b more (ap (λ (l : List ℕ). drop 1 l) (sym is_open ∙ is)),
-  ),
-)
-
-pub none_fits : (at : ℕ) (body : List ℕ) → NamesNoRecord body → (b more : List ℕ) → body ≡ to_le_bytes w32 (length b) ++ b ++ more → limit ≤ at + (5 + length b)
-none_fits at body none b more is = omega (arith, none b more is)
-
 pub same_size : (m n : ℕ) → m < 2 ^ 32 → n < 2 ^ 32 → to_le_bytes w32 m ≡ to_le_bytes w32 n → m ≡ n
 same_size m n small small' is = sym (from_le_bytes-to_le_bytes_4 m small) ∙ ap (from_le_bytes w32) is ∙ from_le_bytes-to_le_bytes_4 n small'
-
-pub one_is_large : (at : ℕ) (body a after : List ℕ) → body ≡ to_le_bytes w32 (length a) ++ a ++ after → length a < 2 ^ 32 → limit ≤ at + 5 + length a
-    → (b more : List ℕ) → body ≡ to_le_bytes w32 (length b) ++ b ++ more → limit ≤ at + (5 + length b)
-one_is_large at body a after is_a small large b more is_b = ⊎_elim (λ lt. omega (arith, large, same_size (length b) (length a) lt small (same_front lt))) (λ le. omega (arith, le)) (lt_or_le (length b) (2 ^ 32))
-  where
-    same_front : length b < 2 ^ 32 → to_le_bytes w32 (length b) ≡ to_le_bytes w32 (length a)
-    same_front lt = ap (λ (l : List ℕ). take 4 l) (sym is_b ∙ is_a)
 
 -- What stands in a front of the file stands in the file.
 module _ (file : List ℕ) (k : ℕ) (cut : k ≡ min (length file) limit) where

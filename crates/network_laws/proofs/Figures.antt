@@ -53,9 +53,6 @@ sum_below-more zero i f l = absurd (omega arith)
 sum_below-more (suc n) i f l =
     ⊎_elim (λ (e : i ≡ n). rw e (omega arith)) (λ (ne : i ≢ n). omega (arith, sum_below-more n i f (omega arith))) (cases_eq i n)
 
-pub sum_below-next : (n : ℕ) (f : ℕ → ℕ) → sum_below (n + 1) f ≡ sum_below n f + f n
-sum_below-next n f = rw add-one refl
-
 -- pairs of which each stands once are within all pairs
 pub triangle : (n : ℕ) (f : ℕ → ℕ → ℕ) → sum_below n (λ j. sum_below j (λ i. f i j + f j i)) ≤ sum_below n (λ i. sum_below n (f i))
 triangle zero f = omega arith
@@ -86,12 +83,6 @@ sum_below-pairs n (row ∷ rows) =
       sum_by-cons (λ (r : Row). r.amount) row rows,
     )
 
-pub gaps-within : (y : NetworkData) (n j i : ℕ) → j < n → i < j → sum_below j (member_gaps y) + sum_below i (pair_gap y j) + pair_gap y j i ≤ total y.rows
-gaps-within y n j i lj li =
-    let inner = sum_below-more j i (pair_gap y j) li in
-    let outer = sum_below-more n j (member_gaps y) lj in
-    omega (arith, inner, outer, sum_below-le n (member_gaps y) (λ j. sum_below j (λ i. at y i j + at y j i)) (λ j _. sum_below-le j (pair_gap y j) (λ i. at y i j + at y j i) (λ i _. omega arith)), triangle n (at y), sum_below-pairs n y.rows)
-
 pub sum_below-sold : (n : ℕ) (rows : List Row) → sum_below n (λ i. sold_in rows i) ≤ total rows
 sum_below-sold n [] = omega (arith, nothing n)
   where
@@ -100,8 +91,3 @@ sum_below-sold n [] = omega (arith, nothing n)
     nothing (suc n) = omega (arith, nothing n)
 sum_below-sold n (row ∷ rows) =
     omega (arith, sum_below-same n (λ i. sold_in (row ∷ rows) i) (λ i. sold_part i row + sold_in rows i) (λ i _. sum_by-cons (sold_part i) row rows), sum_below-add n (λ i. sold_part i row) (sold_in rows), sum_below-one n row.seller row.amount (λ i. sold_part i row) (omega (arith, sold_part-le row.seller row)) (λ i ne. sold_part-other i row ne), sum_below-sold n rows, sum_by-cons (λ (r : Row). r.amount) row rows)
-
--- the positive nets up to a member, with its own
-pub positive_nets-more : (n i : ℕ) (rows : List Row) → i < n → sum_below i (λ k. sold_in rows k - bought_in rows k) + (sold_in rows i - bought_in rows i) ≤ total rows
-positive_nets-more n i rows l =
-    omega (arith, sum_below-more n i (λ k. sold_in rows k - bought_in rows k) l, sum_below-le n (λ k. sold_in rows k - bought_in rows k) (sold_in rows) (λ k _. omega arith), sum_below-sold n rows)

@@ -19,11 +19,6 @@ neg_mul a b =
     same_in (neg_ℤ a *ℤ b) (neg_ℤ (a *ℤ b))
     (omega (arith, product_is (neg_ℤ a) b, product_is a b, neg_is (a *ℤ b), ap (λ x. x * up b) (neg_is a).0, ap (λ x. x * down b) (neg_is a).0, ap (λ x. x * up b) (neg_is a).1, ap (λ x. x * down b) (neg_is a).1))
 
-pub mul_neg : (a b : ℤ) → a *ℤ neg_ℤ b ≡ neg_ℤ (a *ℤ b)
-mul_neg a b =
-    same_in (a *ℤ neg_ℤ b) (neg_ℤ (a *ℤ b))
-    (omega (arith, product_is a (neg_ℤ b), product_is a b, neg_is (a *ℤ b), ap (λ x. up a * x) (neg_is b).0, ap (λ x. down a * x) (neg_is b).0, ap (λ x. up a * x) (neg_is b).1, ap (λ x. down a * x) (neg_is b).1))
-
 pub one_mul : (b : ℤ) → pos 1 *ℤ b ≡ b
 one_mul b = same_in (pos 1 *ℤ b) b (omega (arith, product_is (pos 1) b))
 

@@ -47,37 +47,6 @@ cleared_seller members i old sums left h none = record {
   lower = h.lower;
 }
 
-pub cleared_none : (members : ℕ) (sums : List ℕ) → IsCleared members 0 0 sums sums
-cleared_none members sums = record { same_length = refl; zeros = λ i j from to l. absurd (omega arith); lower = λ k. omega arith }
-
-pub cleared_more : (members i : ℕ) (old mid new : List ℕ) → IsCleared members 0 i old mid → IsCleared members i (i + 1) mid new → IsCleared members 0 (i + 1) old new
-cleared_more members i old mid new h x = record {
-  same_length = x.same_length ∙ h.same_length;
-  zeros = λ k j from to l.
-      ⊎_elim (λ (lt : k < i). omega (arith, x.lower (k * 256 + j), h.zeros k j from lt l)) (λ (ge : i ≤ k). x.zeros k j ge to l) (cases_lt k i);
-  lower = λ k. omega (arith, x.lower k, h.lower k);
-}
-
--- lower sums have no more buyers, and the seller that was cleared has none
-pub buyers_cleared : (members i : ℕ) (mid new : List ℕ) (buyers : List MemberSet) (none : MemberSet) → i < members → AreBuyers members mid buyers → IsCleared members i (i + 1) mid new → ((m : ℕ) → has none m ≡ false) → AreBuyers members new (set buyers i none)
-buyers_cleared members i mid new buyers none in_i h x empty = record {
-  one_each = length-set buyers i none ∙ h.one_each;
-  each = λ k l.
-      ⊎_elim (λ (e : k ≡ i).
-      let at_i : buyers_at (set buyers i none) k ≡ none = ap (buyers_at (set buyers i none)) e ∙ get_or-set_same buyers i none no_members (omega (arith, in_i, h.one_each)) in
-      record {
-        inside = λ j on. absurd (true≢false (sym on ∙ ap (λ set. has set j) at_i ∙ empty j));
-        sold = λ j lj some. absurd (omega (arith, some, x.zeros k j (omega (arith, e)) (omega (arith, e)) lj));
-      })
-      (λ (ne : k ≢ i).
-      let at_k : buyers_at (set buyers i none) k ≡ buyers_at buyers k = get_or-set_other buyers i k none no_members ne in
-      record {
-        inside = λ j on. (h.each k l).inside j (ap (λ set. has set j) (sym at_k) ∙ on);
-        sold = λ j lj some. ap (λ set. has set j) at_k ∙ (h.each k l).sold j lj (omega (arith, some, x.lower (k * 256 + j)));
-      })
-      (cases_eq k i);
-}
-
 module _ (members : ℕ) (old new : List ℕ) (is : IsPairTable (record { members = members; sums = old })) (x : IsCleared members 0 members old new) where
   pub sums_cleared : (i j : ℕ) → i < members → j < members → get_or new (i * 256 + j) 0 ≡ 0
   sums_cleared i j in_i in_j = x.zeros i j (omega arith) in_i in_j

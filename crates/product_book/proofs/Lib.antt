@@ -4,7 +4,6 @@ pub mod FreezeFacts
 pub mod NetworkFacts
 pub mod HeldFacts
 pub mod ExecutionFacts
-pub mod FrozenFacts
 pub mod KeptFacts
 pub mod PairFacts
 pub mod SumFacts

@@ -41,18 +41,6 @@ none_linked members products p q spare is is' none none' gone = record {
   pair_room = omega (arith, gone);
 }
 
--- more room
-pub linked_reserved : (members products : ℕ) (p q p' q' : OpenView) (spare more : ℕ) (rows : List TradeRow) → AreLinked members products p q spare rows → p'.lists ≡ p.lists → q'.lists ≡ q.lists → p'.count ≡ p.count → q'.count ≡ q.count → more ≤ p'.spare → more ≤ q'.spare
-    → AreLinked members products p' q' more rows
-linked_reserved members products p q p' q' spare more rows all e e' n n' room room' = record {
-  product_count = ap (λ (ls : List (List (ℕ × ℕ))). length ls) e ∙ all.product_count;
-  pair_count = ap (λ (ls : List (List (ℕ × ℕ))). length ls) e' ∙ all.pair_count;
-  of_products = record { count = n ∙ all.of_products.count; listed = rw e all.of_products.listed };
-  of_pairs = record { count = n' ∙ all.of_pairs.count; listed = rw e' all.of_pairs.listed };
-  product_room = room;
-  pair_room = room';
-}
-
 -- a change that keeps the terms of a trade keeps its places
 pub same_place : (members : ℕ) (old new : TradeRow) → KeepsTerms old new → trade_place members new ≡ trade_place members old
 same_place members old new keeps = ap (λ n. pair_place members n new.seller new.buyer) keeps.product ∙ ap (λ n. pair_place members old.product n new.buyer) keeps.seller ∙ ap (λ n. pair_place members old.product old.seller n) keeps.buyer

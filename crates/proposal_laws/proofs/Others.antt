@@ -23,10 +23,6 @@ use Rattle.proposal_laws.proofs.Overtaken.{proposals_are_overtaken}
 use Rattle.proposal_laws.proofs.Positions.{replied_runs, refused_makes_nothing, begun_makes_nothing}
 use Rattle.proposal_laws.proofs.Counts.{own_at, own_at_grows, own_at_most, own_at_change, other_between}
 
-one_or_none : (t : Bool) (e : Entry) → length (cond {A = List Entry} t (e ∷ []) []) ≤ 1
-one_or_none true e = omega arith
-one_or_none false e = omega arith
-
 none_recorded : (t : Bool) (e : Entry) → not t ≡ true → cond {A = List Entry} t (e ∷ []) [] ≡ []
 none_recorded true e is = cc
 none_recorded false e is = refl

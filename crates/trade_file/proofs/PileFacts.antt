@@ -13,25 +13,10 @@ use Rattle.trade_file.specs.TradeFile.{AreFileTrades, IsFileTrade, product_part}
 use Rattle.trade_file.specs.Networks.{IsNetworkOf, trade_part, pair_total}
 use Rattle.trade_file.specs.Piles.{AreDealt, is_of, pile_of}
 
-pub none_dealt : (products : ℕ) (piles : List (List FileTrade)) → piles ≡ replicate products [] → AreDealt products [] piles
-none_dealt products piles e = record {
-  count = ap length e ∙ length-replicate {A = List FileTrade} products [];
-  each = λ product l. ap (λ xs. pile_of xs product) e ∙ get_or-replicate {A = List FileTrade} products product [] [] l;
-}
-
 -- one more trade
 one_of : (product : ℕ) (trade : FileTrade) (t : Bool) → (trade.product == product) ≡ t → filter (is_of product) (trade ∷ []) ≡ (if t then trade ∷ [] else [])
 one_of product trade true e = rw e refl
 one_of product trade false e = rw e refl
-
-pub dealt_more : (products : ℕ) (trades : List FileTrade) (k : ℕ) (trade : FileTrade) (piles : List (List FileTrade)) → k < length trades → trade ≡ get_or trades k trade → trade.product < products → AreDealt products (take k trades) piles → AreDealt products (take (k + 1) trades) (set piles trade.product (pile_of piles trade.product ++ trade ∷ []))
-dealt_more products trades k trade piles l here in_range h = record {
-  count = length-set piles trade.product (pile_of piles trade.product ++ trade ∷ []) ∙ h.count;
-  each = each;
-}
-  where
-    more : (product : ℕ) → filter (is_of product) (take (k + 1) trades) ≡ filter (is_of product) (take k trades) ++ filter (is_of product) (trade ∷ [])
-    more product = ap (filter (is_of product)) (take_more trades k trade l ∙ ap (λ t. take k trades ++ t ∷ []) (sym here)) ∙ filter-append (is_of product) (take k trades) (trade ∷ [])
 
     each : (product : ℕ) → product < products → pile_of (set piles trade.product (pile_of piles trade.product ++ trade ∷ [])) product ≡ filter (is_of product) (take (k + 1) trades)
     each product lp =
