@@ -1,10 +1,10 @@
 -- Lines, byte by byte.
-use Rattle.std.proofs.Common.{◌≡◌, ℕ, zero, suc, ◌≤◌, ◌<◌, ◌==◌, nat_lt, Bool, true, false, List, [], ◌∷◌, ◌++◌, length, take, fold, Result, Ok, Err, arith, refl, sym, ap, ◌∙◌, append_assoc, cond}
+use Rattle.std.proofs.Common.{◌≡◌, ℕ, zero, suc, ◌≤◌, ◌<◌, ◌==◌, nat_lt, Bool, true, false, List, [], ◌∷◌, ◌++◌, length, take, fold, Result, Err, arith, refl, sym, ap, ◌∙◌, append_assoc, cond}
 use Rattle.std.proofs.lemmas.Bool.Decides.{nat_tests}
 use Rattle.std.proofs.lemmas.List.{append-nil, take_all, length-take}
 use Rattle.std.proofs.lemmas.List.Sums.{fold-append}
 use Rattle.command_types.specs.declared.line.Line.{Line}
-use Rattle.command_types.specs.Lines.{Cut, cut_on, cut_of, empty_cut, ended_line, without_return, last_line, lines_of}
+use Rattle.command_types.specs.Lines.{Cut, cut_on, cut_of, empty_cut, ended_line, without_return, last_line}
 use Rattle.command_types.specs.Grammar.{line_of, line_within}
 
 cut_more : (bytes : List ℕ) (b : ℕ) → cut_of (bytes ++ b ∷ []) ≡ cut_on (cut_of bytes) b

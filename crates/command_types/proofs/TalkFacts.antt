@@ -1,21 +1,19 @@
 -- Sessions that go on by one more line.
-use Rattle.std.proofs.Common.{◌≡◌, ◌⊎◌, ℕ, ◌==◌, List, [], ◌∷◌, ◌++◌, filter, Option, Result, Ok, Err, refl, sym, subst, ap, ◌∙◌, append_assoc, inl, inr}
+use Rattle.std.proofs.Common.{◌≡◌, ℕ, ◌==◌, List, [], ◌∷◌, ◌++◌, filter, Option, Result, Ok, refl, sym, subst, ap, ◌∙◌, append_assoc, inl, inr}
 use Rattle.std.proofs.lemmas.List.{append-nil}
 use Rattle.std.proofs.lemmas.List.Elements.{filter-append}
-use Rattle.network_laws.specs.Solutions.{ProblemData}
 use Rattle.command_types.specs.declared.ask.Ask.{Ask}
 use Rattle.command_types.specs.declared.ask.Entry.{Entry}
 use Rattle.command_types.specs.declared.answer.Answer.{Answer}
 use Rattle.command_types.specs.declared.answer.Answer.TheVariants.{Begun, Problems}
 use Rattle.command_types.specs.declared.answer.Reply.{Reply}
-use Rattle.command_types.specs.declared.cycle.Mode.{Mode}
 use Rattle.command_types.specs.declared.figures.Figures.{Figures}
 use Rattle.command_types.specs.declared.line.Line.{Line}
 use Rattle.command_types.specs.declared.line.Line.TheVariants.{Propose}
 use Rattle.command_types.specs.Roster.{Rows}
-use Rattle.command_types.specs.History.{History, longer, recorded}
+use Rattle.command_types.specs.History.{History, longer}
 use Rattle.command_types.specs.Grammar.{line_within}
-use Rattle.command_types.specs.Session.{Speaker, Standing, Mark, mark_of, IsAsked, IsLast, IsUnsolved, IsPosted, GoesOnFetched, IsFetched, GoesOnBegun, IsProposed, IsReplied, IsAnswered, IsTalk, ask_begin, ask_fetch, ask_post}
+use Rattle.command_types.specs.Session.{Speaker, Standing, Mark, mark_of, IsAsked, GoesOnFetched, GoesOnBegun, IsReplied, IsAnswered, IsTalk, ask_begin, ask_fetch, ask_post}
 use Rattle.command_types.proofs.HistoryFacts.{told_longer, recorded_own}
 
 -- what is asked in a history is asked in a longer one

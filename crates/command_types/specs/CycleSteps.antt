@@ -1,5 +1,5 @@
 -- What the accepted commands of a cycle are answered, and what they change.
-use Rattle.std.specs.Prelude.{ℕ, ◌+◌, ◌-◌, ◌==◌, ◌&&◌, ◌||◌, not, is_some, Bool, false, List, [], ◌∷◌, ◌++◌, length, filter, slice_get, Option, Some, None, if◌then◌else◌}
+use Rattle.std.specs.Prelude.{ℕ, ◌+◌, ◌==◌, ◌&&◌, ◌||◌, not, is_some, Bool, false, List, [], ◌∷◌, ◌++◌, length, filter, slice_get, Option, Some, None, if◌then◌else◌}
 use Rattle.units_core.specs.Day.{DayParts}
 use Rattle.network_laws.specs.Networks.{NetworkData, gross, floor_m, excess, bilateral}
 use Rattle.network_laws.specs.Solutions.{SolutionData}

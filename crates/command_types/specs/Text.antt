@@ -1,5 +1,5 @@
 -- The head lines of replies.
-use Rattle.std.specs.Prelude.{ℕ, ℤ, List, [], ◌∷◌, ◌++◌, Option, Some, None, length, slice_get, codes, decimal}
+use Rattle.std.specs.Prelude.{ℕ, List, [], ◌++◌, Option, Some, None, length, slice_get, codes, decimal}
 use Rattle.std.specs.Fmt.{signed_decimal}
 use Rattle.network_laws.specs.declared.clash.Clash.{Clash}
 use Rattle.network_laws.specs.declared.clash.Clash.TheVariants.{Below, Above, Net, Open, Slack}

@@ -1,5 +1,5 @@
 -- Sums over the plain trade rows, and the changes of a row.
-use Rattle.std.specs.Prelude.{ℕ, ◌+◌, ◌-◌, ◌==◌, nat_lt, length, filter, sum_by, slice_get, slice_set, Bool, true, false, is_some, not, ◌&&◌, ◌||◌, List, [], ◌∷◌, ◌++◌, Option, Some, None, if◌then◌else◌}
+use Rattle.std.specs.Prelude.{ℕ, ◌+◌, ◌-◌, ◌==◌, nat_lt, length, filter, sum_by, slice_get, slice_set, Bool, true, false, is_some, ◌&&◌, ◌||◌, List, [], ◌∷◌, ◌++◌, Option, Some, None, if◌then◌else◌}
 use Rattle.units_core.specs.Day.{DayParts}
 use Rattle.command_types.specs.declared.trade.TradeRow.{TradeRow}
 use Rattle.command_types.specs.declared.trade.Side.{Side}

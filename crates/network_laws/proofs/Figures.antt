@@ -1,9 +1,9 @@
 -- Sums over members are within the gross.
-use Rattle.std.proofs.Common.{◌≡◌, ◌≢◌, ℕ, zero, suc, ◌+◌, ◌-◌, ◌<◌, ◌≤◌, List, [], ◌∷◌, eqb, refl, ap, ◌∙◌, add-one, arith, ⊎_elim}
+use Rattle.std.proofs.Common.{◌≡◌, ◌≢◌, ℕ, zero, suc, ◌+◌, ◌<◌, ◌≤◌, List, [], ◌∷◌, eqb, refl, ap, ◌∙◌, arith, ⊎_elim}
 use Rattle.std.proofs.lemmas.Bool.{cases_eq, cond_both}
 use Rattle.std.proofs.lemmas.List.Sums.{sum_by-cons}
 use Rattle.network_laws.specs.declared.rows.Row.{Row}
-use Rattle.network_laws.specs.Networks.{sum_below, sold_part, bought_part, pair_part, total, sold_in, bought_in, amount_in, NetworkData, at, pair_gap, member_gaps}
+use Rattle.network_laws.specs.Networks.{sum_below, sold_part, bought_part, pair_part, total, sold_in, amount_in}
 use Rattle.network_laws.proofs.RowSums.{sold_part-other, pair_part-seller, pair_part-buyer, pair_part-same}
 
 pub sold_part-le : (i : ℕ) (row : Row) → sold_part i row ≤ row.amount

@@ -1,5 +1,5 @@
 -- What each fault of rows says: the rows before are good, and this one is not, for no earlier reason.
-use Rattle.std.specs.Prelude.{◌≡◌, ℕ, ◌+◌, ◌-◌, ◌<◌, ◌≤◌, ◌^◌, List, length, take, slice_index_or}
+use Rattle.std.specs.Prelude.{◌≡◌, ℕ, ◌+◌, ◌-◌, ◌<◌, ◌≤◌, List, length, take, slice_index_or}
 use Rattle.network_laws.specs.declared.rows.Row.{Row}
 use Rattle.network_laws.specs.declared.network.NetworkFault.{NetworkFault}
 use Rattle.network_laws.specs.declared.network.NetworkFault.TheVariants.{Members, Member, Same, Zero, Order, Gross}

@@ -1,5 +1,5 @@
 -- What a network is, and its figures. Amounts are in the contract's currency unit.
-use Rattle.std.specs.Prelude.{ℕ, zero, suc, ◌+◌, ◌-◌, ◌*◌, ◌<◌, ◌≤◌, ◌==◌, ◌&&◌, if◌then◌else◌, List, sum_by, All, AllPairs, length, slice_index_or, ◌≢◌, ◌^◌, ℤ, pos, ◌-ℤ◌}
+use Rattle.std.specs.Prelude.{ℕ, zero, suc, ◌+◌, ◌-◌, ◌*◌, ◌<◌, ◌≤◌, ◌==◌, ◌&&◌, if◌then◌else◌, List, sum_by, All, AllPairs, length, slice_index_or, ◌≢◌, ℤ, pos, ◌-ℤ◌}
 use Rattle.network_laws.specs.declared.rows.Row.{Row}
 use Rattle.units_core.specs.declared.limits.TheConstants.{MOST_GROSS, MOST_MEMBERS}
 

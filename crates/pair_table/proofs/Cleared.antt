@@ -1,12 +1,12 @@
 -- Sums that are set to 0.
 use Rattle.std.proofs.Common.{◌≡◌, ◌≢◌, ℕ, ◌+◌, ◌*◌, ◌<◌, ◌≤◌, true, false, not, eqb, ◌&&◌, List, length, get_or, set, refl, sym, ap, ◌∙◌, arith, ⊎_elim, true≢false, length-set, get_or-set_same, get_or-set_other}
-use Rattle.std.proofs.lemmas.Bool.{cases_eq, cases_lt, ne_eqb, and_parts}
+use Rattle.std.proofs.lemmas.Bool.{cases_eq, ne_eqb, and_parts}
 use Rattle.member_set.specs.declared.set.MemberSet.{MemberSet}
-use Rattle.member_set.specs.Members.{has, no_members}
+use Rattle.member_set.specs.Members.{has}
 use Rattle.network_laws.specs.Networks.{sum_below}
 use Rattle.network_laws.proofs.Figures.{sum_below-none}
 use Rattle.pair_table.specs.PairSums.{IsPairTable}
-use Rattle.pair_table.specs.Buyers.{HasBuyers, AreBuyers, buyers_at, IsCleared}
+use Rattle.pair_table.specs.Buyers.{HasBuyers, IsCleared}
 
 -- the sums of the buyers that are left may be above 0
 pub record IsClearing (members : ℕ) (i : ℕ) (old new : List ℕ) (left : MemberSet) : Type 0 where

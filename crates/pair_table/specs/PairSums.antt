@@ -1,5 +1,5 @@
 -- The sums of ordered pairs of members.
-use Rattle.std.specs.Prelude.{◌≡◌, ℕ, ◌+◌, ◌*◌, ◌≤◌, ◌^◌, List, length, slice_index}
+use Rattle.std.specs.Prelude.{◌≡◌, ℕ, ◌+◌, ◌*◌, ◌≤◌, List, length, slice_index}
 use Rattle.network_laws.specs.declared.rows.Row.{Row}
 use Rattle.network_laws.specs.Networks.{sum_below}
 use Rattle.command_types.specs.Books.{amount_row}
