@@ -1,5 +1,5 @@
 -- The dual bound of limits is that of their rows.
-use Rattle.std.proofs.Common.{◌≡◌, ℕ, List, ℤ, sym, ap, ◌∙◌, subst}
+use Rattle.std.proofs.Common.{◌≡◌, ℕ, List, ℤ, ap, ◌∙◌, subst}
 use Rattle.network_laws.specs.declared.rows.LimitRow.{LimitRow}
 use Rattle.network_laws.specs.Limits.{LimitsData, HasBound, int_sum_below}
 use Rattle.dual_certificate.specs.Bounds.{AreOpenPriced, seller_sum}
