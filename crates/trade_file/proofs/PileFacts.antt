@@ -1,9 +1,9 @@
 -- The trades of a product's pile, and what their network is.
-use Rattle.std.proofs.Common.{◌≡◌, ◌≢◌, ℕ, ◌+◌, ◌<◌, ◌++◌, ◌==◌, not, Bool, true, false, List, [], ◌∷◌, length, get_or, set, take, replicate, refl, sym, ap, ◌∙◌, subst, arith, ⊎_elim, length-set, get_or-set_same, get_or-set_other}
-use Rattle.std.specs.Prelude.{filter, sum_by, if◌then◌else◌}
-use Rattle.std.proofs.lemmas.Bool.{cases_eq, eq-eqb, ne_eqb}
-use Rattle.std.proofs.lemmas.List.{take_more, append-nil, length-replicate, get_or-replicate, get_or_append_left, get_or_push, length_push}
-use Rattle.std.proofs.lemmas.List.Elements.{All-filter, filter-append}
+use Rattle.std.proofs.Common.{◌≡◌, ◌≢◌, ℕ, ◌+◌, ◌<◌, ◌++◌, ◌==◌, not, Bool, true, false, List, [], ◌∷◌, length, get_or, refl, sym, ap, ◌∙◌, subst, arith, ⊎_elim}
+use Rattle.std.specs.Prelude.{filter, sum_by}
+use Rattle.std.proofs.lemmas.Bool.{cases_eq}
+use Rattle.std.proofs.lemmas.List.{get_or_append_left, get_or_push, length_push}
+use Rattle.std.proofs.lemmas.List.Elements.{All-filter}
 use Rattle.std.proofs.lemmas.List.Filters.{sum_by-filter_both}
 use Rattle.std.proofs.lemmas.List.Sums.{sum_by-cons}
 use Rattle.network_laws.specs.Networks.{NetworkData}
@@ -11,23 +11,7 @@ use Rattle.command_types.specs.Roster.{Rows}
 use Rattle.trade_file.specs.declared.file_trade.FileTrade.{FileTrade}
 use Rattle.trade_file.specs.TradeFile.{AreFileTrades, IsFileTrade, product_part}
 use Rattle.trade_file.specs.Networks.{IsNetworkOf, trade_part, pair_total}
-use Rattle.trade_file.specs.Piles.{AreDealt, is_of, pile_of}
-
--- one more trade
-one_of : (product : ℕ) (trade : FileTrade) (t : Bool) → (trade.product == product) ≡ t → filter (is_of product) (trade ∷ []) ≡ (if t then trade ∷ [] else [])
-one_of product trade true e = rw e refl
-one_of product trade false e = rw e refl
-
-    each : (product : ℕ) → product < products → pile_of (set piles trade.product (pile_of piles trade.product ++ trade ∷ [])) product ≡ filter (is_of product) (take (k + 1) trades)
-    each product lp =
-        ⊎_elim (λ (e : product ≡ trade.product).
-        ap (pile_of (set piles trade.product (pile_of piles trade.product ++ trade ∷ []))) e ∙ get_or-set_same piles trade.product (pile_of piles trade.product ++ trade ∷ []) [] (omega (arith, in_range, h.count))
-        ∙ ap (λ p. pile_of piles p ++ trade ∷ []) (sym e) ∙ ap (λ xs. xs ++ trade ∷ []) (h.each product lp)
-        ∙ ap (λ xs. filter (is_of product) (take k trades) ++ xs) (sym (one_of product trade true (eq-eqb trade.product product (sym e)))) ∙ sym (more product))
-        (λ (ne : product ≢ trade.product).
-        get_or-set_other piles trade.product product (pile_of piles trade.product ++ trade ∷ []) [] ne ∙ h.each product lp ∙ sym (append-nil (filter (is_of product) (take k trades)))
-        ∙ ap (λ xs. filter (is_of product) (take k trades) ++ xs) (sym (one_of product trade false (ne_eqb trade.product product (λ q. ne (sym q))))) ∙ sym (more product))
-        (cases_eq product trade.product)
+use Rattle.trade_file.specs.Piles.{is_of}
 
 -- a product's trades are trades of the file, and have all sums of the product
 pub pile_trades : (rows : Rows) (trades : List FileTrade) (product : ℕ) → AreFileTrades rows trades → AreFileTrades rows (filter (is_of product) trades)
