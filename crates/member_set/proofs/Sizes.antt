@@ -16,7 +16,7 @@ module _ (f g : ℕ → Bool) (l : ℕ) (taken : (m : ℕ) → g m ≡ (not (eqb
       let same : cond (g n) one 0 ≡ cond (f n) one 0 = ap (λ b. cond b one 0) (other n (λ e. omega (arith, e, le))) in
       omega (arith, below n (omega (arith, le)), same)
 
-  fewer : (n : ℕ) → l < n → f l ≡ true → size_to g n + 1 ≡ size_to f n
+  pub fewer : (n : ℕ) → l < n → f l ≡ true → size_to g n + 1 ≡ size_to f n
   unfolding size_to
   fewer zero less on = absurd (omega (arith, less))
   fewer (suc n) less on =

@@ -2,6 +2,8 @@
 //! it has.
 #![tactic(auto)]
 
+mod part;
 mod set;
 
+pub use part::Part;
 pub use set::MemberSet;

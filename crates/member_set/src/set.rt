@@ -1,7 +1,9 @@
 //! A set of members.
 
-ghost use Rattle.std.specs.Prelude.{◌≡◌, ◌↔◌, ℕ, ◌<◌, ◌==◌, ◌&&◌, ◌||◌, not, true, false, IsTrue, IsNone, IfSome};
-ghost use Rattle.member_set.specs.Members.{has, size};
+ghost use Rattle.std.specs.Prelude.{◌≡◌, ◌↔◌, ℕ, ◌<◌, ◌/◌, ◌==◌, ◌&&◌, ◌||◌, not, true, false, IsTrue, IsNone, IfSome};
+ghost use Rattle.member_set.specs.Members.{has, has_in, size};
+
+use crate::part::Part;
 
 const WORDS: usize = 4;
 
@@ -86,6 +88,18 @@ impl MemberSet {
             }
         }
         None
+    }
+
+    /// Those of its members whose numbers are from 64 times the place on, and 64 at the most.
+    pub fn part(&self, place: u16) -> Part
+        requires { place < 4 }
+        ensures members { (m : ℕ) → has_in result m ≡ (m / 64 == place && has self.now m) }
+        ensures place { result.place ≡ place }
+    {
+        Part {
+            place,
+            word: self.words[place as usize],
+        }
     }
 
     /// The members that both have.

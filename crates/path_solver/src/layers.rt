@@ -51,22 +51,26 @@ pub fn layer(
 {
     let _members = residual.members();
     forget(levels);
-    *reached = MemberSet::new();
+    let mut seen = MemberSet::new();
     let mut now = *receivers;
     let mut level = 0u16;
     while !now.is_empty() {
         let met = now.and(senders);
-        if let Some(source) = met.lowest() {
+        if !met.is_empty() {
             layers[level as usize] = met;
             mark(met, level, levels);
-            return Some(source);
+            match met.lowest() {
+                Some(source) => return Some(source),
+                None => unreachable!(),
+            }
         }
         layers[level as usize] = now;
-        *reached = reached.or(&now);
+        seen = seen.or(&now);
         let near = visit(entries, groups, prices, now, level, levels);
-        now = near.without(reached);
+        now = near.without(&seen);
         level += 1;
     }
+    *reached = seen;
     None
 }
 
@@ -110,10 +114,12 @@ fn visit(
     ensures all { (h u : ℕ) → has members h ≡ true → is_open_to entries.now groups.now (slice_index prices.now h) h u ≡ true → has result u ≡ true }
 {
     let mut near = MemberSet::new();
-    let mut left = members;
-    while let Some(here) = left.take_lowest() {
-        levels[here as usize] = level;
-        near = near.or(&open_to(entries, groups, prices[here as usize], here));
+    for place in 0..4u16 {
+        let mut left = members.part(place);
+        while let Some(here) = left.take_lowest() {
+            levels[here as usize] = level;
+            near = near.or(&open_to(entries, groups, prices[here as usize], here));
+        }
     }
     near
 }
