@@ -7,12 +7,9 @@ use crate::network::Network;
 use std::alloc::AllocError;
 use std::marker::Model;
 
-/// The most that a potential may be, and with a minus the least.
-pub const MOST_POTENTIAL: i32 = 1_000_000;
-
 /// A network and one potential for each of its members, in units of gross per unit moved: the dual
-/// variables of minimum-cost flow (Ahuja, Magnanti and Orlin, *Network Flows*). Each potential is from
-/// -1,000,000 to 1,000,000.
+/// variables of minimum-cost flow (Ahuja, Magnanti and Orlin, *Network Flows*). Each potential is at most
+/// `MOST_POTENTIAL`, and no less than that with a minus.
 #[derive(Drop)]
 pub struct Solution {
     network: Network,
