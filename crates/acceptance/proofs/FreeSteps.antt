@@ -11,12 +11,13 @@ use Rattle.command_types.specs.declared.plan.PlanRow.TheVariants.{End, Cut, New}
 use Rattle.command_types.specs.declared.trade.TradeRow.{TradeRow}
 use Rattle.command_types.specs.Trades.{trade_numbered}
 use Rattle.command_types.specs.Plans.{falling, free_rows, pair_plan}
+use Rattle.acceptance.specs.Planning.{is_free_between}
 use Rattle.acceptance.specs.FreePlans.{IsFree, IsCutting, IsNewInRange, IsFreeStep}
 use Rattle.acceptance.specs.Renewals.{AreNumbered, IsLiveIfFrozen, IsNewNetwork, IsRenewal, frozen_networks, renewal_plan}
 use Rattle.acceptance.proofs.PlanFacts.{amount_le}
 use Rattle.acceptance.proofs.RowSteps.{IsPlaced}
 use Rattle.acceptance.proofs.Falls.{numbered_at}
-use Rattle.acceptance.proofs.OwnSteps.{is_free_between, free_parts}
+use Rattle.acceptance.proofs.OwnSteps.{free_parts}
 use Rattle.acceptance.proofs.PlanPieces.{from_all}
 use Rattle.acceptance.proofs.PairNetworks.{none_to_itself, frozen_is}
 

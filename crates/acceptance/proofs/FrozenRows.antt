@@ -1,21 +1,20 @@
 -- A plan rests on the frozen trades alone, whatever their marks.
-use Rattle.std.proofs.Common.{◌≡◌, ℕ, ◌+◌, ◌-◌, ◌++◌, ◌&&◌, not, nat_lt, Bool, true, false, cond, eqb, List, [], ◌∷◌, map, refl, sym, ap, ◌∙◌, arith, if◌then◌else◌}
+use Rattle.std.proofs.Common.{◌≡◌, ℕ, ◌-◌, ◌&&◌, not, Bool, true, false, cond, eqb, List, [], ◌∷◌, map, refl, sym, ap, ◌∙◌, arith, if◌then◌else◌}
 use Rattle.std.specs.Prelude.{filter, nat_le, sum_by}
 use Rattle.std.proofs.lemmas.List.Elements.{filter_agree}
 use Rattle.std.proofs.lemmas.List.Sums.{sum_by-cons}
-use Rattle.units_core.specs.Day.{DayParts}
 use Rattle.network_laws.specs.declared.rows.Row.{Row}
-use Rattle.network_laws.specs.Networks.{NetworkData, at}
 use Rattle.command_types.specs.declared.plan.PlanRow.{PlanRow}
-use Rattle.command_types.specs.declared.plan.PlanRow.TheVariants.{End, Cut, New}
+use Rattle.command_types.specs.declared.plan.PlanRow.TheVariants.{End, Cut}
 use Rattle.command_types.specs.declared.trade.TradeRow.{TradeRow}
 use Rattle.command_types.specs.Trades.{total_where}
 use Rattle.command_types.specs.Books.{listed_below, amount_row, network_by, is_between, is_held}
-use Rattle.command_types.specs.Plans.{falling, free_rows, pair_plan, product_plan, plan_from}
+use Rattle.command_types.specs.Plans.{falling, free_rows}
+use Rattle.acceptance.specs.Planning.{is_free_between}
 use Rattle.acceptance.specs.Laws.{unmarked, frozen_of, PlanIsOfTheFrozen}
 use Rattle.acceptance.proofs.PlanFacts.{filter_twice}
 use Rattle.acceptance.proofs.Pieces.{listed_same}
-use Rattle.acceptance.proofs.OwnSteps.{is_free_between}
+use Rattle.acceptance.proofs.SamePlans.{plans_same}
 
 falling_by : (fall : ℕ) (row : TradeRow) (xs ys : List PlanRow) → xs ≡ ys →
     cond (eqb fall 0) [] (cond (nat_le row.amount fall) (End row.number ∷ xs) (Cut row.number row.amount (row.amount - fall) ∷ [])) ≡ cond (eqb fall 0) [] (cond (nat_le row.amount fall) (End row.number ∷ ys) (Cut row.number row.amount (row.amount - fall) ∷ []))
@@ -50,26 +49,9 @@ free_falls fall rows product seller buyer =
     ∙ ap (λ xs. falling fall (map unmarked xs)) (sym (filter_twice free (λ row. row.frozen) rows ∙ filter_agree (λ row. row.frozen && free row) free (λ row. frozen_twice (is_between product seller buyer row) row.frozen (not (is_held row))) rows))
     ∙ ap (falling fall) (sym (filter_unmarked free (λ row. refl) frozen))
 
-module _ (rows other : List TradeRow) (same : frozen_of rows ≡ frozen_of other) where
-  pair_same : (day : DayParts) (product : ℕ) (old new : NetworkData) (seller buyer : ℕ) → pair_plan rows day product old new seller buyer ≡ pair_plan other day product old new seller buyer
-  pair_same day product old new seller buyer =
-      let now = at old seller buyer in
-      let next = at new seller buyer in
-      let fall = now - next in
-      let falls : falling fall (free_rows rows product seller buyer) ≡ falling fall (free_rows other product seller buyer) =
-      free_falls fall rows product seller buyer ∙ ap (λ xs. falling fall (filter (is_free_between product seller buyer) xs)) same ∙ sym (free_falls fall other product seller buyer) in
-      ap (λ xs. if nat_lt next now then xs else (if nat_lt now next then New product seller buyer (next - now) day ∷ [] else [])) falls
-
-  product_same : (day : DayParts) (product : ℕ) (old new : NetworkData) → product_plan rows day product old new ≡ product_plan other day product old new
-  product_same day product old new =
-      listed_same old.members (λ i. listed_below old.members (pair_plan rows day product old new i)) (λ i. listed_below old.members (pair_plan other day product old new i)) (λ i.
-      listed_same old.members (pair_plan rows day product old new i) (pair_plan other day product old new i) (pair_same day product old new i))
-
-  from_same : (day : DayParts) (k : ℕ) (olds news : List NetworkData) → plan_from rows day k olds news ≡ plan_from other day k olds news
-  from_same day k [] news = refl
-  from_same day k (old ∷ olds) [] = refl
-  from_same day k (old ∷ olds) (new ∷ news) =
-      ap (λ xs. xs ++ plan_from rows day (1 + k) olds news) (product_same day k old new) ∙ ap (λ xs. product_plan other day k old new ++ xs) (from_same day (1 + k) olds news)
+falls_same : (rows other : List TradeRow) → frozen_of rows ≡ frozen_of other → (fall product seller buyer : ℕ) → falling fall (free_rows rows product seller buyer) ≡ falling fall (free_rows other product seller buyer)
+falls_same rows other same fall product seller buyer =
+    free_falls fall rows product seller buyer ∙ ap (λ xs. falling fall (filter (is_free_between product seller buyer) xs)) same ∙ sym (free_falls fall other product seller buyer)
 
 sum_frozen_by : (g : TradeRow → ℕ) (row : TradeRow) (rows : List TradeRow) (f : Bool) → (f ≡ false → g row ≡ 0) → g (unmarked row) ≡ g row → sum_by g rows ≡ sum_by g (frozen_of rows) →
     sum_by g (row ∷ rows) ≡ sum_by g (map unmarked (cond f (row ∷ filter (λ r. r.frozen) rows) (filter (λ r. r.frozen) rows)))
@@ -100,7 +82,7 @@ networks_same members f g each =
 
 pub plan_is_of_the_frozen : PlanIsOfTheFrozen
 plan_is_of_the_frozen rows other same = record {
-  plan = λ old new day. from_same rows other same day 0 old new;
+  plan = plans_same rows other (falls_same rows other same);
   frozen = λ members product.
       networks_same members (λ i j. total_where (λ row. is_between product i j row && row.frozen) rows) (λ i j. total_where (λ row. is_between product i j row && row.frozen) other) (λ i j.
       sum_same rows other same (λ row. if is_between product i j row && row.frozen then row.amount else 0) (λ row e. frozen_off (is_between product i j row) row.frozen row.amount e) (λ row. refl));

@@ -2,11 +2,14 @@ pub mod FlagFacts
 pub mod PartyFacts
 pub mod PlanFacts
 pub mod Pieces
+pub mod PairRows
+pub mod SamePlans
 pub mod RowSteps
 pub mod Falls
 pub mod PlanPieces
 pub mod PairNetworks
 pub mod OwnSteps
+pub mod SortedTrades
 pub mod FreeSteps
 pub mod OnceEach
 pub mod PairAmounts

@@ -16,11 +16,11 @@ use Rattle.command_types.specs.Plans.{falling, free_rows, pair_plan, plan_from}
 use Rattle.command_types.specs.Execution.{falling_trades}
 use Rattle.acceptance.specs.Laws.{PlanIsFree}
 use Rattle.acceptance.specs.Renewals.{AreNumbered, frozen_networks, renewal_plan}
-use Rattle.acceptance.specs.Planning.{row_fall}
+use Rattle.acceptance.specs.Planning.{is_free_between, row_fall}
 use Rattle.acceptance.proofs.PlanFacts.{falling_more}
 use Rattle.acceptance.proofs.RowSteps.{is_of}
 use Rattle.acceptance.proofs.Falls.{HasNone, numbered_at, none_below, row_fall_other, falling_other}
-use Rattle.acceptance.proofs.OwnSteps.{is_free_between, pair_other, own_pair}
+use Rattle.acceptance.proofs.OwnSteps.{pair_other, own_pair}
 use Rattle.acceptance.proofs.PlanPieces.{AreOnlyOf, from_none, from_at}
 use Rattle.acceptance.proofs.FreeSteps.{steps_free}
 

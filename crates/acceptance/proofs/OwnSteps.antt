@@ -8,14 +8,11 @@ use Rattle.command_types.specs.declared.plan.PlanRow.TheVariants.{New}
 use Rattle.command_types.specs.declared.trade.TradeRow.{TradeRow}
 use Rattle.command_types.specs.Books.{is_between, is_held}
 use Rattle.command_types.specs.Plans.{falling, free_rows, pair_plan, plan_from}
+use Rattle.acceptance.specs.Planning.{is_free_between}
 use Rattle.acceptance.specs.Renewals.{AreNumbered}
 use Rattle.acceptance.proofs.RowSteps.{is_of, row_after, after_own}
 use Rattle.acceptance.proofs.Falls.{HasNone, numbered_at, none_passing, falling_other, unnamed}
 use Rattle.acceptance.proofs.PlanPieces.{AreOnlyOf, from_none, from_only}
-
--- a pair's free trade
-abbrev pub is_free_between : ℕ → ℕ → ℕ → TradeRow → Bool
-is_free_between product seller buyer row = is_between product seller buyer row && row.frozen && not (is_held row)
 
 pub all_three : (a b c : Bool) → (a && b && c) ≡ true → (a ≡ true) × (b ≡ true) × (c ≡ true)
 all_three true true true e = (refl, refl, refl)

@@ -11,12 +11,13 @@ use Rattle.command_types.specs.declared.trade.TradeRow.{TradeRow}
 use Rattle.command_types.specs.Trades.{is_live, total_where}
 use Rattle.command_types.specs.Books.{is_between, is_held}
 use Rattle.command_types.specs.Plans.{ended_row, cut_row, falling, free_rows, pair_plan, plan_from}
+use Rattle.acceptance.specs.Planning.{is_free_between}
 use Rattle.acceptance.specs.Laws.{frozen_sum}
 use Rattle.acceptance.specs.Renewals.{AreNumbered, IsLiveIfFrozen}
 use Rattle.acceptance.proofs.RowSteps.{row_after, IsSameTrade, after_same}
 use Rattle.acceptance.proofs.Falls.{sum_same, falls_by}
 use Rattle.acceptance.proofs.PlanPieces.{AreOnlyOf, from_only}
-use Rattle.acceptance.proofs.OwnSteps.{is_free_between, all_three, free_parts, after_pair}
+use Rattle.acceptance.proofs.OwnSteps.{all_three, free_parts, after_pair}
 
 -- what a frozen trade has for a pair while it lives
 abbrev pub frozen_part : ℕ → ℕ → ℕ → TradeRow → ℕ

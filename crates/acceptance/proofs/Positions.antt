@@ -12,12 +12,13 @@ use Rattle.command_types.specs.declared.trade.TradeState.TheVariants.{Alleged, L
 use Rattle.command_types.specs.Trades.{is_live, total_where}
 use Rattle.command_types.specs.Books.{is_between, frozen_network}
 use Rattle.pair_table.proofs.PairNetworks.{at-network_by_within}
+use Rattle.acceptance.specs.Planning.{is_free_between}
 use Rattle.acceptance.specs.Laws.{frozen_sum, pair_sum, IsMade}
 use Rattle.acceptance.specs.Renewals.{IsRenewal, frozen_networks, renewal_plan, renewed}
 use Rattle.acceptance.proofs.RowSteps.{row_after, made_by, after_same}
 use Rattle.acceptance.proofs.Falls.{sum_same}
 use Rattle.acceptance.proofs.PairNetworks.{frozen_is}
-use Rattle.acceptance.proofs.OwnSteps.{is_free_between, between_parts, free_parts, after_none}
+use Rattle.acceptance.proofs.OwnSteps.{between_parts, free_parts, after_none}
 use Rattle.acceptance.proofs.PairAmounts.{frozen_part, new_part, sum_add, frozen_total}
 use Rattle.acceptance.proofs.Realised.{sum_map, made_sum, plan_made, renewed_is, pair_realised}
 use Rattle.acceptance.proofs.PairTotals.{passing, passing_same, passing_add, passing_rows, passing_one}

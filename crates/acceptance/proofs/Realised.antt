@@ -14,13 +14,14 @@ use Rattle.command_types.specs.Trades.{total_where}
 use Rattle.command_types.specs.Books.{is_between, is_held, frozen_network, held_network}
 use Rattle.command_types.specs.Plans.{falling, free_rows, pair_plan, plan_from, executed, is_new, count_of, made_row}
 use Rattle.pair_table.proofs.PairNetworks.{at-network_by_within}
+use Rattle.acceptance.specs.Planning.{is_free_between}
 use Rattle.acceptance.specs.FreePlans.{IsFreeStep}
 use Rattle.acceptance.specs.Laws.{frozen_sum, pair_sum, IsMade, PlanRealises}
 use Rattle.acceptance.specs.Renewals.{AreNumbered, IsRenewal, frozen_networks, renewal_plan, renewed}
 use Rattle.acceptance.proofs.RowSteps.{row_after, made_by, executed_behind, numbered_map, after_same}
 use Rattle.acceptance.proofs.PlanPieces.{from_all}
 use Rattle.acceptance.proofs.PairNetworks.{get_front, frozen_at}
-use Rattle.acceptance.proofs.OwnSteps.{is_free_between, after_none}
+use Rattle.acceptance.proofs.OwnSteps.{after_none}
 use Rattle.acceptance.proofs.FreeSteps.{falling_all, steps_free, steps_placed}
 use Rattle.acceptance.proofs.PairAmounts.{frozen_part, new_part, frozen_after, made_after, frozen_total, held_and_free, realised_by}
 

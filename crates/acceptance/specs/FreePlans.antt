@@ -1,5 +1,5 @@
 -- Plans that end and cut free trades alone.
-use Rattle.std.specs.Prelude.{◌≡◌, ◌≢◌, ℕ, ◌<◌, ◌≤◌, ◌^◌, false, IsTrue, List, All, AllPairs, MatchOption}
+use Rattle.std.specs.Prelude.{◌≡◌, ◌≢◌, ℕ, ◌<◌, ◌≤◌, false, IsTrue, List, All, AllPairs, MatchOption}
 use Rattle.command_types.specs.declared.plan.PlanRow.{PlanRow}
 use Rattle.command_types.specs.declared.plan.PlanRow.TheVariants.{End, Cut, New}
 use Rattle.command_types.specs.declared.trade.TradeRow.{TradeRow}

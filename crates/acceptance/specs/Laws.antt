@@ -1,5 +1,5 @@
 -- The laws of plans, as statements.
-use Rattle.std.specs.Prelude.{◌≡◌, ◌≢◌, ℕ, ◌+◌, ◌<◌, ◌≤◌, ◌^◌, ◌&&◌, ◌||◌, not, Bool, false, IsTrue, List, All, length, map, filter, take, drop, slice_get, None, Some, ℤ, pos, ◌-ℤ◌}
+use Rattle.std.specs.Prelude.{◌≡◌, ◌≢◌, ℕ, ◌+◌, ◌<◌, ◌≤◌, ◌&&◌, ◌||◌, not, Bool, false, IsTrue, List, All, length, map, filter, take, drop, slice_get, None, Some, ℤ, pos, ◌-ℤ◌}
 use Rattle.units_core.specs.Day.{DayParts}
 use Rattle.network_laws.specs.Networks.{NetworkData, at, net, gross}
 use Rattle.command_types.specs.declared.plan.PlanRow.{PlanRow}

@@ -1,48 +1,39 @@
--- A plan as it is made: the free trades are sorted out by product and by seller, and then each pair of members is looked at.
-use Rattle.std.specs.Prelude.{ℕ, ◌-◌, ◌≤◌, ◌^◌, ◌==◌, ◌&&◌, not, nat_lt, nat_le, Bool, List, [], ◌∷◌, filter, if◌then◌else◌}
+-- A plan as it is made: the free trades are sorted by pair, and then each pair is looked at that has a row in one of the networks.
+use Rattle.std.specs.Prelude.{◌≡◌, ℕ, ◌+◌, ◌-◌, ◌*◌, ◌==◌, ◌&&◌, not, nat_lt, nat_le, Bool, List, [], ◌∷◌, if◌then◌else◌}
 use Rattle.units_core.specs.Day.{DayParts}
-use Rattle.network_laws.specs.Networks.{IsRising, amount_in, total}
+use Rattle.network_laws.specs.Networks.{NetworkData}
 use Rattle.command_types.specs.declared.plan.PlanRow.{PlanRow}
 use Rattle.command_types.specs.declared.plan.PlanRow.TheVariants.{End, Cut, New}
 use Rattle.command_types.specs.declared.trade.TradeRow.{TradeRow}
-use Rattle.command_types.specs.Books.{is_held}
-use Rattle.command_types.specs.Plans.{falling}
-use Rattle.acceptance.specs.declared.planning.Change.{Change}
-use Rattle.units_core.specs.declared.limits.TheConstants.{MOST_GROSS}
+use Rattle.command_types.specs.Books.{is_between, is_held}
+use Rattle.command_types.specs.Plans.{falling, free_rows, plan_of}
 
--- a frozen trade of the product that nobody holds
-abbrev pub is_free_in : ℕ → TradeRow → Bool
-is_free_in product row = (row.product == product) && row.frozen && not (is_held row)
+-- a frozen trade that nobody holds
+abbrev pub is_free : TradeRow → Bool
+is_free row = row.frozen && not (is_held row)
 
-abbrev pub is_from : ℕ → TradeRow → Bool
-is_from seller row = row.seller == seller
+-- a pair's free trade
+abbrev pub is_free_between : ℕ → ℕ → ℕ → TradeRow → Bool
+is_free_between product seller buyer row = is_between product seller buyer row && row.frozen && not (is_held row)
 
-abbrev pub is_to : ℕ → TradeRow → Bool
-is_to buyer row = row.buyer == buyer
+-- where the trades of a pair stand in the order by product, seller and buyer
+abbrev pub pair_place : ℕ → ℕ → ℕ → ℕ
+pair_place product seller buyer = (product * 65536 + seller) * 65536 + buyer
+
+abbrev pub trade_place : TradeRow → ℕ
+trade_place row = pair_place row.product row.seller row.buyer
+
+-- the free trades of some trades have the same plans
+abbrev pub HasPlansOf : List TradeRow → List TradeRow → Type 0
+HasPlansOf trades free = (old new : List NetworkData) (day : DayParts) → plan_of free old new day ≡ plan_of trades old new day
 
 -- what one trade gives up of a fall, if something is left of it
 abbrev pub row_fall : ℕ → TradeRow → List PlanRow
 row_fall fall row =
     if fall == 0 then [] else (if nat_le row.amount fall then End row.number ∷ [] else Cut row.number row.amount (row.amount - fall) ∷ [])
 
--- the steps of a pair whose amount was the one and is to be the other, from the free trades of its seller
+-- the steps of a pair whose amount was the one and is to be the other
 abbrev pub pair_steps : ℕ → DayParts → List TradeRow → ℕ → ℕ → ℕ → ℕ → List PlanRow
-pair_steps product day sold seller buyer before after =
-    if nat_lt after before then falling (before - after) (filter (is_to buyer) sold)
+pair_steps product day rows seller buyer before after =
+    if nat_lt after before then falling (before - after) (free_rows rows product seller buyer)
     else (if nat_lt before after then New product seller buyer (after - before) day ∷ [] else [])
-
--- the same by the rows of two networks
-abbrev pub change_steps : Change → List TradeRow → ℕ → ℕ → List PlanRow
-change_steps change sold seller buyer =
-    pair_steps change.product change.day sold seller buyer (amount_in change.old.now seller buyer) (amount_in change.new.now seller buyer)
-
--- the same from all trades
-abbrev pub product_steps : Change → List TradeRow → ℕ → ℕ → List PlanRow
-product_steps change trades seller buyer =
-    change_steps change (filter (is_from seller) (filter (is_free_in change.product) trades)) seller buyer
-
--- both networks' rows are in order, and no amount of the new one is more than a trade's may be
-pub record IsChange (change : Change) : Type 0 where
-  pub old : IsRising change.old.now
-  pub new : IsRising change.new.now
-  pub within : total change.new.now ≤ MOST_GROSS

@@ -2,15 +2,17 @@
 #![tactic(auto)]
 
 mod flags;
+mod free_trades;
 mod laws;
 mod parties;
 mod planning;
 mod votes;
 
+pub use free_trades::FreeTrades;
 pub use laws::{
     gross_follows, nets_stay, plan_is_executable, plan_is_free, plan_is_of_the_frozen,
     plan_realises,
 };
 pub use parties::touched;
-pub use planning::{add_change, plan};
+pub use planning::{Change, add_change, plan};
 pub use votes::Votes;

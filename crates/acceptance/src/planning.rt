@@ -1,14 +1,15 @@
-//! The plan: what new networks change in the frozen trades. A product's free trades are sorted out in one walk over the
-//! trades, a seller's in one walk over these, and a pair that falls takes one walk over its seller's. So with M members
-//! and P products a plan costs P walks over the trades, at most 2 M walks over the free ones of each product, and a walk
-//! over the pairs.
+//! The plan: what new networks change in the frozen trades. The free ones are sorted once for all products; of each product
+//! the pairs are looked at that have a row in the old network or in the new one, and for a pair that falls its trades. So a
+//! plan costs a sort of the free trades, a search for each row, and one for each product and seller.
 
-ghost use Rattle.std.specs.Prelude.{◌≡◌, ℕ, ◌-◌, ◌<◌, ◌≤◌, ◌^◌, ◌++◌, ◌∷◌, [], length, filter, IfOk, OnOk, OnErr};
-ghost use Rattle.command_types.specs.Books.{is_held, listed_below, listed_pairs};
-ghost use Rattle.command_types.specs.Plans.{falling, product_plan, plan_of};
-ghost use Rattle.acceptance.specs.Planning.{is_free_in, is_from, is_to, row_fall, pair_steps, change_steps, product_steps, IsChange};
+ghost use Rattle.std.specs.Prelude.{◌≡◌, ℕ, ◌-◌, ◌+◌, ◌*◌, ◌<◌, ◌≤◌, ◌++◌, length, IfOk, OnOk, OnErr};
+ghost use Rattle.network_laws.specs.Networks.{IsCursor, IsRising};
+ghost use Rattle.command_types.specs.Books.{listed_below, listed_pairs};
+ghost use Rattle.command_types.specs.Plans.{falling, free_rows, pair_plan, product_plan, plan_of};
+ghost use Rattle.acceptance.specs.Planning.{is_free_between, row_fall, pair_steps};
 ghost use Rattle.units_core.specs.declared.limits.TheConstants.{MOST_GROSS};
 
+use crate::free_trades::{FreeTrades, Pair, is_free_between};
 use command_types::{PlanRow, TradeRow};
 use network_laws::{Network, Row, amount_at, first_row, next_row};
 use std::alloc::{AllocError, Global};
@@ -16,49 +17,22 @@ use units_core::{Amount, Day, MemberNo, ProductNo};
 
 /// How the network of a product changes, and the day of the trades that it makes.
 #[derive(Clone, Copy)]
-pub(super) struct Change<'a> {
+pub struct Change<'a> {
     pub product: ProductNo,
     pub day: Day,
     /// What members owe one another.
-    pub old: &'a [Row],
+    pub old: &'a Network,
     /// What they are to owe one another.
-    pub new: &'a [Row],
+    pub new: &'a Network,
 }
 
-fn is_free_in(row: &TradeRow, product: ProductNo) -> bool
-    ensures { result ≡ is_free_in product row.now }
-{
-    row.product == product && row.frozen && !(row.hold_out || row.hold_in)
-}
-
-// The frozen trades of a product that nobody holds.
-fn free_rows(
-    alloc: Global,
-    trades: &[TradeRow],
-    product: ProductNo,
-) -> Result<Vec<TradeRow>, AllocError>
-    ensures { IfOk result (λ rows. rows.items ≡ filter (is_free_in product) trades.now) }
-{
-    let mut rows = Vec::new(alloc);
-    for row in trades {
-        if is_free_in(row, product) {
-            rows.push(*row)?;
-        }
-    }
-    Ok(rows)
-}
-
-// Those of a seller.
-fn sold_rows(alloc: Global, free: &[TradeRow], seller: u16) -> Result<Vec<TradeRow>, AllocError>
-    ensures { IfOk result (λ rows. rows.items ≡ filter (is_from seller) free.now) }
-{
-    let mut rows = Vec::new(alloc);
-    for row in free {
-        if row.seller.0 == seller {
-            rows.push(*row)?;
-        }
-    }
-    Ok(rows)
+// A pair of members, with what the seller owes the buyer before and after.
+#[derive(Clone, Copy)]
+struct PairChange {
+    seller: u16,
+    buyer: u16,
+    before: u64,
+    after: u64,
 }
 
 // Adds the step of one trade that falls, if something is left of the fall, and says what is left after it.
@@ -83,23 +57,17 @@ fn add_row(plan: &mut Vec<PlanRow>, row: &TradeRow, fall: u64) -> Result<u64, Al
     Ok(fall.saturating_sub(amount))
 }
 
-fn is_to(row: &TradeRow, buyer: u16) -> bool
-    ensures { result ≡ is_to buyer row.now }
-{
-    row.buyer == MemberNo(buyer)
-}
-
-// Adds the steps of a seller's trades to a buyer, which fall by an amount together.
+// Adds the steps of a pair's free trades, which fall by an amount together.
 fn add_fall(
     plan: &mut Vec<PlanRow>,
-    sold: &[TradeRow],
-    buyer: u16,
+    trades: &[TradeRow],
+    pair: &Pair,
     mut fall: u64,
 ) -> Result<(), AllocError>
-    ensures { OnOk result (plan.new.items ≡ plan.old.items ++ falling fall (filter (is_to buyer) sold.now)) }
+    ensures { OnOk result (plan.new.items ≡ plan.old.items ++ falling fall (free_rows trades.now pair.now.product pair.now.seller pair.now.buyer)) }
 {
-    for row in sold {
-        if is_to(row, buyer) {
+    for row in trades {
+        if is_free_between(row, pair) {
             fall = add_row(plan, row, fall)?;
         }
     }
@@ -118,26 +86,29 @@ fn amount_of(n: u64) -> Amount
     }
 }
 
-// Adds the steps of a pair that comes from an amount to another.
+// Adds the steps of a pair.
 fn add_pair(
     plan: &mut Vec<PlanRow>,
-    sold: &[TradeRow],
+    free: &FreeTrades,
     change: &Change,
-    seller: u16,
-    buyer: u16,
-    before: u64,
-    after: u64,
+    pair: &PairChange,
 ) -> Result<(), AllocError>
-    requires { after ≤ MOST_GROSS }
-    ensures { OnOk result (plan.new.items ≡ plan.old.items ++ pair_steps change.now.product change.now.day sold.now seller buyer before after) }
+    requires { pair.now.after ≤ MOST_GROSS }
+    ensures { OnOk result (plan.new.items ≡ plan.old.items ++ pair_steps change.now.product change.now.day free.now pair.now.seller pair.now.buyer pair.now.before pair.now.after) }
 {
+    let (before, after) = (pair.before, pair.after);
     if after < before {
-        add_fall(plan, sold, buyer, before - after)?;
+        let trades = Pair {
+            product: change.product,
+            seller: pair.seller,
+            buyer: pair.buyer,
+        };
+        add_fall(plan, free.of_pair(&trades), &trades, before - after)?;
     } else if before < after {
         plan.push(PlanRow::New {
             product: change.product,
-            seller: MemberNo(seller),
-            buyer: MemberNo(buyer),
+            seller: MemberNo(pair.seller),
+            buyer: MemberNo(pair.buyer),
             amount: amount_of(after - before),
             day: change.day,
         })?;
@@ -145,70 +116,82 @@ fn add_pair(
     Ok(())
 }
 
-// Adds the steps of all pairs of a seller.
+// The buyer of a seller's row at a cursor, or the number of members where the cursor is past the seller's rows.
+fn buyer_at(rows: &[Row], at: usize, seller: u16, members: u16) -> u16
+    requires rising { IsRising rows.now }
+    ensures end { result ≤ members }
+    ensures from { (buyer : ℕ) → buyer ≤ members → IsCursor rows.now at (seller * 65536 + buyer) → buyer ≤ result }
+    ensures cursor { (buyer : ℕ) → buyer ≤ result → IsCursor rows.now at (seller * 65536 + buyer) → (to : ℕ) → buyer ≤ to → to ≤ result → IsCursor rows.now at (seller * 65536 + to) }
+{
+    if at >= rows.len() {
+        return members;
+    }
+    let place = rows[at].seller as u32 * 65536 + rows[at].buyer as u32;
+    let ahead = place.saturating_sub(seller as u32 * 65536);
+    ahead.min(members as u32) as u16
+}
+
+// Adds the steps of a seller's pairs: of those that have a row in one of the networks.
 fn add_seller(
     plan: &mut Vec<PlanRow>,
-    sold: &[TradeRow],
+    free: &FreeTrades,
     change: &Change,
     seller: u16,
-    members: u16,
 ) -> Result<(), AllocError>
-    requires { IsChange change.now }
-    ensures { OnOk result (plan.new.items ≡ plan.old.items ++ listed_below members (change_steps change.now sold.now seller)) }
+    ensures { OnOk result (plan.new.items ≡ plan.old.items ++ listed_below change.now.old.now.members (pair_plan free.now change.now.day change.now.product change.now.old.now change.now.new.now seller)) }
 {
-    let mut old_at = first_row(change.old, seller, 0);
-    let mut new_at = first_row(change.new, seller, 0);
-    for buyer in 0..members {
-        let before = amount_at(change.old, old_at, seller, buyer);
-        let after = amount_at(change.new, new_at, seller, buyer);
-        add_pair(plan, sold, change, seller, buyer, before, after)?;
-        old_at = next_row(change.old, old_at, seller, buyer);
-        new_at = next_row(change.new, new_at, seller, buyer);
+    let (old, new) = (change.old.rows(), change.new.rows());
+    let members = change.old.members();
+    let mut from = 0;
+    let mut old_at = first_row(old, seller, 0);
+    let mut new_at = first_row(new, seller, 0);
+    while from < members {
+        let old_buyer = buyer_at(old, old_at, seller, members);
+        let buyer = buyer_at(new, new_at, seller, members).min(old_buyer);
+        if buyer == members {
+            return Ok(());
+        }
+        let pair = PairChange {
+            seller,
+            buyer,
+            before: amount_at(old, old_at, seller, buyer),
+            after: amount_at(new, new_at, seller, buyer),
+        };
+        add_pair(plan, free, change, &pair)?;
+        old_at = next_row(old, old_at, seller, buyer);
+        new_at = next_row(new, new_at, seller, buyer);
+        from = buyer + 1;
     }
     Ok(())
 }
 
 // Adds the steps of all pairs of a product.
 fn add_product(
-    alloc: Global,
     plan: &mut Vec<PlanRow>,
-    trades: &[TradeRow],
+    free: &FreeTrades,
     change: &Change,
-    members: u16,
 ) -> Result<(), AllocError>
-    requires { IsChange change.now }
-    ensures { OnOk result (plan.new.items ≡ plan.old.items ++ listed_pairs members (product_steps change.now trades.now)) }
+    ensures { OnOk result (plan.new.items ≡ plan.old.items ++ product_plan free.now change.now.day change.now.product change.now.old.now change.now.new.now) }
 {
-    let free = free_rows(alloc, trades, change.product)?;
-    for seller in 0..members {
-        let sold = sold_rows(alloc, &free, seller)?;
-        add_seller(plan, &sold, change, seller, members)?;
+    for seller in 0..change.old.members() {
+        add_seller(plan, free, change, seller)?;
     }
     Ok(())
 }
 
-/// Adds to a plan what a product's new network changes in its frozen trades, as [`plan`] does for each product. The
-/// only error is want of memory, and then the plan is as it was.
+/// Adds to a plan what a product's new network changes in the free trades, as [`plan`] does for each product. The only error
+/// is want of memory, and then the plan is as it was.
 pub fn add_change(
     alloc: Global,
     plan: &mut Vec<PlanRow>,
-    trades: &[TradeRow],
-    product: ProductNo,
-    old: &Network,
-    new: &Network,
-    day: Day,
+    free: &FreeTrades,
+    change: &Change,
 ) -> Result<(), AllocError>
-    ensures added { OnOk result (plan.new.items ≡ plan.old.items ++ product_plan trades.now day product old.now new.now) }
+    ensures added { OnOk result (plan.new.items ≡ plan.old.items ++ product_plan free.now change.now.day change.now.product change.now.old.now change.now.new.now) }
     ensures refused { OnErr result (plan.new.items ≡ plan.old.items) }
 {
-    let change = Change {
-        product,
-        day,
-        old: old.rows(),
-        new: new.rows(),
-    };
     let mut steps = Vec::new(alloc);
-    add_product(alloc, &mut steps, trades, &change, old.members())?;
+    add_product(&mut steps, free, change)?;
     plan.append(&mut steps)
 }
 
@@ -227,18 +210,16 @@ pub fn plan(
     requires same { length new.now ≡ length old.now }
     ensures { IfOk result (λ plan. plan.items ≡ plan_of trades.now old.now new.now day) }
 {
+    let free = FreeTrades::of(alloc, trades)?;
     let mut plan = Vec::new(alloc);
-    for product in 0..old.len() {
-        let place = ProductNo(product as u16);
-        add_change(
-            alloc,
-            &mut plan,
-            trades,
-            place,
-            &old[product],
-            &new[product],
+    for place in 0..old.len() {
+        let change = Change {
+            product: ProductNo(place as u16),
             day,
-        )?;
+            old: &old[place],
+            new: &new[place],
+        };
+        add_change(alloc, &mut plan, &free, &change)?;
     }
     Ok(plan)
 }

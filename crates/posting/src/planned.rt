@@ -5,7 +5,7 @@ ghost use Rattle.command_types.specs.Cycles.{old_networks, new_networks};
 ghost use Rattle.command_types.specs.Plans.{plan_of};
 ghost use Rattle.units_core.specs.declared.limits.TheConstants.{MOST_PRODUCTS};
 
-use acceptance::add_change;
+use acceptance::{Change, FreeTrades, add_change};
 use command_types::{PlanRow, TradeRow};
 use network_laws::{Problem, Solution};
 use std::alloc::{AllocError, Global};
@@ -24,17 +24,16 @@ pub fn posted_plan(
     requires one_each { length solutions.now ≡ length problems.now }
     ensures { IfOk result (λ plan. plan.items ≡ plan_of trades.now (old_networks problems.now) (new_networks solutions.now) day) }
 {
+    let free = FreeTrades::of(alloc, trades)?;
     let mut plan = Vec::new(alloc);
     for place in 0..problems.len() {
-        add_change(
-            alloc,
-            &mut plan,
-            trades,
-            ProductNo(place as u16),
-            problems[place].network(),
-            solutions[place].network(),
+        let change = Change {
+            product: ProductNo(place as u16),
             day,
-        )?;
+            old: problems[place].network(),
+            new: solutions[place].network(),
+        };
+        add_change(alloc, &mut plan, &free, &change)?;
     }
     Ok(plan)
 }

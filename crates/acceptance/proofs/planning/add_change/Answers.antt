@@ -1,9 +1,6 @@
 use Rattle.std.proofs.Common.{◌≡◌, ◌++◌, ◌∙◌, List, Result, Ok, Err, OnOk, is_ok, cond, ap}
 use Rattle.command_types.specs.declared.plan.PlanRow.{PlanRow}
-use Rattle.command_types.specs.Books.{listed_pairs}
-use Rattle.acceptance.specs.declared.planning.Change.{Change}
-use Rattle.acceptance.specs.Planning.{product_steps}
-use Rattle.acceptance.proofs.PlanFacts.{product_same}
+use Rattle.command_types.specs.Plans.{product_plan}
 use Rattle.acceptance.proofs.planning.add_change.Goals as goal
 
 -- a list that was put behind another
@@ -13,7 +10,6 @@ appended (Err x) before after steps due h e = tt
 
 pub returns-clause-added : goal.returns-clause-added
 returns-clause-added c =
-    let change : Change = record { product = c.args.product; day = c.args.day; old = c.rows.result; new = c.rows-2.result } in
-    let made = ap (λ (none : List PlanRow). none ++ listed_pairs c.members.result (product_steps change c.args.trades.now)) c.new-steps.ensures.items in
-    appended c.append.result c.args.plan.now.items c.append.new.self.items c.add_product.new.plan.items _ c.append.ensures.items
-    (c.in_ok-add_product.ensures ∙ made ∙ product_same change c.args.trades.now c.args.old.now c.args.new.now c.rows.ensures.value c.rows-2.ensures.value c.members.result c.members.ensures.value)
+    let change = c.args.change.now in
+    let made = ap (λ (none : List PlanRow). none ++ product_plan c.args.free.now change.day change.product change.old.now change.new.now) c.new-steps.ensures.items in
+    appended c.append.result c.args.plan.now.items c.append.new.self.items c.add_product.new.plan.items _ c.append.ensures.items (c.in_ok-add_product.ensures ∙ made)

@@ -1,21 +1,78 @@
-use Rattle.std.proofs.Common.{◌≡◌, List, arith, ap, ◌∙◌}
-use Rattle.network_laws.specs.Networks.{amount_in}
+use Rattle.std.proofs.Common.{◌≡◌, ℕ, ◌+◌, ◌*◌, ◌≤◌, ◌++◌, List, length, arith, sym, ap, ◌∙◌, subst}
+use Rattle.network_laws.specs.declared.rows.Row.{Row}
+use Rattle.network_laws.specs.Networks.{amount_in, IsCursor}
 use Rattle.command_types.specs.declared.plan.PlanRow.{PlanRow}
-use Rattle.acceptance.specs.Planning.{pair_steps, change_steps}
+use Rattle.command_types.specs.Books.{listed_below}
+use Rattle.command_types.specs.Plans.{pair_plan}
+use Rattle.acceptance.specs.Planning.{pair_steps}
 use Rattle.acceptance.proofs.PlanFacts.{one_more, amount_le}
+use Rattle.acceptance.proofs.PairRows.{passed}
 use Rattle.acceptance.proofs.planning.add_seller.Goals as goal
 
-pub add_pair-requires : goal.add_pair-requires
-add_pair-requires c = omega (arith, c.amount_at-after.ensures, amount_le c.args.change.now.new.now c.args.seller c.loop-buyer.buyer, c.requires.within)
+-- what a buyer's place says of the cursors up to it
+abbrev Raises : List Row → ℕ → ℕ → ℕ → Type 0
+Raises rows m i end = (buyer : ℕ) → buyer ≤ end → IsCursor rows m (i * 65536 + buyer) → (to : ℕ) → buyer ≤ to → to ≤ end → IsCursor rows m (i * 65536 + to)
 
-pub loop-buyer-preserved : goal.loop-buyer-preserved
-loop-buyer-preserved c =
+raised : (rows due : List Row) (m i from to end : ℕ) → rows ≡ due → Raises rows m i end → from ≤ to → to ≤ end → IsCursor due m (i * 65536 + from) → IsCursor due m (i * 65536 + to)
+raised rows due m i from to end e raises up most at =
+    subst (λ (xs : List Row). IsCursor xs m (i * 65536 + to)) e (raises from (omega arith) (subst (λ (xs : List Row). IsCursor xs m (i * 65536 + from)) (sym e) at) to up most)
+
+first_from : (rows due : List Row) (m i from members end : ℕ) → rows ≡ due → ((buyer : ℕ) → buyer ≤ members → IsCursor rows m (i * 65536 + buyer) → buyer ≤ end) → from ≤ members → IsCursor due m (i * 65536 + from) → from ≤ end
+first_from rows due m i from members end e low within at = low from within (subst (λ (xs : List Row). IsCursor xs m (i * 65536 + from)) (sym e) at)
+
+pub returns-then-buyer-members : goal.returns-then-buyer-members
+returns-then-buyer-members c =
     let change = c.args.change.now in
-    let sold = c.args.sold.now in
     let i = c.args.seller in
-    let j = c.loop-buyer.buyer in
-    let steps : List PlanRow = pair_steps change.product change.day sold i j c.amount_at-before.result c.amount_at-after.result in
-    let same : steps ≡ change_steps change sold i j =
-    ap (λ a. pair_steps change.product change.day sold i j a c.amount_at-after.result) c.amount_at-before.ensures
-    ∙ ap (pair_steps change.product change.day sold i j (amount_in change.old.now i j)) c.amount_at-after.ensures in
-    (one_more j (change_steps change sold i) c.args.plan.now.items c.loop-buyer.plan.items _ steps c.loop-buyer.invariant.0 c.in_ok-add_pair.ensures same, c.next_row-old_at.ensures.end, c.next_row-old_at.ensures.cursor, c.next_row-new_at.ensures.end, c.next_row-new_at.ensures.cursor)
+    let from = c.loop-from.from in
+    let to = c.min-buyer.result in
+    let inv = c.loop-from.invariant in
+    let low = first_from _ change.old.now.rows c.loop-from.old_at i from c.members-members.result c.buyer_at-old_buyer.result c.rows-old.ensures.value c.buyer_at-old_buyer.ensures.from inv.within inv.old in
+    let low' = first_from _ change.new.now.rows c.loop-from.new_at i from c.members-members.result c.buyer_at.result c.rows-new.ensures.value c.buyer_at.ensures.from inv.within inv.new in
+    let up : from ≤ to = omega (arith, low, low', c.min-buyer.ensures) in
+    let f = pair_plan c.args.free.now change.day change.product change.old.now change.new.now i in
+    let same = passed c.args.free.now change.day change.product change.old.now change.new.now c.loop-from.old_at c.loop-from.new_at i from to (record {
+      le = up;
+      old_first = inv.old;
+      old_last = raised _ change.old.now.rows c.loop-from.old_at i from to c.buyer_at-old_buyer.result c.rows-old.ensures.value c.buyer_at-old_buyer.ensures.cursor up (omega (arith, c.min-buyer.ensures)) inv.old;
+      new_first = inv.new;
+      new_last = raised _ change.new.now.rows c.loop-from.new_at i from to c.buyer_at.result c.rows-new.ensures.value c.buyer_at.ensures.cursor up (omega (arith, c.min-buyer.ensures)) inv.new;
+    }) in
+    inv.steps ∙ ap (λ xs. c.args.plan.now.items ++ xs) (sym same ∙ ap (λ n. listed_below n f) (c.if-buyer-members.true ∙ c.members-members.ensures.value))
+
+pub add_pair-requires : goal.add_pair-requires
+add_pair-requires c =
+    omega (arith, c.amount_at-in-loop-from.ensures, amount_le c.rows-new.result.now c.args.seller c.min-buyer.result, c.rows-new.ensures.rows.within)
+
+pub loop-from-preserved : goal.loop-from-preserved
+loop-from-preserved c =
+    let change = c.args.change.now in
+    let i = c.args.seller in
+    let from = c.loop-from.from in
+    let to = c.min-buyer.result in
+    let inv = c.loop-from.invariant in
+    let low = first_from _ change.old.now.rows c.loop-from.old_at i from c.members-members.result c.buyer_at-old_buyer.result c.rows-old.ensures.value c.buyer_at-old_buyer.ensures.from inv.within inv.old in
+    let low' = first_from _ change.new.now.rows c.loop-from.new_at i from c.members-members.result c.buyer_at.result c.rows-new.ensures.value c.buyer_at.ensures.from inv.within inv.new in
+    let up : from ≤ to = omega (arith, low, low', c.min-buyer.ensures) in
+    let f = pair_plan c.args.free.now change.day change.product change.old.now change.new.now i in
+    let same = passed c.args.free.now change.day change.product change.old.now change.new.now c.loop-from.old_at c.loop-from.new_at i from to (record {
+      le = up;
+      old_first = inv.old;
+      old_last = raised _ change.old.now.rows c.loop-from.old_at i from to c.buyer_at-old_buyer.result c.rows-old.ensures.value c.buyer_at-old_buyer.ensures.cursor up (omega (arith, c.min-buyer.ensures)) inv.old;
+      new_first = inv.new;
+      new_last = raised _ change.new.now.rows c.loop-from.new_at i from to c.buyer_at.result c.rows-new.ensures.value c.buyer_at.ensures.cursor up (omega (arith, c.min-buyer.ensures)) inv.new;
+    }) in
+    let before : List PlanRow = c.loop-from.plan.items in
+    let reached : before ≡ c.args.plan.now.items ++ listed_below to f = inv.steps ∙ ap (λ xs. c.args.plan.now.items ++ xs) (sym same) in
+    let is_before = c.amount_at.ensures ∙ ap (λ (xs : List Row). amount_in xs i to) c.rows-old.ensures.value in
+    let is_after = c.amount_at-in-loop-from.ensures ∙ ap (λ (xs : List Row). amount_in xs i to) c.rows-new.ensures.value in
+    let steps : List PlanRow = pair_steps change.product change.day c.args.free.now i to c.amount_at.result c.amount_at-in-loop-from.result in
+    let due : steps ≡ f to = ap (λ a. pair_steps change.product change.day c.args.free.now i to a c.amount_at-in-loop-from.result) is_before ∙ ap (pair_steps change.product change.day c.args.free.now i to (amount_in change.old.now.rows i to)) is_after in
+    record {
+      steps = one_more to f c.args.plan.now.items before c.add_pair.new.plan.items steps reached c.in_ok-add_pair.ensures due;
+      within = omega (arith, c.min-buyer.ensures, c.buyer_at.ensures.end, c.if-buyer-members.false);
+      old_end = subst (λ (xs : List Row). c.next_row-old_at.result ≤ length xs) c.rows-old.ensures.value c.next_row-old_at.ensures.end;
+      old = subst (λ (xs : List Row). IsCursor xs c.next_row-old_at.result (i * 65536 + (to + 1))) c.rows-old.ensures.value c.next_row-old_at.ensures.cursor;
+      new_end = subst (λ (xs : List Row). c.next_row-new_at.result ≤ length xs) c.rows-new.ensures.value c.next_row-new_at.ensures.end;
+      new = subst (λ (xs : List Row). IsCursor xs c.next_row-new_at.result (i * 65536 + (to + 1))) c.rows-new.ensures.value c.next_row-new_at.ensures.cursor;
+    }

@@ -1,9 +1,18 @@
-use Rattle.std.proofs.Common.{◌≡◌, ◌+◌, ◌*◌, ◌≤◌, ◌++◌, length}
+use Rattle.std.proofs.Common.{◌≡◌, ◌+◌, ◌*◌, ◌≤◌, ◌-◌, ◌++◌, length}
 use Rattle.network_laws.specs.Networks.{IsCursor}
 use Rattle.command_types.specs.Books.{listed_below}
-use Rattle.acceptance.specs.Planning.{change_steps}
+use Rattle.command_types.specs.Plans.{pair_plan}
 use Rattle.acceptance.proofs.planning.add_seller.Given as goal
 
-abbrev pub invariant-loop-buyer : goal.invariant-loop-buyer
-invariant-loop-buyer l =
-    (l.plan.items ≡ l.initial.plan.items ++ listed_below l.buyer (change_steps l.change l.sold l.seller)) × (l.old_at ≤ length l.change.old.now) × IsCursor l.change.old.now l.old_at (l.seller * 65536 + l.buyer) × (l.new_at ≤ length l.change.new.now) × IsCursor l.change.new.now l.new_at (l.seller * 65536 + l.buyer)
+abbrev pub invariant-loop-from : goal.invariant-loop-from
+invariant-loop-from l = record {
+  steps : l.plan.items ≡ l.initial.plan.items ++ listed_below l.from (pair_plan l.free l.change.day l.change.product l.change.old.now l.change.new.now l.seller);
+  within : l.from ≤ l.members;
+  old_end : l.old_at ≤ length l.change.old.now.rows;
+  old : IsCursor l.change.old.now.rows l.old_at (l.seller * 65536 + l.from);
+  new_end : l.new_at ≤ length l.change.new.now.rows;
+  new : IsCursor l.change.new.now.rows l.new_at (l.seller * 65536 + l.from);
+}
+
+abbrev pub decreases-loop-from : goal.decreases-loop-from
+decreases-loop-from l = l.members - l.from

@@ -6,4 +6,4 @@ use Rattle.posting.proofs.planned.posted_plan.Given as goal
 
 abbrev pub invariant-loop-place : goal.invariant-loop-place
 invariant-loop-place l =
-    plan_from l.trades l.day 0 (old_networks l.problems) (new_networks l.solutions) ≡ l.plan.items ++ plan_from l.trades l.day l.place (old_networks (drop l.place l.problems)) (new_networks (drop l.place l.solutions))
+    plan_from l.free-inside.rows.items l.day 0 (old_networks l.problems) (new_networks l.solutions) ≡ l.plan.items ++ plan_from l.free-inside.rows.items l.day l.place (old_networks (drop l.place l.problems)) (new_networks (drop l.place l.solutions))
