@@ -6,3 +6,4 @@ pub mod NoCeiling
 pub mod Passed
 pub mod OpenPairs
 pub mod ModeLaws
+mod OpenRows

@@ -1,7 +1,7 @@
 -- What the limits of a product follow from, as the walk over the pairs has it.
 use Rattle.std.specs.Prelude.{◌≡◌, ℕ, ◌+◌, ◌*◌, ◌<◌, ◌≤◌, false, List, [], length, slice_get}
 use Rattle.network_laws.specs.declared.rows.LimitRow.{LimitRow}
-use Rattle.network_laws.specs.Networks.{IsRising, IsCursor}
+use Rattle.network_laws.specs.Networks.{IsRising, IsCursor, amount_in}
 use Rattle.command_types.specs.declared.roster.MemberRow.{MemberRow}
 use Rattle.command_types.specs.Tolerances.{is_dealer_row, may_grow, pair_limit}
 use Rattle.tolerance_sets.specs.declared.limits.Market.{Market}
@@ -11,9 +11,10 @@ use Rattle.tolerance_sets.specs.declared.pair_cursor.PairCursor.{PairCursor}
 abbrev pub AreNoDealers : List MemberRow → ℕ → Type 0
 AreNoDealers members from = (k : ℕ) → from ≤ k → is_dealer_row (slice_get members k) ≡ false
 
--- rows are in order
+-- rows are in order, and nobody owes himself
 pub record IsMarket (market : Market) : Type 0 where
   pub network : IsRising market.network.now
+  pub apart : (member : ℕ) → amount_in market.network.now member member ≡ 0
   pub held : IsRising market.held.now
   pub dealers : AreNoDealers market.members.now market.dealers_end
 

@@ -4,6 +4,7 @@
 mod laws;
 mod limits;
 mod open_pairs;
+mod open_rows;
 mod pair_cursor;
 mod settings;
 mod tolerances;

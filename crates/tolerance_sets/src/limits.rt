@@ -8,7 +8,7 @@ ghost use Rattle.command_types.specs.Tolerances.{smaller_of, pair_floor, pair_ce
 ghost use Rattle.tolerance_sets.specs.Market.{IsMarket, AreNoDealers, IsAtPair, HaveNone, market_limit};
 ghost use Rattle.units_core.specs.declared.limits.TheConstants.{MOST_MEMBERS};
 
-use crate::open_pairs::{add_open_seller, is_unbounded};
+use crate::open_pairs::{is_unbounded, open_limits};
 use crate::pair_cursor::PairCursor;
 use crate::settings::Settings;
 use command_types::{Level, MemberRow, Mode, Role, Side};
@@ -191,15 +191,13 @@ pub(super) fn all_limits(alloc: Global, market: &Market) -> Result<Vec<LimitRow>
     requires few { length market.now.members.now ≤ MOST_MEMBERS }
     ensures { IfOk result (λ rows. rows.items ≡ listed_pairs (length market.now.members.now) (market_limit market.now)) }
 {
+    if is_unbounded(market) {
+        return open_limits(alloc, market);
+    }
     let members = market.members.len() as u16;
     let mut rows = Vec::with_capacity(alloc, room_for(market))?;
-    let unbounded = is_unbounded(market);
     for seller in 0..members {
-        if unbounded {
-            add_open_seller(&mut rows, market, seller, members)?;
-        } else {
-            add_seller(&mut rows, market, seller, members)?;
-        }
+        add_seller(&mut rows, market, seller, members)?;
     }
     Ok(rows)
 }

@@ -158,6 +158,13 @@ impl Settings {
         }
     }
 
+    /// Whether no member set anything.
+    pub(super) fn is_empty(&self) -> bool
+        ensures { result ≡ true → self.now.settings ≡ [] }
+    {
+        self.rows.is_empty()
+    }
+
     /// Whether no member set a ceiling in a product. It may say no where none did.
     pub(super) fn have_no_ceiling(&self, product: ProductNo) -> bool
         ensures { result ≡ true → HaveNoCeiling self.now.settings product }

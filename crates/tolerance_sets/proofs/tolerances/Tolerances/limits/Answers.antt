@@ -1,6 +1,7 @@
 use Rattle.std.proofs.Common.{◌∙◌, length, sym, ap, subst}
 use Rattle.std.proofs.lemmas.Bool.{false≢true}
 use Rattle.network_laws.specs.Limits.{AreLimits, IsWithinLimits}
+use Rattle.tolerance_sets.proofs.OpenPairs.{none_owed}
 use Rattle.tolerance_sets.proofs.PairLimits.{limits_are_good, network_is_within}
 use Rattle.tolerance_sets.proofs.Walk.{limits_from}
 use Rattle.tolerance_sets.proofs.tolerances.Tolerances.limits.Goals as goal
@@ -8,6 +9,7 @@ use Rattle.tolerance_sets.proofs.tolerances.Tolerances.limits.Goals as goal
 pub all_limits-requires-clause-market : goal.all_limits-requires-clause-market
 all_limits-requires-clause-market c = record {
   network = c.rows.ensures.rows.rising;
+  apart = none_owed c.args.network.now.members c.rows.result.now c.rows.ensures.network.few c.rows.ensures.rows.good;
   held = c.rows-2.ensures.rows.rising;
   dealers = c.dealers_end.ensures;
 }
