@@ -3,7 +3,6 @@ use Rattle.std.proofs.Common.{◌≡◌, ℕ, ◌-◌, ◌≤◌, true, Option, 
 use Rattle.std.proofs.lemmas.List.{append-nil, length-append, take-append-le, take_all}
 use Rattle.command_types.specs.declared.ask.Entry.{Entry}
 use Rattle.command_types.specs.History.{History, end_of, longer, cut_after, entries_of_seat}
-use Rattle.command_types.specs.Roster.{Rows}
 use Rattle.command_types.specs.declared.figures.Figures.{Figures}
 use Rattle.cycle_lock.specs.declared.pass.Pass.{Pass}
 use Rattle.cycle_lock.specs.declared.turns.Turns.{Turns}
@@ -11,12 +10,12 @@ use Rattle.cycle_lock.specs.Accounts.{opening_count, by}
 use Rattle.cycle_lock.specs.Passes.{seat_of, figures_of, seen, saw_stop, StandsFor, made_by, Continues, Includes}
 use Rattle.cycle_lock.proofs.Joins.{made_later}
 use Rattle.doors.specs.Visits.{Visit, Visits}
-use Rattle.session.specs.Serving.{Seat, Sight, of_pass, roster_of, Grows}
+use Rattle.session.specs.Serving.{Seat, Sight, of_pass, Grows}
 use Rattle.session.proofs.GrowthFacts.{grows_none, grows_both}
 use Rattle.seats.specs.declared.seat.SeatEnd.{SeatEnd}
 use Rattle.seats.specs.Sessions.{input_of, IsVisit, MayGoOn, AreVisits, SeatServes}
 use Rattle.seats.specs.Final.{Final, sight_at, AreServed, HasServed}
-use Rattle.seats.specs.Places.{HasPass, IsReady, Belongs, TakesIn, GoesOn, PassServes}
+use Rattle.seats.specs.Places.{HasPass, Belongs, TakesIn, GoesOn, PassServes}
 use Rattle.seats.proofs.VisitFacts.{ends_grow}
 
 -- the history h begins with g
@@ -133,8 +132,3 @@ pub belongs_after : {T : Type 0} (turns : Turns T) (figures : Figures) (start : 
 belongs_after turns figures start None q is has goes = absurd has
 belongs_after turns figures start (Some p) None is has goes = absurd goes
 belongs_after turns figures start (Some p) (Some q) is has (own, (made, grows)) = (own, ap (λ (s : Seat). s.figures) grows.seat ∙ (ap (λ (s : Sight). s.seat.figures) has.1 ∙ is))
-
--- a seat that has a pass is ready
-pub ready_by : {T : Type 0} (turns : Turns T) (rows : Rows) (start : Sight) (p : Option Pass) → rows ≡ roster_of start → HasPass turns start p → IsReady turns rows p
-ready_by turns rows start None is has = absurd has
-ready_by turns rows start (Some p) is has = (has.0, is ∙ ap roster_of (sym has.1))

@@ -74,11 +74,6 @@ visits_on old [] mid new visit out same one ends = let P : Sight → Type 0 = λ
 visits_on old (first ∷ visits) mid new visit out (next, is_first, may, more) one ends =
     (next, is_first, (λ e. not_memory (may e).1), visits_on next visits mid new visit out more one ends)
 
--- no connection yet
-pub serves_none : (desk : Sight) (v : Option Visits) → SeatServes desk desk v v 0 seat_end.Most
-serves_none desk None = refl
-serves_none desk (Some v) = ([], (record { given = refl; back = sym (append-nil v.back); none_out = refl; few = omega arith; all = λ e. refl; over = λ e. absurd cc }), refl)
-
 -- the seat's work ends, though fewer were served than may be
 pub serves_end : (old new : Sight) (v w w' : Option Visits) (count most : ℕ) (out : SeatEnd) → w' ≡ w → count ≤ most → (out ≡ seat_end.Most → count ≡ most) → (out ≡ seat_end.Over → IsOver w) →
     SeatServes old new v w count seat_end.Most → SeatServes old new v w' most out

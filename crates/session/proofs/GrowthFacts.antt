@@ -21,7 +21,7 @@ use Rattle.command_types.proofs.TalkFacts.{asked_longer}
 use Rattle.cycle_lock.specs.declared.pass.Pass.{Pass}
 use Rattle.cycle_lock.specs.Passes.{lock_of, seat_of, figures_of, seen, saw_stop, Continues, may_split}
 use Rattle.session.specs.Serving.{Seat, Sight, of_pass, mark, roster_of, own_of, Grows, Asks}
-use Rattle.session.specs.Proposing.{begun_version, has_problems, Posts, Fetches, Proposes}
+use Rattle.session.specs.Proposing.{begun_version, Posts, Fetches, Proposes}
 
 longer_longer : (h : History) (made more : List Entry) → longer (longer h made) more ≡ longer h (made ++ more)
 longer_longer h made more = ap (λ es. record h { entries = es }) (append_assoc h.entries made more)
@@ -81,11 +81,6 @@ goes_given : (answer : Answer) (problems : List ProblemData) (old : Sight) (h : 
 goes_given answer problems old h mid by cycle version begun_at fetched reply made to is p =
     let A : Answer → Type 0 = λ a. GoesOnFetched a old.seat.figures h old.seat.number mid by cycle version begun_at fetched reply made to in subst A (sym is) p
 
-ends_fetched : (answer : Answer) (old : Sight) (h : History) (mid : Mark) (by : Option (List ℕ)) (cycle version begun_at : ℕ) (fetched reply : Reply) (made : List Entry) (to : Mark) → has_problems answer ≡ false →
-    IsLast fetched mid reply made to → GoesOnFetched answer old.seat.figures h old.seat.number mid by cycle version begun_at fetched reply made to
-ends_fetched (Problems problems) old h mid by cycle version begun_at fetched reply made to no_problems last = absurd (let bad = no_problems in cc)
-ends_fetched answer old h mid by cycle version begun_at fetched reply made to no_problems last = last
-
 -- the problems are given
 pub fetched_on : (old mid new : Sight) (by : Option (List ℕ)) (cycle version begun_at : ℕ) (problems : List ProblemData) (fetched reply : Reply) → fetched.answer ≡ Problems problems →
     Asks old mid (ask_fetch by cycle version) fetched → Posts mid new by cycle version begun_at problems reply → Fetches old new by cycle version begun_at reply
@@ -104,23 +99,6 @@ fetched_on old mid new by cycle version begun_at problems fetched reply is a p =
         order = refl;
       };
     }
-
--- no problems are given
-pub fetched_last : (old new : Sight) (by : Option (List ℕ)) (cycle version begun_at : ℕ) (fetched : Reply) → has_problems fetched.answer ≡ false →
-    Asks old new (ask_fetch by cycle version) fetched → Fetches old new by cycle version begun_at fetched
-fetched_last old new by cycle version begun_at fetched none a = record {
-  made = recorded old.seat.number (ask_fetch by cycle version) fetched.answer ++ [];
-  grows = one_more old new _ a.grows;
-  fetched = record {
-    fetched = fetched;
-    mid = mark new;
-    first = recorded old.seat.number (ask_fetch by cycle version) fetched.answer;
-    others = [];
-    asked = a.asked;
-    goes_on = ends_fetched fetched.answer old new.history (mark new) by cycle version begun_at fetched fetched [] (mark new) none (refl, refl, refl);
-    order = refl;
-  };
-}
 
 goes_begun : (answer : Answer) (version : ℕ) (old : Sight) (h : History) (mid : Mark) (by : Option (List ℕ)) (cycle : ℕ) (begun reply : Reply) (made : List Entry) (to : Mark) → begun_version answer ≡ Some version →
     IsFetched old.seat.figures h old.seat.number mid by cycle version begun.at reply made to → GoesOnBegun answer old.seat.figures h old.seat.number mid by cycle begun reply made to

@@ -11,15 +11,6 @@ use Rattle.session.proofs.StreamFacts.{takes_none}
 pub says_none : (taken : Option (List ℕ)) (waiting : List ℕ) → Says taken taken waiting waiting []
 says_none taken waiting = record { written = []; took = takes_none taken; order = append-nil waiting }
 
--- a text goes behind what waits
-pub says_behind : (taken : Option (List ℕ)) (waited waits text : List ℕ) → waits ≡ waited ++ text → Says taken taken waited waits text
-says_behind taken waited waits text is = record { written = []; took = takes_none taken; order = sym is }
-
--- what waited was taken, and a text comes behind it
-pub says_after : (begun taken : Option (List ℕ)) (waited between waits text : List ℕ) → Takes begun taken waited → between ≡ [] → waits ≡ between ++ text → Says begun taken waited waits text
-says_after begun taken waited between waits text took none is =
-    record { written = waited; took = took; order = ap (λ t. waited ++ t) (sym (is ∙ ap (λ b. b ++ text) none)) }
-
 -- what waited was taken
 pub says_flushed : (begun taken : Option (List ℕ)) (waited waits : List ℕ) → Takes begun taken waited → waits ≡ [] → Says begun taken waited waits []
 says_flushed begun taken waited waits took none = record { written = waited; took = took; order = ap (λ t. waited ++ t) (sym none) }

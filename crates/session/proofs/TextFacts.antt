@@ -49,7 +49,3 @@ front_of_reply begun after waited rows reply n front =
 pub text_whole : (rows : Rows) (reply : Reply) (n : ℕ) → length (details_of reply.answer) ≤ n → text_before rows reply n ≡ reply_text rows reply
 text_whole rows reply n past =
     ap (λ text. head_text rows reply.at reply.answer ++ text) (ap (lines_text (row_text rows)) (take_all n (details_of reply.answer) past) ∙ sym (details_by_row rows reply.answer))
-
--- the head line is the text before the first row
-pub text_head : (rows : Rows) (reply : Reply) → head_text rows reply.at reply.answer ≡ text_before rows reply 0
-text_head rows reply = sym (append-nil (head_text rows reply.at reply.answer))
