@@ -7,6 +7,6 @@ pub mod Thawing
 pub mod CommitFacts
 pub mod PlanSizes
 pub mod DeskFacts
-pub mod CommandFacts
+pub mod EffectFacts
 pub mod RecordFacts
 pub mod RefusalFacts

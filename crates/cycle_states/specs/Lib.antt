@@ -1,3 +1,5 @@
+pub mod Effects
 pub mod Machine
 pub mod PlainDesk
 pub mod Refusals
+pub mod Ready

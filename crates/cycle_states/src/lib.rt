@@ -1,10 +1,12 @@
 //! The machine that answers one command at a time, and a desk over it without a journal.
 #![tactic(auto)]
 
+mod laws;
 mod machine;
 mod plain_desk;
 mod recorded;
 
+pub use laws::effect_is_next;
 pub use machine::{Machine, Ready};
 pub use plain_desk::PlainDesk;
 pub use recorded::is_recorded;

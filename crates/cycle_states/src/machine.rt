@@ -1,10 +1,12 @@
 //! The machine that answers one command at a time: its answer now, and the changes that it makes.
 
 mod answers;
-mod changes;
+mod applying;
 mod conditions;
 mod cycle;
 mod cycle_refusals;
+mod effect;
+mod effects;
 mod freezing;
 mod limit_lines;
 mod making;
@@ -14,7 +16,6 @@ mod problem_copies;
 mod problems;
 mod proposal;
 mod proposal_answers;
-mod proposal_changes;
 mod ready;
 mod refusals;
 mod room;
@@ -30,13 +31,13 @@ ghost use Rattle.command_types.specs.History.{is_recorded, solutions_posted};
 ghost use Rattle.command_types.specs.Spelling.{posted, most_solutions};
 ghost use Rattle.trade_history.specs.Laws.{is_execution};
 ghost use Rattle.posting.specs.Laws.{AreLeast, KeepsNets};
-ghost use Rattle.cycle_states.specs.Machine.{rows_added, settings_added, IsReady, IsYoung};
+ghost use Rattle.cycle_states.specs.Effects.{rows_added, settings_added};
+ghost use Rattle.cycle_states.specs.Machine.{IsYoung};
+ghost use Rattle.cycle_states.specs.Ready.{IsReady};
 
-use answers::{accepted, change_answer};
-use changes::change;
+use applying::apply;
 use command_types::{Answer, Ask, Entry, Roster};
 use cycle::Cycle;
-use making::made_for;
 use product_book::Book;
 pub use ready::Ready;
 use room::make_room;
@@ -96,10 +97,11 @@ impl Machine {
         ensures party { IfOk result (λ answer. IsTrue (is_recorded ask.now.what answer) → IsTrue (is_some ask.now.by)) }
         ensures few { IfOk result (λ answer. IsTrue (is_recorded ask.now.what answer) → posted ask.now.what ≤ most_solutions) }
     {
-        let (roster, book, cycle) = (&self.roster, &self.book, &self.cycle);
+        // What the cycle keeps tells that few solutions are posted.
+        let _cycle = &self.cycle;
         match self.check(ask) {
             Err(refusal) => Ok(Answer::No(refusal)),
-            Ok(()) => accepted(roster, book, cycle, ask),
+            Ok(()) => self.accepted(ask),
         }
     }
 
@@ -113,23 +115,15 @@ impl Machine {
         ensures keeps_slots { self.old.slots ≤ self.new.slots }
         ensures entry { IfOk result (λ ready. ready.entry ≡ entry) }
         ensures ready { IfOk result (λ ready. IsReady self.old.state ready) }
-        ensures room { OnOk result (rows_added self.old.state entry.ask.what ≤ self.new.spare) }
-        ensures slot { OnOk result (settings_added entry.ask.what ≤ self.new.slots) }
+        ensures room { OnOk result (rows_added self.old.state entry.ask ≤ self.new.spare) }
+        ensures slot { OnOk result (settings_added self.old.state entry.ask ≤ self.new.slots) }
     {
-        let made = made_for(
-            &self.roster,
-            &self.book,
-            &self.tolerances,
-            &self.cycle,
-            &entry.ask,
-        )?;
-        make_room(
-            &mut self.book,
-            &mut self.tolerances,
-            &entry.ask.what,
-            &made.plan,
-            self.cycle.plan(),
-        )?;
+        let Some(by) = &entry.ask.by else {
+            unreachable!()
+        };
+        let made = self.made_for(by, &entry.ask.what)?;
+        let proposed = self.cycle.plan();
+        make_room(&mut self.book, &mut self.tolerances, &made.effect, proposed)?;
         Ok(Ready::new(entry, made))
     }
 
@@ -140,8 +134,8 @@ impl Machine {
         requires accepted { IsTrue (is_recorded ready.entry.ask.what (answer_to self.old.state ready.entry.ask)) }
         requires young { IsYoung self.old.state.cycle }
         requires ready { IsReady self.old.state ready }
-        requires room { rows_added self.old.state ready.entry.ask.what ≤ self.old.spare }
-        requires slot { settings_added ready.entry.ask.what ≤ self.old.slots }
+        requires room { rows_added self.old.state ready.entry.ask ≤ self.old.spare }
+        requires slot { settings_added self.old.state ready.entry.ask ≤ self.old.slots }
         ensures state { self.new.state ≡ state_after self.old.state ready.entry.ask }
         ensures entry { result.0 ≡ ready.entry }
         ensures answer { result.1 ≡ answer_to self.old.state ready.entry.ask }
@@ -151,21 +145,13 @@ impl Machine {
     {
         // What a book says of its trades is what the nets rest on.
         let _rows = self.book.rows();
-        let (entry, made) = ready.into_parts();
-        let answer = change_answer(
-            &self.roster,
-            &self.book,
-            &self.cycle,
-            &entry.ask,
-            &made.plan,
-        );
-        change(
+        let (entry, answer, effect) = ready.into_parts();
+        apply(
             &self.roster,
             &mut self.book,
             &mut self.tolerances,
             &mut self.cycle,
-            &entry.ask,
-            made,
+            effect,
         );
         (entry, answer)
     }

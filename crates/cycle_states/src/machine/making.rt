@@ -1,88 +1,91 @@
-//! What a change is made with, so that it takes no memory itself.
+//! What an accepted change is answered and what it does, made once.
 
-ghost use Rattle.std.specs.Prelude.{◌≡◌, ◌∷◌, ◌++◌, [], None, IfOk, IsTrue, is_some, unwrap_or};
-ghost use Rattle.command_types.specs.Roster.{member_place};
-ghost use Rattle.command_types.specs.Machine.{first_of, refusals};
-ghost use Rattle.command_types.specs.History.{solutions_posted};
-ghost use Rattle.cycle_states.specs.Machine.{plan_made, problems_begun, state_in, state_with, votes_counted, IsMachine};
+ghost use Rattle.std.specs.Prelude.{◌≡◌, None, Some, All, IfOk, IsTrue, OnOk, length, true};
+ghost use Rattle.network_laws.specs.Solutions.{IsSolution};
+ghost use Rattle.command_types.specs.Cycles.{bad_post, is_proposed, is_solving};
+ghost use Rattle.command_types.specs.CycleSteps.{accept_answer, post_answer};
+ghost use Rattle.command_types.specs.Machine.{changes, first_of, refusals};
+ghost use Rattle.cycle_states.specs.Effects.{accept_effect, post_effect, MayApply};
+ghost use Rattle.cycle_states.specs.Machine.{IsYoung};
+ghost use Rattle.cycle_states.specs.Ready.{IsMade};
 
-use super::cycle::Cycle;
+use super::Machine;
+use super::effect::Effect;
 use super::parties::place_of_member;
-use super::problems::problems_begun;
-use super::proposal::plan_made;
+use super::proposal::{left_after, plan_posted, touches_nobody};
+use super::proposal_answers::{counted, executed_answer, nothing, proposed};
 use super::ready::Made;
 use super::solutions::copies;
-use command_types::{Ask, Roster, What};
+use command_types::{Listed, What};
 use network_laws::Solution;
-use product_book::Book;
-use std::alloc::{AllocError, Global};
-use tolerance_sets::Tolerances;
+use std::alloc::AllocError;
 use units_core::{MemberNo, Name};
 
-// The solutions of a POST, in memory of their own.
-fn solutions_posted(alloc: Global, what: &What) -> Result<Vec<Solution>, AllocError>
-    ensures { IfOk result (λ solutions. solutions.items ≡ solutions_posted what.now) }
-{
-    match what {
-        What::Post { solutions, .. } => copies(alloc, solutions.rows()),
-        _ => Ok(Vec::new(alloc)),
+impl Machine {
+    /// What the POST of certified solutions is answered, and what it does. Its plan, its gross and whom it touches are
+    /// found once. The only error is want of memory.
+    pub(super) fn posting(&self, solutions: &[Solution]) -> Result<Made, AllocError>
+        requires solving { IsTrue (is_solving self.now.state.cycle.phase) }
+        requires certified { bad_post (length self.now.state.roster.members) self.now.state.cycle.begun solutions.now ≡ None }
+        ensures told { IfOk result (λ made. made.answer ≡ post_answer self.now.state solutions.now) }
+        ensures does { IfOk result (λ made. made.effect ≡ post_effect self.now.state solutions.now) }
+        ensures may { IfOk result (λ made. MayApply self.now.state made.effect) }
+        ensures solutions { OnOk result (All IsSolution solutions.now) }
+    {
+        let plan = plan_posted(&self.book, &self.cycle, solutions)?;
+        if touches_nobody(&self.roster, &self.book, &self.cycle, solutions, &plan) {
+            let plan = Listed::new(plan);
+            return Ok(Made {
+                answer: nothing(&self.cycle),
+                effect: Effect::Execute { plan },
+            });
+        }
+        let answer = proposed(&self.cycle, solutions);
+        let copies = copies(self.cycle.allocator(), solutions)?;
+        let (solutions, plan) = (Listed::new(copies), Listed::new(plan));
+        Ok(Made {
+            answer,
+            effect: Effect::Propose { solutions, plan },
+        })
     }
-}
 
-// The votes with the party's.
-fn votes_with(
-    roster: &Roster,
-    cycle: &Cycle,
-    by: &Option<Name>,
-) -> Result<Vec<MemberNo>, AllocError>
-    requires { IsTrue (is_some by.now) }
-    ensures { IfOk result (λ votes. votes.items ≡ cycle.now.votes ++ unwrap_or (member_place roster.now (unwrap_or by.now [])) 0 ∷ []) }
-{
-    match by {
-        None => unreachable!(),
-        Some(name) => cycle.votes_with(place_of_member(roster, name)),
+    /// What the member's vote is answered, and what it does. Whose votes are left is found once. The only error is want
+    /// of memory.
+    pub(super) fn vote(&self, member: MemberNo) -> Result<Made, AllocError>
+        requires { IsTrue (is_proposed self.now.state.cycle.phase) }
+        ensures told { IfOk result (λ made. made.answer ≡ accept_answer self.now.state member) }
+        ensures does { IfOk result (λ made. made.effect ≡ accept_effect self.now.state member) }
+        ensures may { IfOk result (λ made. MayApply self.now.state made.effect) }
+    {
+        let left = left_after(&self.roster, &self.book, &self.cycle, member);
+        if left == 0 {
+            return Ok(Made {
+                answer: executed_answer(&self.cycle),
+                effect: Effect::Complete,
+            });
+        }
+        let votes = Listed::new(self.cycle.votes_with(member)?);
+        Ok(Made {
+            answer: counted(&self.cycle, left),
+            effect: Effect::Vote { votes },
+        })
     }
-}
 
-// The votes with that of an accepted ACCEPT.
-fn votes_counted(
-    roster: &Roster,
-    book: &Book,
-    cycle: &Cycle,
-    ask: &Ask,
-) -> Result<Vec<MemberNo>, AllocError>
-    requires { first_of (refusals (state_in roster.now book.now.rows cycle.now) ask.now.by ask.now.what) ≡ None }
-    ensures { IfOk result (λ votes. votes.items ≡ votes_counted (state_in roster.now book.now.rows cycle.now) ask.now.by ask.now.what) }
-{
-    match &ask.what {
-        What::Accept { .. } => votes_with(roster, cycle, &ask.by),
-        _ => Ok(Vec::new(cycle.allocator())),
+    /// What a party's accepted change is answered, and what it does. The only error is want of memory.
+    pub(super) fn made_for(&self, by: &Name, what: &What) -> Result<Made, AllocError>
+        requires young { IsYoung self.now.state.cycle }
+        requires change { changes what.now ≡ true }
+        requires accepted { first_of (refusals self.now.state (Some by.now) what.now) ≡ None }
+        ensures { IfOk result (λ made. IsMade self.now.state by.now what.now made.answer made.effect) }
+    {
+        match what {
+            What::Post { solutions, .. } => self.posting(solutions.rows()),
+            What::Accept { .. } => self.vote(place_of_member(&self.roster, by)),
+            _ => {
+                let answer = self.party_answer(by, what)?;
+                let effect = self.effect(by, what)?;
+                Ok(Made { answer, effect })
+            }
+        }
     }
-}
-
-/// What an accepted change is made with. The only error is want of memory.
-pub(super) fn made_for(
-    roster: &Roster,
-    book: &Book,
-    tolerances: &Tolerances,
-    cycle: &Cycle,
-    ask: &Ask,
-) -> Result<Made, AllocError>
-    requires kept { IsMachine roster.now book.now.members book.now.products book.now.rows cycle.now }
-    requires accepted { first_of (refusals (state_in roster.now book.now.rows cycle.now) ask.now.by ask.now.what) ≡ None }
-    ensures problems { IfOk result (λ made. made.problems.items ≡ problems_begun (state_with roster.now book.now.rows tolerances.now.settings cycle.now) ask.now.what) }
-    ensures solutions { IfOk result (λ made. made.solutions.items ≡ solutions_posted ask.now.what) }
-    ensures plan { IfOk result (λ made. made.plan.items ≡ plan_made (state_in roster.now book.now.rows cycle.now) ask.now.what) }
-    ensures votes { IfOk result (λ made. made.votes.items ≡ votes_counted (state_in roster.now book.now.rows cycle.now) ask.now.by ask.now.what) }
-{
-    let problems = problems_begun(roster, book, tolerances, cycle, ask)?;
-    let solutions = solutions_posted(cycle.allocator(), &ask.what)?;
-    let plan = plan_made(roster, book, cycle, ask)?;
-    let votes = votes_counted(roster, book, cycle, ask)?;
-    Ok(Made {
-        problems,
-        solutions,
-        plan,
-        votes,
-    })
 }

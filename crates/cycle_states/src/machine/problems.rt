@@ -1,16 +1,14 @@
 //! What a version begins with: for each product the network of its frozen trades, and the limits that the tolerances
 //! now give.
 
-ghost use Rattle.std.specs.Prelude.{◌≡◌, None, length, IfOk};
+ghost use Rattle.std.specs.Prelude.{◌≡◌, length, IfOk};
 ghost use Rattle.network_laws.specs.Limits.{IsWithinLimits};
 ghost use Rattle.command_types.specs.Books.{held_network};
 ghost use Rattle.command_types.specs.Tolerances.{limits_of};
 ghost use Rattle.command_types.specs.Cycles.{problem_of, problems_of};
-ghost use Rattle.command_types.specs.Machine.{first_of, refusals};
-ghost use Rattle.cycle_states.specs.Machine.{problems_begun, state_in, state_with, FrozenAreLive, IsBookOf, IsMachine};
+ghost use Rattle.cycle_states.specs.Machine.{FrozenAreLive, IsBookOf};
 
-use super::cycle::Cycle;
-use command_types::{Ask, Mode, Roster, What};
+use command_types::{Mode, Roster};
 use network_laws::{Limits, Network, Problem};
 use product_book::{Book, Which};
 use std::alloc::{AllocError, Global};
@@ -72,23 +70,4 @@ pub(super) fn problems_now(
         problems.push(problem)?;
     }
     Ok(problems)
-}
-
-/// The problems that a change begins with, if it is a BEGIN. The only error is want of memory.
-pub(super) fn problems_begun(
-    roster: &Roster,
-    book: &Book,
-    tolerances: &Tolerances,
-    cycle: &Cycle,
-    ask: &Ask,
-) -> Result<Vec<Problem>, AllocError>
-    requires kept { IsMachine roster.now book.now.members book.now.products book.now.rows cycle.now }
-    requires accepted { first_of (refusals (state_in roster.now book.now.rows cycle.now) ask.now.by ask.now.what) ≡ None }
-    ensures { IfOk result (λ problems. problems.items ≡ problems_begun (state_with roster.now book.now.rows tolerances.now.settings cycle.now) ask.now.what) }
-{
-    let alloc = cycle.allocator();
-    match &ask.what {
-        What::Begin { mode, .. } => problems_now(alloc, roster, book, tolerances, *mode),
-        _ => Ok(Vec::new(alloc)),
-    }
 }

@@ -6,22 +6,21 @@ ghost use Rattle.network_laws.specs.Solutions.{IsSolution};
 ghost use Rattle.command_types.specs.Cycles.{bad_post, is_solving, is_proposed, posted_plan};
 ghost use Rattle.command_types.specs.CycleSteps.{left_after, touched_in};
 ghost use Rattle.command_types.specs.Execution.{IsExecutable};
-ghost use Rattle.command_types.specs.Machine.{first_of, refusals};
-ghost use Rattle.cycle_states.specs.Machine.{plan_made, state_in, IsMachine};
+ghost use Rattle.cycle_states.specs.Machine.{state_in, IsMachine};
 ghost use Rattle.units_core.specs.declared.limits.TheConstants.{MOST_PRODUCTS};
 
 use super::cycle::Cycle;
 use super::parties::member_count;
 use super::solutions::are_solutions;
-use command_types::{Ask, PlanRow, Roster, What};
+use command_types::{PlanRow, Roster};
 use network_laws::Solution;
 use posting::posted_plan;
 use product_book::Book;
 use std::alloc::AllocError;
 use units_core::MemberNo;
 
-// What solutions, one for each problem, change in the trades.
-fn plan_posted(
+/// What solutions, one for each problem, change in the trades. The only error is want of memory.
+pub(super) fn plan_posted(
     book: &Book,
     cycle: &Cycle,
     solutions: &[Solution],
@@ -43,24 +42,6 @@ fn plan_posted(
     }
 }
 
-/// What the solutions of an accepted POST change in the trades; of any other command the plan is empty. The only error
-/// is want of memory.
-pub(super) fn plan_made(
-    roster: &Roster,
-    book: &Book,
-    cycle: &Cycle,
-    ask: &Ask,
-) -> Result<Vec<PlanRow>, AllocError>
-    requires kept { IsMachine roster.now book.now.members book.now.products book.now.rows cycle.now }
-    requires accepted { first_of (refusals (state_in roster.now book.now.rows cycle.now) ask.now.by ask.now.what) ≡ None }
-    ensures { IfOk result (λ plan. plan.items ≡ plan_made (state_in roster.now book.now.rows cycle.now) ask.now.what) }
-{
-    match &ask.what {
-        What::Post { solutions, .. } => plan_posted(book, cycle, solutions.rows()),
-        _ => Ok(Vec::new(cycle.allocator())),
-    }
-}
-
 /// Whether this plan, of certified solutions, touches no member. It takes no memory.
 pub(super) fn touches_nobody(
     roster: &Roster,
@@ -75,7 +56,7 @@ pub(super) fn touches_nobody(
     requires planned { plan.now ≡ posted_plan cycle.now book.now.rows solutions.now }
     ensures nobody { (result ≡ true) ↔ (touched_in (state_in roster.now book.now.rows cycle.now) plan.now ≡ []) }
     ensures solutions { All IsSolution solutions.now }
-    ensures executable { IsExecutable book.now.members book.now.products book.now.rows plan.now }
+    ensures executable { IsExecutable (length roster.now.members) (length roster.now.products) book.now.rows plan.now }
 {
     are_solutions(solutions);
     posting::touches_nobody(book.rows(), plan)
@@ -86,7 +67,7 @@ pub(super) fn left_after(roster: &Roster, book: &Book, cycle: &Cycle, member: Me
     requires kept { IsMachine roster.now book.now.members book.now.products book.now.rows cycle.now }
     requires proposed { IsTrue (is_proposed cycle.now.phase) }
     ensures left { result ≡ length (left_after (state_in roster.now book.now.rows cycle.now) member) }
-    ensures executable { IsExecutable book.now.members book.now.products book.now.rows cycle.now.plan }
+    ensures executable { IsExecutable (length roster.now.members) (length roster.now.products) book.now.rows cycle.now.plan }
 {
     posting::left_after(
         member_count(roster),

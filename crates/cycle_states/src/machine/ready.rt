@@ -2,42 +2,43 @@
 
 ghost use Rattle.std.specs.Prelude.{◌≡◌};
 
-use command_types::{Entry, PlanRow};
-use network_laws::{Problem, Solution};
+use super::effect::Effect;
+use command_types::{Answer, Entry};
 use std::marker::Model;
-use units_core::MemberNo;
 
-/// What a change is made with, so that it takes no memory: the problems of a BEGIN; a POST's solutions, and what they
-/// change in the trades; and the votes with that of an ACCEPT. Of any other change all four are empty.
+/// What a change is answered, and what it does.
 #[derive(Drop)]
 pub(super) struct Made {
-    pub(super) problems: Vec<Problem>,
-    pub(super) solutions: Vec<Solution>,
-    pub(super) plan: Vec<PlanRow>,
-    pub(super) votes: Vec<MemberNo>,
+    pub(super) answer: Answer,
+    pub(super) effect: Effect,
 }
 
-/// An accepted change for which the machine has room, and what it is made with.
+/// An accepted change for which the machine has room, what it is answered, and what it does.
 #[derive(Drop)]
 pub struct Ready {
     entry: Entry,
-    made: Made,
+    answer: Answer,
+    effect: Effect,
 }
 
 impl Model for Ready {
-    ghost use Rattle.cycle_states.specs.Machine.{ReadyView};
+    ghost use Rattle.cycle_states.specs.Ready.{ReadyView};
 
     ghost Value = { ReadyView };
 
-    ghost view = { λ ready. record { entry = ready.entry; problems = ready.made.problems.items; solutions = ready.made.solutions.items; plan = ready.made.plan.items; votes = ready.made.votes.items } };
+    ghost view = { λ ready. record { entry = ready.entry; answer = ready.answer; effect = ready.effect } };
 }
 
 impl Ready {
-    /// Of this change, and of what it is made with. The machine has made the room.
+    /// Of this change, of what it is answered, and of what it does. The machine has made the room.
     pub(super) fn new(entry: Entry, made: Made) -> Ready
-        ensures { result ≡ record { entry = entry; problems = made.problems.items; solutions = made.solutions.items; plan = made.plan.items; votes = made.votes.items } }
+        ensures { result ≡ record { entry = entry; answer = made.answer; effect = made.effect } }
     {
-        Ready { entry, made }
+        Ready {
+            entry,
+            answer: made.answer,
+            effect: made.effect,
+        }
     }
 
     /// The change. It takes no memory.
@@ -54,14 +55,12 @@ impl Ready {
         self.entry
     }
 
-    /// The change, and what it is made with, given back.
-    pub(super) fn into_parts(self) -> (Entry, Made)
+    /// The change, what it is answered, and what it does, given back.
+    pub(super) fn into_parts(self) -> (Entry, Answer, Effect)
         ensures entry { result.0 ≡ self.entry }
-        ensures problems { result.1.problems.items ≡ self.problems }
-        ensures solutions { result.1.solutions.items ≡ self.solutions }
-        ensures plan { result.1.plan.items ≡ self.plan }
-        ensures votes { result.1.votes.items ≡ self.votes }
+        ensures answer { result.1 ≡ self.answer }
+        ensures effect { result.2 ≡ self.effect }
     {
-        (self.entry, self.made)
+        (self.entry, self.answer, self.effect)
     }
 }

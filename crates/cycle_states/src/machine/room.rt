@@ -1,10 +1,11 @@
 //! The room that a change needs.
 
-ghost use Rattle.std.specs.Prelude.{◌≡◌, ◌≤◌, IsTrue, OnOk};
+ghost use Rattle.std.specs.Prelude.{◌≡◌, ◌≤◌, OnOk};
 ghost use Rattle.command_types.specs.Plans.{count_of, is_new};
-ghost use Rattle.cycle_states.specs.Machine.{is_accept, rows_needed, settings_added};
+ghost use Rattle.cycle_states.specs.Effects.{rows_with, settings_with};
 
-use command_types::{PlanRow, What};
+use super::effect::Effect;
+use command_types::PlanRow;
 use posting::counts_of;
 use product_book::Book;
 use std::alloc::AllocError;
@@ -20,29 +21,28 @@ fn make_plan_room(book: &mut Book, plan: &[PlanRow]) -> Result<(), AllocError>
     book.reserve(counts_of(plan).made as u32)
 }
 
-/// Makes room for the trades or the setting that the command may add, by the plan that it makes and by the proposed
-/// one. The only error is want of memory.
+/// Makes room for the trades or the setting that a change may add, where this plan is proposed. The only error is want of
+/// memory.
 pub(super) fn make_room(
     book: &mut Book,
     tolerances: &mut Tolerances,
-    what: &What,
-    made: &[PlanRow],
+    effect: &Effect,
     proposed: &[PlanRow],
 ) -> Result<(), AllocError>
-    requires made { count_of is_new made.now ≤ 4194304 }
-    requires proposed { IsTrue (is_accept what.now) → count_of is_new proposed.now ≤ 4194304 }
+    requires { rows_with effect.now proposed.now ≤ 4194304 }
     ensures book { book.new ≡ record book.old { spare = book.new.spare } }
     ensures settings { tolerances.new.settings ≡ tolerances.old.settings }
     ensures keeps { book.old.spare ≤ book.new.spare }
     ensures keeps_slots { tolerances.old.spare ≤ tolerances.new.spare }
-    ensures room { OnOk result (rows_needed what.now made.now proposed.now ≤ book.new.spare) }
-    ensures slot { OnOk result (settings_added what.now ≤ tolerances.new.spare) }
+    ensures room { OnOk result (rows_with effect.now proposed.now ≤ book.new.spare) }
+    ensures slot { OnOk result (settings_with effect.now ≤ tolerances.new.spare) }
 {
-    match what {
-        What::Trade { .. } => book.reserve(1),
-        What::Tol { .. } => tolerances.reserve(),
-        What::Post { .. } => make_plan_room(book, made),
-        What::Accept { .. } => make_plan_room(book, proposed),
+    match effect {
+        Effect::Allege { .. } => book.reserve(1),
+        Effect::Set(_) => tolerances.reserve(),
+        Effect::Propose { plan, .. } => make_plan_room(book, plan.rows()),
+        Effect::Execute { plan } => make_plan_room(book, plan.rows()),
+        Effect::Complete | Effect::Vote { .. } => make_plan_room(book, proposed),
         _ => Ok(()),
     }
 }

@@ -1,32 +1,17 @@
 use Rattle.std.proofs.Common.{◌≡◌, ◌≤◌, ◌∙◌, IfOk, IsTrue, is_some, None, subst, ap, sym}
 use Rattle.command_types.specs.declared.answer.Answer.{Answer}
-use Rattle.command_types.specs.Machine.{first_of, refusals, answer_to}
+use Rattle.command_types.specs.Machine.{first_of, refusals}
 use Rattle.command_types.specs.History.{is_recorded}
 use Rattle.command_types.specs.Spelling.{posted, most_solutions}
 use Rattle.cycle_states.specs.Machine.{state_with, MachineView}
-use Rattle.cycle_states.proofs.MachineFacts.{refusals_stand, accepted_stands, accepted_answer}
+use Rattle.cycle_states.proofs.MachineFacts.{accepted_answer}
 use Rattle.cycle_states.proofs.RecordFacts.{if_ok, refusal_unrecorded, recorded_party, few_posted}
 use Rattle.cycle_states.proofs.machine.Machine.answer.Goals as goal
 
-pub accepted-requires-clause-accepted : goal.accepted-requires-clause-accepted
-accepted-requires-clause-accepted c =
-    let m = c.self.inside in
-    ap first_of (refusals_stand m.roster m.book.rows m.tolerances.settings m.cycle c.args.ask.now.by c.args.ask.now.what)
-    ∙ ap (λ (v : MachineView). first_of (refusals v.state c.args.ask.now.by c.args.ask.now.what)) c.self.view_is
-    ∙ sym c.in-Ok.ensures
-
 pub returns-in-Ok-clause-answer : goal.returns-in-Ok-clause-answer
 returns-in-Ok-clause-answer c =
-    let m = c.self.inside in
-    let s = state_with m.roster m.book.rows m.tolerances.settings m.cycle in
-    let none : first_of (refusals s c.args.ask.now.by c.args.ask.now.what) ≡ None =
-    ap (λ (v : MachineView). first_of (refusals v.state c.args.ask.now.by c.args.ask.now.what)) c.self.view_is ∙ sym c.in-Ok.ensures in
     let Tells : Answer → Type 0 = λ told. IfOk c.accepted.result (λ answer. answer ≡ told) in
-    subst Tells
-    (accepted_stands m.roster m.book.rows m.tolerances.settings m.cycle c.args.ask.now.by c.args.ask.now.what
-    ∙ sym (accepted_answer s c.args.ask.now none)
-    ∙ ap (λ v. answer_to v.state c.args.ask.now) c.self.view_is)
-    c.accepted.ensures
+    subst Tells (sym (accepted_answer c.args.self.now.state c.args.ask.now (sym c.in-Ok.ensures))) c.accepted.ensures
 
 pub returns-in-Err-clause-party : goal.returns-in-Err-clause-party
 returns-in-Err-clause-party c = λ change. absurd (refusal_unrecorded c.args.ask.now.what c.in-Err.refusal change)

@@ -2,7 +2,7 @@ use Rattle.std.proofs.Common.{◌∙◌, List, length, sym, subst}
 use Rattle.command_types.specs.declared.plan.PlanRow.{PlanRow}
 use Rattle.command_types.specs.declared.trade.TradeRow.{TradeRow}
 use Rattle.acceptance.specs.Parties.{IsPlanBelow}
-use Rattle.cycle_states.proofs.SettledFacts.{proposal_settled, executable, left_is}
+use Rattle.cycle_states.proofs.SettledFacts.{proposal_settled, left_is}
 use Rattle.cycle_states.proofs.machine.proposal.left_after.Goals as goal
 
 pub left_after-requires-clause-below : goal.left_after-requires-clause-below
@@ -22,4 +22,4 @@ returns-clause-left c =
 pub returns-clause-executable : goal.returns-clause-executable
 returns-clause-executable c =
     let settled = proposal_settled c.args.roster.now c.args.book.now.members c.args.book.now.products c.args.book.now.rows c.args.cycle.now c.requires.kept c.requires.proposed c.rows.ensures.trades c.rows.ensures.bounded in
-    executable c.args.roster.now c.args.book.now.members c.args.book.now.products c.args.book.now.rows c.args.cycle.now c.requires.kept c.args.cycle.now.plan settled
+    settled.executable

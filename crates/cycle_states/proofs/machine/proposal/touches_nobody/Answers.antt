@@ -2,7 +2,7 @@ use Rattle.std.proofs.Common.{◌≡◌, ◌↔◌, [], true, List, length, sym,
 use Rattle.command_types.specs.declared.trade.TradeRow.{TradeRow}
 use Rattle.command_types.specs.Plans.{touched_by}
 use Rattle.acceptance.specs.Parties.{IsPlanBelow}
-use Rattle.cycle_states.proofs.SettledFacts.{posting_settled, executable, plan_below}
+use Rattle.cycle_states.proofs.SettledFacts.{posting_settled, plan_below}
 use Rattle.cycle_states.proofs.machine.proposal.touches_nobody.Goals as goal
 
 pub touches_nobody-requires : goal.touches_nobody-requires
@@ -30,4 +30,4 @@ returns-clause-executable c =
     let plan = c.args.plan.now in
     let settled = posting_settled c.args.roster.now c.args.book.now.members c.args.book.now.products rows c.args.cycle.now c.requires.kept c.args.solutions.now plan
     c.requires.solving c.requires.certified c.are_solutions.ensures c.requires.planned c.rows.ensures.trades c.rows.ensures.bounded in
-    executable c.args.roster.now c.args.book.now.members c.args.book.now.products rows c.args.cycle.now c.requires.kept plan settled
+    settled.executable

@@ -1,0 +1,28 @@
+use Rattle.std.proofs.Common.{◌≡◌, ◌∙◌, IfOk, Some, refl, ap, sym, subst}
+use Rattle.command_types.specs.declared.answer.Answer.{Answer}
+use Rattle.command_types.specs.Machine.{nets_answer, product_of}
+use Rattle.cycle_states.specs.Machine.{state_with, MachineView}
+use Rattle.cycle_states.proofs.MachineFacts.{own_answer, market_answer}
+use Rattle.cycle_states.proofs.machine.Machine.nets.Goals as goal
+
+pub returns-then-is_operator : goal.returns-then-is_operator
+returns-then-is_operator c =
+    let m = c.self.inside in
+    let s = state_with m.roster m.book.rows m.tolerances.settings m.cycle in
+    let by = c.args.by.now in
+    let product = c.args.product.now in
+    let Tells : Answer → Type 0 = λ told. IfOk c.market_of.result (λ answer. answer ≡ told) in
+    subst (λ (view : MachineView). Tells (nets_answer view.state by (product_of view.state product))) c.self.view_is
+    (subst Tells
+    (market_answer s (Some by) by product m.book.members c.place_of_product-product.result refl c.self.invariant.book.members_all c.place_of_product-product.ensures (sym c.is_operator.ensures ∙ c.if-is_operator.true))
+    c.market_of.ensures)
+
+pub returns : goal.returns
+returns c =
+    let m = c.self.inside in
+    let s = state_with m.roster m.book.rows m.tolerances.settings m.cycle in
+    let by = c.args.by.now in
+    let product = c.args.product.now in
+    c.position_of.ensures
+    ∙ own_answer s (Some by) by product c.place_of_product-product.result c.place_of_member-member.result refl c.place_of_product-product.ensures c.place_of_member-member.ensures (sym c.is_operator.ensures ∙ c.if-is_operator.false)
+    ∙ ap (λ (view : MachineView). nets_answer view.state by (product_of view.state product)) c.self.view_is
