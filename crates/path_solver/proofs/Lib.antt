@@ -20,3 +20,4 @@ pub mod Noted
 pub mod NotedOne
 pub mod Near
 pub mod Raised
+pub mod StillClosed

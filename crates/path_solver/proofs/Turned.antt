@@ -5,12 +5,12 @@ use Rattle.std.proofs.lemmas.List.{length-map, get_or-map}
 use Rattle.member_set.specs.Members.{has}
 use Rattle.residual_graph.specs.declared.flow.Flow.{Flow}
 use Rattle.residual_graph.specs.Residual.{ResidualData, IsResidual}
-use Rattle.residual_graph.specs.Arcs.{no_flow, flow_at, room_in, moved}
+use Rattle.residual_graph.specs.Arcs.{no_flow, flow_at, room_in, moved, has_turned}
 use Rattle.path_solver.specs.declared.entries.Entry.{Entry}
 use Rattle.path_solver.specs.declared.neighbours.PairRow.{PairRow}
 use Rattle.path_solver.specs.declared.neighbours.Neighbours.{Neighbours}
 use Rattle.path_solver.specs.Entries.{entry_at, AreEntriesTo, IsNoted}
-use Rattle.path_solver.specs.Neighbours.{turned, turned_graph, AreNumbers, AreNeighbours, has_turned, IsChanged}
+use Rattle.path_solver.specs.Neighbours.{turned, turned_graph, AreNumbers, AreNeighbours, IsChanged}
 use Rattle.path_solver.proofs.Noted.{IsNext, noted_more}
 
 pub flow_turned : (flows : List Flow) (k : ℕ) → flow_at (map turned flows) k ≡ turned (flow_at flows k)
@@ -86,20 +86,21 @@ record IsRoomy (f : Flow) : Type 0 where
   pub room : 0 < f.room
   pub back : 0 < f.back
 
-untouched : (x : ℕ) (f g : Flow) (b : Bool) → f ≡ moved x b g → x ≤ room_in g b → has_turned f x ≡ false → IsRoomy f × IsRoomy g
-untouched x f g b is le off =
-    let first = or_parts (eqb f.room 0) (eqb f.back 0 || (eqb f.room x || eqb f.back x)) off in
-    let second = or_parts (eqb f.back 0) (eqb f.room x || eqb f.back x) first.1 in
-    let third = or_parts (eqb f.room x) (eqb f.back x) second.1 in
-    let room = eqb-false f.room 0 first.0 in
-    let back = eqb-false f.back 0 second.0 in
-    let room_x = eqb-false f.room x third.0 in
-    let back_x = eqb-false f.back x third.1 in
-    (record { room = omega (arith, room); back = omega (arith, back) }, before b is le room back room_x back_x)
-  where
-    before : (b : Bool) → f ≡ moved x b g → x ≤ room_in g b → f.room ≢ 0 → f.back ≢ 0 → f.room ≢ x → f.back ≢ x → IsRoomy g
-    before true is le room back room_x back_x = record { room = omega (arith, le, room, ap (λ (h : Flow). h.room) is); back = omega (arith, back_x, ap (λ (h : Flow). h.back) is) }
-    before false is le room back room_x back_x = record { room = omega (arith, room_x, ap (λ (h : Flow). h.room) is); back = omega (arith, le, back, ap (λ (h : Flow). h.back) is) }
+untouched : (x : ℕ) (f g : Flow) (b : Bool) → f ≡ moved x b g → x ≤ room_in g b → has_turned b x f ≡ false → IsRoomy f × IsRoomy g
+untouched x f g true is le off =
+    let both = or_parts (eqb f.room 0) (eqb f.back x) off in
+    let room = eqb-false f.room 0 both.0 in
+    let back = eqb-false f.back x both.1 in
+    let at_room = ap (λ (h : Flow). h.room) is in
+    let at_back = ap (λ (h : Flow). h.back) is in
+    (record { room = omega (arith, room); back = omega (arith, back, at_back) }, record { room = omega (arith, le, room, at_room); back = omega (arith, back, at_back) })
+untouched x f g false is le off =
+    let both = or_parts (eqb f.back 0) (eqb f.room x) off in
+    let back = eqb-false f.back 0 both.0 in
+    let room = eqb-false f.room x both.1 in
+    let at_room = ap (λ (h : Flow). h.room) is in
+    let at_back = ap (λ (h : Flow). h.back) is in
+    (record { room = omega (arith, room, at_room); back = omega (arith, back) }, record { room = omega (arith, room, at_room); back = omega (arith, le, back, at_back) })
 
 same_test : (x y : ℕ) → 0 < x → 0 < y → ltb 0 x ≡ ltb 0 y
 same_test x y p q = lt-ltb 0 x p ∙ sym (lt-ltb 0 y q)
@@ -112,32 +113,32 @@ numbers_kept r s rows members pairs seller buyer h = record {
       rw (seller k in_old, buyer k in_old) (h.numbers k in_old);
 }
 
--- after an amount was moved over a pair
-pub neighbours_more : (x : ℕ) (r s : ResidualData) (k : ℕ) (b : Bool) (old new : Neighbours) → IsResidual s → IsNext (length r.flows) (length r.flows) k r s → flow_at s.flows k ≡ moved x b (flow_at r.flows k) → x ≤ room_in (flow_at r.flows k) b → AreNeighbours r old → IsChanged (flow_at s.flows k) x old new → AreNeighbours s new
-neighbours_more x r s k b old new residual next is le are c =
+-- where nothing turned, what was noted of the pair holds still
+pub still_noted : (x : ℕ) (r s : ResidualData) (k : ℕ) (b : Bool) (old : Neighbours) → IsNext (length r.flows) (length r.flows) k r s → flow_at s.flows k ≡ moved x b (flow_at r.flows k) → x ≤ room_in (flow_at r.flows k) b → AreNeighbours r old → has_turned b x (flow_at s.flows k) ≡ false → IsChanged (flow_at s.flows k) old old
+still_noted x r s k b old next is le are off =
     let n = length r.flows in
     let f = flow_at s.flows k in
     let g = flow_at r.flows k in
     let seller : g.seller ≡ f.seller = sym (next.seller k next.last) in
     let buyer : g.buyer ≡ f.buyer = sym (next.buyer k next.last) in
     let there : AreEntriesTo (length r.flows) (turned_graph r) old.exits.items = subst (λ m. AreEntriesTo m (turned_graph r) old.exits.items) (count_turned r.flows) are.exits in
-    let both : IsNoted (flow_at s.flows k) old.entries.items new.entries.items × IsNoted (turned (flow_at s.flows k)) old.exits.items new.exits.items =
-    elim (cases_Bool (has_turned (flow_at s.flows k) x)) [
-      | inl on ↦ c.noted on
-      | inr off ↦
-          let roomy = untouched x f g b is le off in
-          let same = c.kept off in
-          let at_t = flow_turned r.flows k in (
-            subst (λ (es : List Entry). IsNoted (flow_at s.flows k) old.entries.items es) (sym same.0)
-                (same_noted n r old.entries.items k f are.entries next.last seller buyer (same_test g.room f.room roomy.1.room roomy.0.room) (same_test g.back f.back roomy.1.back roomy.0.back)),
-            subst (λ (es : List Entry). IsNoted (turned (flow_at s.flows k)) old.exits.items es) (sym same.1)
-                (same_noted n (turned_graph r) old.exits.items k (turned f) there next.last (ap (λ (h : Flow). h.seller) at_t ∙ seller) (ap (λ (h : Flow). h.buyer) at_t ∙ buyer)
-                (ap (λ (h : Flow). ltb 0 h.room) at_t ∙ same_test g.back f.back roomy.1.back roomy.0.back) (ap (λ (h : Flow). ltb 0 h.back) at_t ∙ same_test g.room f.room roomy.1.room roomy.0.room)),
-          )
-    ] in
-    let noted_there : IsNoted (flow_at (turned_graph s).flows k) old.exits.items new.exits.items = subst (λ (h : Flow). IsNoted h old.exits.items new.exits.items) (sym (flow_turned s.flows k)) both.1 in
+    let roomy = untouched x f g b is le off in
+    let at_t = flow_turned r.flows k in
     record {
-      entries = subst (λ m. AreEntriesTo m s new.entries.items) (sym next.pairs) (noted_more n n k r s old.entries.items new.entries.items residual next are.entries both.0);
+      rows = refl;
+      entries = same_noted n r old.entries.items k f are.entries next.last seller buyer (same_test g.room f.room roomy.1.room roomy.0.room) (same_test g.back f.back roomy.1.back roomy.0.back);
+      exits = same_noted n (turned_graph r) old.exits.items k (turned f) there next.last (ap (λ (h : Flow). h.seller) at_t ∙ seller) (ap (λ (h : Flow). h.buyer) at_t ∙ buyer)
+          (ap (λ (h : Flow). ltb 0 h.room) at_t ∙ same_test g.back f.back roomy.1.back roomy.0.back) (ap (λ (h : Flow). ltb 0 h.back) at_t ∙ same_test g.room f.room roomy.1.room roomy.0.room);
+    }
+
+-- after an amount was moved over a pair, and the pair was noted
+pub neighbours_more : (r s : ResidualData) (k : ℕ) (old new : Neighbours) → IsResidual s → IsNext (length r.flows) (length r.flows) k r s → AreNeighbours r old → IsChanged (flow_at s.flows k) old new → AreNeighbours s new
+neighbours_more r s k old new residual next are c =
+    let n = length r.flows in
+    let there : AreEntriesTo (length r.flows) (turned_graph r) old.exits.items = subst (λ m. AreEntriesTo m (turned_graph r) old.exits.items) (count_turned r.flows) are.exits in
+    let noted_there : IsNoted (flow_at (turned_graph s).flows k) old.exits.items new.exits.items = subst (λ (h : Flow). IsNoted h old.exits.items new.exits.items) (sym (flow_turned s.flows k)) c.exits in
+    record {
+      entries = subst (λ m. AreEntriesTo m s new.entries.items) (sym next.pairs) (noted_more n n k r s old.entries.items new.entries.items residual next are.entries c.entries);
       exits = subst (λ m. AreEntriesTo m (turned_graph s) new.exits.items) (sym (count_turned s.flows ∙ next.pairs))
           (noted_more n n k (turned_graph r) (turned_graph s) old.exits.items new.exits.items (residual_turned s residual) (next_turned n n k r s next) there noted_there);
       rows = subst (AreNumbers s) (sym c.rows) (numbers_kept r s old.rows.items next.members next.pairs next.seller next.buyer are.rows);

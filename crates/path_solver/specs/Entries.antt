@@ -38,6 +38,10 @@ pub record IsNoted (f : Flow) (old new : List Entry) : Type 0 where
   pub sellers : (v u : ℕ) → v < length old → has (entry_at new v).sellers u ≡ (if (v == f.buyer) && (u == f.seller) then nat_lt 0 f.room else has (entry_at old v).sellers u)
   pub buyers : (v u : ℕ) → v < length old → has (entry_at new v).buyers u ≡ (if (v == f.seller) && (u == f.buyer) then nat_lt 0 f.back else has (entry_at old v).buyers u)
 
+-- whether one of the two sets of entries to this member has that one
+abbrev pub is_entry : List Entry → ℕ → ℕ → Bool
+is_entry entries here u = has (entry_at entries here).sellers u || has (entry_at entries here).buyers u
+
 -- whether one of the two sets of tight entries to this member has that one
 abbrev pub is_open_to : List Entry → List MemberSet → ℕ → ℕ → ℕ → Bool
 is_open_to entries groups price here u =

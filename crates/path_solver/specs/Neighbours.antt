@@ -1,5 +1,5 @@
 -- Between which members arcs with room lead, and by which pairs.
-use Rattle.std.specs.Prelude.{◌≡◌, ◌==◌, ◌&&◌, ◌||◌, if◌then◌else◌, ℕ, ◌+◌, ◌*◌, ◌<◌, Bool, true, false, List, [], length, map, slice_index, slice_index_or}
+use Rattle.std.specs.Prelude.{◌≡◌, ◌&&◌, if◌then◌else◌, ℕ, ◌+◌, ◌*◌, ◌<◌, Bool, true, false, List, [], length, map, slice_index, slice_index_or}
 use Rattle.member_set.specs.declared.set.MemberSet.{MemberSet}
 use Rattle.member_set.specs.Members.{has}
 use Rattle.residual_graph.specs.declared.flow.Flow.{Flow}
@@ -52,12 +52,8 @@ pub record IsWayInto (n : Neighbours) (groups : List MemberSet) (price here : �
   pub is_open : is_open_to n.exits.items groups price here e.head ≡ true
   pub between : e.arc ≡ arc_between n groups price here e.head
 
--- whether one of the pair's arcs may have filled or opened when this amount was moved over it
-abbrev pub has_turned : Flow → ℕ → Bool
-has_turned f amount = f.room == 0 || (f.back == 0 || (f.room == amount || f.back == amount))
-
--- noted where something may have changed
-pub record IsChanged (f : Flow) (amount : ℕ) (old new : Neighbours) : Type 0 where
+-- noted what a pair can do
+pub record IsChanged (f : Flow) (old new : Neighbours) : Type 0 where
   pub rows : new.rows.items ≡ old.rows.items
-  pub noted : has_turned f amount ≡ true → IsNoted f old.entries.items new.entries.items × IsNoted (turned f) old.exits.items new.exits.items
-  pub kept : has_turned f amount ≡ false → (new.entries.items ≡ old.entries.items) × (new.exits.items ≡ old.exits.items)
+  pub entries : IsNoted f old.entries.items new.entries.items
+  pub exits : IsNoted (turned f) old.exits.items new.exits.items

@@ -124,8 +124,8 @@ fn visit(
     near
 }
 
-/// The members from which an open arc leads here.
-fn open_to(entries: &[Entry], groups: &[MemberSet], price: u16, here: u16) -> MemberSet
+/// The members from which an open arc leads here, or in the graph turned round those to which one leads.
+pub fn open_to(entries: &[Entry], groups: &[MemberSet], price: u16, here: u16) -> MemberSet
     requires here { here < length entries.now }
     requires price { price + 3 ≤ length groups.now }
     ensures { (u : ℕ) → has result u ≡ is_open_to entries.now groups.now price here u }

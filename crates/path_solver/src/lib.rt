@@ -14,6 +14,7 @@ mod groups;
 mod layers;
 mod lowest;
 mod neighbours;
+mod outside;
 mod paths;
 mod prices;
 mod sending;

@@ -81,18 +81,16 @@ impl Neighbours {
         })
     }
 
-    /// Notes what a pair can do after this amount was moved over it.
-    pub fn note(&mut self, flow: Flow, amount: u64)
+    /// Notes what a pair can do.
+    pub fn note(&mut self, flow: Flow)
         requires few { length self.old.entries.items ≤ 256 }
         requires exits { length self.old.exits.items ≡ length self.old.entries.items }
         requires seller { flow.seller < length self.old.entries.items }
         requires buyer { flow.buyer < length self.old.entries.items }
-        ensures { IsChanged flow amount self.old self.new }
+        ensures { IsChanged flow self.old self.new }
     {
-        if flow.room == 0 || flow.back == 0 || flow.room == amount || flow.back == amount {
-            note(&mut self.entries, flow);
-            note(&mut self.exits, turned(flow));
-        }
+        note(&mut self.entries, flow);
+        note(&mut self.exits, turned(flow));
     }
 }
 

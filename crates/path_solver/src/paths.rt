@@ -37,7 +37,8 @@ pub fn push_all(residual: &mut Residual, neighbours: &mut Neighbours, arcs: &[u3
     ensures neighbours { AreNeighbours residual.new neighbours.new }
 {
     for arc in arcs {
-        residual.push(*arc, amount);
-        neighbours.note(residual.flows()[(*arc / 2) as usize], amount);
+        if residual.push_turning(*arc, amount) {
+            neighbours.note(residual.flows()[(*arc / 2) as usize]);
+        }
     }
 }

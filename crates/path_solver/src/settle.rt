@@ -11,6 +11,7 @@ use crate::layers::{UNREACHED, layer};
 use crate::neighbours::Neighbours;
 use crate::prices::raise;
 use crate::sending::send_phase;
+use crate::outside::{around, everyone, has_way};
 use member_set::MemberSet;
 use residual_graph::Residual;
 use std::alloc::{AllocError, Global};
@@ -129,6 +130,7 @@ fn settle_rest(
     let mut senders = those_with(surplus);
     let mut receivers = those_with(lack);
     let mut reached = MemberSet::new();
+    let all = everyone(members);
     let mut top = 1u16;
     'phases: while !senders.is_empty() {
         match layer(
@@ -145,8 +147,15 @@ fn settle_rest(
             &mut reached,
         ) {
             None => {
-                raise(&mut prices, &mut groups, &levels, &reached, top);
-                top += 1;
+                let near = around(&neighbours.entries, &reached);
+                let others = near.without(&reached).and(&all);
+                'raises: loop {
+                    raise(&mut prices, &mut groups, &levels, &reached, top);
+                    top += 1;
+                    if has_way(&neighbours.exits, &groups, &prices, others, &reached) {
+                        break;
+                    }
+                }
             }
             Some(source) => {
                 send_phase(

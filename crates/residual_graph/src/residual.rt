@@ -4,10 +4,10 @@ ghost use Rattle.std.specs.Prelude.{◌≡◌, ◌<◌, ◌≤◌, ◌*◌, ◌^
 ghost use Rattle.network_laws.specs.Networks.{IsNetwork, gross};
 ghost use Rattle.network_laws.specs.Limits.{AreLimits, IsWithinLimits};
 ghost use Rattle.residual_graph.specs.Residual.{ResidualData, IsResidual, IsCapped, residual_of, network_of};
-ghost use Rattle.residual_graph.specs.Arcs.{arc_count, tail, head, room, cost, pushed};
+ghost use Rattle.residual_graph.specs.Arcs.{arc_count, tail, head, room, cost, pushed, pair, is_forward, flow_at, has_turned};
 ghost use Rattle.units_core.specs.declared.limits.TheConstants.{MOST_GROSS};
 
-use crate::arcs::{is_forward, moved_flow, pair_of};
+use crate::arcs::{is_forward, move_over, moved_flow, pair_of};
 use crate::build::{flows_of, rows_of};
 use crate::flow::Flow;
 use network_laws::{Limits, Network};
@@ -138,6 +138,18 @@ impl Residual {
         let place = pair_of(arc);
         let flow = self.flows[place];
         self.flows[place] = moved_flow(flow, is_forward(arc), amount);
+    }
+
+    /// Moves an amount as `push` does, and tells whether the arc has filled, or its twin has opened.
+    pub fn push_turning(&mut self, arc: u32, amount: u64) -> bool
+        requires arc { arc < arc_count self.old.flows }
+        requires room { amount ≤ room self.old.flows arc }
+        ensures pushed { self.new ≡ record self.old { flows = pushed amount self.old.flows arc } }
+        ensures turned { result ≡ has_turned (is_forward arc) amount (flow_at self.new.flows (pair arc)) }
+        ensures residual { IsResidual self.new }
+    {
+        let place = pair_of(arc);
+        move_over(&mut self.flows[place], is_forward(arc), amount)
     }
 
     /// The network that the pairs are. The only error is want of memory.

@@ -1,15 +1,18 @@
-use Rattle.std.proofs.Common.{◌≡◌, ℕ, ◌+◌, ◌<◌, List, length, get_or, Option, refl, sym, ap, ◌∙◌, subst, arith}
+use Rattle.std.proofs.Common.{◌≡◌, ℕ, ◌+◌, ◌<◌, true, false, ltb, List, length, get_or, Option, refl, sym, ap, ◌∙◌, subst, arith}
 use Rattle.std.proofs.lemmas.List.{with_items_is}
 use Rattle.std.specs.Prelude.{IsNone}
 use Rattle.std.specs.Vec.{with_items}
 use Rattle.member_set.specs.declared.set.MemberSet.{MemberSet}
-use Rattle.path_solver.specs.Entries.{AreEntries}
+use Rattle.member_set.specs.Members.{has}
+use Rattle.path_solver.specs.declared.entries.Entry.{Entry}
+use Rattle.path_solver.specs.Entries.{AreEntries, is_entry, is_open_to}
 use Rattle.path_solver.specs.Groups.{AreGroups}
 use Rattle.path_solver.specs.Levels.{IsReached, AreCut, AreLayers, AreWholeLayers}
 use Rattle.path_solver.specs.Rests.{IsSentAlong}
 use Rattle.path_solver.specs.Phases.{IsPhase, raised_price}
 use Rattle.path_solver.proofs.Spreads.{amount_in}
-use Rattle.path_solver.proofs.Phased.{none_left, settled, raised_phase, phase_sent}
+use Rattle.path_solver.proofs.Phased.{residual_kept, none_left, settled, raised_phase, phase_sent}
+use Rattle.path_solver.proofs.StillClosed.{still_closed}
 use Rattle.path_solver.proofs.settle.settle_rest.Goals as goal
 
 pub layer-requires-clause-entries : goal.layer-requires-clause-entries
@@ -19,31 +22,6 @@ pub layer-requires-clause-sorted : goal.layer-requires-clause-sorted
 layer-requires-clause-sorted c =
     subst (λ (xs : List ℕ). AreGroups xs c.deref-in-phases-3.result.now) (sym c.deref-in-phases-2.ensures.value)
     (subst (AreGroups c.phases.prices.items) (sym c.deref-in-phases-3.ensures.value) c.phases.invariant.sorted)
-
-pub raise-requires-clause-sorted : goal.raise-requires-clause-sorted
-raise-requires-clause-sorted c =
-    subst (λ (xs : List ℕ). AreGroups xs c.deref_mut-in-None-2.result.now) (sym c.deref_mut-in-None.ensures.value)
-    (subst (AreGroups c.phases.prices.items) (sym c.deref_mut-in-None-2.ensures.value) c.phases.invariant.sorted)
-
-pub raise-requires-clause-room : goal.raise-requires-clause-room
-raise-requires-clause-room c =
-    let inv = c.phases.invariant in
-    omega (arith, ap length c.deref_mut-in-None-2.ensures.value, inv.groups, inv.phase.few)
-
-pub raise-requires-clause-most : goal.raise-requires-clause-most
-raise-requires-clause-most c v = omega (arith, ap (λ (xs : List ℕ). get_or xs v 0) c.deref_mut-in-None.ensures.value, c.phases.invariant.phase.rated.most v)
-
-pub raise-requires-clause-reached : goal.raise-requires-clause-reached
-raise-requires-clause-reached c v =
-    let inv = c.phases.invariant in
-    let levels = with_items_is c.phases.levels c.layer.new.levels (c.layer.auto.levels ∙ c.deref_mut-in-phases.ensures.len) in
-    let at_levels : c.deref-in-None.result.now ≡ c.layer.new.levels = c.deref-in-None.ensures.value ∙ levels in
-    let none : IsNone c.layer.result = subst (λ (o : Option ℕ). IsNone o) (sym c.in-None.is) refl in
-    let known = c.layer.ensures.reached none v in
-    let one_each : length c.deref_mut-in-None.result.now ≡ c.phases.residual.members = ap length c.deref_mut-in-None.ensures.value ∙ inv.prices ∙ sym inv.phase.members in (
-      λ on. (omega (arith, (known.0 on).0, one_each), subst (λ (xs : List ℕ). IsReached xs v) (sym at_levels) (known.0 on).1),
-      λ both. known.1 (omega (arith, both.0, one_each), subst (λ (xs : List ℕ). IsReached xs v) at_levels both.1),
-    )
 
 pub still_with-senders-requires-clause-small : goal.still_with-senders-requires-clause-small
 still_with-senders-requires-clause-small c v on =
@@ -94,42 +72,6 @@ send_phase-requires-clause-low c v =
     let inv = c.phases.invariant in
     omega (arith, ap (λ (xs : List ℕ). get_or xs v 0) c.deref-in-Some-2.ensures.value, inv.phase.rated.most v, inv.phase.few, inv.phase.members)
 
-pub phases-preserved-in-None : goal.phases-preserved-in-None
-phases-preserved-in-None c =
-    let old = c.args.residual.now in
-    let r = c.phases.residual in
-    let inv = c.phases.invariant in
-    let p = c.phases.prices.items in
-    let p' = c.raise.new.prices in
-    let found = c.layer.new.levels in
-    let at_p : c.deref-in-phases-2.result.now ≡ c.phases.prices.items = c.deref-in-phases-2.ensures.value in
-    let len_found : length c.layer.new.levels ≡ c.args.residual.now.members = c.layer.auto.levels ∙ ap length c.deref_mut-in-phases.ensures.value ∙ inv.levels in
-    let len_new : length c.raise.new.prices ≡ length c.phases.prices.items = c.raise.auto.prices ∙ ap length c.deref_mut-in-None.ensures.value in
-    let levels = with_items_is c.phases.levels c.layer.new.levels (c.layer.auto.levels ∙ c.deref_mut-in-phases.ensures.len) in
-    let prices = with_items_is c.phases.prices c.raise.new.prices (c.raise.auto.prices ∙ c.deref_mut-in-None.ensures.len) in
-    let at_levels : c.deref-in-None.result.now ≡ c.layer.new.levels = c.deref-in-None.ensures.value ∙ levels in
-    let cut : AreCut c.phases.residual.flows c.phases.prices.items c.phases.surplus c.phases.lack c.layer.new.levels =
-    subst (λ (xs : List ℕ). AreCut c.phases.residual.flows xs c.phases.surplus c.phases.lack c.layer.new.levels) at_p (rw c.in-None.is at c.layer.ensures.layered) in
-    let raised : (v : ℕ) → v < length c.phases.prices.items → get_or c.raise.new.prices v 0 ≡ raised_price c.layer.new.levels c.phases.prices.items v =
-    λ v l. c.raise.ensures.raised v (omega (arith, l, ap length c.deref_mut-in-None.ensures.value)) ∙ ap (λ ls. raised_price ls c.deref_mut-in-None.result.now v) at_levels ∙ ap (λ ps. raised_price c.layer.new.levels ps v) c.deref_mut-in-None.ensures.value in
-    let source = c.is_empty.ensures.some c.phases-test.true in
-    let sends : 0 < get_or c.phases.surplus source.0 0 = (c.phases.invariant.senders source.0).0 source.1 in
-    let all = raised_phase old r c.args.surplus.now c.args.lack.now c.phases.surplus c.phases.lack p p' found c.phases.top source.0 c.members-members.ensures.residual c.requires.feasible inv.prices len_new len_found (c.phases.auto.surplus ∙ sym c.requires.surplus) sends inv.phase cut raised in
-    let layers = with_items_is c.phases.layers c.layer.new.layers (c.layer.auto.layers ∙ c.deref_mut-in-phases-2.ensures.len) in
-    let groups = with_items_is c.phases.groups c.raise.new.groups (c.raise.auto.groups ∙ c.deref_mut-in-None-2.ensures.len) in
-    record {
-      neighbours = inv.neighbours;
-      groups = ap length groups ∙ c.raise.auto.groups ∙ ap length c.deref_mut-in-None-2.ensures.value ∙ inv.groups;
-      sorted = rw (prices, groups) c.raise.ensures.sorted;
-      phase = subst (λ (xs : List ℕ). IsPhase c.args.residual.now c.phases.residual c.args.surplus.now c.args.lack.now c.phases.surplus c.phases.lack xs (c.phases.top + 1)) (sym prices) all.1;
-      prices = ap length prices ∙ len_new ∙ inv.prices;
-      levels = ap length levels ∙ len_found;
-      senders = inv.senders;
-      receivers = inv.receivers;
-      layers = ap length layers ∙ c.layer.auto.layers ∙ ap length c.deref_mut-in-phases-2.ensures.value ∙ inv.layers;
-      path = inv.path;
-    }
-
 pub phases-preserved : goal.phases-preserved
 phases-preserved c =
     let inv = c.phases.invariant in
@@ -155,3 +97,155 @@ phases-preserved c =
 pub returns : goal.returns
 returns c =
     settled c.args.residual.now c.phases.residual c.args.surplus.now c.args.lack.now c.phases.surplus c.phases.lack c.phases.prices.items c.phases.top c.members-members.ensures.residual c.requires.feasible c.phases.invariant.prices (none_left c.phases.surplus c.phases.senders c.phases.invariant.senders (c.is_empty.ensures.none.0 c.phases-test.false)) c.phases.invariant.phase
+
+pub raise-requires-clause-sorted : goal.raise-requires-clause-sorted
+raise-requires-clause-sorted c =
+    subst (λ (xs : List ℕ). AreGroups xs c.deref_mut-in-raises-2.result.now) (sym c.deref_mut-in-raises.ensures.value)
+    (subst (AreGroups c.raises.prices.items) (sym c.deref_mut-in-raises-2.ensures.value) c.raises.invariant.sorted)
+
+pub raise-requires-clause-reached : goal.raise-requires-clause-reached
+raise-requires-clause-reached c v =
+    let levels = with_items_is c.phases.levels c.layer.new.levels (c.layer.auto.levels ∙ c.deref_mut-in-phases.ensures.len) in
+    let at_levels : c.deref-in-raises.result.now ≡ c.layer.new.levels = c.deref-in-raises.ensures.value ∙ levels in
+    let none : IsNone c.layer.result = subst (λ (o : Option ℕ). IsNone o) (sym c.in-None.is) refl in
+    let known = c.layer.ensures.reached none v in
+    let one_each : length c.deref_mut-in-raises.result.now ≡ c.phases.residual.members = ap length c.deref_mut-in-raises.ensures.value ∙ c.raises.invariant.prices ∙ sym c.phases.invariant.phase.members in (
+      λ on. (omega (arith, (known.0 on).0, one_each), subst (λ (xs : List ℕ). IsReached xs v) (sym at_levels) (known.0 on).1),
+      λ both. known.1 (omega (arith, both.0, one_each), subst (λ (xs : List ℕ). IsReached xs v) at_levels both.1),
+    )
+
+pub has_way-requires-clause-low : goal.has_way-requires-clause-low
+has_way-requires-clause-low c v =
+    let old = c.args.residual.now in
+    let r = c.phases.residual in
+    let inv = c.phases.invariant in
+    let rising = c.raises.invariant in
+    let p = c.raises.prices.items in
+    let p' = c.raise.new.prices in
+    let found = c.layer.new.levels in
+    let len_found : length c.layer.new.levels ≡ c.args.residual.now.members = c.layer.auto.levels ∙ ap length c.deref_mut-in-phases.ensures.value ∙ inv.levels in
+    let len_new : length c.raise.new.prices ≡ length c.raises.prices.items = c.raise.auto.prices ∙ ap length c.deref_mut-in-raises.ensures.value in
+    let levels = with_items_is c.phases.levels c.layer.new.levels (c.layer.auto.levels ∙ c.deref_mut-in-phases.ensures.len) in
+    let prices = with_items_is c.raises.prices c.raise.new.prices (c.raise.auto.prices ∙ c.deref_mut-in-raises.ensures.len) in
+    let groups = with_items_is c.raises.groups c.raise.new.groups (c.raise.auto.groups ∙ c.deref_mut-in-raises-2.ensures.len) in
+    let at_levels : c.deref-in-raises.result.now ≡ c.layer.new.levels = c.deref-in-raises.ensures.value ∙ levels in
+    let cut : AreCut c.phases.residual.flows c.raises.prices.items c.phases.surplus c.phases.lack c.layer.new.levels =
+    subst (AreCut c.phases.residual.flows c.raises.prices.items c.phases.surplus c.phases.lack) levels rising.cut in
+    let raised : (v : ℕ) → v < length c.raises.prices.items → get_or c.raise.new.prices v 0 ≡ raised_price c.layer.new.levels c.raises.prices.items v =
+    λ v l. c.raise.ensures.raised v (omega (arith, l, ap length c.deref_mut-in-raises.ensures.value)) ∙ ap (λ ls. raised_price ls c.deref_mut-in-raises.result.now v) at_levels ∙ ap (λ ps. raised_price c.layer.new.levels ps v) c.deref_mut-in-raises.ensures.value in
+    let source = c.is_empty.ensures.some c.phases-test.true in
+    let sends : 0 < get_or c.phases.surplus source.0 0 = (c.phases.invariant.senders source.0).0 source.1 in
+    let all = raised_phase old r c.args.surplus.now c.args.lack.now c.phases.surplus c.phases.lack p p' found c.raises.top source.0 c.members-members.ensures.residual c.requires.feasible rising.prices len_new len_found (c.phases.auto.surplus ∙ sym c.requires.surplus) sends rising.phase cut raised in
+    let at_p : get_or c.deref-in-raises-4.result.now v 0 ≡ get_or c.raise.new.prices v 0 = ap (λ (xs : List ℕ). get_or xs v 0) (c.deref-in-raises-4.ensures.value ∙ prices) in
+    let at_g : length c.deref-in-raises-3.result.now ≡ c.args.residual.now.members + 3 = ap length (c.deref-in-raises-3.ensures.value ∙ groups) ∙ c.raise.auto.groups ∙ ap length c.deref_mut-in-raises-2.ensures.value ∙ rising.groups in
+    omega (arith, at_p, at_g, all.1.rated.most v, all.1.few)
+
+pub phases-smaller-then-has_way : goal.phases-smaller-then-has_way
+phases-smaller-then-has_way c =
+    let old = c.args.residual.now in
+    let r = c.phases.residual in
+    let inv = c.phases.invariant in
+    let rising = c.raises.invariant in
+    let p = c.raises.prices.items in
+    let p' = c.raise.new.prices in
+    let found = c.layer.new.levels in
+    let len_found : length c.layer.new.levels ≡ c.args.residual.now.members = c.layer.auto.levels ∙ ap length c.deref_mut-in-phases.ensures.value ∙ inv.levels in
+    let len_new : length c.raise.new.prices ≡ length c.raises.prices.items = c.raise.auto.prices ∙ ap length c.deref_mut-in-raises.ensures.value in
+    let levels = with_items_is c.phases.levels c.layer.new.levels (c.layer.auto.levels ∙ c.deref_mut-in-phases.ensures.len) in
+    let prices = with_items_is c.raises.prices c.raise.new.prices (c.raise.auto.prices ∙ c.deref_mut-in-raises.ensures.len) in
+    let groups = with_items_is c.raises.groups c.raise.new.groups (c.raise.auto.groups ∙ c.deref_mut-in-raises-2.ensures.len) in
+    let at_levels : c.deref-in-raises.result.now ≡ c.layer.new.levels = c.deref-in-raises.ensures.value ∙ levels in
+    let cut : AreCut c.phases.residual.flows c.raises.prices.items c.phases.surplus c.phases.lack c.layer.new.levels =
+    subst (AreCut c.phases.residual.flows c.raises.prices.items c.phases.surplus c.phases.lack) levels rising.cut in
+    let raised : (v : ℕ) → v < length c.raises.prices.items → get_or c.raise.new.prices v 0 ≡ raised_price c.layer.new.levels c.raises.prices.items v =
+    λ v l. c.raise.ensures.raised v (omega (arith, l, ap length c.deref_mut-in-raises.ensures.value)) ∙ ap (λ ls. raised_price ls c.deref_mut-in-raises.result.now v) at_levels ∙ ap (λ ps. raised_price c.layer.new.levels ps v) c.deref_mut-in-raises.ensures.value in
+    let source = c.is_empty.ensures.some c.phases-test.true in
+    let sends : 0 < get_or c.phases.surplus source.0 0 = (c.phases.invariant.senders source.0).0 source.1 in
+    let all = raised_phase old r c.args.surplus.now c.args.lack.now c.phases.surplus c.phases.lack p p' found c.raises.top source.0 c.members-members.ensures.residual c.requires.feasible rising.prices len_new len_found (c.phases.auto.surplus ∙ sym c.requires.surplus) sends rising.phase cut raised in
+    omega (arith, all.0, rising.up, c.members-members.ensures.residual.few)
+
+pub phases-preserved-then-has_way : goal.phases-preserved-then-has_way
+phases-preserved-then-has_way c =
+    let old = c.args.residual.now in
+    let r = c.phases.residual in
+    let inv = c.phases.invariant in
+    let rising = c.raises.invariant in
+    let p = c.raises.prices.items in
+    let p' = c.raise.new.prices in
+    let found = c.layer.new.levels in
+    let len_found : length c.layer.new.levels ≡ c.args.residual.now.members = c.layer.auto.levels ∙ ap length c.deref_mut-in-phases.ensures.value ∙ inv.levels in
+    let len_new : length c.raise.new.prices ≡ length c.raises.prices.items = c.raise.auto.prices ∙ ap length c.deref_mut-in-raises.ensures.value in
+    let levels = with_items_is c.phases.levels c.layer.new.levels (c.layer.auto.levels ∙ c.deref_mut-in-phases.ensures.len) in
+    let prices = with_items_is c.raises.prices c.raise.new.prices (c.raise.auto.prices ∙ c.deref_mut-in-raises.ensures.len) in
+    let groups = with_items_is c.raises.groups c.raise.new.groups (c.raise.auto.groups ∙ c.deref_mut-in-raises-2.ensures.len) in
+    let at_levels : c.deref-in-raises.result.now ≡ c.layer.new.levels = c.deref-in-raises.ensures.value ∙ levels in
+    let cut : AreCut c.phases.residual.flows c.raises.prices.items c.phases.surplus c.phases.lack c.layer.new.levels =
+    subst (AreCut c.phases.residual.flows c.raises.prices.items c.phases.surplus c.phases.lack) levels rising.cut in
+    let raised : (v : ℕ) → v < length c.raises.prices.items → get_or c.raise.new.prices v 0 ≡ raised_price c.layer.new.levels c.raises.prices.items v =
+    λ v l. c.raise.ensures.raised v (omega (arith, l, ap length c.deref_mut-in-raises.ensures.value)) ∙ ap (λ ls. raised_price ls c.deref_mut-in-raises.result.now v) at_levels ∙ ap (λ ps. raised_price c.layer.new.levels ps v) c.deref_mut-in-raises.ensures.value in
+    let source = c.is_empty.ensures.some c.phases-test.true in
+    let sends : 0 < get_or c.phases.surplus source.0 0 = (c.phases.invariant.senders source.0).0 source.1 in
+    let all = raised_phase old r c.args.surplus.now c.args.lack.now c.phases.surplus c.phases.lack p p' found c.raises.top source.0 c.members-members.ensures.residual c.requires.feasible rising.prices len_new len_found (c.phases.auto.surplus ∙ sym c.requires.surplus) sends rising.phase cut raised in
+    let layers = with_items_is c.phases.layers c.layer.new.layers (c.layer.auto.layers ∙ c.deref_mut-in-phases-2.ensures.len) in
+    record {
+      phase = subst (λ (xs : List ℕ). IsPhase c.args.residual.now c.phases.residual c.args.surplus.now c.args.lack.now c.phases.surplus c.phases.lack xs (c.raises.top + 1)) (sym prices) all.1;
+      neighbours = inv.neighbours;
+      groups = ap length groups ∙ c.raise.auto.groups ∙ ap length c.deref_mut-in-raises-2.ensures.value ∙ rising.groups;
+      sorted = rw (prices, groups) c.raise.ensures.sorted;
+      prices = ap length prices ∙ len_new ∙ rising.prices;
+      levels = ap length levels ∙ len_found;
+      senders = inv.senders;
+      receivers = inv.receivers;
+      layers = ap length layers ∙ c.layer.auto.layers ∙ ap length c.deref_mut-in-phases-2.ensures.value ∙ inv.layers;
+      path = inv.path;
+    }
+
+pub raises-preserved : goal.raises-preserved
+raises-preserved c =
+    let old = c.args.residual.now in
+    let r = c.phases.residual in
+    let inv = c.phases.invariant in
+    let rising = c.raises.invariant in
+    let p = c.raises.prices.items in
+    let p' = c.raise.new.prices in
+    let found = c.layer.new.levels in
+    let len_found : length c.layer.new.levels ≡ c.args.residual.now.members = c.layer.auto.levels ∙ ap length c.deref_mut-in-phases.ensures.value ∙ inv.levels in
+    let len_new : length c.raise.new.prices ≡ length c.raises.prices.items = c.raise.auto.prices ∙ ap length c.deref_mut-in-raises.ensures.value in
+    let levels = with_items_is c.phases.levels c.layer.new.levels (c.layer.auto.levels ∙ c.deref_mut-in-phases.ensures.len) in
+    let prices = with_items_is c.raises.prices c.raise.new.prices (c.raise.auto.prices ∙ c.deref_mut-in-raises.ensures.len) in
+    let groups = with_items_is c.raises.groups c.raise.new.groups (c.raise.auto.groups ∙ c.deref_mut-in-raises-2.ensures.len) in
+    let at_levels : c.deref-in-raises.result.now ≡ c.layer.new.levels = c.deref-in-raises.ensures.value ∙ levels in
+    let cut : AreCut c.phases.residual.flows c.raises.prices.items c.phases.surplus c.phases.lack c.layer.new.levels =
+    subst (AreCut c.phases.residual.flows c.raises.prices.items c.phases.surplus c.phases.lack) levels rising.cut in
+    let raised : (v : ℕ) → v < length c.raises.prices.items → get_or c.raise.new.prices v 0 ≡ raised_price c.layer.new.levels c.raises.prices.items v =
+    λ v l. c.raise.ensures.raised v (omega (arith, l, ap length c.deref_mut-in-raises.ensures.value)) ∙ ap (λ ls. raised_price ls c.deref_mut-in-raises.result.now v) at_levels ∙ ap (λ ps. raised_price c.layer.new.levels ps v) c.deref_mut-in-raises.ensures.value in
+    let source = c.is_empty.ensures.some c.phases-test.true in
+    let sends : 0 < get_or c.phases.surplus source.0 0 = (c.phases.invariant.senders source.0).0 source.1 in
+    let all = raised_phase old r c.args.surplus.now c.args.lack.now c.phases.surplus c.phases.lack p p' found c.raises.top source.0 c.members-members.ensures.residual c.requires.feasible rising.prices len_new len_found (c.phases.auto.surplus ∙ sym c.requires.surplus) sends rising.phase cut raised in
+    let none : IsNone c.layer.result = subst (λ (o : Option ℕ). IsNone o) (sym c.in-None.is) refl in
+    let no_way : (u h : ℕ) → has c.and-others.result u ≡ true → has c.layer.new.reached h ≡ true → is_open_to c.phases.neighbours.exits.items c.raise.new.groups (get_or c.raise.new.prices u 0) u h ≡ false =
+    λ u h on_u on_h.
+        sym (ap (λ (es : List Entry). is_open_to es c.raise.new.groups (get_or c.raise.new.prices u 0) u h) c.deref-in-raises-2.ensures.value)
+        ∙ sym (ap (λ (gs : List MemberSet). is_open_to c.deref-in-raises-2.result.now gs (get_or c.raise.new.prices u 0) u h) (c.deref-in-raises-3.ensures.value ∙ groups))
+        ∙ sym (ap (λ (xs : List ℕ). is_open_to c.deref-in-raises-2.result.now c.deref-in-raises-3.result.now (get_or xs u 0) u h) (c.deref-in-raises-4.ensures.value ∙ prices))
+        ∙ c.has_way.ensures c.if-has_way.false u h on_u on_h in
+    let len_members : c.phases.residual.members ≡ length c.raise.new.prices = inv.phase.members ∙ sym (len_new ∙ rising.prices) in
+    let len_groups : length c.raise.new.groups ≡ c.args.residual.now.members + 3 = c.raise.auto.groups ∙ ap length c.deref_mut-in-raises-2.ensures.value ∙ rising.groups in
+    let every : (u : ℕ) → has c.everyone-all.result u ≡ ltb u c.phases.residual.members =
+    λ u. c.everyone-all.ensures u ∙ ap (ltb u) (c.members-members.ensures.value ∙ sym inv.phase.members) in
+    let closed = still_closed r p' found c.phases.neighbours c.raise.new.groups c.layer.new.reached c.around-near.result c.without.result c.and-others.result c.everyone-all.result (residual_kept old r inv.phase.members inv.phase.pairs c.members-members.ensures.residual) inv.neighbours c.raise.ensures.sorted len_members
+    (λ v. omega (arith, all.1.rated.most v, all.1.few, len_groups))
+    (c.layer.ensures.reached none)
+    (λ h u on e. c.around-near.ensures h u on (ap (λ (es : List Entry). is_entry es h u) c.deref-in-None.ensures.value ∙ e))
+    c.without.ensures c.and-others.ensures every no_way in
+    let new_cut : AreCut c.phases.residual.flows c.raise.new.prices c.phases.surplus c.phases.lack c.layer.new.levels =
+    record { closed = closed; senders = cut.senders; receivers = cut.receivers } in
+    record {
+      phase = subst (λ (xs : List ℕ). IsPhase c.args.residual.now c.phases.residual c.args.surplus.now c.args.lack.now c.phases.surplus c.phases.lack xs (c.raises.top + 1)) (sym prices) all.1;
+      cut = subst (λ (xs : List ℕ). AreCut c.phases.residual.flows xs c.phases.surplus c.phases.lack (with_items c.phases.levels c.layer.new.levels).items) (sym prices)
+          (subst (AreCut c.phases.residual.flows c.raise.new.prices c.phases.surplus c.phases.lack) (sym levels) new_cut);
+      groups = ap length groups ∙ len_groups;
+      sorted = rw (prices, groups) c.raise.ensures.sorted;
+      prices = ap length prices ∙ len_new ∙ rising.prices;
+      up = omega (arith, rising.up);
+    }

@@ -1,7 +1,8 @@
-use Rattle.std.proofs.Common.{◌≡◌, ◌+◌, ◌-◌, ◌*◌, length, sum}
+use Rattle.std.proofs.Common.{◌≡◌, ◌≤◌, ◌+◌, ◌-◌, ◌*◌, length, sum}
 use Rattle.path_solver.specs.Phases.{IsPhase}
 use Rattle.path_solver.specs.Neighbours.{AreNeighbours}
 use Rattle.path_solver.specs.Rests.{HaveSome}
+use Rattle.path_solver.specs.Levels.{AreCut}
 use Rattle.path_solver.specs.Groups.{AreGroups}
 use Rattle.path_solver.proofs.settle.settle_rest.Given as goal
 
@@ -18,6 +19,19 @@ invariant-phases l = record {
   layers : length l.layers.items ≡ l.initial.residual.members + 1;
   path : length l.path.items ≡ l.initial.residual.members;
 }
+
+abbrev pub invariant-raises : goal.invariant-raises
+invariant-raises l = record {
+  phase : IsPhase l.fn.residual l.residual l.fn.surplus l.fn.lack l.surplus l.lack l.prices.items l.top;
+  cut : AreCut l.residual.flows l.prices.items l.surplus l.lack l.levels.items;
+  groups : length l.groups.items ≡ l.fn.residual.members + 3;
+  sorted : AreGroups l.prices.items l.groups.items;
+  prices : length l.prices.items ≡ l.fn.residual.members;
+  up : l.initial.top ≤ l.top;
+}
+
+abbrev pub decreases-raises : goal.decreases-raises
+decreases-raises l = 512 - l.top
 
 abbrev pub decreases-phases : goal.decreases-phases
 decreases-phases l = sum l.surplus * 512 + (512 - l.top)
