@@ -1,5 +1,5 @@
 -- No open arc enters the reached members where none is a way of the others around them.
-use Rattle.std.proofs.Common.{◌≡◌, ℕ, ◌+◌, ◌<◌, ◌≤◌, Bool, true, false, not, ltb, ◌&&◌, ◌||◌, ◌↔◌, List, length, get_or, refl, sym, ap, ◌∙◌, inl, inr, arith, true≢false}
+use Rattle.std.proofs.Common.{◌≡◌, ℕ, ◌+◌, ◌<◌, ◌≤◌, true, false, not, ltb, ◌&&◌, ◌↔◌, List, length, get_or, refl, sym, ap, ◌∙◌, inl, inr, arith, true≢false}
 use Rattle.std.proofs.lemmas.Bool.{false_from_ne_true, lt-ltb, and_parts, and_from, or_cases, or_left, or_right}
 use Rattle.member_set.specs.declared.set.MemberSet.{MemberSet}
 use Rattle.member_set.specs.Members.{has}

@@ -1,5 +1,5 @@
 -- Between which members arcs with room lead, and by which pairs.
-use Rattle.std.specs.Prelude.{◌≡◌, ◌&&◌, if◌then◌else◌, ℕ, ◌+◌, ◌*◌, ◌<◌, Bool, true, false, List, [], length, map, slice_index, slice_index_or}
+use Rattle.std.specs.Prelude.{◌≡◌, ◌&&◌, if◌then◌else◌, ℕ, ◌+◌, ◌*◌, ◌<◌, true, List, [], length, map, slice_index, slice_index_or}
 use Rattle.member_set.specs.declared.set.MemberSet.{MemberSet}
 use Rattle.member_set.specs.Members.{has}
 use Rattle.residual_graph.specs.declared.flow.Flow.{Flow}

@@ -4,8 +4,9 @@
 //! cost is the price that it bridges. First amounts go straight, over the pairs of one that has to send and one
 //! that has to receive, which are tight. While tight arcs with room lead from members that have to send to such
 //! that have to receive, amounts go along those paths that have the fewest arcs. Where none leads there, the
-//! prices rise by 1 of the members from which no tight arcs lead to one that has to receive. So no arc with room
-//! ever costs less than the price that it bridges, and in the end the prices are the potentials of a certificate.
+//! prices of the members from which no tight arcs lead to one that has to receive rise by 1, and again until a tight
+//! arc leads from one of them to another member. So no arc with room ever costs less than the price that it bridges,
+//! and in the end the prices are the potentials of a certificate.
 #![tactic(auto)]
 
 mod direct;

@@ -1,4 +1,4 @@
-use Rattle.std.proofs.Common.{◌≡◌, ◌+◌, get_or, set, refl, sym, ◌∙◌, subst, arith, true≢false}
+use Rattle.std.proofs.Common.{◌≡◌, ◌+◌, get_or, set, sym, ◌∙◌, subst, arith, true≢false}
 use Rattle.path_solver.specs.Levels.{AreLayers, AreWholeLayers}
 use Rattle.std.proofs.lemmas.Bool.{and_from, and_parts}
 use Rattle.member_set.specs.Members.{has}

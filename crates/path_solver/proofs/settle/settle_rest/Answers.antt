@@ -225,10 +225,10 @@ raises-preserved c =
     let none : IsNone c.layer.result = subst (λ (o : Option ℕ). IsNone o) (sym c.in-None.is) refl in
     let no_way : (u h : ℕ) → has c.and-others.result u ≡ true → has c.layer.new.reached h ≡ true → is_open_to c.phases.neighbours.exits.items c.raise.new.groups (get_or c.raise.new.prices u 0) u h ≡ false =
     λ u h on_u on_h.
-        sym (ap (λ (es : List Entry). is_open_to es c.raise.new.groups (get_or c.raise.new.prices u 0) u h) c.deref-in-raises-2.ensures.value)
-        ∙ sym (ap (λ (gs : List MemberSet). is_open_to c.deref-in-raises-2.result.now gs (get_or c.raise.new.prices u 0) u h) (c.deref-in-raises-3.ensures.value ∙ groups))
-        ∙ sym (ap (λ (xs : List ℕ). is_open_to c.deref-in-raises-2.result.now c.deref-in-raises-3.result.now (get_or xs u 0) u h) (c.deref-in-raises-4.ensures.value ∙ prices))
-        ∙ c.has_way.ensures c.if-has_way.false u h on_u on_h in
+    sym (ap (λ (es : List Entry). is_open_to es c.raise.new.groups (get_or c.raise.new.prices u 0) u h) c.deref-in-raises-2.ensures.value)
+    ∙ sym (ap (λ (gs : List MemberSet). is_open_to c.deref-in-raises-2.result.now gs (get_or c.raise.new.prices u 0) u h) (c.deref-in-raises-3.ensures.value ∙ groups))
+    ∙ sym (ap (λ (xs : List ℕ). is_open_to c.deref-in-raises-2.result.now c.deref-in-raises-3.result.now (get_or xs u 0) u h) (c.deref-in-raises-4.ensures.value ∙ prices))
+    ∙ c.has_way.ensures c.if-has_way.false u h on_u on_h in
     let len_members : c.phases.residual.members ≡ length c.raise.new.prices = inv.phase.members ∙ sym (len_new ∙ rising.prices) in
     let len_groups : length c.raise.new.groups ≡ c.args.residual.now.members + 3 = c.raise.auto.groups ∙ ap length c.deref_mut-in-raises-2.ensures.value ∙ rising.groups in
     let every : (u : ℕ) → has c.everyone-all.result u ≡ ltb u c.phases.residual.members =

@@ -1,4 +1,4 @@
-use Rattle.std.proofs.Common.{rules, arith, ◌≡◌, ℕ, ◌+◌, ◌*◌, ◌/◌, ◌%◌, w64}
+use Rattle.std.proofs.Common.{rules, arith, ◌+◌, ◌*◌, w64}
 use Rattle.std.specs.Int.{trailing_zeros}
 use Rattle.member_set.specs.Members.{has_in}
 use Rattle.member_set.proofs.Parts.{taken_has, taken_out_of, no_part, part_less}
