@@ -23,7 +23,7 @@ use Rattle.compress_server.specs.Answered.{AnswersInput, ScriptsAreAnswered, IsS
 use Rattle.compress_server.specs.Ending.{IsFault, IsCounted, JournalRuns, ScriptRuns, ServeRuns, OverRoster}
 use Rattle.compress_server.specs.Files.{SaysRoster, IsRosterFault, ReadBeforeRoster}
 use Rattle.compress_server.specs.Housed.{DiskState, OverHouse, OpeningFails}
-use Rattle.compress_server.specs.Run.{at_first, IsReplied, IsLeft, IsWhole, IsAtLimit}
+use Rattle.compress_server.specs.Run.{at_first, IsReplied, IsWhole, IsAtLimit}
 use Rattle.compress_server.specs.Seen.{ListenerState, Seen, World}
 use Rattle.compress_server.specs.Serve.{ServiceSize, SeatRun, seat_at, final_of, IsSeatAt, AreSeats}
 use Rattle.compress_server.specs.Telling.{TellsEnd}

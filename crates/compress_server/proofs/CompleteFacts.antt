@@ -18,8 +18,8 @@ use Rattle.compress_server.specs.Ending.{IsFault, JournalRuns, CheckRuns, SolveR
 use Rattle.compress_server.specs.Housed.{DiskState, OpeningFails}
 use Rattle.compress_server.specs.Replay.{ReplayEnds}
 use Rattle.compress_server.specs.Seen.{OutputState, World}
-use Rattle.compress_server.specs.Serve.{IsUnhoused, IsUnbegun, IsService, HouseServes, IsWritten, history_line, service_end}
-use Rattle.compress_server.specs.Telling.{TellsEnd, Ends}
+use Rattle.compress_server.specs.Serve.{HouseServes, IsWritten, history_line, service_end}
+use Rattle.compress_server.specs.Telling.{TellsEnd}
 use Rattle.compress_server.specs.Words.{Market, Form}
 
 -- the ends that are left

@@ -22,7 +22,7 @@ use Rattle.command_types.specs.Machine.{answer_to, empty_state}
 use Rattle.command_types.specs.Plans.{thawed, thawed_row}
 use Rattle.command_types.specs.Details.{lines_text, trade_line}
 use Rattle.cycle_states.specs.PlainDesk.{history_of, IsReplayed}
-use Rattle.trade_history.specs.Book.{IsClosedBase, Book, ExecutionRow, book_from, own_rows, execution_row, executions_from}
+use Rattle.trade_history.specs.Book.{IsClosedBase, Book, book_from, own_rows, execution_row, executions_from}
 use Rattle.trade_history.specs.Laws.{is_execution, execution_answer, TellsExecution, ExecutesAfter}
 use Rattle.trade_history.specs.Search.{Execution, execution_at}
 use Rattle.trade_history.proofs.Listed.{own_rows_are_the_historys, executions_are_listed, others_are_not_listed}

@@ -1,5 +1,5 @@
 -- What the program's one session says of its input and its output, over a house.
-use Rattle.std.proofs.Common.{◌≡◌, ◌⊎◌, ℕ, ◌+◌, ◌^◌, ◌≤◌, arith, true, false, List, [], ◌++◌, Option, refl, sym, subst, ap, inl, inr, ◌∙◌}
+use Rattle.std.proofs.Common.{◌≡◌, ◌⊎◌, ℕ, ◌+◌, ◌^◌, ◌≤◌, arith, true, false, List, [], Option, refl, sym, subst, ap, inl, inr, ◌∙◌}
 use Rattle.std.proofs.lemmas.List.{append-nil}
 use Rattle.outside.specs.Flow.{Flow, IsAtEnd}
 use Rattle.command_types.specs.declared.ask.Entry.{Entry}

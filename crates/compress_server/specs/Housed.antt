@@ -4,6 +4,7 @@ use Rattle.command_types.specs.declared.ask.Entry.{Entry}
 use Rattle.command_types.specs.History.{IsLegal}
 use Rattle.command_types.specs.Roster.{Rows}
 use Rattle.outside.specs.Disk as disks
+use Rattle.outside.specs.declared.disk.Disk.{Ghosts as DiskTells}
 use Rattle.outside.specs.Faults.{Rose}
 use Rattle.journal_core.specs.Moments.{LeavesOnly}
 use Rattle.recovery.specs.StandsFor.{StandsFor}
@@ -22,6 +23,10 @@ pub record DiskState : Type 0 where
 
 abbrev pub disk_of : Option disks.History → ℕ → DiskState
 disk_of history faults = record { history = history; faults = faults }
+
+-- what a disk tells
+abbrev pub disk_by : {D : Type 0} → DiskTells D → D → DiskState
+disk_by tells disk = disk_of (tells.history disk) (tells.fault_count disk)
 
 -- A crash at any moment from before to after leaves what has P. It says nothing of a disk that tells nothing, but that it goes on so.
 abbrev pub AtAnyMoment : Option disks.History → Option disks.History → (List ℕ → Type 0) → Type 0

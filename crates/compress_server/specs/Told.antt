@@ -1,5 +1,5 @@
 -- What a machine that has made a journal's changes tells of them.
-use Rattle.std.specs.Prelude.{ℕ, List, [], ◌++◌, length, Option, unwrap_or, codes, decimal}
+use Rattle.std.specs.Prelude.{ℕ, List, [], ◌++◌, length, unwrap_or, codes, decimal}
 use Rattle.command_types.specs.declared.answer.Answer.{Answer}
 use Rattle.command_types.specs.declared.answer.Answer.TheVariants.{Nothing, Executed}
 use Rattle.command_types.specs.declared.answer.Reply.{Reply}

@@ -12,6 +12,7 @@ mod opening;
 mod parting;
 mod places;
 mod replay;
+mod resources;
 mod script;
 mod serve;
 mod solve;

@@ -5,7 +5,7 @@ ghost use Rattle.outside.specs.Disk.{IsSettled};
 ghost use Rattle.command_types.specs.Roster.{IsRoster};
 ghost use Rattle.house.specs.House.{Keeps};
 ghost use Rattle.house.specs.Opening.{IsOpened};
-ghost use Rattle.compress_server.specs.Housed.{disk_of, OpeningFails};
+ghost use Rattle.compress_server.specs.Housed.{disk_by, OpeningFails};
 
 use crate::ending::End;
 use command_types::Roster;
@@ -24,7 +24,8 @@ pub fn open_house<D: Disk + Send>(
     requires roster { IsRoster roster.now }
     ensures opened { IfOk result (λ house. IsOpened roster.now (D.history disk) (D.fault_count disk) house) }
     ensures keeps { IfOk result (λ house. Keeps house) }
-    ensures fails { IfErr result (λ e. OpeningFails roster.now (disk_of (D.history disk) (D.fault_count disk)) (disk_of (D.history e.1) (D.fault_count e.1)) e.0) }
+    ensures fails { let seen = disk_by D.Disk in
+        IfErr result (λ e. OpeningFails roster.now (seen disk) (seen e.1) e.0) }
 {
     let mut disk = disk;
     if disk.attach(journal).is_err() {

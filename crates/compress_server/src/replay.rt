@@ -15,7 +15,7 @@ ghost use Rattle.cycle_states.specs.PlainDesk.{IsReplayed};
 ghost use Rattle.statements.specs.Details.{row_text};
 ghost use Rattle.compress_server.specs.declared.load.FileRole.{FileRole as Role};
 ghost use Rattle.compress_server.specs.Ending.{ReplayRuns};
-ghost use Rattle.compress_server.specs.Housed.{disk_of};
+ghost use Rattle.compress_server.specs.Housed.{disk_by};
 ghost use Rattle.compress_server.specs.Replay.{JournalReplays};
 ghost use Rattle.compress_server.specs.Told.{rows_told, reply_told, end_text, recovered_text};
 
@@ -161,7 +161,8 @@ fn replay_journal<K: Sink, D: Disk>(
     output: &mut K,
     disk: &mut D,
 ) -> End
-    ensures runs { JournalReplays roster (disk_of (D.history disk.old) (D.fault_count disk.old)) (disk_of (D.history disk.new) (D.fault_count disk.new)) (K.taken output.old) (K.taken output.new) result }
+    ensures runs { let seen = disk_by D.Disk in
+        JournalReplays roster (seen disk.old) (seen disk.new) (K.taken output.old) (K.taken output.new) result }
     ensures sink_fault { result ≡ End.SinkFault → Rose (K.faults output.old) (K.faults output.new) }
 {
     if disk.attach(journal).is_err() {
@@ -197,7 +198,8 @@ pub fn run_replay<F: Files, K: Sink, D: Disk>(
     output: &mut K,
     disk: &mut D,
 ) -> End
-    ensures runs { ReplayRuns (F.folder files.old) words.now.roster.now (K.taken output.old) (K.taken output.new) (disk_of (D.history disk.old) (D.fault_count disk.old)) (disk_of (D.history disk.new) (D.fault_count disk.new)) result }
+    ensures runs { let seen = disk_by D.Disk in
+        ReplayRuns (F.folder files.old) words.now.roster.now (K.taken output.old) (K.taken output.new) (seen disk.old) (seen disk.new) result }
     ensures stays { F.folder files.new ≡ F.folder files.old }
     ensures sink_fault { result ≡ End.SinkFault → Rose (K.faults output.old) (K.faults output.new) }
     ensures file_fault { (role : Role) → result ≡ End.Unloaded (LoadFault.Files role) → Rose (F.faults files.old) (F.faults files.new) }

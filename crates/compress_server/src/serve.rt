@@ -12,8 +12,7 @@ ghost use Rattle.outside.specs.Faults.{Rose};
 ghost use Rattle.command_types.specs.History.{end_of};
 ghost use Rattle.house.specs.House.{figures_of, is_stopped};
 ghost use Rattle.compress_server.specs.declared.load.FileRole.{FileRole as Role};
-ghost use Rattle.compress_server.specs.Housed.{disk_of};
-ghost use Rattle.compress_server.specs.Seen.{output_of, listener_of, seen_of};
+ghost use Rattle.compress_server.specs.Seen.{output_by, listener_by, seen_by};
 ghost use Rattle.doors.specs.Visits.{IsNew};
 ghost use Rattle.compress_server.specs.Serve.{IsWritten, history_line, had_no_memory, had_door_fault, trouble_end, service_end, HaveServed, HouseServes};
 ghost use Rattle.compress_server.specs.Ending.{ServeRuns};
@@ -24,6 +23,7 @@ use crate::ending::End;
 use crate::load::{LoadFault, load_roster};
 use crate::opening::open_house;
 use crate::places::{give_back, has_door_fault, has_no_memory, take_places};
+use crate::resources::Resources;
 use command_types::Roster;
 use cycle_lock::Turns;
 use doors::{Door, Listener};
@@ -32,7 +32,6 @@ use itoa::Buffer;
 use outside::{Disk, Files, Gate, Sink, Trouble, write_all};
 use path_solver::PathSolver;
 use seats::{Place, SeatEnd, Service};
-use std::alloc::Global;
 use std::sync::Wait;
 use std::thread::Threads;
 
@@ -50,7 +49,7 @@ pub struct ServiceWords<'a> {
 
 // Writes the line that tells the length of the history, and says whether it was written whole. It takes no memory.
 fn tell_history<K: Sink>(output: &mut K, length: u64) -> bool
-    ensures { IsWritten (output_of (K.taken output.old) (K.faults output.old)) (output_of (K.taken output.new) (K.faults output.new)) (history_line length) result }
+    ensures { IsWritten (output_by K.Sink output.old) (output_by K.Sink output.new) (history_line length) result }
 {
     if write_all(output, b"history ").is_err() {
         return false;
@@ -79,14 +78,11 @@ fn end_of_service<C: Door + Drop>(places: &[Place<C>], stopped: bool, written: b
     }
 }
 
-/// What all seats have in common: what they run on, the desk's roster, the gate that a worker passes before it solves a
-/// problem of a PROPOSE, and the form's words.
+/// What all seats have in common: what they run with, the desk's roster, and the form's words.
 #[derive(Drop)]
 pub struct Seating<'a, R: Threads + Wait + Sync, G: Gate> {
-    pub rt: &'a R,
-    pub alloc: Global,
+    pub with: &'a Resources<'a, R, G>,
     pub roster: &'a Roster,
-    pub gate: &'a G,
     pub words: &'a ServiceWords<'a>,
 }
 
@@ -108,16 +104,16 @@ impl<'a, R: Threads + Wait + Sync, G: Gate> Seating<'a, R, G> {
         ensures refused { IfErr result (λ w. w ≡ house) }
         ensures untouched { OnErr result (places.new ≡ places.old) }
     {
-        let (turns, pass) = match Turns::new(self.alloc, house) {
+        let (turns, pass) = match Turns::new(self.with.alloc, house) {
             Ok(lock) => lock,
             Err(house) => return Err(house),
         };
         let service = Service {
-            rt: self.rt,
-            alloc: self.alloc,
+            rt: self.with.rt,
+            alloc: self.with.alloc,
             workers: self.words.workers.value,
-            solver: &PathSolver::new(self.alloc),
-            gate: self.gate,
+            solver: &PathSolver::new(self.with.alloc),
+            gate: self.with.gate,
             roster: self.roster,
             most: self.words.connections,
         };
@@ -134,11 +130,13 @@ impl<'a, R: Threads + Wait + Sync, G: Gate> Seating<'a, R, G> {
         requires opened { end_of house.history ≡ house.opening }
         requires roster { self.now.roster.now ≡ house.history.base.state.roster }
         requires running { is_stopped house ≡ false }
-        ensures serves { HouseServes L.Door.visits (size_of self.now.words.now) house result.1 (output_of (K.taken output.old) (K.faults output.old)) (output_of (K.taken output.new) (K.faults output.new)) (listener_of (L.doors listener.old) (L.faults listener.old)) (listener_of (L.doors listener.new) (L.faults listener.new)) result.0 }
+        ensures serves { let doors = listener_by L.doors L.faults in
+            HouseServes L.Door.visits (size_of self.now.words.now) house result.1
+            (output_by K.Sink output.old) (output_by K.Sink output.new) (doors listener.old) (doors listener.new) result.0 }
         ensures figures { figures_of result.1 ≡ figures_of house }
     {
         let count = self.words.seats.value as usize;
-        let Ok(mut places) = Vec::with_capacity(self.alloc, count) else {
+        let Ok(mut places) = Vec::with_capacity(self.with.alloc, count) else {
             return (End::Memory, house);
         };
         if let Err(trouble) = listener.bind(self.words.address) {
@@ -176,34 +174,32 @@ fn end_of_trouble(trouble: Trouble) -> End
 /// Reads the roster of the file with this name, opens the journal with that one, and has seats serve at the address. No
 /// file changes but the journal, whose disk comes back.
 pub fn run_serve<R: Threads + Wait + Sync, F: Files, K: Sink, D: Disk + Send, L: Listener, G: Gate>(
-    rt: &R,
-    alloc: Global,
+    with: &Resources<'_, R, G>,
     files: &mut F,
     words: &ServiceWords<'_>,
     output: &mut K,
     disk: D,
     listener: &mut L,
-    gate: &G,
 ) -> (End, D)
     requires { IsSettled (D.history disk) }
-    ensures runs { ServeRuns L.Door.visits (F.folder files.old) words.now.roster.now (size_of words.now) (seen_of (output_of (K.taken output.old) (K.faults output.old)) (disk_of (D.history disk) (D.fault_count disk)) (listener_of (L.doors listener.old) (L.faults listener.old))) (seen_of (output_of (K.taken output.new) (K.faults output.new)) (disk_of (D.history result.1) (D.fault_count result.1)) (listener_of (L.doors listener.new) (L.faults listener.new))) result.0 }
+    ensures runs { let seen = seen_by K.Sink D.Disk L.doors L.faults in
+        ServeRuns L.Door.visits (F.folder files.old) words.now.roster.now (size_of words.now)
+        (seen output.old disk listener.old) (seen output.new result.1 listener.new) result.0 }
     ensures stays { F.folder files.new ≡ F.folder files.old }
     ensures sink_fault { result.0 ≡ End.SinkFault → Rose (K.faults output.old) (K.faults output.new) }
     ensures file_fault { (role : Role) → result.0 ≡ End.Unloaded (LoadFault.Files role) → Rose (F.faults files.old) (F.faults files.new) }
 {
-    let roster = match load_roster(alloc, files, words.roster) {
+    let roster = match load_roster(with.alloc, files, words.roster) {
         Ok(roster) => roster,
         Err(fault) => return (End::Unloaded(fault), disk),
     };
-    let house = match open_house(alloc, &roster, words.journal, disk) {
+    let house = match open_house(with.alloc, &roster, words.journal, disk) {
         Ok(house) => house,
         Err(failed) => return failed,
     };
     let seating = Seating {
-        rt,
-        alloc,
+        with,
         roster: &roster,
-        gate,
         words,
     };
     let (end, house) = seating.serve_at(house, listener, output);

@@ -3,15 +3,13 @@
 ghost use Rattle.std.specs.Prelude.{◌≡◌, map, string_bytes};
 ghost use Rattle.outside.specs.Disk.{IsSettled};
 ghost use Rattle.outside.specs.Faults.{Rose};
-ghost use Rattle.compress_server.specs.declared.ending.End.{End as Ending};
 ghost use Rattle.compress_server.specs.declared.load.FileRole.{FileRole as Role};
 ghost use Rattle.compress_server.specs.Words.{form_of};
 ghost use Rattle.compress_server.specs.Faults.{fault_line, damage_line};
 ghost use Rattle.compress_server.specs.Run.{IsReported};
-ghost use Rattle.compress_server.specs.Housed.{disk_of};
-ghost use Rattle.compress_server.specs.Seen.{output_of, listener_of, seen_of};
-ghost use Rattle.compress_server.specs.Ending.{Runs, IsCounted};
-ghost use Rattle.compress_server.specs.Telling.{IsLine, TellsEnd};
+ghost use Rattle.compress_server.specs.Seen.{seen_by, world_by};
+ghost use Rattle.compress_server.specs.Ending.{Runs};
+ghost use Rattle.compress_server.specs.Telling.{IsLine, TellsEnd, Ends};
 
 use crate::check::run_check;
 use crate::ending::End;
@@ -19,6 +17,7 @@ use crate::faults::{damage_line, fault_line};
 use crate::generated::run_gen;
 use crate::load::{FileRole, LoadFault};
 use crate::replay::{ReplayWords, run_replay};
+use crate::resources::Resources;
 use crate::script::{ScriptWords, run_script};
 use crate::serve::{ServiceWords, run_serve};
 use crate::solve::run_solve;
@@ -94,20 +93,18 @@ fn run_form<
     L: Listener,
     G: Gate,
 >(
-    rt: &R,
-    alloc: Global,
+    with: &Resources<'_, R, G>,
     words: &[String],
     files: &mut F,
     input: &mut S,
     output: &mut K,
     disk: D,
     listener: &mut L,
-    gate: &G,
 ) -> (End, D)
     requires { IsSettled (D.history disk) }
-    ensures runs { Runs L.Door.visits (F.folder files.old) (form_of (map string_bytes words.now)) (S.flow input.old) (S.flow input.new)
-        (seen_of (output_of (K.taken output.old) (K.faults output.old)) (disk_of (D.history disk) (D.fault_count disk)) (listener_of (L.doors listener.old) (L.faults listener.old)))
-        (seen_of (output_of (K.taken output.new) (K.faults output.new)) (disk_of (D.history result.1) (D.fault_count result.1)) (listener_of (L.doors listener.new) (L.faults listener.new))) result.0 }
+    ensures runs { let seen = seen_by K.Sink D.Disk L.doors L.faults in
+        Runs L.Door.visits (F.folder files.old) (form_of (map string_bytes words.now)) (S.flow input.old) (S.flow input.new)
+        (seen output.old disk listener.old) (seen output.new result.1 listener.new) result.0 }
     ensures stays { F.folder files.new ≡ F.folder files.old }
     ensures source_fault { result.0 ≡ End.SourceFault → Rose (S.faults input.old) (S.faults input.new) }
     ensures sink_fault { result.0 ≡ End.SinkFault → Rose (K.faults output.old) (K.faults output.new) }
@@ -127,7 +124,7 @@ fn run_form<
                 journal,
                 workers,
             };
-            run_script(rt, alloc, files, &words, input, output, disk, gate)
+            run_script(with, files, &words, input, output, disk)
         }
         Some(
             Form::Serve {
@@ -147,23 +144,29 @@ fn run_form<
                 connections,
                 workers,
             };
-            run_serve(rt, alloc, files, &words, output, disk, listener, gate)
+            run_serve(with, files, &words, output, disk, listener)
         }
         Some(Form::Check { market, proposal }) => {
-            (run_check(alloc, files, &market, proposal, output), disk)
+            (
+                run_check(with.alloc, files, &market, proposal, output),
+                disk,
+            )
         }
         Some(Form::Solve { market, workers }) => {
-            let workers = Workers::new(rt, workers.value, gate);
-            (run_solve(alloc, files, &market, output, &workers), disk)
+            let workers = Workers::new(with.rt, workers.value, with.gate);
+            (
+                run_solve(with.alloc, files, &market, output, &workers),
+                disk,
+            )
         }
         Some(Form::Gen { number, workers }) => {
-            let workers = Workers::new(rt, workers.value, gate);
-            (run_gen(alloc, number, output, &workers), disk)
+            let workers = Workers::new(with.rt, workers.value, with.gate);
+            (run_gen(with.alloc, number, output, &workers), disk)
         }
         Some(Form::Replay { roster, journal }) => {
             let words = ReplayWords { roster, journal };
             let mut disk = disk;
-            let end = run_replay(alloc, files, &words, output, &mut disk);
+            let end = run_replay(with.alloc, files, &words, output, &mut disk);
             (end, disk)
         }
     }
@@ -230,13 +233,13 @@ pub fn run<
     gate: &G,
 ) -> (u8, D)
     requires { IsSettled (D.history disk) }
-    ensures ends { (end : Ending) × Runs L.Door.visits (F.folder files.old) (form_of (map string_bytes words.now)) (S.flow input.old) (S.flow input.new)
-        (seen_of (output_of (K.taken output.old) (K.faults output.old)) (disk_of (D.history disk) (D.fault_count disk)) (listener_of (L.doors listener.old) (L.faults listener.old)))
-        (seen_of (output_of (K.taken output.new) (K.faults output.new)) (disk_of (D.history result.1) (D.fault_count result.1)) (listener_of (L.doors listener.new) (L.faults listener.new))) end
-        × TellsEnd (E.taken errors.old) (E.taken errors.new) (E.faults errors.old) (E.faults errors.new) end result.0
-        × IsCounted (Rose (F.faults files.old) (F.faults files.new)) (Rose (S.faults input.old) (S.faults input.new)) (Rose (K.faults output.old) (K.faults output.new)) end }
+    ensures ends { let seen = seen_by K.Sink D.Disk L.doors L.faults in
+        let world = world_by F.Files S.Source E.Sink seen in
+        Ends L.Door.visits (form_of (map string_bytes words.now)) (world files.old input.old errors.old output.old disk listener.old)
+        (world files.new input.new errors.new output.new result.1 listener.new) result.0 }
     ensures files { F.folder files.new ≡ F.folder files.old }
 {
-    let (end, disk) = run_form(rt, alloc, words, files, input, output, disk, listener, gate);
+    let with = Resources { rt, alloc, gate };
+    let (end, disk) = run_form(&with, words, files, input, output, disk, listener);
     (tell_end(alloc, errors, end), disk)
 }

@@ -29,54 +29,58 @@ fn has_problems(answer: &Answer) -> bool
     matches!(answer, Answer::Problems(_))
 }
 
+/// A version that a PROPOSE began: for whom, in which cycle, and at which position.
+#[derive(Drop)]
+struct Begun {
+    by: Option<Name>,
+    cycle: u64,
+    version: u64,
+    at: u64,
+}
+
 // Posts a solution of each problem. Where there is no memory for them, the reply is that, at the position at which the
 // version began.
 fn solve_and_post<T: Desk, R: Threads + Wait + Sync, V: Solver, G: Gate>(
     alloc: Global,
     asker: &mut Asker<'_, T, R, V, G>,
-    by: &Option<Name>,
-    cycle: u64,
-    version: u64,
+    begun: &Begun,
     problems: &[Problem],
-    begun_at: u64,
 ) -> Reply
-    ensures { Posts (of_pass asker.old.pass) (of_pass asker.new.pass) by.now cycle version begun_at problems.now result }
+    ensures { Posts (of_pass asker.old.pass) (of_pass asker.new.pass) begun.now.by begun.now.cycle begun.now.version begun.now.at problems.now result }
 {
     let Ok(solutions) = asker.solve_all(alloc, problems) else {
         return Reply {
-            at: begun_at,
+            at: begun.at,
             answer: Answer::No(Refusal::Memory),
         };
     };
     let solutions = Listed::new(solutions);
     let what = What::Post {
-        cycle,
-        version,
+        cycle: begun.cycle,
+        version: begun.version,
         solutions,
     };
-    asker.ask(Ask { by: *by, what })
+    asker.ask(Ask { by: begun.by, what })
 }
 
 // Asks for the problems of the version that was begun, and goes on with them.
 fn fetch<T: Desk, R: Threads + Wait + Sync, V: Solver, G: Gate>(
     alloc: Global,
     asker: &mut Asker<'_, T, R, V, G>,
-    by: &Option<Name>,
-    cycle: u64,
-    version: u64,
-    begun_at: u64,
+    begun: &Begun,
 ) -> Reply
-    ensures { Fetches (of_pass asker.old.pass) (of_pass asker.new.pass) by.now cycle version begun_at result }
+    ensures { Fetches (of_pass asker.old.pass) (of_pass asker.new.pass) begun.now.by begun.now.cycle begun.now.version begun.now.at result }
 {
+    let (cycle, version) = (begun.cycle, begun.version);
     let what = What::Fetch { cycle, version };
-    let reply = asker.ask(Ask { by: *by, what });
+    let reply = asker.ask(Ask { by: begun.by, what });
     if !has_problems(&reply.answer) {
         return reply;
     }
     let Answer::Problems(problems) = &reply.answer else {
         unreachable!()
     };
-    solve_and_post(alloc, asker, by, cycle, version, problems.rows(), begun_at)
+    solve_and_post(alloc, asker, begun, problems.rows())
 }
 
 /// Begins a version, solves its problems, with no turn held, and posts the solutions. The reply is the first refusal on
@@ -93,7 +97,15 @@ pub fn propose<T: Desk, R: Threads + Wait + Sync, V: Solver, G: Gate>(
     let what = What::Begin { cycle, mode };
     let reply = asker.ask(Ask { by: *by, what });
     match begun_version(&reply.answer) {
-        Some(version) => fetch(alloc, asker, by, cycle, version, reply.at),
+        Some(version) => {
+            let begun = Begun {
+                by: *by,
+                cycle,
+                version,
+                at: reply.at,
+            };
+            fetch(alloc, asker, &begun)
+        }
         None => reply,
     }
 }

@@ -37,13 +37,13 @@ fn answer_proposal<T: Desk, R: Threads + Wait + Sync, V: Solver, G: Gate>(
     asker: &mut Asker<'_, T, R, V, G>,
     speaker: &mut Speaker,
     read: &Result<Line, BadLine>,
-    cycle: u64,
-    mode: Mode,
+    proposed: (u64, Mode),
 ) -> Reply
-    requires { proposal_in (line_read read.now) ≡ Some (cycle, mode) }
+    requires { proposal_in (line_read read.now) ≡ Some proposed }
     ensures { AnswersRead (of_pass asker.old.pass) (of_pass asker.new.pass) (speaker_of speaker.old) (speaker_of speaker.new) (line_read read.now) result }
 {
     let by = speaker.party();
+    let (cycle, mode) = proposed;
     let reply = propose(alloc, asker, &by, cycle, mode);
     speaker.hear(read, &reply.answer);
     reply
@@ -92,8 +92,8 @@ pub fn reply_to<T: Desk, R: Threads + Wait + Sync, V: Solver, G: Gate>(
     ensures { Answers (of_pass asker.old.pass) (of_pass asker.new.pass) (speaker_of speaker.old) (speaker_of speaker.new) line.now result }
 {
     let read = read_within(line);
-    if let Some((cycle, mode)) = proposal_in(&read) {
-        return answer_proposal(alloc, asker, speaker, &read, cycle, mode);
+    if let Some(proposed) = proposal_in(&read) {
+        return answer_proposal(alloc, asker, speaker, &read, proposed);
     }
     match speaker.prepare(alloc, roster, &read) {
         Ok(what) => ask(asker, speaker, &read, what),

@@ -1,4 +1,4 @@
-use Rattle.std.proofs.Common.{◌≡◌, ◌∙◌, ℕ, List, get_or, length, sym, ap, subst, refl}
+use Rattle.std.proofs.Common.{◌≡◌, ◌∙◌, get_or, length, sym, ap, subst, refl}
 use Rattle.std.proofs.lemmas.Option.{slice_get_read}
 use Rattle.command_types.specs.declared.roster.MemberRow.{MemberRow}
 use Rattle.command_types.specs.Roster.{Rows, IsRoster}

@@ -2,11 +2,11 @@ use Rattle.std.proofs.Common.{sym, subst}
 use Rattle.compress_server.specs.Housed.{disk_of}
 use Rattle.compress_server.specs.Ending.{JournalRuns}
 use Rattle.compress_server.proofs.HousedFacts.{housed, journal_runs}
-use Rattle.compress_server.proofs.script.run_journal.Goals as goal
+use Rattle.compress_server.proofs.script.Script.run_journal.Goals as goal
 
 pub returns-clause-runs : goal.returns-clause-runs
 returns-clause-runs g c =
-    let rows = c.args.roster.now in
+    let rows = c.args.self.now.roster.now in
     let was = g.D.Disk.history c.args.disk in
     let n = g.D.Disk.fault_count c.args.disk in
     let left = g.D.Disk.history c.end.result in

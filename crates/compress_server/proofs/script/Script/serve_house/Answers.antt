@@ -4,7 +4,7 @@ use Rattle.cycle_lock.specs.Passes.{lock_of}
 use Rattle.house.proofs.Sends.{house_send}
 use Rattle.session.specs.Serving.{Seat, of_pass}
 use Rattle.compress_server.proofs.RunFacts.{script_ends, first_at, closed_on, seat_stays}
-use Rattle.compress_server.proofs.script.serve_house.Goals as goal
+use Rattle.compress_server.proofs.script.Script.serve_house.Goals as goal
 
 -- ---- the house may go to another thread, as its disk may
 
