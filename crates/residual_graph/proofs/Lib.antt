@@ -4,3 +4,4 @@ pub mod Kept
 pub mod PushSteps
 pub mod Labels
 pub mod Built
+mod Filling

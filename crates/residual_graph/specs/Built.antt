@@ -1,7 +1,9 @@
 -- What building a residual graph needs of a limit row, and gives of a pair.
-use Rattle.std.specs.Prelude.{◌≡◌, ℕ, ◌+◌, ◌^◌, ◌<◌, ◌≤◌, List, length, slice_index_or}
+use Rattle.std.specs.Prelude.{◌≡◌, ◌≢◌, ℕ, ◌+◌, ◌^◌, ◌<◌, ◌≤◌, List, length, slice_index_or}
 use Rattle.network_laws.specs.declared.rows.LimitRow.{LimitRow}
-use Rattle.network_laws.specs.Networks.{NetworkData, at}
+use Rattle.network_laws.specs.declared.rows.Row.{Row}
+use Rattle.network_laws.specs.Networks.{NetworkData, at, place}
+use Rattle.network_laws.specs.Limits.{limit_place}
 use Rattle.residual_graph.specs.declared.flow.Flow.{Flow}
 use Rattle.residual_graph.specs.Residual.{capped, flow_rows}
 
@@ -9,6 +11,15 @@ use Rattle.residual_graph.specs.Residual.{capped, flow_rows}
 abbrev pub IsBetween : ℕ → NetworkData → LimitRow → Type 0
 IsBetween cap y limit =
     (limit.lower ≤ at y limit.seller limit.buyer) × (at y limit.seller limit.buyer ≤ capped cap limit.upper)
+
+-- no row's pair is without limits
+abbrev pub HaveLimits : List Row → List LimitRow → Type 0
+HaveLimits rows limits =
+    (m : ℕ) (d : Row) → m < length rows → ((k : ℕ) (e : LimitRow) → k < length limits → limit_place (slice_index_or limits k e) ≢ place (slice_index_or rows m d)) → ⊥
+
+-- a pair before its limit row is known
+abbrev pub blank_flow : ℕ → Flow
+blank_flow cap = record { seller = 0; buyer = 0; lower = 0; back = 0; room = cap }
 
 -- the pair's numbers together fit 64 bits
 abbrev pub IsSmall : Flow → Type 0

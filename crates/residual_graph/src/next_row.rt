@@ -1,61 +1,54 @@
-//! A walk over the rows of a network in step with pairs in rising order. It keeps the place of the row that comes next, so
+//! A walk over the rows of a network in step with the rows of its limits. It keeps the pair of the row that comes next, so
 //! that a pair without a row costs one comparison.
 
-ghost use Rattle.std.specs.Prelude.{◌≡◌, ◌+◌, ◌*◌, ◌≤◌, length};
-ghost use Rattle.network_laws.specs.Networks.{IsRising, IsCursor, amount_in};
-ghost use Rattle.residual_graph.specs.NextRow.{IsNextRow, ArePassed};
+ghost use Rattle.std.specs.Prelude.{◌≡◌, ◌+◌, ◌*◌, ◌<◌, ◌≤◌, ◌↔◌, length, IsTrue};
+ghost use Rattle.residual_graph.specs.NextRow.{IsNextRow, IsRowOf, key_of};
 
-use network_laws::Row;
+use network_laws::{LimitRow, Row};
 
-/// The row that comes next, and its place in the order by seller and buyer: one past all places where no row is left.
+/// The row that comes next, and the key of its pair; where no row is left, any key.
 #[derive(Clone, Copy)]
 pub(super) struct NextRow {
     pub at: usize,
-    pub place: u64,
+    key: u32,
 }
 
-/// Where a pair stands in the order by seller and buyer.
+/// The key of a pair: its seller and its buyer as one number, in the order in which a row has them in memory.
 #[inline(always)]
-pub(super) fn place_of(seller: u16, buyer: u16) -> u64
-    ensures { result ≡ seller * 65536 + buyer }
+fn key_of(seller: u16, buyer: u16) -> u32
+    ensures key { result ≡ key_of seller buyer }
+    ensures seller { seller < 65536 }
 {
-    seller as u64 * 65536 + buyer as u64
+    buyer as u32 * 65536 + seller as u32
 }
 
 impl NextRow {
-    /// The first row from one on that does not stand before a place.
-    pub(super) fn search(rows: &[Row], from: usize, wanted: u64) -> NextRow
-        requires rising { IsRising rows.now }
-        requires from { from ≤ length rows.now }
-        requires passed { ArePassed rows.now from wanted }
+    /// The row of this number.
+    #[inline(always)]
+    pub(super) fn of(rows: &[Row], at: usize) -> NextRow
+        requires { at ≤ length rows.now }
+        ensures at { result.at ≡ at }
         ensures next { IsNextRow rows.now result }
-        ensures cursor { IsCursor rows.now result.at wanted }
     {
-        let mut at = from;
-        while at < rows.len() {
-            let place = place_of(rows[at].seller, rows[at].buyer);
-            if place >= wanted {
-                return NextRow { at, place };
+        if at < rows.len() {
+            NextRow {
+                at,
+                key: key_of(rows[at].seller, rows[at].buyer),
             }
-            at += 1;
-        }
-        NextRow {
-            at,
-            place: 65536 * 65536,
+        } else {
+            NextRow { at, key: 0 }
         }
     }
 
-    /// The amount of a pair before which no row comes any more.
-    pub(super) fn amount(self, rows: &[Row], seller: u16, buyer: u16) -> u64
-        requires rising { IsRising rows.now }
-        requires next { IsNextRow rows.now self }
-        requires cursor { IsCursor rows.now self.at (seller * 65536 + buyer) }
-        ensures { result ≡ amount_in rows.now seller buyer }
+    /// Whether it is the row of a pair with limits.
+    #[inline(always)]
+    pub(super) fn is_of(self, rows: &[Row], limit: &LimitRow) -> bool
+        requires { IsNextRow rows.now self }
+        ensures { IsTrue result ↔ IsRowOf rows.now self.at limit.now }
     {
-        if self.place == place_of(seller, buyer) {
-            rows[self.at].amount
-        } else {
-            0
+        if key_of(limit.seller, limit.buyer) != self.key {
+            return false;
         }
+        self.at < rows.len()
     }
 }
