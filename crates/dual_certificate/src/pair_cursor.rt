@@ -44,6 +44,7 @@ impl PairCursor {
     }
 
     /// At the next pair with a row.
+    #[inline(always)]
     pub(super) fn next(self, pairs: &Pairs) -> PairCursor
         requires pairs { ArePairs pairs.now }
         requires pair { IsAtPair pairs.now self }
@@ -61,6 +62,7 @@ impl PairCursor {
     }
 
     // At the first pair with a row from this place on.
+    #[inline(always)]
     fn found(self, pairs: &Pairs) -> PairCursor
         requires pairs { ArePairs pairs.now }
         requires at { AreAtPlace pairs.now self }
@@ -99,6 +101,7 @@ impl PairCursor {
     }
 
     /// The pair's amount in the network.
+    #[inline(always)]
     pub(super) fn amount(self, pairs: &Pairs) -> u64
         requires pairs { ArePairs pairs.now }
         requires pair { IsAtPair pairs.now self }
@@ -108,6 +111,7 @@ impl PairCursor {
     }
 
     /// The pair's bounds.
+    #[inline(always)]
     pub(super) fn bounds(self, pairs: &Pairs) -> Bounds
         requires pairs { ArePairs pairs.now }
         requires pair { IsAtPair pairs.now self }
@@ -119,6 +123,7 @@ impl PairCursor {
 }
 
 // The place of a row of limits, or that behind all pairs.
+#[inline(always)]
 fn limit_from(limits: &[LimitRow], at: usize) -> u32
     ensures { result ≡ limit_or_end (slice_get limits.now at) }
 {
@@ -129,6 +134,7 @@ fn limit_from(limits: &[LimitRow], at: usize) -> u32
 }
 
 // The place of a row of a network, or that behind all pairs.
+#[inline(always)]
 fn row_from(rows: &[Row], at: usize) -> u32
     ensures { result ≡ row_or_end (slice_get rows.now at) }
 {
