@@ -1,7 +1,8 @@
 //! What the commands that are not refused are answered.
 
-ghost use Rattle.std.specs.Prelude.{◌≡◌, None, Some, IfOk};
-ghost use Rattle.command_types.specs.CycleSteps.{freeze_answer, limits_answer, plan_answer, rows_of_member};
+ghost use Rattle.std.specs.Prelude.{◌≡◌, None, Some, IfOk, IsTrue, length};
+ghost use Rattle.command_types.specs.Cycles.{bad_post, is_solving};
+ghost use Rattle.command_types.specs.CycleSteps.{freeze_answer, limits_answer, plan_answer, post_answer, rows_of_member};
 ghost use Rattle.command_types.specs.Machine.{accepted, end_answer, first_of, member_of, nets_answer, party_answer, product_of, refusals};
 ghost use Rattle.command_types.specs.Trades.{trade_numbered};
 ghost use Rattle.cycle_states.specs.Machine.{IsYoung};
@@ -11,8 +12,10 @@ use super::freezing::taken_count;
 use super::parties::{place_of_member, place_of_product};
 use super::positions::{market_of, position_of};
 use super::problem_copies::problem_copies;
-use super::proposal_answers::shown_plan;
+use super::proposal::{plan_posted, touches_nobody};
+use super::proposal_answers::{nothing, proposed, shown_plan};
 use command_types::{Answer, Ask, Listed, Refusal, TradeState, What};
+use network_laws::Solution;
 use std::alloc::AllocError;
 use units_core::{Day, Name};
 
@@ -88,6 +91,19 @@ impl Machine {
         })
     }
 
+    // What the POST of certified solutions is answered.
+    fn post_answer(&self, solutions: &[Solution]) -> Result<Answer, AllocError>
+        requires solving { IsTrue (is_solving self.now.state.cycle.phase) }
+        requires certified { bad_post (length self.now.state.roster.members) self.now.state.cycle.begun solutions.now ≡ None }
+        ensures { IfOk result (λ answer. answer ≡ post_answer self.now.state solutions.now) }
+    {
+        let plan = plan_posted(&self.book, &self.cycle, solutions)?;
+        if touches_nobody(&self.roster, &self.book, &self.cycle, solutions, &plan) {
+            return Ok(nothing(&self.cycle));
+        }
+        Ok(proposed(&self.cycle, solutions))
+    }
+
     // What a FETCH is answered.
     fn fetched(&self) -> Result<Answer, AllocError>
         ensures { IfOk result (λ answer. answer ≡ Answer.Problems self.now.state.cycle.begun) }
@@ -122,7 +138,7 @@ impl Machine {
             What::Limits { product } => self.limits(product),
             What::Row { size, .. } => Ok(Answer::Noted { size: *size }),
             What::Pot { size, .. } => Ok(Answer::Noted { size: *size }),
-            What::Post { solutions, .. } => Ok(self.posting(solutions.rows())?.answer),
+            What::Post { solutions, .. } => self.post_answer(solutions.rows()),
             What::Plan { .. } => self.plan_rows(by),
             What::Accept { .. } => Ok(self.vote(place_of_member(&self.roster, by))?.answer),
             What::Decline { cycle, version } => Ok(Answer::Declined {
