@@ -11,12 +11,19 @@ use Rattle.command_types.specs.Roster.{Rows}
 use Rattle.trade_file.specs.declared.file_trade.FileTrade.{FileTrade}
 use Rattle.trade_file.specs.Networks.{AreNetworksOf}
 use Rattle.dual_certificate.specs.Writing.{SolveMembers}
-use Rattle.file_market.specs.Solve.{problem_for, AreProblemsOf, AreSolutions}
+use Rattle.file_market.specs.Market.{market_limits}
+use Rattle.file_market.specs.Solve.{problem_for, FirstHasLimits, AreProblemsOf, AreSolutions}
 
 -- each problem is that of the network at its place
 abbrev pub ProblemsBelow : Rows → Mode → List NetworkData → List ProblemData → Type 0
 ProblemsBelow rows mode networks problems =
     (k : ℕ) (d : NetworkData) (e : ProblemData) → k < length problems → get_or problems k e ≡ problem_for rows mode k (get_or networks k d)
+
+pub first_has_limits : (rows : Rows) (mode : Mode) (networks : List NetworkData) (problems : List ProblemData) → ProblemsBelow rows mode networks problems → FirstHasLimits rows mode problems
+first_has_limits rows mode networks problems below e some =
+    let d : NetworkData = (get_or problems 0 e).network in
+    let is : get_or problems 0 e ≡ problem_for rows mode 0 (get_or networks 0 d) = below 0 d e some in
+    ap (λ p. p.limits) is ∙ ap (λ p. market_limits rows mode 0 p.network) (sym is)
 
 pub problem_more : (rows : Rows) (mode : Mode) (networks : List NetworkData) (problems : List ProblemData) (n : ℕ) (network : NetworkData) (problem : ProblemData)
     → length problems ≡ n → ProblemsBelow rows mode networks problems → n < length networks → network ≡ get_or networks n network → problem ≡ problem_for rows mode n network

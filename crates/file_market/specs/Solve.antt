@@ -13,6 +13,11 @@ use Rattle.file_market.specs.Market.{market_limits}
 abbrev pub problem_for : Rows → Mode → ℕ → NetworkData → ProblemData
 problem_for rows mode product network = record { limits = market_limits rows mode product network; network = network }
 
+-- the first problem has the limits of its network
+abbrev pub FirstHasLimits : Rows → Mode → List ProblemData → Type 0
+FirstHasLimits rows mode problems =
+    (d : ProblemData) → 0 < length problems → (slice_index_or problems 0 d).limits ≡ market_limits rows mode 0 (slice_index_or problems 0 d).network
+
 -- one problem for each product's network, in order
 pub record AreProblemsOf (rows : Rows) (mode : Mode) (networks : List NetworkData) (problems : List ProblemData) : Type 0 where
   pub count : length problems ≡ length networks

@@ -1,8 +1,9 @@
 //! The solution of a market, its products beside one another.
-ghost use Rattle.std.specs.Prelude.{◌≡◌, ◌≤◌, length, IfOk};
+ghost use Rattle.std.specs.Prelude.{◌≡◌, ◌<◌, ◌≤◌, ◌^◌, length, true, IfOk};
+ghost use Rattle.command_types.specs.declared.cycle.Mode.{Mode};
 ghost use Rattle.trade_file.specs.TradeFile.{AreFileTrades};
 ghost use Rattle.dual_certificate.specs.Writing.{HaveMembers};
-ghost use Rattle.file_market.specs.Solve.{problem_for, AreProblemsOf, AreSolutions, IsSolvedText};
+ghost use Rattle.file_market.specs.Solve.{problem_for, FirstHasLimits, AreProblemsOf, AreSolutions, IsSolvedText};
 
 use crate::limits::limits_for;
 use crate::workers::Workers;
@@ -16,17 +17,32 @@ use std::thread::Threads;
 use trade_file::{FileTrade, networks};
 use units_core::ProductNo;
 
-// A product's network, with the limits that it may be compressed within.
-fn problem_of(
+fn is_free(mode: Mode) -> bool
+    ensures { result ≡ true → mode ≡ Mode.Free }
+{
+    matches!(mode, Mode::Free)
+}
+
+// The next product's network, with the limits that it may be compressed within. In free mode these are the limits of the
+// first product, too.
+fn next_problem(
     alloc: Global,
     roster: &Roster,
     mode: Mode,
-    product: ProductNo,
+    before: &[Problem],
     network: &Network,
 ) -> Result<Problem, AllocError>
-    requires { network.now.members ≡ length roster.now.members }
-    ensures { IfOk result (λ problem. problem ≡ problem_for roster.now mode product network.now) }
+    requires members { network.now.members ≡ length roster.now.members }
+    requires few { length before.now < 2 ^ 16 }
+    requires first { FirstHasLimits roster.now mode before.now }
+    ensures { IfOk result (λ problem. problem ≡ problem_for roster.now mode (length before.now) network.now) }
 {
+    let _members = network.members();
+    if is_free(mode) && !before.is_empty() {
+        let limits = before[0].limits().copy()?;
+        return Ok(Problem::new(limits, network.copy()?));
+    }
+    let product = ProductNo(before.len() as u16);
     let limits = limits_for(alloc, roster, mode, product, network)?;
     Ok(Problem::new(limits, network.copy()?))
 }
@@ -44,8 +60,8 @@ fn problems_of(
 {
     let mut problems = Vec::new(alloc);
     for product in 0..roster.products().len() {
-        let number = ProductNo(product as u16);
-        problems.push(problem_of(alloc, roster, mode, number, &networks[product])?)?;
+        let problem = next_problem(alloc, roster, mode, &problems, &networks[product])?;
+        problems.push(problem)?;
     }
     Ok(problems)
 }
