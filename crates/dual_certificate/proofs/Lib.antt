@@ -1,6 +1,7 @@
 pub mod Between
 pub mod Walked
 pub mod PairFacts
+pub mod CursorFacts
 pub mod Bounded
 pub mod PieceFacts
 pub mod ReadFacts

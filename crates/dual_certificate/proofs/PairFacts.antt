@@ -15,10 +15,10 @@ use Rattle.network_laws.proofs.RowOrder.{amount_none}
 use Rattle.dual_certificate.specs.declared.pair_cursor.Pairs.{Pairs}
 use Rattle.dual_certificate.specs.Walks.{ArePairs, HasNoRow, HaveNoRow, no_pair, limit_or_end, row_or_end, rows_price_clash}
 
-no_limit : LimitRow
+abbrev pub no_limit : LimitRow
 no_limit = record { seller = 0; buyer = 0; lower = 0; upper = None }
 
-no_row : Row
+abbrev pub no_row : Row
 no_row = record { seller = 0; buyer = 0; amount = 0 }
 
 pub split : (p : ℕ) → (p / 65536) * 65536 + p % 65536 ≡ p
@@ -31,16 +31,16 @@ limit_from rows m = limit_or_end (slice_get rows m)
 abbrev pub row_from : List Row → ℕ → ℕ
 row_from rows m = row_or_end (slice_get rows m)
 
-limit_here : (rows : List LimitRow) (m : ℕ) (d : LimitRow) → m < length rows → limit_from rows m ≡ limit_place (get_or rows m d)
+pub limit_here : (rows : List LimitRow) (m : ℕ) (d : LimitRow) → m < length rows → limit_from rows m ≡ limit_place (get_or rows m d)
 limit_here rows m d l = ap limit_or_end (slice_get-get_or rows m d l)
 
-limit_end : (rows : List LimitRow) (m : ℕ) → length rows ≤ m → limit_from rows m ≡ no_pair
+pub limit_end : (rows : List LimitRow) (m : ℕ) → length rows ≤ m → limit_from rows m ≡ no_pair
 limit_end rows m le = ap limit_or_end (slice_get_past rows m le)
 
-row_here : (rows : List Row) (m : ℕ) (d : Row) → m < length rows → row_from rows m ≡ place (get_or rows m d)
+pub row_here : (rows : List Row) (m : ℕ) (d : Row) → m < length rows → row_from rows m ≡ place (get_or rows m d)
 row_here rows m d l = ap row_or_end (slice_get-get_or rows m d l)
 
-row_end : (rows : List Row) (m : ℕ) → length rows ≤ m → row_from rows m ≡ no_pair
+pub row_end : (rows : List Row) (m : ℕ) → length rows ≤ m → row_from rows m ≡ no_pair
 row_end rows m le = ap row_or_end (slice_get_past rows m le)
 
 -- are not before the place of their cursor

@@ -1,5 +1,5 @@
 -- Where the walk over the rows of limits and of a network stands, and what it finds at a pair.
-use Rattle.std.specs.Prelude.{◌≡◌, ℕ, ◌+◌, ◌*◌, ◌/◌, ◌%◌, ◌<◌, ◌≤◌, List, length, Option, Some, None, ℤ}
+use Rattle.std.specs.Prelude.{◌≡◌, ℕ, ◌+◌, ◌*◌, ◌/◌, ◌%◌, ◌<◌, ◌≤◌, List, length, slice_get, Option, Some, None, ℤ}
 use Rattle.network_laws.specs.declared.rows.Row.{Row}
 use Rattle.network_laws.specs.declared.rows.LimitRow.{LimitRow}
 use Rattle.network_laws.specs.declared.clash.Clash.{Clash}
@@ -7,6 +7,7 @@ use Rattle.network_laws.specs.Networks.{amount_in, place, IsCursor, AreRows}
 use Rattle.network_laws.specs.Limits.{lower_in, upper_in, reduced, limit_place, IsLimitCursor, AreLimitRows}
 use Rattle.network_laws.specs.Clash.{bounds_clash, price_clash}
 use Rattle.dual_certificate.specs.declared.pair_cursor.Pairs.{Pairs}
+use Rattle.dual_certificate.specs.declared.pair_cursor.RowCursor.{RowCursor}
 use Rattle.dual_certificate.specs.declared.pair_cursor.PairCursor.{PairCursor}
 use Rattle.units_core.specs.declared.limits.TheConstants.{MOST_MEMBERS}
 
@@ -29,12 +30,28 @@ abbrev pub row_or_end : Option Row → ℕ
 row_or_end None = no_pair
 row_or_end (Some row) = place row
 
+-- a cursor has the place of its row, or that behind all pairs
+abbrev pub KnowsLimit : List LimitRow → RowCursor → Type 0
+KnowsLimit limits cursor = cursor.place ≡ limit_or_end (slice_get limits cursor.at)
+
+abbrev pub KnowsRow : List Row → RowCursor → Type 0
+KnowsRow rows cursor = cursor.place ≡ row_or_end (slice_get rows cursor.at)
+
+-- it is that of a place
+pub record IsAtLimit (limits : List LimitRow) (cursor : RowCursor) (w : ℕ) : Type 0 where
+  pub end : cursor.at ≤ length limits
+  pub first : IsLimitCursor limits cursor.at w
+  pub knows : KnowsLimit limits cursor
+
+pub record IsAtRow (rows : List Row) (cursor : RowCursor) (w : ℕ) : Type 0 where
+  pub end : cursor.at ≤ length rows
+  pub first : IsCursor rows cursor.at w
+  pub knows : KnowsRow rows cursor
+
 -- both cursors are those of a place
 pub record AreAtPlace (pairs : Pairs) (at : PairCursor) : Type 0 where
-  pub limit_end : at.limit_at ≤ length pairs.limits.now
-  pub limit : IsLimitCursor pairs.limits.now at.limit_at at.place
-  pub row_end : at.row_at ≤ length pairs.rows.now
-  pub row : IsCursor pairs.rows.now at.row_at at.place
+  pub limit : IsAtLimit pairs.limits.now at.limit at.place
+  pub row : IsAtRow pairs.rows.now at.row at.place
 
 -- which is that of a pair of members, if it is not behind all pairs
 pub record IsAtPair (pairs : Pairs) (at : PairCursor) : Type 0 where

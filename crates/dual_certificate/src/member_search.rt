@@ -52,9 +52,9 @@ fn key_of(name: &Name) -> usize
 {
     let mut key: usize = 0;
     for byte in name.text() {
-        key = (10 * key + *byte as usize) % SLOTS;
+        key = key.wrapping_mul(10).wrapping_add(*byte as usize);
     }
-    key
+    key % SLOTS
 }
 
 // By each key the place of the last member whose name has it, or the first place.

@@ -1,12 +1,12 @@
 //! The pairs that have a row in the limits or in the network, one after another: two cursors walk both lists in step.
 //! A pair without a row has the amount 0 and may come to nothing else, so nothing can be wrong with it.
 
-ghost use Rattle.std.specs.Prelude.{◌≡◌, ◌↔◌, ◌+◌, ◌*◌, ◌/◌, ◌%◌, ◌<◌, ◌≤◌, length, slice_get, IsTrue};
-ghost use Rattle.network_laws.specs.Networks.{amount_in, place};
-ghost use Rattle.network_laws.specs.Limits.{lower_in, upper_in, limit_place};
-ghost use Rattle.dual_certificate.specs.Walks.{ArePairs, AreAtPlace, IsAtPair, HaveNoRow, no_pair, limit_or_end, row_or_end};
+ghost use Rattle.std.specs.Prelude.{◌≡◌, ◌↔◌, ◌+◌, ◌*◌, ◌/◌, ◌%◌, ◌<◌, ◌≤◌, slice_get, IsTrue};
+ghost use Rattle.network_laws.specs.Networks.{amount_in, place, IsRising};
+ghost use Rattle.network_laws.specs.Limits.{lower_in, upper_in, limit_place, IsRisingLimits};
+ghost use Rattle.dual_certificate.specs.Walks.{ArePairs, AreAtPlace, IsAtPair, IsAtLimit, IsAtRow, HaveNoRow, no_pair, limit_or_end, row_or_end};
 
-use network_laws::{Bounds, LimitRow, Row, amount_at, bounds_at, next_limit, next_row};
+use network_laws::{Bounds, LimitRow, Row};
 
 /// Behind all pairs.
 const NO_PAIR: u32 = u32::MAX;
@@ -19,11 +19,18 @@ pub(super) struct Pairs<'a> {
     pub rows: &'a [Row],
 }
 
+/// The number of a row, and its place in the order by seller and buyer; at the rows' end that behind all pairs.
+#[derive(Clone, Copy)]
+pub(super) struct RowCursor {
+    pub at: usize,
+    pub place: u32,
+}
+
 /// A pair with the cursors of its rows.
 #[derive(Clone, Copy)]
 pub(super) struct PairCursor {
-    pub limit_at: usize,
-    pub row_at: usize,
+    pub limit: RowCursor,
+    pub row: RowCursor,
     /// The pair's place in the order by seller and buyer, or that behind all pairs.
     pub place: u32,
 }
@@ -36,8 +43,14 @@ impl PairCursor {
         ensures passed { HaveNoRow pairs.now 0 result.place }
     {
         let start = PairCursor {
-            limit_at: 0,
-            row_at: 0,
+            limit: RowCursor {
+                at: 0,
+                place: limit_from(pairs.limits, 0),
+            },
+            row: RowCursor {
+                at: 0,
+                place: row_from(pairs.rows, 0),
+            },
             place: 0,
         };
         start.found(pairs)
@@ -54,8 +67,8 @@ impl PairCursor {
         ensures passed { HaveNoRow pairs.now (self.place + 1) result.place }
     {
         let after = PairCursor {
-            limit_at: next_limit(pairs.limits, self.limit_at, self.seller(), self.buyer()),
-            row_at: next_row(pairs.rows, self.row_at, self.seller(), self.buyer()),
+            limit: limit_behind(pairs.limits, self.limit, self.place),
+            row: row_behind(pairs.rows, self.row, self.place),
             place: self.place + 1,
         };
         after.found(pairs)
@@ -71,10 +84,8 @@ impl PairCursor {
         ensures behind { self.place ≤ result.place }
         ensures passed { HaveNoRow pairs.now self.place result.place }
     {
-        let limit = limit_from(pairs.limits, self.limit_at);
-        let row = row_from(pairs.rows, self.row_at);
         PairCursor {
-            place: limit.min(row),
+            place: self.limit.place.min(self.row.place),
             ..self
         }
     }
@@ -105,9 +116,14 @@ impl PairCursor {
     pub(super) fn amount(self, pairs: &Pairs) -> u64
         requires pairs { ArePairs pairs.now }
         requires pair { IsAtPair pairs.now self }
+        requires within { self.place < no_pair }
         ensures { result ≡ amount_in pairs.now.rows.now (self.place / 65536) (self.place % 65536) }
     {
-        amount_at(pairs.rows, self.row_at, self.seller(), self.buyer())
+        if self.row.place == self.place {
+            pairs.rows[self.row.at].amount
+        } else {
+            0
+        }
     }
 
     /// The pair's bounds.
@@ -115,10 +131,22 @@ impl PairCursor {
     pub(super) fn bounds(self, pairs: &Pairs) -> Bounds
         requires pairs { ArePairs pairs.now }
         requires pair { IsAtPair pairs.now self }
+        requires within { self.place < no_pair }
         ensures lower { result.lower ≡ lower_in pairs.now.limits.now (self.place / 65536) (self.place % 65536) }
         ensures upper { result.upper ≡ upper_in pairs.now.limits.now (self.place / 65536) (self.place % 65536) }
     {
-        bounds_at(pairs.limits, self.limit_at, self.seller(), self.buyer())
+        if self.limit.place == self.place {
+            let row = &pairs.limits[self.limit.at];
+            Bounds {
+                lower: row.lower,
+                upper: row.upper,
+            }
+        } else {
+            Bounds {
+                lower: 0,
+                upper: Some(0),
+            }
+        }
     }
 }
 
@@ -141,5 +169,41 @@ fn row_from(rows: &[Row], at: usize) -> u32
     match rows.get(at) {
         Some(row) => row.seller as u32 * 65536 + row.buyer as u32,
         None => NO_PAIR,
+    }
+}
+
+// The cursor of the place behind one, in limits.
+#[inline(always)]
+fn limit_behind(limits: &[LimitRow], cursor: RowCursor, place: u32) -> RowCursor
+    requires rising { IsRisingLimits limits.now }
+    requires within { place < no_pair }
+    requires cursor { IsAtLimit limits.now cursor place }
+    ensures { IsAtLimit limits.now result (place + 1) }
+{
+    if cursor.place == place {
+        RowCursor {
+            at: cursor.at + 1,
+            place: limit_from(limits, cursor.at + 1),
+        }
+    } else {
+        cursor
+    }
+}
+
+// The cursor of the place behind one, in a network.
+#[inline(always)]
+fn row_behind(rows: &[Row], cursor: RowCursor, place: u32) -> RowCursor
+    requires rising { IsRising rows.now }
+    requires within { place < no_pair }
+    requires cursor { IsAtRow rows.now cursor place }
+    ensures { IsAtRow rows.now result (place + 1) }
+{
+    if cursor.place == place {
+        RowCursor {
+            at: cursor.at + 1,
+            place: row_from(rows, cursor.at + 1),
+        }
+    } else {
+        cursor
     }
 }

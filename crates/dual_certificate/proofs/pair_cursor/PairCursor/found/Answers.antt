@@ -6,25 +6,35 @@ pub returns-clause-behind : goal.returns-clause-behind
 returns-clause-behind c =
     let pairs = c.args.pairs.now in
     let at = c.args.self in
-    omega (arith, c.limit_from-limit.ensures, c.row_from-row.ensures, c.min.ensures, limit_not_before pairs.limits.now at.limit_at at.place c.requires.within c.requires.at.limit, row_not_before pairs.rows.now at.row_at at.place c.requires.within c.requires.at.row)
+    let limit = c.requires.at.limit in
+    let row = c.requires.at.row in
+    omega (arith, limit.knows, row.knows, c.min.ensures, limit_not_before pairs.limits.now at.limit.at at.place c.requires.within limit.first, row_not_before pairs.rows.now at.row.at at.place c.requires.within row.first)
 
 pub returns-clause-pair : goal.returns-clause-pair
 returns-clause-pair c =
     let pairs = c.args.pairs.now in
     let at = c.args.self in
     let p = c.min.result in
+    let limit = c.requires.at.limit in
+    let row = c.requires.at.row in
     let behind : at.place ≤ p = returns-clause-behind c in
     let fits : Fits w32 p = search rules in
     record {
       cursors = record {
-        limit_end = c.requires.at.limit_end;
-        limit = limit_raised pairs.limits.now at.limit_at at.place p c.requires.pairs.limits.rising c.requires.at.limit behind (omega (arith, c.limit_from-limit.ensures, c.min.ensures));
-        row_end = c.requires.at.row_end;
-        row = row_raised pairs.rows.now at.row_at at.place p c.requires.pairs.rows.rising c.requires.at.row behind (omega (arith, c.row_from-row.ensures, c.min.ensures));
+        limit = record {
+          end = limit.end;
+          first = limit_raised pairs.limits.now at.limit.at at.place p c.requires.pairs.limits.rising limit.first behind (omega (arith, limit.knows, c.min.ensures));
+          knows = limit.knows;
+        };
+        row = record {
+          end = row.end;
+          first = row_raised pairs.rows.now at.row.at at.place p c.requires.pairs.rows.rising row.first behind (omega (arith, row.knows, c.min.ensures));
+          knows = row.knows;
+        };
       };
       end = omega (arith, fits);
-      seller = λ l. (next_of_members pairs at.limit_at at.row_at p c.requires.pairs (omega (arith, c.limit_from-limit.ensures, c.row_from-row.ensures, c.min.ensures)) l).0;
-      buyer = λ l. (next_of_members pairs at.limit_at at.row_at p c.requires.pairs (omega (arith, c.limit_from-limit.ensures, c.row_from-row.ensures, c.min.ensures)) l).1;
+      seller = λ l. (next_of_members pairs at.limit.at at.row.at p c.requires.pairs (omega (arith, limit.knows, row.knows, c.min.ensures)) l).0;
+      buyer = λ l. (next_of_members pairs at.limit.at at.row.at p c.requires.pairs (omega (arith, limit.knows, row.knows, c.min.ensures)) l).1;
     }
 
 pub returns-clause-passed : goal.returns-clause-passed
@@ -32,4 +42,4 @@ returns-clause-passed c =
     let pairs = c.args.pairs.now in
     let at = c.args.self in
     let pair = returns-clause-pair c in
-    have_no_row pairs at.limit_at at.row_at at.place c.min.result c.requires.at.limit pair.cursors.limit c.requires.at.row pair.cursors.row
+    have_no_row pairs at.limit.at at.row.at at.place c.min.result c.requires.at.limit.first pair.cursors.limit.first c.requires.at.row.first pair.cursors.row.first
