@@ -46,9 +46,9 @@ fn key_of(text: &[u8]) -> usize
 {
     let mut key: usize = 0;
     for byte in text {
-        key = (10 * key + *byte as usize) % SLOTS;
+        key = key.wrapping_mul(10).wrapping_add(*byte as usize);
     }
-    key
+    key % SLOTS
 }
 
 impl Places {
