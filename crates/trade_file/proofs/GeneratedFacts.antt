@@ -47,10 +47,6 @@ pub length-products : (count : ℕ) → length (first_products count) ≡ count
 unfolding first_products
 length-products count = length-map-range_with_len generated_product 0 count
 
--- the first state that a draw of market 1 leaves
-first_state : next_state 1 ≡ 7806831264735756412
-first_state = refl
-
 -- no name comes twice, and the rows are few
 pub is_roster : IsRoster generated_rows
 unfolding first_members first_products
