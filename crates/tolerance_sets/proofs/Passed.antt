@@ -1,6 +1,6 @@
 -- Pairs that are passed: they have no row.
-use Rattle.std.proofs.Common.{◌≡◌, ◌≢◌, ℕ, zero, suc, ◌+◌, ◌*◌, ◌<◌, ◌≤◌, ◌++◌, false, List, [], length, get_or, refl, sym, ap, ◌∙◌, arith, ⊎_elim}
-use Rattle.std.proofs.lemmas.Bool.{cases_eq, cases_lt}
+use Rattle.std.proofs.Common.{◌≡◌, ◌≢◌, ℕ, zero, suc, ◌+◌, ◌*◌, ◌<◌, ◌≤◌, ◌++◌, true, false, List, [], length, get_or, refl, sym, ap, subst, ◌∙◌, eqb, arith, ⊎_elim}
+use Rattle.std.proofs.lemmas.Bool.{cases_eq, cases_lt, eq-eqb, ne_eqb}
 use Rattle.std.proofs.lemmas.List.{append-nil}
 use Rattle.network_laws.specs.declared.rows.LimitRow.{LimitRow}
 use Rattle.network_laws.specs.declared.rows.Row.{Row}
@@ -9,7 +9,8 @@ use Rattle.network_laws.proofs.RowOrder.{amount_none}
 use Rattle.command_types.specs.Books.{listed_below}
 use Rattle.command_types.specs.Tolerances.{may_grow}
 use Rattle.tolerance_sets.specs.declared.limits.Market.{Market}
-use Rattle.tolerance_sets.specs.Market.{HaveNone, market_limit}
+use Rattle.tolerance_sets.specs.declared.pair_cursor.PairCursor.{PairCursor}
+use Rattle.tolerance_sets.specs.Market.{IsAtPair, KnowsGrowing, HaveNone, market_limit}
 use Rattle.tolerance_sets.proofs.Walk.{one_more}
 
 -- no amount, and no room to grow
@@ -58,3 +59,11 @@ up_to_first start market i first none =
 pub up_to_next : (start before after : List LimitRow) (market : Market) (i j next : ℕ) → before ≡ start ++ listed_below j (market_limit market i) → after ≡ before ++ market_limit market i j → j < next → HaveNone market i (j + 1) next → after ≡ start ++ listed_below next (market_limit market i)
 up_to_next start before after market i j next e e' l none =
     one_more j (market_limit market i) start before after (market_limit market i j) e e' refl ∙ ap (λ xs. start ++ xs) (sym (none_listed (market_limit market i) (j + 1) next (omega arith) none))
+
+-- up to the growing buyer the pair may grow exactly with him
+pub grows_where_same : (market : Market) (at : PairCursor) → IsAtPair market at → KnowsGrowing market at → at.buyer ≤ at.growing → at.buyer < length market.members.now → eqb at.buyer at.growing ≡ may_grow market.mode market.members.now at.seller at.buyer
+grows_where_same market at pair grows ahead within =
+    ⊎_elim (λ (e : at.buyer ≡ at.growing).
+    eq-eqb at.buyer at.growing e ∙ sym (subst (λ b. may_grow market.mode market.members.now at.seller b ≡ true) (sym e) (grows (omega (arith, within, e)))))
+    (λ (ne : at.buyer ≢ at.growing). ne_eqb at.buyer at.growing ne ∙ sym (pair.growing at.buyer (omega arith) (omega (arith, ahead, ne))))
+    (cases_eq at.buyer at.growing)

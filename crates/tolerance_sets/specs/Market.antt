@@ -1,5 +1,5 @@
 -- What the limits of a product follow from, as the walk over the pairs has it.
-use Rattle.std.specs.Prelude.{◌≡◌, ℕ, ◌+◌, ◌*◌, ◌<◌, ◌≤◌, false, List, [], length, slice_get}
+use Rattle.std.specs.Prelude.{◌≡◌, ℕ, ◌+◌, ◌*◌, ◌<◌, ◌≤◌, true, false, List, [], length, slice_get}
 use Rattle.network_laws.specs.declared.rows.LimitRow.{LimitRow}
 use Rattle.network_laws.specs.Networks.{IsRising, IsCursor, amount_in}
 use Rattle.command_types.specs.declared.roster.MemberRow.{MemberRow}
@@ -38,3 +38,7 @@ pub record IsAtPair (market : Market) (at : PairCursor) : Type 0 where
   pub held_end : at.held_at ≤ length market.held.now
   pub held : IsCursor market.held.now at.held_at (at.seller * 65536 + at.buyer)
   pub growing : (buyer : ℕ) → at.buyer ≤ buyer → buyer < at.growing → may_grow market.mode market.members.now at.seller buyer ≡ false
+
+-- with the growing buyer, if he is a member, the seller's pair may grow
+abbrev pub KnowsGrowing : Market → PairCursor → Type 0
+KnowsGrowing market at = at.growing < length market.members.now → may_grow market.mode market.members.now at.seller at.growing ≡ true

@@ -128,15 +128,17 @@ fn pair_limit(
     })
 }
 
-/// Adds the row of a pair, if it has one.
+/// Adds the row of a pair, which may grow or not, if it has one.
 #[inline(always)]
 pub(super) fn add_pair(
     rows: &mut Vec<LimitRow>,
     market: &Market,
     pair: PairCursor,
+    grows: bool,
 ) -> Result<(), AllocError>
     requires market { IsMarket market.now }
     requires pair { IsAtPair market.now pair }
+    requires grows { grows ≡ may_grow market.now.mode market.now.members.now pair.seller pair.buyer }
     ensures { OnOk result (rows.new.items ≡ rows.old.items ++ market_limit market.now pair.seller pair.buyer) }
 {
     let seller = pair.seller;
@@ -148,7 +150,7 @@ pub(super) fn add_pair(
         buyer,
         amount_at(market.network, pair.row_at, seller, buyer),
         amount_at(market.held, pair.held_at, seller, buyer),
-        may_grow(market.mode, market.members, seller, buyer),
+        grows,
     );
     if let Some(limit) = limit {
         rows.push(limit)?;
@@ -170,7 +172,7 @@ fn add_seller(
 {
     let mut pair = PairCursor::first(market, seller);
     while pair.buyer < members {
-        add_pair(rows, market, pair)?;
+        add_pair(rows, market, pair, pair.buyer == pair.growing)?;
         pair = pair.next(market);
     }
     Ok(())

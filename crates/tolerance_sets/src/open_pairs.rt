@@ -7,7 +7,7 @@ ghost use Rattle.tolerance_sets.specs.Market.{IsMarket, market_limit};
 ghost use Rattle.tolerance_sets.specs.OpenPairs.{IsUnbounded, IsUntouched, AreOpenRows};
 ghost use Rattle.units_core.specs.declared.limits.TheConstants.{MOST_MEMBERS};
 
-use crate::limits::{Market, add_pair};
+use crate::limits::{Market, add_pair, may_grow};
 use crate::open_rows::OpenRows;
 use crate::pair_cursor::{PairCursor, buyer_at};
 use command_types::Mode;
@@ -58,7 +58,8 @@ fn add_open_seller(
             held_at: first_row(market.held, seller, buyer),
             growing: buyer,
         };
-        add_pair(rows, market, pair)?;
+        let grows = may_grow(market.mode, market.members, seller, buyer);
+        add_pair(rows, market, pair, grows)?;
         row_at = next_row(market.network, row_at, seller, buyer);
         from = buyer + 1;
     }

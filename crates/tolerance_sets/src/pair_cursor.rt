@@ -1,11 +1,11 @@
 //! The pairs that may have limits, one after another. A pair without a row in the network that may not grow may come
 //! to nothing but 0, so it has none: a cursor goes over a seller's rows and over the members that it may sell more to.
 
-ghost use Rattle.std.specs.Prelude.{◌≡◌, ℕ, ◌+◌, ◌*◌, ◌<◌, ◌≤◌, [], false, length, slice_index_or};
+ghost use Rattle.std.specs.Prelude.{◌≡◌, ℕ, ◌+◌, ◌*◌, ◌<◌, ◌≤◌, [], true, false, length, slice_index_or};
 ghost use Rattle.network_laws.specs.declared.rows.Row.{Row};
 ghost use Rattle.network_laws.specs.Networks.{IsRising, IsCursor, place};
 ghost use Rattle.command_types.specs.Tolerances.{may_grow};
-ghost use Rattle.tolerance_sets.specs.Market.{IsMarket, IsAtPair, HaveNone, market_limit};
+ghost use Rattle.tolerance_sets.specs.Market.{IsMarket, IsAtPair, KnowsGrowing, HaveNone, market_limit};
 ghost use Rattle.units_core.specs.declared.limits.TheConstants.{MOST_MEMBERS};
 
 use crate::limits::{Market, is_dealer, may_grow};
@@ -32,6 +32,8 @@ impl PairCursor {
         requires market { IsMarket market.now }
         requires few { length market.now.members.now ≤ MOST_MEMBERS }
         ensures pair { IsAtPair market.now result }
+        ensures growing { KnowsGrowing market.now result }
+        ensures ahead { result.buyer ≤ result.growing }
         ensures seller { result.seller ≡ seller }
         ensures passed { HaveNone market.now seller 0 result.buyer }
     {
@@ -50,8 +52,11 @@ impl PairCursor {
         requires market { IsMarket market.now }
         requires few { length market.now.members.now ≤ MOST_MEMBERS }
         requires pair { IsAtPair market.now self }
+        requires growing { KnowsGrowing market.now self }
         requires within { self.buyer < length market.now.members.now }
         ensures pair { IsAtPair market.now result }
+        ensures growing { KnowsGrowing market.now result }
+        ensures ahead { result.buyer ≤ result.growing }
         ensures seller { result.seller ≡ self.seller }
         ensures behind { self.buyer < result.buyer }
         ensures passed { HaveNone market.now self.seller (self.buyer + 1) result.buyer }
@@ -71,7 +76,10 @@ impl PairCursor {
         requires market { IsMarket market.now }
         requires few { length market.now.members.now ≤ MOST_MEMBERS }
         requires pair { IsAtPair market.now self }
+        requires growing { KnowsGrowing market.now self }
         ensures pair { IsAtPair market.now result }
+        ensures growing { KnowsGrowing market.now result }
+        ensures ahead { result.buyer ≤ result.growing }
         ensures seller { result.seller ≡ self.seller }
         ensures behind { self.buyer ≤ result.buyer }
         ensures passed { HaveNone market.now self.seller self.buyer result.buyer }
@@ -112,6 +120,7 @@ fn growing_from(market: &Market, seller: u16, from: u16) -> u16
     requires few { length market.now.members.now ≤ MOST_MEMBERS }
     requires from { from ≤ length market.now.members.now }
     ensures from { from ≤ result }
+    ensures grows { result < length market.now.members.now → may_grow market.now.mode market.now.members.now seller result ≡ true }
     ensures passed { (buyer : ℕ) → from ≤ buyer → buyer < result → may_grow market.now.mode market.now.members.now seller buyer ≡ false }
 {
     for buyer in from..growing_end(market, seller) {
