@@ -7,6 +7,7 @@ genN        44 members, 14 of them dealers, 8 products, 3,000 trades between any
 uniformP    256 members, 64 of them dealers, P products, 100,000 trades between any two members
 coreP       the same, where each trade is between two dealers or between a dealer and a customer, by half
 latticeP    the same, where each member sells to the four that come next, round in a ring
+groupsP     the same, where each trade is between two of four members: 64 groups, with nothing between them
 """
 
 import pathlib
@@ -48,6 +49,12 @@ def lattice(draws, members, dealers):
     return seller, (seller + 1 + draws.below(4)) % members
 
 
+def groups(draws, members, dealers):
+    seller = draws.below(members)
+    first = seller - seller % 4
+    return seller, first + other(draws, seller - first, 4)
+
+
 # name, members, dealers, products, trades, and who trades with whom
 MARKETS = [
     *((f"gen{number}", 44, 14, 8, 3_000, uniform) for number in range(1, 9)),
@@ -57,6 +64,8 @@ MARKETS = [
     ("uniform1", 256, 64, 1, 100_000, uniform),
     ("core1", 256, 64, 1, 100_000, core),
     ("lattice1", 256, 64, 1, 100_000, lattice),
+    ("groups64", 256, 64, 64, 100_000, groups),
+    ("groups1", 256, 64, 1, 100_000, groups),
 ]
 
 

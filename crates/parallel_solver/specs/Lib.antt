@@ -1,2 +1,3 @@
 pub mod Places
+pub mod Cuts
 pub mod Jobs

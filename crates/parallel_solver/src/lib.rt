@@ -2,7 +2,9 @@
 #![tactic(auto)]
 
 mod job;
+mod pieces;
+mod solving;
 mod workers;
 
 pub use outside::{Gate, OpenGate};
-pub use workers::solve_all;
+pub use solving::solve_all;

@@ -1,4 +1,4 @@
-//! The workers, and the problems that each of them solves.
+//! The workers, and the pieces that each of them solves.
 
 ghost use Rattle.std.specs.Prelude.{◌≡◌, ℕ, ◌+◌, ◌≤◌, ◌<◌, [], ◌∷◌, All, IfOk, OnOk, length, vec_len};
 ghost use Rattle.claim_counter.specs.Claims.{newcomer};
@@ -9,50 +9,51 @@ ghost use Rattle.parallel_solver.specs.Jobs.{IsRight, MayWork, HasWorked, AreRig
 ghost use Rattle.units_core.specs.declared.limits.TheConstants.{MOST_WORKERS};
 
 use crate::job::{Done, Job};
+use crate::pieces::Pieces;
 use claim_counter::{Counter, Worker};
-use network_laws::{Problem, Solution, Solver};
+use network_laws::{Solution, Solver};
 use outside::Gate;
 use std::alloc::{AllocError, Global};
 use std::thread;
 use std::thread::Threads;
 
-// Solves the problem of a place.
+// Solves the piece of a place.
 fn solve_one<V: Solver, G: Gate>(
-    problems: &[Problem],
+    pieces: &Pieces<'_>,
     solver: &V,
     gate: &G,
     place: usize,
 ) -> Result<Solution, AllocError>
-    requires { place < length problems.now }
-    ensures { IfOk result (SolvesAt problems.now place) }
+    requires { place < length pieces.now }
+    ensures { IfOk result (SolvesAt pieces.now place) }
 {
     gate.enter(place as u64);
-    let problem = &problems[place];
+    let problem = pieces.at(place);
     let solution = solver.solve(problem.limits(), problem.network())?;
     let _potentials = solution.potentials();
     Ok(solution)
 }
 
-// A place for a solution of each problem.
-fn places(alloc: Global, problems: &[Problem]) -> Result<Vec<Option<Solution>>, AllocError>
-    ensures { IfOk result (λ found. AreRight problems.now found.items) }
+// A place for a solution of each piece.
+fn places(alloc: Global, pieces: &Pieces<'_>) -> Result<Vec<Option<Solution>>, AllocError>
+    ensures { IfOk result (λ found. AreRight pieces.now found.items) }
 {
     let mut found = Vec::new(alloc);
-    for _ in problems {
+    for _ in 0..pieces.len() {
         found.push(None)?;
     }
     Ok(found)
 }
 
-// The solutions that were found, one for each problem.
+// The solutions that were found, one for each piece.
 fn collected(
     alloc: Global,
-    problems: &[Problem],
+    pieces: &Pieces<'_>,
     found: Vec<Option<Solution>>,
 ) -> Result<Vec<Solution>, AllocError>
-    requires right { AreRight problems.now found.items }
-    requires all { AreFound problems.now found.items }
-    ensures { IfOk result (λ solutions. AreSolved problems.now solutions.items) }
+    requires right { AreRight pieces.now found.items }
+    requires all { AreFound pieces.now found.items }
+    ensures { IfOk result (λ solutions. AreSolved pieces.now solutions.items) }
 {
     let mut solutions = Vec::new(alloc);
     for slot in found {
@@ -62,24 +63,24 @@ fn collected(
     Ok(solutions)
 }
 
-// Claims one problem after another, and solves it, until none is left or there is no memory.
+// Claims one piece after another, and solves it, until none is left or there is no memory.
 fn work<V: Solver, G: Gate>(
     table: &Counter,
-    problems: &[Problem],
+    pieces: &Pieces<'_>,
     solver: &V,
     gate: &G,
     job: &mut Job,
 )
-    requires { MayWork table.now problems.now job.old }
-    ensures { HasWorked table.now problems.now job.new }
+    requires { MayWork table.now pieces.now job.old }
+    ensures { HasWorked table.now pieces.now job.new }
 {
     loop {
         let place = table.claim(&mut job.worker) as usize;
-        if place >= problems.len() {
+        if place >= pieces.len() {
             job.finished = true;
             return;
         }
-        let Ok(solution) = solve_one(problems, solver, gate, place) else {
+        let Ok(solution) = solve_one(pieces, solver, gate, place) else {
             return;
         };
         if job.done.push(Done { place, solution }).is_err() {
@@ -92,14 +93,14 @@ fn work<V: Solver, G: Gate>(
 fn jobs(
     alloc: Global,
     table: &Counter,
-    problems: &[Problem],
+    pieces: &Pieces<'_>,
     first: &mut Worker,
     count: u32,
 ) -> Result<Vec<Job>, AllocError>
     requires own { IsWorkerOf table.now first.old }
     requires count { count ≤ MOST_WORKERS }
-    requires first { view_of first.old ≡ newcomer (length problems.now) }
-    ensures jobs { IfOk result (λ jobs. (vec_len jobs ≡ count) × All (MayWork table.now problems.now) jobs.items) }
+    requires first { view_of first.old ≡ newcomer (length pieces.now) }
+    ensures jobs { IfOk result (λ jobs. (vec_len jobs ≡ count) × All (MayWork table.now pieces.now) jobs.items) }
     ensures own { OnOk result (IsWorkerOf table.now first.new) }
     ensures parts { OnOk result ((view_of first.new).parts + count ≡ 65) }
     ensures none { OnOk result ((view_of first.new).taken ≡ []) }
@@ -116,10 +117,10 @@ fn jobs(
 }
 
 // Puts a solution into its place.
-fn put(problems: &[Problem], found: &mut [Option<Solution>], done: Done)
-    requires right { IsRight problems.now done }
-    requires found { AreRight problems.now found.old }
-    ensures right { AreRight problems.now found.new }
+fn put(pieces: &Pieces<'_>, found: &mut [Option<Solution>], done: Done)
+    requires right { IsRight pieces.now done }
+    requires found { AreRight pieces.now found.old }
+    ensures right { AreRight pieces.now found.new }
     ensures found { FindsToo found.old (done ∷ []) found.new }
 {
     let Done { place, solution } = done;
@@ -127,22 +128,22 @@ fn put(problems: &[Problem], found: &mut [Option<Solution>], done: Done)
 }
 
 // Puts solutions into their places.
-fn put_all(problems: &[Problem], found: &mut [Option<Solution>], mut done: Vec<Done>)
-    requires right { All (IsRight problems.now) done.items }
-    requires found { AreRight problems.now found.old }
-    ensures right { AreRight problems.now found.new }
+fn put_all(pieces: &Pieces<'_>, found: &mut [Option<Solution>], mut done: Vec<Done>)
+    requires right { All (IsRight pieces.now) done.items }
+    requires found { AreRight pieces.now found.old }
+    ensures right { AreRight pieces.now found.new }
     ensures found { FindsToo found.old done.items found.new }
 {
     while let Some(one) = done.pop() {
-        put(problems, found, one);
+        put(pieces, found, one);
     }
 }
 
 // Puts the solutions of all jobs into their places. Where all workers have finished, the claims that the first has taken
-// in tell that each problem was claimed, and so solved: a place is left only where there was no memory.
+// in tell that each piece was claimed, and so solved: a place is left only where there was no memory.
 fn put_jobs(
     table: &Counter,
-    problems: &[Problem],
+    pieces: &Pieces<'_>,
     first: &mut Worker,
     found: &mut [Option<Solution>],
     mut jobs: Vec<Job>,
@@ -151,10 +152,10 @@ fn put_jobs(
     requires parts { (view_of first.old).parts + vec_len jobs ≡ 65 }
     requires none { (view_of first.old).taken ≡ [] }
     requires count { (1 ≤ vec_len jobs) × (vec_len jobs ≤ MOST_WORKERS) }
-    requires jobs { All (HasWorked table.now problems.now) jobs.items }
-    requires found { AreRight problems.now found.old }
-    ensures right { OnOk result (AreRight problems.now found.new) }
-    ensures found { OnOk result (AreFound problems.now found.new) }
+    requires jobs { All (HasWorked table.now pieces.now) jobs.items }
+    requires found { AreRight pieces.now found.old }
+    ensures right { OnOk result (AreRight pieces.now found.new) }
+    ensures found { OnOk result (AreFound pieces.now found.new) }
 {
     while let Some(job) = jobs.pop() {
         let Job {
@@ -166,7 +167,7 @@ fn put_jobs(
             return Err(AllocError);
         }
         table.join(first, worker);
-        put_all(problems, found, done);
+        put_all(pieces, found, done);
     }
     table.claimed(first);
     Ok(())
@@ -176,42 +177,42 @@ fn put_jobs(
 fn work_all<R: Threads + Sync, V: Solver, G: Gate>(
     rt: &R,
     table: &Counter,
-    problems: &[Problem],
+    pieces: &Pieces<'_>,
     solver: &V,
     gate: &G,
     jobs: &mut [Job],
 )
-    requires { All (MayWork table.now problems.now) jobs.old }
-    ensures { All (HasWorked table.now problems.now) jobs.new }
+    requires { All (MayWork table.now pieces.now) jobs.old }
+    ensures { All (HasWorked table.now pieces.now) jobs.new }
 {
     thread::for_each_mut(
         rt,
         jobs,
         64,
         &|_, job: &mut Job|
-            requires { MayWork table.now problems.now job.old }
-            ensures { HasWorked table.entry.now problems.entry.now job.new }
-        { work(table, problems, solver, gate, job) },
+            requires { MayWork table.now pieces.now job.old }
+            ensures { HasWorked table.entry.now pieces.entry.now job.new }
+        { work(table, pieces, solver, gate, job) },
     );
 }
 
-/// A certified solution for each problem, in order, by so many workers, each of which claims one problem after another.
-/// The only error is want of memory.
-pub fn solve_all<R: Threads + Sync, V: Solver, G: Gate>(
+/// A certified solution for each piece, in order, by so many workers, each of which claims one piece after another. The
+/// only error is want of memory.
+pub fn solve_pieces<R: Threads + Sync, V: Solver, G: Gate>(
     rt: &R,
     alloc: Global,
     workers: u32,
-    problems: &[Problem],
+    pieces: &Pieces<'_>,
     solver: &V,
     gate: &G,
 ) -> Result<Vec<Solution>, AllocError>
     requires { (1 ≤ workers) × (workers ≤ MOST_WORKERS) }
-    ensures { IfOk result (λ solutions. AreSolved problems.now solutions.items) }
+    ensures { IfOk result (λ solutions. AreSolved pieces.now solutions.items) }
 {
-    let mut found = places(alloc, problems)?;
-    let (table, mut first) = Counter::new(alloc, problems.len() as u64)?;
-    let mut jobs = jobs(alloc, &table, problems, &mut first, workers)?;
-    work_all(rt, &table, problems, solver, gate, &mut jobs);
-    put_jobs(&table, problems, &mut first, &mut found, jobs)?;
-    collected(alloc, problems, found)
+    let mut found = places(alloc, pieces)?;
+    let (table, mut first) = Counter::new(alloc, pieces.len() as u64)?;
+    let mut jobs = jobs(alloc, &table, pieces, &mut first, workers)?;
+    work_all(rt, &table, pieces, solver, gate, &mut jobs);
+    put_jobs(&table, pieces, &mut first, &mut found, jobs)?;
+    collected(alloc, pieces, found)
 }

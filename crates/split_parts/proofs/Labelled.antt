@@ -10,10 +10,10 @@ use Rattle.split_parts.specs.Chains.{IsOpen, AreJoined}
 use Rattle.split_parts.specs.Labels.{AreSound, AreLabels, JoinsRow, CoversTo, relabelled}
 use Rattle.split_parts.proofs.Joining.{joined_back, joined_once, through}
 
-relabelled-yes : (from to l : ℕ) → l ≡ from → relabelled from to l ≡ to
+pub relabelled-yes : (from to l : ℕ) → l ≡ from → relabelled from to l ≡ to
 relabelled-yes from to l e = rw (eq-eqb l from e) refl
 
-relabelled-no : (from to l : ℕ) → l ≢ from → relabelled from to l ≡ l
+pub relabelled-no : (from to l : ℕ) → l ≢ from → relabelled from to l ≡ l
 relabelled-no from to l n = rw (ne_eqb l from n) refl
 
 pub sound_first : (limits : LimitsData) (labels : List ℕ) → length labels ≡ limits.members → ((m : ℕ) → m < length labels → get_or labels m 0 ≡ m) → AreSound limits labels

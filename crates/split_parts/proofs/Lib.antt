@@ -1,5 +1,6 @@
 pub mod Joining
 pub mod Labelled
+pub mod Trees
 pub mod Classes
 pub mod Partitions
 pub mod Numbers

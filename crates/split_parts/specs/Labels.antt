@@ -17,6 +17,18 @@ pub record AreLabels (limits : LimitsData) (labels : List ℕ) : Type 0 where
   pub sound : AreSound limits labels
   pub all : (i j : ℕ) → IsOpen limits i j → (i < length labels) × (j < length labels) × (slice_index labels i ≡ slice_index labels j)
 
+-- A member's parent is no larger than itself and has the same label. Who is its own parent is its own label.
+pub record LeadTo (parents labels : List ℕ) : Type 0 where
+  pub size : length parents ≡ length labels
+  pub low : (m : ℕ) → m < length parents → slice_index parents m ≤ m
+  pub same : (m : ℕ) → m < length parents → slice_index labels (slice_index parents m) ≡ slice_index labels m
+  pub root : (m : ℕ) → m < length parents → slice_index parents m ≡ m → slice_index labels m ≡ m
+
+-- whatever labels the parents lead to, they still do, and one member has this one
+abbrev pub LeadsTo : List ℕ → List ℕ → ℕ → ℕ → Type 0
+LeadsTo parents parents' m label =
+    (labels : List ℕ) → LeadTo parents labels → LeadTo parents' labels × (label ≡ slice_index labels m)
+
 -- a label after all that have one label got the other
 abbrev pub relabelled : ℕ → ℕ → ℕ → ℕ
 relabelled from to label = if label == from then to else label
@@ -25,6 +37,11 @@ relabelled from to label = if label == from then to else label
 pub record JoinsRow (row : LimitRow) (labels labels' : List ℕ) : Type 0 where
   pub closed : row.upper ≡ Some 0 → (m : ℕ) → slice_index labels' m ≡ slice_index labels m
   pub joined : row.upper ≢ Some 0 → (m : ℕ) → m < length labels → slice_index labels' m ≡ relabelled (max (slice_index labels row.seller) (slice_index labels row.buyer)) (min (slice_index labels row.seller) (slice_index labels row.buyer)) (slice_index labels m)
+
+-- whatever labels the parents lead to, they lead now to such as the row joins
+abbrev pub LeadsOn : LimitRow → List ℕ → List ℕ → Type 0
+LeadsOn row parents parents' =
+    (labels : List ℕ) → LeadTo parents labels → (labels' : List ℕ) × LeadTo parents' labels' × JoinsRow row labels labels'
 
 -- the pairs of the first rows, where they are open, have the same label
 abbrev pub CoversTo : List LimitRow → ℕ → List ℕ → Type 0

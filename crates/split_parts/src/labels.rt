@@ -1,34 +1,70 @@
 //! A label for each member: joined members have the same, the smallest of them.
 //!
-//! Each member begins with itself as label. Each open pair then gives all members that have the larger of its two labels
-//! the smaller one.
+//! Members stand in trees (disjoint sets, of Galler and Fischer): each has a parent that is no larger than itself, and the
+//! label is where its parents lead. Each open pair hangs the larger of its two labels below the smaller one.
 
-ghost use Rattle.std.specs.Prelude.{◌≡◌, ◌↔◌, ℕ, ◌<◌, ◌≤◌, length, slice_index, IsTrue, EachIndex, IfOk};
+ghost use Rattle.std.specs.Prelude.{◌≡◌, ◌<◌, ◌≤◌, ℕ, List, length, slice_index, IsTrue, EachIndex, IfOk};
 ghost use Rattle.network_laws.specs.Limits.{AreLimits};
-ghost use Rattle.split_parts.specs.Chains.{IsOpen};
-ghost use Rattle.split_parts.specs.Labels.{AreSound, AreLabels, JoinsRow, relabelled};
+ghost use Rattle.split_parts.specs.Labels.{AreLabels, LeadTo, LeadsTo, LeadsOn};
 
 use network_laws::{LimitRow, Limits};
 use std::alloc::{AllocError, Global};
 
-// The labels of members that are joined with nobody.
-fn own_labels(alloc: Global, members: u16) -> Result<Vec<u16>, AllocError>
-    ensures size { IfOk result (λ labels. length labels.items ≡ members) }
-    ensures own { IfOk result (λ labels. EachIndex labels.items (λ m. slice_index labels.items m ≡ m)) }
+// The parents of members that are joined with nobody: each is its own.
+fn own_parents(alloc: Global, members: u16) -> Result<Vec<u16>, AllocError>
+    ensures size { IfOk result (λ parents. length parents.items ≡ members) }
+    ensures own { IfOk result (λ parents. EachIndex parents.items (λ m. slice_index parents.items m ≡ m)) }
 {
-    let mut labels = Vec::new(alloc);
+    let mut parents = Vec::new(alloc);
     for member in 0..members {
-        labels.push(member)?;
+        parents.push(member)?;
     }
-    Ok(labels)
+    Ok(parents)
 }
 
-// Gives all that have one label the other.
-fn relabel(labels: &mut [u16], from: u16, to: u16)
-    ensures { EachIndex labels.old (λ m. slice_index labels.new m ≡ relabelled from to (slice_index labels.old m)) }
+// The label of a member, which is its parent from now on.
+fn label_of(parents: &mut [u16], member: u16) -> u16
+    requires here { member < length parents.old }
+    requires low { EachIndex parents.old (λ m. slice_index parents.old m ≤ m) }
+    ensures low { EachIndex parents.new (λ m. slice_index parents.new m ≤ m) }
+    ensures root { slice_index parents.new result ≡ result }
+    ensures below { result ≤ member }
+    ensures label { LeadsTo parents.old parents.new member result }
 {
-    for label in labels.iter_mut() {
-        *label = if *label == from { to } else { *label };
+    let mut label = member;
+    while parents[label as usize] != label {
+        label = parents[label as usize];
+    }
+    parents[member as usize] = label;
+    label
+}
+
+// Joins the members of a row, if their pair is open, and tells whether their labels were different.
+fn join(parents: &mut [u16], row: LimitRow) -> bool
+    requires seller { row.seller < length parents.old }
+    requires buyer { row.buyer < length parents.old }
+    requires low { EachIndex parents.old (λ m. slice_index parents.old m ≤ m) }
+    ensures { LeadsOn row parents.old parents.new }
+{
+    if row.upper == Some(0) || parents[row.seller as usize] == parents[row.buyer as usize] {
+        return false;
+    }
+    let seller = label_of(parents, row.seller);
+    let buyer = label_of(parents, row.buyer);
+    if seller == buyer {
+        return false;
+    }
+    parents[seller.max(buyer) as usize] = seller.min(buyer);
+    true
+}
+
+// Makes each member's label its parent.
+fn flatten(parents: &mut [u16])
+    requires low { EachIndex parents.old (λ m. slice_index parents.old m ≤ m) }
+    ensures { (labels : List ℕ) → LeadTo parents.old labels → parents.new ≡ labels }
+{
+    for member in 0..parents.len() {
+        parents[member] = parents[parents[member] as usize];
     }
 }
 
@@ -39,46 +75,33 @@ fn is_one(labels: &[u16]) -> bool
     labels.iter().all(|label| *label == 0)
 }
 
-// Joins the members of a row, if their pair is open, and tells whether their labels were different.
-fn join(labels: &mut [u16], row: LimitRow) -> bool
-    requires seller { row.seller < length labels.old }
-    requires buyer { row.buyer < length labels.old }
-    ensures { JoinsRow row labels.old labels.new }
-{
-    if row.upper == Some(0) {
-        return false;
-    }
-    let seller = labels[row.seller as usize];
-    let buyer = labels[row.buyer as usize];
-    if seller == buyer {
-        return false;
-    }
-    relabel(labels, seller.max(buyer), seller.min(buyer));
-    true
-}
-
 // Joins the members of each row whose pair is open. Where all are joined with the first, no row is left to read.
-fn join_rows(labels: &mut [u16], limits: &Limits)
-    requires { AreSound limits.now labels.old }
-    ensures { AreLabels limits.now labels.new }
+fn join_rows(parents: &mut [u16], limits: &Limits)
+    requires size { length parents.old ≡ limits.now.members }
+    requires own { EachIndex parents.old (λ m. slice_index parents.old m ≡ m) }
+    ensures { AreLabels limits.now parents.new }
 {
     let rows = limits.rows();
     let mut links = 0;
     for at in 0..rows.len() {
-        if join(labels, rows[at]) {
+        if join(parents, rows[at]) {
             links += 1;
-            if links + 1 == labels.len() && is_one(labels) {
-                return;
+            if links + 1 == parents.len() {
+                flatten(parents);
+                if is_one(parents) {
+                    return;
+                }
             }
         }
     }
+    flatten(parents);
 }
 
 /// The labels of the members.
 pub fn labels_of(alloc: Global, limits: &Limits) -> Result<Vec<u16>, AllocError>
     ensures { IfOk result (λ labels. AreLabels limits.now labels.items) }
 {
-    let mut labels = own_labels(alloc, limits.members())?;
+    let mut labels = own_parents(alloc, limits.members())?;
     join_rows(&mut labels, limits);
     Ok(labels)
 }

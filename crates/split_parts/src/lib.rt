@@ -15,4 +15,4 @@ mod parts;
 pub use law::merged_is_solution;
 pub use merging::merge;
 pub use part::Part;
-pub use parts::{Parts, split};
+pub use parts::{Parts, split, split_unless_one};

@@ -3,7 +3,7 @@
 ghost use Rattle.std.specs.Prelude.{◌≡◌, map, IfOk};
 ghost use Rattle.network_laws.specs.Limits.{IsWithinLimits};
 ghost use Rattle.split_parts.specs.Own.{own_problem};
-ghost use Rattle.split_parts.specs.Parts.{PartsData, ArePartsOf, IsPartition};
+ghost use Rattle.split_parts.specs.Parts.{PartsData, ArePartsOf, IsCut, IsPartition};
 
 use crate::labels::labels_of;
 use crate::members::parts_with;
@@ -85,4 +85,23 @@ pub fn split(alloc: Global, limits: &Limits, network: &Network) -> Result<Parts,
     let members = members_of(alloc, limits)?;
     let problems = problems_of(alloc, limits, network, &members)?;
     Ok(Parts { members, problems })
+}
+
+/// The parts of the limits, as `split` gives them. `None` where there is just one: such a problem is solved as it stands.
+/// The only error is want of memory.
+pub fn split_unless_one(
+    alloc: Global,
+    limits: &Limits,
+    network: &Network,
+) -> Result<Option<Parts>, AllocError>
+    requires same_members { limits.now.members ≡ network.now.members }
+    requires within { IsWithinLimits limits.now network.now }
+    ensures { IfOk result (IsCut limits.now network.now) }
+{
+    let members = members_of(alloc, limits)?;
+    if members.len() == 1 {
+        return Ok(None);
+    }
+    let problems = problems_of(alloc, limits, network, &members)?;
+    Ok(Some(Parts { members, problems }))
 }

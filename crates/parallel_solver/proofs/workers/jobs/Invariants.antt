@@ -9,8 +9,8 @@ invariant-loop l = record {
   own : IsWorkerOf l.table l.first;
   room : (view_of l.first).room + l.counter ≡ 64;
   parts : (view_of l.first).parts + l.counter ≡ 65;
-  pieces : (view_of l.first).pieces ≡ length l.problems;
+  pieces : (view_of l.first).pieces ≡ length l.pieces;
   nothing : (view_of l.first).taken ≡ [];
   count : vec_len l.jobs ≡ l.counter;
-  jobs : All (MayWork l.table l.problems) l.jobs.items;
+  jobs : All (MayWork l.table l.pieces) l.jobs.items;
 }

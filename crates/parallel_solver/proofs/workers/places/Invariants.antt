@@ -2,4 +2,4 @@ use Rattle.parallel_solver.proofs.Rights.{AreEmpty}
 use Rattle.parallel_solver.proofs.workers.places.Given as goal
 
 abbrev pub invariant-loop : goal.invariant-loop
-invariant-loop l = AreEmpty l.found.items l.index
+invariant-loop l = AreEmpty l.found.items l.counter

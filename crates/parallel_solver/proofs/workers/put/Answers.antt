@@ -3,7 +3,7 @@ use Rattle.parallel_solver.proofs.Rights.{put_right, found_put}
 use Rattle.parallel_solver.proofs.workers.put.Goals as goal
 
 pub returns-clause-right : goal.returns-clause-right
-returns-clause-right c = put_right c.args.problems.now c.args.found.now c.args.done c.requires.right c.requires.found
+returns-clause-right c = put_right c.args.pieces.now c.args.found.now c.args.done c.requires.right c.requires.found
 
 pub returns-clause-found : goal.returns-clause-found
 returns-clause-found c =

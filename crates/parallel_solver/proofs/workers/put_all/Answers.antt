@@ -5,12 +5,12 @@ use Rattle.parallel_solver.proofs.Rights.{all_front, all_last, one_put, all_put}
 use Rattle.parallel_solver.proofs.workers.put_all.Goals as goal
 
 pub put-requires-clause-right : goal.put-requires-clause-right
-put-requires-clause-right c = all_last (IsRight c.args.problems.now) c.pop.new.self.items c.loop-one.done.items c.in-Some.one c.in-Some.ensures.items c.loop-one.invariant.1
+put-requires-clause-right c = all_last (IsRight c.args.pieces.now) c.pop.new.self.items c.loop-one.done.items c.in-Some.one c.in-Some.ensures.items c.loop-one.invariant.1
 
 pub loop-one-preserved : goal.loop-one-preserved
 loop-one-preserved c = (
   c.put.ensures.right,
-  all_front (IsRight c.args.problems.now) c.pop.new.self.items (c.in-Some.one ∷ []) c.loop-one.done.items c.in-Some.ensures.items c.loop-one.invariant.1,
+  all_front (IsRight c.args.pieces.now) c.pop.new.self.items (c.in-Some.one ∷ []) c.loop-one.done.items c.in-Some.ensures.items c.loop-one.invariant.1,
   one_put _ _ c.loop-one.found c.put.new.found c.loop-one.done.items c.pop.new.self.items c.in-Some.one c.in-Some.ensures.items c.put.ensures.found c.loop-one.invariant.2,
 )
 

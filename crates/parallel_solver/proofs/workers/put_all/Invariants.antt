@@ -5,7 +5,7 @@ use Rattle.parallel_solver.proofs.Rights.{Left}
 use Rattle.parallel_solver.proofs.workers.put_all.Given as goal
 
 abbrev pub invariant-loop-one : goal.invariant-loop-one
-invariant-loop-one l = AreRight l.problems l.found × All (IsRight l.problems) l.done.items × Left l.initial.found l.fn.done.items l.found l.done.items
+invariant-loop-one l = AreRight l.pieces l.found × All (IsRight l.pieces) l.done.items × Left l.initial.found l.fn.done.items l.found l.done.items
 
 abbrev pub decreases-loop-one : goal.decreases-loop-one
 decreases-loop-one l = vec_len l.done

@@ -7,7 +7,7 @@ use Rattle.parallel_solver.proofs.workers.put_jobs.Goals as goal
 pub loop-job-preserved : goal.loop-job-preserved
 loop-job-preserved c =
     let i = c.loop-job.invariant in
-    let P = HasWorked c.args.table.now c.args.problems.now in
+    let P = HasWorked c.args.table.now c.args.pieces.now in
     let job = c.in-Some.job in
     let h = all_last P c.pop.new.self.items c.loop-job.jobs.items job c.in-Some.ensures.items i.jobs in
     let finished : job.finished ≡ true = c.if-not-finished.false in
@@ -20,6 +20,6 @@ loop-job-preserved c =
       few = omega (arith, i.few, size);
       right = c.put_all.ensures.right;
       jobs = all_front P c.pop.new.self.items (job ∷ []) c.loop-job.jobs.items c.in-Some.ensures.items i.jobs;
-      finds = more_claims c.args.problems.now _ _ (view_of job.worker).taken job.done.items c.loop-job.found c.put_all.new.found taken (h.claims finished) c.put_all.ensures.found i.finds;
-      passed = inr (passes_too c.args.problems.now _ _ (view_of job.worker).taken taken (h.passed finished));
+      finds = more_claims c.args.pieces.now _ _ (view_of job.worker).taken job.done.items c.loop-job.found c.put_all.new.found taken (h.claims finished) c.put_all.ensures.found i.finds;
+      passed = inr (passes_too c.args.pieces.now _ _ (view_of job.worker).taken taken (h.passed finished));
     }

@@ -10,10 +10,10 @@ invariant-loop-job l = record {
   own : IsWorkerOf l.table l.first;
   parts : (view_of l.first).parts + vec_len l.jobs ≡ 65;
   few : vec_len l.jobs ≤ 64;
-  right : AreRight l.problems l.found;
-  jobs : All (HasWorked l.table l.problems) l.jobs.items;
-  finds : FindsClaims l.problems (view_of l.first).taken l.found;
-  passed : (1 ≤ vec_len l.jobs) ⊎ HasPassed l.problems (view_of l.first).taken;
+  right : AreRight l.pieces l.found;
+  jobs : All (HasWorked l.table l.pieces) l.jobs.items;
+  finds : FindsClaims l.pieces (view_of l.first).taken l.found;
+  passed : (1 ≤ vec_len l.jobs) ⊎ HasPassed l.pieces (view_of l.first).taken;
 }
 
 abbrev pub decreases-loop-job : goal.decreases-loop-job

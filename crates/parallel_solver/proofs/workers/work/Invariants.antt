@@ -4,7 +4,7 @@ use Rattle.parallel_solver.specs.Jobs.{MayWork}
 use Rattle.parallel_solver.proofs.workers.work.Given as goal
 
 abbrev pub invariant-loop-job : goal.invariant-loop-job
-invariant-loop-job g l = MayWork l.table l.problems l.job
+invariant-loop-job g l = MayWork l.table l.pieces l.job
 
 abbrev pub decreases-loop-job : goal.decreases-loop-job
-decreases-loop-job g l = length l.problems - length (view_of l.job.worker).taken
+decreases-loop-job g l = length l.pieces - length (view_of l.job.worker).taken

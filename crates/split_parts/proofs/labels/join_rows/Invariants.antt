@@ -1,10 +1,9 @@
 use Rattle.std.proofs.Common.{◌≤◌}
-use Rattle.split_parts.specs.Labels.{AreSound, CoversTo}
+use Rattle.split_parts.proofs.Trees.{AreJoinedTo}
 use Rattle.split_parts.proofs.labels.join_rows.Given as goal
 
 abbrev pub invariant-loop-at : goal.invariant-loop-at
 invariant-loop-at l = record {
-  sound : AreSound l.limits l.labels;
-  covers : CoversTo l.limits.rows l.at l.labels;
+  joined : AreJoinedTo l.limits l.at l.parents;
   links : l.links ≤ l.at;
 }

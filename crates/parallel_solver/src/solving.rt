@@ -1,0 +1,102 @@
+//! Problems solved over their pieces, and the solutions of pieces put together.
+
+ghost use Rattle.std.specs.Prelude.{◌≡◌, ◌≤◌, ◌++◌, length, IfOk};
+ghost use Rattle.network_laws.specs.Solved.{IsSolved, AreSolved};
+ghost use Rattle.split_parts.specs.Parts.{IsCut};
+ghost use Rattle.parallel_solver.specs.Cuts.{pieces_in, pieces_of, AreCuts};
+ghost use Rattle.units_core.specs.declared.limits.TheConstants.{MOST_WORKERS};
+
+use crate::pieces::{Pieces, cuts_of, pieces_in};
+use crate::workers::solve_pieces;
+use network_laws::{Problem, Solution, Solver};
+use outside::Gate;
+use split_parts::{Parts, merge};
+use std::alloc::{AllocError, Global};
+use std::thread::Threads;
+use std::vec::IntoIter;
+
+// Takes so many solutions.
+fn taken(
+    alloc: Global,
+    count: usize,
+    solutions: &mut IntoIter<Solution>,
+) -> Result<Vec<Solution>, AllocError>
+    requires { count ≤ length solutions.old.rest.items }
+    ensures size { IfOk result (λ own. length own.items ≡ count) }
+    ensures rest { IfOk result (λ own. own.items ++ solutions.new.rest.items ≡ solutions.old.rest.items) }
+{
+    let mut own = Vec::new(alloc);
+    for _ in 0..count {
+        let Some(solution) = solutions.next() else {
+            unreachable!()
+        };
+        own.push(solution)?;
+    }
+    Ok(own)
+}
+
+// The solution of a problem, from those of its pieces.
+fn solution_of(
+    alloc: Global,
+    problem: &Problem,
+    cut: &Option<Parts>,
+    mut own: Vec<Solution>,
+) -> Result<Solution, AllocError>
+    requires cut { IsCut problem.now.limits problem.now.network cut.now }
+    requires solved { AreSolved (pieces_in problem.now cut.now) own.items }
+    ensures { IfOk result (IsSolved problem.now) }
+{
+    match cut {
+        Some(parts) => {
+            let solution = merge(alloc, parts, problem.network().members(), &own)?;
+            let _potentials = solution.potentials();
+            Ok(solution)
+        }
+        None => match own.pop() {
+            Some(solution) => Ok(solution),
+            None => unreachable!(),
+        },
+    }
+}
+
+// The solutions of problems, from those of their pieces.
+fn merged(
+    alloc: Global,
+    problems: &[Problem],
+    cuts: &[Option<Parts>],
+    solutions: Vec<Solution>,
+) -> Result<Vec<Solution>, AllocError>
+    requires cuts { AreCuts problems.now cuts.now }
+    requires solved { AreSolved (pieces_of problems.now cuts.now) solutions.items }
+    ensures { IfOk result (λ merged. AreSolved problems.now merged.items) }
+{
+    let mut solutions = solutions.into_iter();
+    let mut merged = Vec::new(alloc);
+    for at in 0..problems.len() {
+        let cut = &cuts[at];
+        let count = pieces_in(problems, at, cut).len();
+        let own = taken(alloc, count, &mut solutions)?;
+        let solution = solution_of(alloc, &problems[at], cut, own)?;
+        merged.push(solution)?;
+    }
+    Ok(merged)
+}
+
+/// A certified solution for each problem, in order, by so many workers, each of which claims one piece after another: a part
+/// of a problem, or a problem that has just one part. The only error is want of memory.
+pub fn solve_all<R: Threads + Sync, V: Solver, G: Gate>(
+    rt: &R,
+    alloc: Global,
+    workers: u32,
+    problems: &[Problem],
+    solver: &V,
+    gate: &G,
+) -> Result<Vec<Solution>, AllocError>
+    requires { (1 ≤ workers) × (workers ≤ MOST_WORKERS) }
+    ensures { IfOk result (λ solutions. AreSolved problems.now solutions.items) }
+{
+    let cuts = cuts_of(alloc, problems)?;
+    let pieces = Pieces::of(alloc, problems, &cuts)?;
+    let solutions = solve_pieces(rt, alloc, workers, &pieces, solver, gate)?;
+    merged(alloc, problems, &cuts, solutions)
+}
