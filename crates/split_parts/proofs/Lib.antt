@@ -4,6 +4,8 @@ pub mod Trees
 pub mod Classes
 pub mod Partitions
 pub mod Numbers
+pub mod Placed
+pub mod Drafts
 pub mod Kept
 pub mod OwnFacts
 pub mod Summing

@@ -2,4 +2,5 @@ pub mod Chains
 pub mod Labels
 pub mod Parts
 pub mod Own
+pub mod Places
 pub mod Merged

@@ -38,13 +38,21 @@ numbered numbers row = row_between (slice_index_or numbers row.seller None) (sli
 abbrev pub numbered_bounds : List (Option ℕ) → LimitRow → Option LimitRow
 numbered_bounds numbers row = bounds_between (slice_index_or numbers row.seller None) (slice_index_or numbers row.buyer None) row.lower row.upper
 
+-- the rows of the part's limits
+abbrev pub own_limit_rows : LimitsData → List ℕ → List LimitRow
+own_limit_rows limits part = filter_map (own_bounds part) limits.rows
+
+-- the rows of the part's network
+abbrev pub own_rows : NetworkData → List ℕ → List Row
+own_rows y part = filter_map (own_row part) y.rows
+
 -- the part's limits
 abbrev pub own_limits : LimitsData → List ℕ → LimitsData
-own_limits limits part = record { members = length part; rows = filter_map (own_bounds part) limits.rows }
+own_limits limits part = record { members = length part; rows = own_limit_rows limits part }
 
 -- the part's network
 abbrev pub own_network : NetworkData → List ℕ → NetworkData
-own_network y part = record { members = length part; rows = filter_map (own_row part) y.rows }
+own_network y part = record { members = length part; rows = own_rows y part }
 
 -- the part's limits and network
 abbrev pub own_problem : LimitsData → NetworkData → List ℕ → ProblemData

@@ -4,6 +4,7 @@
 //! between two parts, and none can. So the solutions of the parts, put together, are a solution of the whole.
 #![tactic(auto)]
 
+mod draft;
 mod labels;
 mod law;
 mod members;
@@ -11,6 +12,7 @@ mod merging;
 mod own;
 mod part;
 mod parts;
+mod places;
 
 pub use law::merged_is_solution;
 pub use merging::merge;

@@ -1,154 +1,194 @@
-//! The problem of a part, in its own numbers.
+//! The problems of parts, in their own numbers. One reading of the rows gives each to its part.
 
-ghost use Rattle.std.specs.Prelude.{◌≡◌, ◌<◌, ◌≤◌, ℕ, List, length, filter_map, slice_index_or, None, All, IfOk};
+ghost use Rattle.std.specs.Prelude.{◌≡◌, ◌<◌, ℕ, List, [], length, map, filter_map, slice_index_or, Some, None, All, IfOk, IfSome};
 ghost use Rattle.network_laws.specs.Limits.{IsWithinLimits};
-ghost use Rattle.split_parts.specs.Own.{number_in, numbered, numbered_bounds, own_limits, own_network, own_problem};
-ghost use Rattle.split_parts.specs.Parts.{IsRisingPart};
-ghost use Rattle.units_core.specs.declared.limits.TheConstants.{MOST_MEMBERS};
+ghost use Rattle.network_laws.specs.declared.rows.LimitRow.{LimitRow};
+ghost use Rattle.split_parts.specs.Own.{numbered, numbered_bounds, own_limit_rows, own_rows, own_limits, own_network, own_problem};
+ghost use Rattle.split_parts.specs.Parts.{IsPartition, IsRisingPart};
+ghost use Rattle.split_parts.specs.Places.{AreDrafts, AreWithin, if_in, numbers_for};
 
+use crate::draft::Draft;
+use crate::part::Part;
+use crate::places::{Place, places_of};
 use network_laws::{LimitRow, Limits, Network, Problem, Row};
 use std::alloc::{AllocError, Global};
 
-// The own number of each member that is in the part.
-fn numbers_in(alloc: Global, members: u16, part: &[u16]) -> Result<Vec<Option<u16>>, AllocError>
-    requires rising { IsRisingPart part.now }
-    requires within { All (λ m. m < members) part.now }
-    requires few { members ≤ MOST_MEMBERS }
-    ensures size { IfOk result (λ numbers. length numbers.items ≡ members) }
-    ensures own { IfOk result (λ numbers. (m : ℕ) → m < members → slice_index_or numbers.items m None ≡ number_in part.now m) }
+// A row in own numbers, with the part of its members, if they are in one.
+fn row_in(row: Row, places: &[Option<Place>]) -> Option<(usize, Row)>
+    requires seller { row.seller < length places.now }
+    requires buyer { row.buyer < length places.now }
+    ensures own { (k : ℕ) → numbered (numbers_for places.now k) row ≡ if_in k result }
+    ensures within { (n : ℕ) → AreWithin n places.now → IfSome result (λ found. found.0 < n) }
 {
-    let mut numbers = Vec::new(alloc);
-    for _ in 0..members {
-        numbers.push(None)?;
+    let seller = places[row.seller as usize]?;
+    let buyer = places[row.buyer as usize]?;
+    if seller.part != buyer.part {
+        return None;
     }
-    for place in 0..part.len() {
-        numbers[part[place] as usize] = Some(place as u16);
-    }
-    Ok(numbers)
-}
-
-// A row between two members that have a number.
-fn numbered_row(row: Row, numbers: &[Option<u16>]) -> Option<Row>
-    requires seller { row.seller < length numbers.now }
-    requires buyer { row.buyer < length numbers.now }
-    ensures { result ≡ numbered numbers.now row }
-{
-    let seller = numbers[row.seller as usize]?;
-    let buyer = numbers[row.buyer as usize]?;
-    Some(Row {
-        seller,
-        buyer,
+    let own = Row {
+        seller: seller.number,
+        buyer: buyer.number,
         amount: row.amount,
-    })
+    };
+    Some((seller.part, own))
 }
 
-// The bounds of two members that have a number.
-fn numbered_limit(row: LimitRow, numbers: &[Option<u16>]) -> Option<LimitRow>
-    requires seller { row.seller < length numbers.now }
-    requires buyer { row.buyer < length numbers.now }
-    ensures { result ≡ numbered_bounds numbers.now row }
+// Bounds in own numbers, with the part of their members, if they are in one.
+fn limit_in(row: LimitRow, places: &[Option<Place>]) -> Option<(usize, LimitRow)>
+    requires seller { row.seller < length places.now }
+    requires buyer { row.buyer < length places.now }
+    ensures own { (k : ℕ) → numbered_bounds (numbers_for places.now k) row ≡ if_in k result }
+    ensures within { (n : ℕ) → AreWithin n places.now → IfSome result (λ found. found.0 < n) }
 {
-    let seller = numbers[row.seller as usize]?;
-    let buyer = numbers[row.buyer as usize]?;
-    Some(LimitRow {
-        seller,
-        buyer,
+    let seller = places[row.seller as usize]?;
+    let buyer = places[row.buyer as usize]?;
+    if seller.part != buyer.part {
+        return None;
+    }
+    let own = LimitRow {
+        seller: seller.number,
+        buyer: buyer.number,
         lower: row.lower,
         upper: row.upper,
-    })
+    };
+    Some((seller.part, own))
 }
 
-// The rows between members that have a number.
-fn numbered_rows(
-    alloc: Global,
-    rows: &[Row],
-    numbers: &[Option<u16>],
-) -> Result<Vec<Row>, AllocError>
-    requires { All (λ row. (row.seller < length numbers.now) × (row.buyer < length numbers.now)) rows.now }
-    ensures { IfOk result (λ own. own.items ≡ filter_map (numbered numbers.now) rows.now) }
-{
-    let mut own = Vec::new(alloc);
-    for row in rows {
-        if let Some(one) = numbered_row(*row, numbers) {
-            own.push(one)?;
-        }
-    }
-    Ok(own)
-}
-
-// The bounds of pairs that have numbers.
-fn numbered_limits(
-    alloc: Global,
+// Gives each row of the limits to the part of its members.
+fn add_limits(
+    drafts: &mut [Draft],
+    places: &[Option<Place>],
     rows: &[LimitRow],
-    numbers: &[Option<u16>],
-) -> Result<Vec<LimitRow>, AllocError>
-    requires { All (λ row. (row.seller < length numbers.now) × (row.buyer < length numbers.now)) rows.now }
-    ensures { IfOk result (λ own. own.items ≡ filter_map (numbered_bounds numbers.now) rows.now) }
+) -> Result<(), AllocError>
+    requires rows { All (λ row. (row.seller < length places.now) × (row.buyer < length places.now)) rows.now }
+    requires within { AreWithin (length drafts.old) places.now }
+    requires none { AreDrafts (λ _. []) (λ _. []) drafts.old }
+    ensures { IfOk result (λ _. AreDrafts (λ k. filter_map (numbered_bounds (numbers_for places.now k)) rows.now) (λ _. []) drafts.new) }
 {
-    let mut own = Vec::new(alloc);
     for row in rows {
-        if let Some(one) = numbered_limit(*row, numbers) {
-            own.push(one)?;
+        if let Some((part, own)) = limit_in(*row, places) {
+            drafts[part].add_limit(own)?;
         }
     }
-    Ok(own)
+    Ok(())
 }
 
-// The limits of a part.
-fn limits_of(
+// Gives each row of the network to the part of its members.
+fn add_rows(drafts: &mut [Draft], places: &[Option<Place>], rows: &[Row]) -> Result<(), AllocError>
+    requires rows { All (λ row. (row.seller < length places.now) × (row.buyer < length places.now)) rows.now }
+    requires within { AreWithin (length drafts.old) places.now }
+    ensures { IfOk result (λ _. (limits : ℕ → List LimitRow) → AreDrafts limits (λ _. []) drafts.old → AreDrafts limits (λ k. filter_map (numbered (numbers_for places.now k)) rows.now) drafts.new) }
+{
+    for row in rows {
+        if let Some((part, own)) = row_in(*row, places) {
+            drafts[part].add_row(own)?;
+        }
+    }
+    Ok(())
+}
+
+// The rows of each part.
+fn drafts_of(
     alloc: Global,
     limits: &Limits,
-    part: &[u16],
-    numbers: &[Option<u16>],
-) -> Result<Limits, AllocError>
+    network: &Network,
+    parts: &[Part],
+) -> Result<Vec<Draft>, AllocError>
+    requires same_members { limits.now.members ≡ network.now.members }
+    requires parts { IsPartition limits.now parts.now }
+    ensures size { IfOk result (λ drafts. length drafts.items ≡ length parts.now) }
+    ensures rows { IfOk result (λ drafts. AreDrafts (λ k. own_limit_rows limits.now (slice_index_or parts.now k [])) (λ k. own_rows network.now (slice_index_or parts.now k [])) drafts.items) }
+{
+    let places = places_of(alloc, limits.members(), parts)?;
+    let mut drafts = Vec::new(alloc);
+    for _ in parts {
+        drafts.push(Draft::new(alloc))?;
+    }
+    add_limits(&mut drafts, &places, limits.rows())?;
+    add_rows(&mut drafts, &places, network.rows())?;
+    Ok(drafts)
+}
+
+// The limits of a part, of these rows.
+fn limits_of(limits: &Limits, part: &[u16], rows: Vec<LimitRow>) -> Limits
     requires rising { IsRisingPart part.now }
     requires within { All (λ m. m < limits.now.members) part.now }
-    requires size { length numbers.now ≡ limits.now.members }
-    requires own { (m : ℕ) → m < limits.now.members → slice_index_or numbers.now m None ≡ number_in part.now m }
-    ensures { IfOk result (λ own. own ≡ own_limits limits.now part.now) }
+    requires rows { rows.items ≡ own_limit_rows limits.now part.now }
+    ensures { result ≡ own_limits limits.now part.now }
 {
-    let rows = numbered_limits(alloc, limits.rows(), numbers)?;
+    let _members = limits.members();
     match Limits::from_rows(part.len() as u16, rows) {
-        Ok(own) => Ok(own),
+        Ok(own) => own,
         Err(_) => unreachable!(),
     }
 }
 
-// The network of a part.
-fn network_of(
-    alloc: Global,
-    network: &Network,
-    part: &[u16],
-    numbers: &[Option<u16>],
-) -> Result<Network, AllocError>
+// The network of a part, of these rows.
+fn network_of(network: &Network, part: &[u16], rows: Vec<Row>) -> Network
     requires rising { IsRisingPart part.now }
     requires within { All (λ m. m < network.now.members) part.now }
-    requires size { length numbers.now ≡ network.now.members }
-    requires own { (m : ℕ) → m < network.now.members → slice_index_or numbers.now m None ≡ number_in part.now m }
-    ensures { IfOk result (λ own. own ≡ own_network network.now part.now) }
+    requires rows { rows.items ≡ own_rows network.now part.now }
+    ensures { result ≡ own_network network.now part.now }
 {
-    let rows = numbered_rows(alloc, network.rows(), numbers)?;
+    let _members = network.members();
     match Network::from_rows(part.len() as u16, rows) {
-        Ok(own) => Ok(own),
+        Ok(own) => own,
         Err(_) => unreachable!(),
     }
 }
 
-/// The problem of a part: its limits and its network, in its own numbers.
-pub fn problem_of(
-    alloc: Global,
-    limits: &Limits,
-    network: &Network,
-    part: &[u16],
-) -> Result<Problem, AllocError>
+// The problem of a part, of these rows.
+fn problem_of(limits: &Limits, network: &Network, part: &[u16], draft: Draft) -> Problem
     requires same_members { limits.now.members ≡ network.now.members }
     requires network { IsWithinLimits limits.now network.now }
     requires rising { IsRisingPart part.now }
     requires within { All (λ m. m < limits.now.members) part.now }
-    ensures { IfOk result (λ problem. problem ≡ own_problem limits.now network.now part.now) }
+    requires draft { draft ≡ record { limits = own_limit_rows limits.now part.now; rows = own_rows network.now part.now } }
+    ensures { result ≡ own_problem limits.now network.now part.now }
 {
-    let numbers = numbers_in(alloc, limits.members(), part)?;
-    let own_limits = limits_of(alloc, limits, part, &numbers)?;
-    let own_network = network_of(alloc, network, part, &numbers)?;
-    Ok(Problem::new(own_limits, own_network))
+    let (bounds, rows) = draft.into_rows();
+    Problem::new(
+        limits_of(limits, part, bounds),
+        network_of(network, part, rows),
+    )
+}
+
+// The problem of each part, of these rows.
+fn problems_from(
+    alloc: Global,
+    limits: &Limits,
+    network: &Network,
+    parts: &[Part],
+    drafts: Vec<Draft>,
+) -> Result<Vec<Problem>, AllocError>
+    requires same_members { limits.now.members ≡ network.now.members }
+    requires within { IsWithinLimits limits.now network.now }
+    requires parts { IsPartition limits.now parts.now }
+    requires size { length drafts.items ≡ length parts.now }
+    requires rows { AreDrafts (λ k. own_limit_rows limits.now (slice_index_or parts.now k [])) (λ k. own_rows network.now (slice_index_or parts.now k [])) drafts.items }
+    ensures { IfOk result (λ problems. problems.items ≡ map (own_problem limits.now network.now) parts.now) }
+{
+    let _members = limits.members();
+    let mut problems = Vec::new(alloc);
+    for draft in drafts {
+        let part = parts[problems.len()].members();
+        problems.push(problem_of(limits, network, part, draft))?;
+    }
+    Ok(problems)
+}
+
+/// The problem of each part: its limits and its network, in its own numbers.
+pub fn problems_of(
+    alloc: Global,
+    limits: &Limits,
+    network: &Network,
+    parts: &[Part],
+) -> Result<Vec<Problem>, AllocError>
+    requires same_members { limits.now.members ≡ network.now.members }
+    requires within { IsWithinLimits limits.now network.now }
+    requires parts { IsPartition limits.now parts.now }
+    ensures { IfOk result (λ problems. problems.items ≡ map (own_problem limits.now network.now) parts.now) }
+{
+    let drafts = drafts_of(alloc, limits, network, parts)?;
+    problems_from(alloc, limits, network, parts, drafts)
 }

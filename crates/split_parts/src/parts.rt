@@ -1,13 +1,12 @@
 //! The parts of a problem.
 
-ghost use Rattle.std.specs.Prelude.{◌≡◌, map, IfOk};
+ghost use Rattle.std.specs.Prelude.{◌≡◌, IfOk};
 ghost use Rattle.network_laws.specs.Limits.{IsWithinLimits};
-ghost use Rattle.split_parts.specs.Own.{own_problem};
 ghost use Rattle.split_parts.specs.Parts.{PartsData, ArePartsOf, IsCut, IsPartition};
 
 use crate::labels::labels_of;
 use crate::members::parts_with;
-use crate::own::problem_of;
+use crate::own::problems_of;
 use crate::part::Part;
 use network_laws::{Limits, Network, Problem};
 use std::alloc::{AllocError, Global};
@@ -53,26 +52,6 @@ fn members_of(alloc: Global, limits: &Limits) -> Result<Vec<Part>, AllocError>
     let _members = limits.members();
     let parts = parts_with(alloc, &labels)?;
     Ok(parts)
-}
-
-// The problem of each part.
-fn problems_of(
-    alloc: Global,
-    limits: &Limits,
-    network: &Network,
-    parts: &[Part],
-) -> Result<Vec<Problem>, AllocError>
-    requires same_members { limits.now.members ≡ network.now.members }
-    requires within { IsWithinLimits limits.now network.now }
-    requires parts { IsPartition limits.now parts.now }
-    ensures { IfOk result (λ problems. problems.items ≡ map (own_problem limits.now network.now) parts.now) }
-{
-    let _members = limits.members();
-    let mut problems = Vec::new(alloc);
-    for part in parts {
-        problems.push(problem_of(alloc, limits, network, part.members())?)?;
-    }
-    Ok(problems)
 }
 
 /// The parts of the limits, each with its own limits and network. Members that a chain of pairs joins whose upper bound

@@ -12,5 +12,5 @@ new-requires-clause-within c =
     let y = c.args.network.now in
     let part = c.args.part.now in
     let within = subst (λ n. All (λ m. m < n) part) c.requires.same_members c.requires.within in
-    subst (λ (l : LimitsData). IsWithinLimits l c.in_ok-own_network.own_network) (sym c.in_ok-own_limits.ensures)
-    (subst (λ (z : NetworkData). IsWithinLimits (own_limits limits part) z) (sym c.in_ok-own_network.ensures) (own_within limits y part c.requires.network c.requires.rising within))
+    subst (λ (l : LimitsData). IsWithinLimits l c.network_of.result) (sym c.limits_of.ensures)
+    (subst (λ (z : NetworkData). IsWithinLimits (own_limits limits part) z) (sym c.network_of.ensures) (own_within limits y part c.requires.network c.requires.rising within))
