@@ -5,7 +5,7 @@ ghost use Rattle.std.specs.Prelude.{◌≤◌};
 use command_types::{Mode, Roster};
 use dual_certificate::read_proposal;
 use file_market::{Workers, check, solve, verdict};
-use outside::OpenGate;
+use outside::{Gate, OpenGate};
 use std::alloc::{AllocGlobal, Global};
 use std::test::Fail;
 use std::thread::Threads;
@@ -70,6 +70,20 @@ pub fn solved_text<R: Threads + Sync + AllocGlobal>(
     let trades = read_trades(rt.alloc(), text, roster)?;
     let workers = Workers::new(rt, workers, &OpenGate);
     let proposal = solve(rt.alloc(), roster, mode, &trades, &workers)?;
+    Ok(proposal)
+}
+
+/// What two workers solve for a market, each piece of which passes a gate.
+pub fn solved_through<R: Threads + Sync + AllocGlobal, G: Gate>(
+    rt: &R,
+    market: FileMarket<'_>,
+    gate: &G,
+) -> Result<Vec<u8>, Fail> {
+    let roster = read_roster(rt.alloc(), market.parties.as_bytes())?;
+    let text = trades_text(rt.alloc(), market.trades)?;
+    let trades = read_trades(rt.alloc(), &text, &roster)?;
+    let workers = Workers::new(rt, 2, gate);
+    let proposal = solve(rt.alloc(), &roster, market.mode, &trades, &workers)?;
     Ok(proposal)
 }
 

@@ -2,7 +2,7 @@
 
 ghost use Rattle.std.specs.Prelude.{◌≤◌};
 
-use crate::files::{FileMarket, solved_by};
+use crate::files::{FileMarket, solved_by, solved_through};
 use crate::networks::{Market, Sale, unbounded};
 use crate::problems::problem_of;
 use command_types::Mode;
@@ -124,5 +124,66 @@ fn any_number_of_workers_writes_the_same_bytes(rt: HostRuntime) -> Result<(), Fa
             && one.ends_with(b"\nbound 40\nend 3\n")
     );
     assert!(rt; one == two && one == many);
+    Ok(())
+}
+
+// Counts the pieces that come: each first one for 1, each second one for 100, and any other for 10,000.
+#[derive(Drop)]
+struct PieceCount {
+    seen: AtomicU64,
+}
+
+impl Gate for PieceCount {
+    fn enter(&self, piece: u64) {
+        let worth = match piece {
+            0 => 1,
+            1 => 100,
+            _ => 10_000,
+        };
+        self.seen.fetch_add(worth, Ordering::SeqCst);
+    }
+}
+
+const SIX_DEALERS: &str =
+    "name,role,key\nA,dealer,KA\nB,dealer,KB\nC,dealer,KC\nD,dealer,KD\nE,dealer,KE\nF,dealer,KF\nP,product,2031-06-30\n";
+
+const TWO_RINGS: &str = "A,B,P,10\nB,C,P,10\nC,A,P,10\nD,E,P,4\nE,F,P,4\nF,D,P,4\n";
+
+const RINGS_SOLVED: &str =
+    "product P 42 0 0 42\npot A 0\npot B 0\npot C 0\npot D 0\npot E 0\npot F 0\nbound 0\nend 1\n";
+
+const NOTHING_SOLVED: &str =
+    "product P 0 0 0 0\npot A 0\npot B 0\npot C 0\npot D 0\npot E 0\npot F 0\nbound 0\nend 1\n";
+
+/// Whether the trades of six dealers are solved so, with these pieces.
+fn has_pieces<R: Threads + Sync + AllocGlobal>(
+    rt: &R,
+    trades: &str,
+    mode: Mode,
+    proposal: &str,
+    pieces: u64,
+) -> Result<bool, Fail> {
+    let gate = PieceCount {
+        seen: AtomicU64::new(0),
+    };
+    let market = FileMarket {
+        parties: SIX_DEALERS,
+        trades,
+        mode,
+    };
+    let found = solved_through(rt, market, &gate)?;
+    Ok(found.as_slice() == proposal.as_bytes() && gate.seen.load(Ordering::SeqCst) == pieces)
+}
+
+#[test]
+fn each_part_is_a_piece(rt: HostRuntime) -> Result<(), Fail> {
+    let cases = [
+        (TWO_RINGS, Mode::Conservative, RINGS_SOLVED, 101),
+        (TWO_RINGS, Mode::Hybrid, RINGS_SOLVED, 1),
+        ("", Mode::Conservative, NOTHING_SOLVED, 0),
+    ];
+    for (trades, mode, proposal, pieces) in cases {
+        assert!(rt; has_pieces(&rt, trades, mode, proposal, pieces)?);
+    }
     Ok(())
 }

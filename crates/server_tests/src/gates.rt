@@ -1,4 +1,4 @@
-//! The gate that the program is given: a worker passes it before each problem that it solves.
+//! The gate that the program is given: a worker passes it before each piece that it solves.
 
 use crate::journals::disk_of;
 use crate::paced::{PacedGate, Steps};
@@ -19,8 +19,15 @@ const PASSED: &[(&str, &str, u64)] = &[
         "ok 0 hello OPS\nok 1 frozen 1 0\nok 2 begun 1 1\n",
         0,
     ),
+    // Without a trade no pair may have one, and no member is in a part.
     (
         "HELLO OPS KO\nFREEZE 2026-03-31\nPROPOSE 1 conservative\n",
+        "ok 0 hello OPS\nok 1 frozen 1 0\nok 3 nothing 1 1\n",
+        0,
+    ),
+    // Two dealers may trade, in each product.
+    (
+        "HELLO OPS KO\nFREEZE 2026-03-31\nPROPOSE 1 hybrid\n",
         "ok 0 hello OPS\nok 1 frozen 1 0\nok 3 nothing 1 1\n",
         2,
     ),
@@ -52,7 +59,7 @@ fn all_are_passed<R: Threads + Wait + Sync + AllocGlobal>(rt: &R) -> Result<bool
 }
 
 #[test]
-fn each_problem_of_a_proposal_passes_the_gate(rt: HostRuntime) -> Result<(), Fail> {
+fn each_piece_of_a_proposal_passes_the_gate(rt: HostRuntime) -> Result<(), Fail> {
     let passed = all_are_passed(&rt)?;
     assert!(rt; passed);
     Ok(())
