@@ -1,6 +1,6 @@
 -- The arcs of a residual graph by number: pair k has arc 2 k from its seller to its buyer, which grows its
 -- amount at a cost of 1 a unit, and arc 2 k + 1 back, which lowers it at a cost of -1.
-use Rattle.std.specs.Prelude.{ℕ, ◌+◌, ◌-◌, ◌*◌, ◌/◌, ◌%◌, ◌==◌, ◌||◌, if◌then◌else◌, Bool, List, length, slice_index_or, slice_set, ℤ, pos, negsuc}
+use Rattle.std.specs.Prelude.{ℕ, ◌+◌, ◌-◌, ◌*◌, ◌/◌, ◌%◌, ◌==◌, if◌then◌else◌, Bool, List, length, slice_index_or, slice_set, ℤ, pos, negsuc}
 use Rattle.residual_graph.specs.declared.flow.Flow.{Flow}
 
 -- how many arcs there are
@@ -57,9 +57,3 @@ moved x forward f =
 -- the pairs after x is moved along an arc: the arc has x less room, its twin x more, and no other arc changes
 abbrev pub pushed : ℕ → List Flow → ℕ → List Flow
 pushed x flows a = slice_set flows (pair a) (moved x (is_forward a) (flow_at flows (pair a)))
-
--- whether x, which was moved over a pair, from seller to buyer or back, took all the room that there was, or is all
--- that can now move the other way
-abbrev pub has_turned : Bool → ℕ → Flow → Bool
-has_turned forward x f =
-    if forward then (f.room == 0 || f.back == x) else (f.back == 0 || f.room == x)

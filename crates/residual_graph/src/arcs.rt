@@ -1,7 +1,8 @@
 //! Arcs by number: pair k has arc 2 k from its seller to its buyer, and arc 2 k + 1 back.
 
-ghost use Rattle.std.specs.Prelude.{◌≡◌, ◌≤◌};
-ghost use Rattle.residual_graph.specs.Arcs.{pair, is_forward, room_in, moved, has_turned};
+ghost use Rattle.std.specs.Prelude.{◌≡◌, ◌≤◌, All};
+ghost use Rattle.residual_graph.specs.Arcs.{pair, is_forward, room_in, moved};
+ghost use Rattle.residual_graph.specs.Paths.{IsPath, pushed_all};
 ghost use Rattle.residual_graph.specs.Built.{IsSmall};
 
 use crate::flow::Flow;
@@ -20,42 +21,30 @@ pub fn is_forward(arc: u32) -> bool
     arc % 2 == 0
 }
 
-/// A pair after an amount is moved over it, from seller to buyer or back.
-pub fn moved_flow(flow: Flow, forward: bool, amount: u64) -> Flow
-    requires room { amount ≤ room_in flow forward }
-    requires small { IsSmall flow }
-    ensures { result ≡ moved amount forward flow }
-{
-    if forward {
-        Flow {
-            back: flow.back + amount,
-            room: flow.room - amount,
-            ..flow
-        }
-    } else {
-        Flow {
-            back: flow.back - amount,
-            room: flow.room + amount,
-            ..flow
-        }
-    }
-}
-
-/// Moves an amount over a pair, from seller to buyer or back, and tells whether it took all the room that there was, or
-/// is all that can now move the other way.
-pub fn move_over(flow: &mut Flow, forward: bool, amount: u64) -> bool
+/// Moves an amount over a pair, from seller to buyer or back.
+#[inline(always)]
+fn move_over(flow: &mut Flow, forward: bool, amount: u64)
     requires room { amount ≤ room_in flow.old forward }
     requires small { IsSmall flow.old }
-    ensures moved { flow.new ≡ moved amount forward flow.old }
-    ensures turned { result ≡ has_turned forward amount flow.new }
+    ensures { flow.new ≡ moved amount forward flow.old }
 {
     if forward {
         flow.back += amount;
         flow.room -= amount;
-        flow.room == 0 || flow.back == amount
     } else {
         flow.room += amount;
         flow.back -= amount;
-        flow.back == 0 || flow.room == amount
+    }
+}
+
+/// Moves an amount along a path.
+#[inline(always)]
+pub fn push_all(flows: &mut [Flow], path: &[u32], amount: u64)
+    requires path { IsPath amount flows.old path.now }
+    requires small { All IsSmall flows.old }
+    ensures { flows.new ≡ pushed_all amount flows.old path.now }
+{
+    for arc in path {
+        move_over(&mut flows[pair_of(*arc)], is_forward(*arc), amount);
     }
 }

@@ -8,6 +8,8 @@ mod build;
 mod flow;
 mod next_row;
 mod residual;
+mod steps;
 
 pub use flow::Flow;
 pub use residual::Residual;
+pub use steps::Steps;

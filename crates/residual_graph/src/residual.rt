@@ -1,18 +1,21 @@
 //! The residual graph.
 
-ghost use Rattle.std.specs.Prelude.{◌≡◌, ◌<◌, ◌≤◌, ◌*◌, ◌^◌, IfOk};
+ghost use Rattle.std.specs.Prelude.{◌≡◌, ◌+◌, ◌<◌, ◌≤◌, ◌*◌, ◌^◌, IfOk};
 ghost use Rattle.network_laws.specs.Networks.{IsNetwork, gross};
 ghost use Rattle.network_laws.specs.Limits.{AreLimits, IsWithinLimits};
 ghost use Rattle.residual_graph.specs.Residual.{ResidualData, IsResidual, IsCapped, residual_of, network_of};
-ghost use Rattle.residual_graph.specs.Arcs.{arc_count, tail, head, room, cost, pushed, pair, is_forward, flow_at, has_turned};
+ghost use Rattle.residual_graph.specs.Arcs.{arc_count, tail, head, room, cost};
+ghost use Rattle.residual_graph.specs.Paths.{IsPath, pushed_all};
 ghost use Rattle.units_core.specs.declared.limits.TheConstants.{MOST_GROSS};
 
-use crate::arcs::{is_forward, move_over, moved_flow, pair_of};
+use crate::arcs::{is_forward, pair_of, push_all};
 use crate::build::{flows_of, rows_of};
 use crate::flow::Flow;
+use crate::steps::Steps;
 use network_laws::{Limits, Network};
 use std::alloc::{AllocError, Global};
 use std::marker::Model;
+use std::sync::ledger::Ledger;
 
 /// The residual graph of a network within its limits. Arcs come in twins: the twin of arc a is `a ^ 1`.
 /// A pair's first arc leads from its seller to its buyer and grows its amount, at a cost of 1 a unit; its
@@ -128,28 +131,17 @@ impl Residual {
         if is_forward(arc) { 1 } else { -1 }
     }
 
-    /// Moves an amount along an arc that can take it: the arc has that much less room, its twin that much
-    /// more, and no other arc changes. It takes no memory.
-    pub fn push(&mut self, arc: u32, amount: u64)
-        requires arc { arc < arc_count self.old.flows }
-        requires room { amount ≤ room self.old.flows arc }
-        ensures { self.new ≡ record self.old { flows = pushed amount self.old.flows arc } }
-    {
-        let place = pair_of(arc);
-        let flow = self.flows[place];
-        self.flows[place] = moved_flow(flow, is_forward(arc), amount);
-    }
-
-    /// Moves an amount as `push` does, and tells whether the arc has filled, or its twin has opened.
-    pub fn push_turning(&mut self, arc: u32, amount: u64) -> bool
-        requires arc { arc < arc_count self.old.flows }
-        requires room { amount ≤ room self.old.flows arc }
-        ensures pushed { self.new ≡ record self.old { flows = pushed amount self.old.flows arc } }
-        ensures turned { result ≡ has_turned (is_forward arc) amount (flow_at self.new.flows (pair arc)) }
+    /// Moves an amount along a path that can take it: each of its arcs has that much less room, its twin that much
+    /// more, and no other arc changes. It counts one step, also where the path has no arcs, and takes no memory.
+    #[inline(always)]
+    pub fn push_path<L: Ledger>(&mut self, path: &[u32], amount: u64, steps: &mut Steps<L>)
+        requires { IsPath amount self.old.flows path.now }
+        ensures pushed { self.new ≡ record self.old { flows = pushed_all amount self.old.flows path.now } }
         ensures residual { IsResidual self.new }
+        ensures counted { steps.new ≡ steps.old + 1 }
     {
-        let place = pair_of(arc);
-        move_over(&mut self.flows[place], is_forward(arc), amount)
+        push_all(&mut self.flows, path, amount);
+        steps.add_one();
     }
 
     /// The network that the pairs are. The only error is want of memory.
