@@ -4,7 +4,8 @@ use Rattle.std.proofs.lemmas.Bool.{cases_eq}
 use Rattle.std.proofs.lemmas.Int.{ints}
 use Rattle.residual_graph.specs.declared.flow.Flow.{Flow}
 use Rattle.cycle_cancel.specs.declared.round.Step.{Step}
-use Rattle.cycle_cancel.specs.Traces.{arc_at, costs, IsWalkBack}
+use Rattle.cycle_cancel.specs.Traces.{arc_at, costs}
+use Rattle.cycle_cancel.proofs.TurnedRound.{IsWalkBack}
 use Rattle.residual_graph.specs.Arcs.{arc_count, head, tail}
 use Rattle.cycle_cancel.specs.Rounds.{label_at, IsLoweredBy, IsCaused, IsRound}
 

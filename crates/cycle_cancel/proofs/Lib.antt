@@ -1,4 +1,5 @@
 pub mod RoundSteps
+pub mod TurnedRound
 pub mod Cycles
 pub mod LevelTable
 pub mod Tracing

@@ -1,5 +1,5 @@
 -- The walk back through the levels, with a mark at each member that it passed.
-use Rattle.std.proofs.Common.{◌≡◌, ◌≢◌, ℕ, zero, suc, ◌+◌, ◌-◌, ◌<◌, ◌≤◌, Bool, true, false, cond, List, [], ◌∷◌, ◌++◌, length, get_or, set, drop, replicate, Option, Some, None, count_by, refl, sym, ap, ◌∙◌, subst, arith, ⊎_elim, length-append, length-set, length-drop, get_or-set_same, get_or-set_other}
+use Rattle.std.proofs.Common.{◌≡◌, ◌≢◌, ℕ, zero, suc, ◌+◌, ◌-◌, ◌<◌, ◌≤◌, Bool, true, false, cond, List, [], ◌∷◌, ◌++◌, length, get_or, set, drop, reverse, replicate, ℤ, pos, ◌<ℤ◌, Option, Some, None, count_by, refl, sym, ap, ◌∙◌, subst, arith, ⊎_elim, length-append, length-set, length-drop, get_or-set_same, get_or-set_other}
 use Rattle.std.proofs.Math.ListN.{length-replicate, get_or-append}
 use Rattle.std.proofs.lemmas.List.{get_or-replicate}
 use Rattle.network_laws.proofs.RowOrder.{sum_by-none}
@@ -17,6 +17,7 @@ use Rattle.residual_graph.specs.Arcs.{arc_count, head, tail, room}
 use Rattle.cycle_cancel.specs.Rounds.{IsRound}
 use Rattle.cycle_cancel.proofs.LevelTable.{ends_in}
 use Rattle.cycle_cancel.specs.Traces.{arc_at, IsGain, IsTable}
+use Rattle.cycle_cancel.proofs.TurnedRound.{walk_turned, costs_turned, all_turned, once_turned}
 use Rattle.cycle_cancel.proofs.Cycles.{Traced, traced_push, traced_walk, gain_from, cause, step_back}
 
 -- as many pass as there are, so each passes
@@ -130,20 +131,24 @@ module _ {least : ℕ} (flows : List Flow) (levels : List (Vec Step Global)) (me
   pub arc_in_flows : (at k : ℕ) (a : ℕ) → suc k ≤ rounds → at < members → arc_at ((table levels any) (suc k)) at ≡ Some a → a < arc_count flows
   arc_in_flows at k a lk l is = (cause flows (table levels any) rounds members wide steps ends k at a lk l is).arc
 
-  pub tracing_found : (path : List ℕ) (marks : List (Option ℕ)) (at back m : ℕ) → IsTracing flows levels members rounds any path marks at back → back ≤ rounds → get_or marks at None ≡ Some m → IsGain flows (drop m path)
+  pub tracing_found : (path : List ℕ) (marks : List (Option ℕ)) (at back m : ℕ) → IsTracing flows levels members rounds any path marks at back → back ≤ rounds → get_or marks at None ≡ Some m → IsGain flows (reverse (drop m path))
   tracing_found path marks at back m t le e =
       let old = t.marked at m t.at_in e in
       let whole = old.1 (rounds - back) (rounds - m) (omega (arith, old.0)) (omega (arith, old.0)) in
+      let walk = traced_walk flows (table levels any) rounds members wide steps ends (rounds - m) at (drop m path) (rounds - back) at (omega arith) t.at_in whole in
       record {
         at_member = at;
-        closed = traced_walk flows (table levels any) rounds members wide steps ends (rounds - m) at (drop m path) (rounds - back) at (omega arith) t.at_in whole;
-        roomy = λ i d l. let at_i = t.heads (m + i) d (omega (arith, length-drop m path, t.path_length, old.0)) in rw (get_or-drop m path i d) (at_i.1, at_i.2);
-        different = λ i j d lt l same.
+        closed = walk_turned flows at (drop m path) at walk;
+        roomy = all_turned (λ a. (a < arc_count flows) × (0 < room flows a)) (drop m path)
+            (λ i d l. let at_i = t.heads (m + i) d (omega (arith, length-drop m path, t.path_length, old.0)) in rw (get_or-drop m path i d) (at_i.1, at_i.2));
+        once = once_turned flows at (drop m path) walk
+            (λ i j d lt l same.
             let hi = t.heads (m + i) d (omega (arith, length-drop m path, t.path_length, old.0)) in
             let hj = t.heads (m + j) d (omega (arith, length-drop m path, t.path_length, old.0)) in
-            let q = some_same (sym hi.0 ∙ ap (λ (x : ℕ). get_or marks (head flows x) None) (sym (get_or-drop m path i d) ∙ same ∙ get_or-drop m path j d) ∙ hj.0) in
-            omega arith;
-        gains = gain_from flows (table levels any) rounds members wide steps ends (rounds - m) at (drop m path) (rounds - back) (omega arith) (omega (arith, old.0)) t.at_in whole;
+            let q = some_same (sym hi.0 ∙ ap (λ (x : ℕ). get_or marks x None) (ap (head flows) (sym (get_or-drop m path i d)) ∙ same ∙ ap (head flows) (get_or-drop m path j d)) ∙ hj.0) in
+            omega arith);
+        gains = subst (λ (z : ℤ). z <ℤ pos 0) (sym (costs_turned (drop m path)))
+            (gain_from flows (table levels any) rounds members wide steps ends (rounds - m) at (drop m path) (rounds - back) (omega arith) (omega (arith, old.0)) t.at_in whole);
       }
 
   pub tracing_full : (path : List ℕ) (marks : List (Option ℕ)) (at : ℕ) → IsTracing flows levels members rounds any path marks at members → get_or marks at None ≢ None

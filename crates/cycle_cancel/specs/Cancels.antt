@@ -1,20 +1,15 @@
 -- What a search finds, and what cancelled cycles leave.
-use Rattle.std.specs.Prelude.{◌≡◌, ℕ, ◌<◌, Bool, true, false, List, length, fold, All, ℤ, pos, neg_ℤ, ◌≤ℤ◌}
+use Rattle.std.specs.Prelude.{◌≡◌, ℕ, ◌<◌, Bool, true, false, List, length, All, ℤ, pos, neg_ℤ, ◌≤ℤ◌}
 use Rattle.network_laws.specs.declared.rows.LimitRow.{LimitRow}
 use Rattle.network_laws.specs.Networks.{NetworkData, net, gross as gross_of}
 use Rattle.residual_graph.specs.declared.flow.Flow.{Flow}
 use Rattle.residual_graph.specs.Residual.{ResidualData, network_of}
-use Rattle.residual_graph.specs.Arcs.{pushed}
 use Rattle.residual_graph.specs.Built.{AreFlowsOf, flow_network}
 use Rattle.residual_graph.specs.Labels.{AreLabels}
 use Rattle.cycle_cancel.specs.declared.search.Found.{Found}
 use Rattle.cycle_cancel.specs.declared.search.Found.TheVariants.{Labels, Cycle}
 use Rattle.cycle_cancel.specs.declared.settle.Settled.{Settled}
 use Rattle.cycle_cancel.specs.Traces.{IsGain}
-
--- the pairs after x is moved along each of the arcs
-abbrev pub pushed_all : ℕ → List Flow → List ℕ → List Flow
-pushed_all x flows arcs = fold (pushed x) flows arcs
 
 -- a label between -members and 0
 abbrev pub IsLabel : ℕ → ℤ → Type 0

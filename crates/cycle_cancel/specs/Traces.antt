@@ -3,7 +3,8 @@ use Rattle.std.specs.Prelude.{◌≡◌, ◌≢◌, ℕ, suc, ◌<◌, List, [],
 use Rattle.std.specs.declared.alloc.Global.{Global}
 use Rattle.std.specs.declared.vec.Vec.{Vec}
 use Rattle.residual_graph.specs.declared.flow.Flow.{Flow}
-use Rattle.residual_graph.specs.Arcs.{arc_count, head, tail, room, cost}
+use Rattle.residual_graph.specs.Arcs.{arc_count, tail, room, cost}
+use Rattle.residual_graph.specs.Paths.{IsWalk}
 use Rattle.cycle_cancel.specs.declared.round.Step.{Step}
 use Rattle.cycle_cancel.specs.Rounds.{first_step, IsRound}
 
@@ -14,17 +15,12 @@ abbrev pub costs : List ℕ → ℤ
 costs [] = pos 0
 costs (a ∷ arcs) = cost a +ℤ costs arcs
 
--- from w back along the arcs to v
-abbrev pub IsWalkBack : List Flow → ℕ → List ℕ → ℕ → Type 0
-IsWalkBack flows w [] v = w ≡ v
-IsWalkBack flows w (a ∷ arcs) v = (head flows a ≡ w) × (a < arc_count flows) × IsWalkBack flows (tail flows a) arcs v
-
--- a closed walk of different arcs with room, which costs less than nothing
+-- a closed walk with room, which leaves no member twice and costs less than nothing
 pub record IsGain (flows : List Flow) (arcs : List ℕ) : Type 0 where
   pub at_member : ℕ
-  pub closed : IsWalkBack flows at_member arcs at_member
+  pub closed : IsWalk flows at_member arcs at_member
   pub roomy : All (λ a. (a < arc_count flows) × (0 < room flows a)) arcs
-  pub different : AllPairs (λ a b. a ≢ b) arcs
+  pub once : AllPairs (λ a b. tail flows a ≢ tail flows b) arcs
   pub gains : costs arcs <ℤ pos 0
 
 -- each level is a round of the one before, over this many members, by arcs of at least so much room

@@ -15,7 +15,7 @@ use std::alloc::{AllocError, Global};
 pub enum Found {
     /// A label for each member, which no arc that counts can lower.
     Labels(Vec<i32>),
-    /// The arcs of a cycle of negative cost, each of which has room, from the last to the first.
+    /// The arcs of a cycle of negative cost, each of which has room, from the first to the last.
     Cycle(Vec<u32>),
 }
 

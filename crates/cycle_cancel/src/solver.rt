@@ -13,6 +13,8 @@ use net_positions::positions_of;
 use network_laws::{Limits, Network, Solution, Solver};
 use residual_graph::Residual;
 use std::alloc::{AllocError, Global};
+use std::marker::Brand;
+use std::sync::ledger::Blank;
 
 /// Finds a certified network by cancelling cycles, from the old network on.
 #[derive(Clone, Copy)]
@@ -41,7 +43,8 @@ fn solution_of(alloc: Global, limits: &Limits, network: &Network) -> Result<Solu
 {
     let cap = positions_of(network).gross + 1;
     let mut residual = Residual::of(alloc, limits, network, cap)?;
-    let settled = settle(alloc, &mut residual)?;
+    let blank = Blank::new(1);
+    let settled = settle::<Brand>(alloc, &mut residual, blank)?;
     let least = answer_of(&residual, network, settled.cancelled)?;
     let potentials = potentials_of(alloc, &settled.labels)?;
     Ok(Solution::new(least, potentials))

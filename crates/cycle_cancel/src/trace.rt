@@ -1,6 +1,6 @@
 //! From a label that fell in the last round back along the arcs that lowered it and those before it.
 
-ghost use Rattle.std.specs.Prelude.{◌≡◌, ◌≢◌, ℕ, ◌+◌, ◌<◌, ◌≤◌, length, replicate, slice_index_or, drop, None, Some, IfOk, MatchOption};
+ghost use Rattle.std.specs.Prelude.{◌≡◌, ◌≢◌, ℕ, ◌+◌, ◌<◌, ◌≤◌, length, replicate, slice_index_or, drop, reverse, None, Some, IfOk, MatchOption};
 ghost use Rattle.std.specs.declared.alloc.Global.{Global};
 ghost use Rattle.std.specs.declared.vec.Vec.{Vec};
 ghost use Rattle.residual_graph.specs.Residual.{IsResidual};
@@ -11,7 +11,7 @@ use crate::round::Step;
 use residual_graph::Residual;
 use std::alloc::{AllocError, Global};
 
-/// The cycle that the walk back closes, from its last arc to its first; `None` where it passes no member
+/// The cycle that the walk back closes, from its first arc to its last; `None` where it passes no member
 /// twice. With as many rounds as members it always closes one.
 pub fn trace(
     alloc: Global,
@@ -70,16 +70,12 @@ fn mark_of(marks: &[Option<usize>], at: u16) -> Option<usize>
     marks[at as usize]
 }
 
-/// The path from here on.
+/// The walk back from here on, turned round.
 fn end_of(alloc: Global, path: &[u32], from: usize) -> Result<Vec<u32>, AllocError>
     requires { from ≤ length path.now }
-    ensures { IfOk result (λ arcs. arcs.items ≡ drop from path.now) }
+    ensures { IfOk result (λ arcs. arcs.items ≡ reverse (drop from path.now)) }
 {
-    let mut arcs = Vec::new(alloc);
-    for arc in &path[from..] {
-        arcs.push(*arc)?;
-    }
-    Ok(arcs)
+    path[from..].iter().rev().copied().collect(alloc)
 }
 
 /// The arc that lowered a label in a round.

@@ -4,11 +4,11 @@ use Rattle.residual_graph.specs.Residual.{flow_rows}
 use Rattle.cycle_cancel.specs.Cancels.{IsKept}
 use Rattle.cycle_cancel.proofs.settle.settle.Given as goal
 
-abbrev pub invariant-loop-labels : goal.invariant-loop-labels
-invariant-loop-labels l = record {
+abbrev pub invariant-rounds : goal.invariant-rounds
+invariant-rounds g l = record {
   kept : IsKept l.cancelled l.initial.residual l.residual;
   some : 1 ≤ l.least;
 }
 
-abbrev pub decreases-loop-labels : goal.decreases-loop-labels
-decreases-loop-labels l = total (flow_rows l.residual.flows) + l.least
+abbrev pub decreases-rounds : goal.decreases-rounds
+decreases-rounds g l = total (flow_rows l.residual.flows) + l.least

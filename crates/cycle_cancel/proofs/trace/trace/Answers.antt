@@ -1,4 +1,4 @@
-use Rattle.std.proofs.Common.{◌≡◌, ℕ, suc, ◌+◌, ◌-◌, ◌<◌, ◌≤◌, List, [], ◌∷◌, ◌++◌, length, get_or, set, drop, Option, None, Some, arith, sym, ap, ◌∙◌, subst, ⊎_elim}
+use Rattle.std.proofs.Common.{◌≡◌, ℕ, suc, ◌+◌, ◌-◌, ◌<◌, ◌≤◌, List, [], ◌∷◌, ◌++◌, length, get_or, set, drop, reverse, Option, None, Some, arith, sym, ap, ◌∙◌, subst, ⊎_elim}
 use Rattle.std.proofs.lemmas.Bool.{cases_lt}
 use Rattle.std.specs.declared.alloc.Global.{Global}
 use Rattle.std.specs.declared.vec.Vec.{Vec}
@@ -19,7 +19,7 @@ returns-in-Some c =
     let t = c.loop-back.invariant.3 c.index-levels-0.result in
     let seen : get_or c.loop-back.marks.items c.loop-back.at None ≡ Some c.in-Some.mark = ap (λ (xs : List (Option ℕ)). get_or xs c.loop-back.at None) (sym c.deref.ensures.value) ∙ sym c.in-Some.ensures in
     let gain = tracing_found c.args.residual.now.flows c.args.levels.now c.args.residual.now.members c.args.rounds any c.requires.table.1 c.requires.levels c.members.ensures.residual.good c.loop-back.path.items c.loop-back.marks.items c.loop-back.at c.loop-back.back c.in-Some.mark t (omega arith) seen in
-    let is : c.in_ok-arcs.arcs.items ≡ drop c.in-Some.mark c.loop-back.path.items = c.in_ok-arcs.ensures ∙ ap (drop c.in-Some.mark) c.deref-in-Some.ensures.value in
+    let is : c.in_ok-arcs.arcs.items ≡ reverse (drop c.in-Some.mark c.loop-back.path.items) = c.in_ok-arcs.ensures ∙ ap (λ (p : List ℕ). reverse (drop c.in-Some.mark p)) c.deref-in-Some.ensures.value in
     subst (IsGain c.args.residual.now.flows) (sym is) gain
 
 level_up : (n b : ℕ) → b < n → n - b ≡ suc (n - (b + 1))
@@ -75,7 +75,7 @@ returns-in-Some-mark_of c =
     let t = c.loop-back.invariant.3 c.index-levels-0.result in
     let seen : get_or c.loop-back.marks.items c.loop-back.at None ≡ Some c.in-Some-mark_of.mark = ap (λ (xs : List (Option ℕ)). get_or xs c.loop-back.at None) (sym c.deref-2.ensures.value) ∙ sym c.in-Some-mark_of.ensures in
     let gain = tracing_found c.args.residual.now.flows c.args.levels.now c.args.residual.now.members c.args.rounds any c.requires.table.1 c.requires.levels c.members.ensures.residual.good c.loop-back.path.items c.loop-back.marks.items c.loop-back.at c.loop-back.back c.in-Some-mark_of.mark t (omega arith) seen in
-    let is : c.in_ok-arcs-in-Some-mark_of.arcs.items ≡ drop c.in-Some-mark_of.mark c.loop-back.path.items = c.in_ok-arcs-in-Some-mark_of.ensures ∙ ap (drop c.in-Some-mark_of.mark) c.deref-in-Some-mark_of.ensures.value in
+    let is : c.in_ok-arcs-in-Some-mark_of.arcs.items ≡ reverse (drop c.in-Some-mark_of.mark c.loop-back.path.items) = c.in_ok-arcs-in-Some-mark_of.ensures ∙ ap (λ (p : List ℕ). reverse (drop c.in-Some-mark_of.mark p)) c.deref-in-Some-mark_of.ensures.value in
     subst (IsGain c.args.residual.now.flows) (sym is) gain
 
 pub returns : goal.returns
