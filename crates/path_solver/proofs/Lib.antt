@@ -1,6 +1,5 @@
 pub mod Same
 pub mod Walks
-pub mod Descents
 pub mod SentAlong
 pub mod Straight
 pub mod Shortest
@@ -18,6 +17,7 @@ pub mod Phased
 pub mod Certifying
 pub mod Noted
 pub mod NotedOne
+pub mod NotedAlong
 pub mod Near
 pub mod Raised
 pub mod StillClosed

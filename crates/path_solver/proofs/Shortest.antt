@@ -1,18 +1,20 @@
 -- Paths of open arcs have as many arcs as the levels tell, also after amounts move along such paths.
-use Rattle.std.proofs.Common.{◌≡◌, ◌≢◌, ℕ, suc, ◌+◌, ◌<◌, ◌≤◌, Bool, true, false, List, [], ◌∷◌, length, get_or, refl, sym, ap, ◌∙◌, subst, arith, inl, inr}
+use Rattle.std.proofs.Common.{◌≡◌, ◌≢◌, ℕ, suc, ◌+◌, ◌<◌, ◌≤◌, List, [], ◌∷◌, length, get_or, sym, ap, ◌∙◌, subst, arith, inl, inr}
 use Rattle.std.specs.Prelude.{All}
-use Rattle.std.proofs.lemmas.Bool.{cases_eq, cases_lt, cases_Bool}
+use Rattle.std.proofs.lemmas.Bool.{cases_eq, cases_lt}
 use Rattle.residual_graph.specs.declared.flow.Flow.{Flow}
 use Rattle.residual_graph.specs.Residual.{ResidualData}
-use Rattle.residual_graph.specs.Arcs.{arc_count, pair, is_forward, flow_at, room, room_in, head, head_in, tail, tail_in, pushed}
+use Rattle.residual_graph.specs.Arcs.{arc_count, pair, is_forward, room, room_in, head, tail, pushed}
 use Rattle.residual_graph.proofs.Kept.{pair_below}
 use Rattle.path_solver.specs.Prices.{IsTight, IsOpen}
 use Rattle.path_solver.specs.Levels.{IsReached, AreFewest, AreShortest}
-use Rattle.path_solver.specs.Paths.{IsWalkBack, IsPathDown, NoneIsShorter, pushed_all}
+use Rattle.residual_graph.specs.Paths.{IsWalk, pushed_all}
+use Rattle.residual_graph.proofs.Walks.{CanPush, path_can}
+use Rattle.path_solver.specs.Paths.{IsPathDown, NoneIsShorter}
+use Rattle.path_solver.proofs.Ends.{same_pair}
 use Rattle.path_solver.proofs.Same.{pushed_same, flow_at_other, same_ends}
 use Rattle.path_solver.specs.Rests.{IsSentAlong}
-use Rattle.path_solver.proofs.Walks.{CanPush, can_push}
-use Rattle.path_solver.proofs.SentAlong.{path_different}
+use Rattle.path_solver.proofs.SentAlong.{path_of}
 
 -- an arc from one level to the next below
 pub record IsStep (flows : List Flow) (levels : List ℕ) (a : ℕ) : Type 0 where
@@ -27,36 +29,13 @@ open_other x p flows a b ne h =
     let at = flow_at_other x flows a (pair b) ne in
     (omega (arith, h.0, ap (λ f. room_in f (is_forward b)) at), subst (IsTight p) at h.1)
 
--- the ends of an arc of the same pair
-ends_of_pair : (flows : List Flow) (a b : ℕ) → pair b ≡ pair a → (c : Bool) → is_forward b ≡ c → (tail flows b ≡ tail_in (flow_at flows (pair a)) c) × (head flows b ≡ head_in (flow_at flows (pair a)) c)
-ends_of_pair flows a b e c q = (
-  ap (λ j. tail_in (flow_at flows j) (is_forward b)) e ∙ ap (tail_in (flow_at flows (pair a))) q,
-  ap (λ j. head_in (flow_at flows j) (is_forward b)) e ∙ ap (head_in (flow_at flows (pair a))) q,
-)
-
 -- the two arcs of a step's pair lead from level to level
 step_pair : (flows : List Flow) (levels : List ℕ) (a b : ℕ) → IsStep flows levels a → pair b ≡ pair a → IsReached levels (tail flows b) × (get_or levels (tail flows b) 0 ≤ get_or levels (head flows b) 0 + 1)
 step_pair flows levels a b s e =
-    elim (cases_Bool (is_forward a)) [
-      | inl on_a ↦
-          let at_a = ends_of_pair flows a a refl true on_a in
-          elim (cases_Bool (is_forward b)) [
-            | inl on_b ↦ let at_b = ends_of_pair flows a b e true on_b in same (at_b.0 ∙ sym at_a.0) (at_b.1 ∙ sym at_a.1)
-            | inr off_b ↦ let at_b = ends_of_pair flows a b e false off_b in turned (at_b.0 ∙ sym at_a.1) (at_b.1 ∙ sym at_a.0)
-          ]
-      | inr off_a ↦
-          let at_a = ends_of_pair flows a a refl false off_a in
-          elim (cases_Bool (is_forward b)) [
-            | inl on_b ↦ let at_b = ends_of_pair flows a b e true on_b in turned (at_b.0 ∙ sym at_a.1) (at_b.1 ∙ sym at_a.0)
-            | inr off_b ↦ let at_b = ends_of_pair flows a b e false off_b in same (at_b.0 ∙ sym at_a.0) (at_b.1 ∙ sym at_a.1)
-          ]
+    elim (same_pair flows a b e) [
+      | inl own ↦ (λ q. s.starts (ap (λ v. get_or levels v 0) (sym own.0) ∙ q), omega (arith, s.down, ap (λ v. get_or levels v 0) own.0, ap (λ v. get_or levels v 0) own.1))
+      | inr twin ↦ (λ q. s.ends (ap (λ v. get_or levels v 0) (sym twin.0) ∙ q), omega (arith, s.down, ap (λ v. get_or levels v 0) twin.0, ap (λ v. get_or levels v 0) twin.1))
     ]
-  where
-    same : tail flows b ≡ tail flows a → head flows b ≡ head flows a → IsReached levels (tail flows b) × (get_or levels (tail flows b) 0 ≤ get_or levels (head flows b) 0 + 1)
-    same t h = (λ q. s.starts (ap (λ v. get_or levels v 0) (sym t) ∙ q), omega (arith, s.down, ap (λ v. get_or levels v 0) t, ap (λ v. get_or levels v 0) h))
-
-    turned : tail flows b ≡ head flows a → head flows b ≡ tail flows a → IsReached levels (tail flows b) × (get_or levels (tail flows b) 0 ≤ get_or levels (head flows b) 0 + 1)
-    turned t h = (λ q. s.ends (ap (λ v. get_or levels v 0) (sym t) ∙ q), omega (arith, s.down, ap (λ v. get_or levels v 0) t, ap (λ v. get_or levels v 0) h))
 
 -- a push over a step opens no arc that leads more than a level down
 pub fewest_pushed : (x : ℕ) (p levels : List ℕ) (last : ℕ) (flows : List Flow) (a : ℕ) → IsStep flows levels a → x ≤ room flows a → AreFewest flows p levels last → AreFewest (pushed x flows a) p levels last
@@ -121,18 +100,18 @@ path_steps flows p levels lack from end path h low k d l =
       down = down;
     }
 
--- back along open arcs from a level, each arc goes up by one at the most
-walk_level : (p levels : List ℕ) (last : ℕ) (flows : List Flow) → AreFewest flows p levels last → (k w : ℕ) (arcs : List ℕ) (v : ℕ) → IsReached levels w → get_or levels w 0 ≤ k → k + length arcs < last → IsWalkBack flows w arcs v → All (IsOpen flows p) arcs → IsReached levels v × (get_or levels v 0 ≤ k + length arcs)
-walk_level p levels last flows h k w [] v is le less walk opens =
+-- along open arcs to a level, each arc goes down by one at the most
+walk_level : (p levels : List ℕ) (last : ℕ) (flows : List Flow) → AreFewest flows p levels last → (v : ℕ) (arcs : List ℕ) (w k : ℕ) → IsReached levels w → get_or levels w 0 ≤ k → k + length arcs < last → IsWalk flows v arcs w → All (IsOpen flows p) arcs → IsReached levels v × (get_or levels v 0 ≤ k + length arcs)
+walk_level p levels last flows h v [] w k is le less walk opens =
     let at = ap (λ u. get_or levels u 0) walk in
-    (λ q. is (at ∙ q), omega (arith, at, le))
-walk_level p levels last flows h k w (a ∷ arcs) v is le less walk opens =
+    (λ q. is (sym at ∙ q), omega (arith, at, le))
+walk_level p levels last flows h v (a ∷ arcs) w k is le less walk opens =
     let at = ap (λ u. get_or levels u 0) walk.0 in
     let here = opens 0 a (omega arith) in
-    let reached : IsReached levels (tail flows a) = h.all a walk.1 here (λ q. is (sym at ∙ q)) (omega (arith, at, le, less)) in
-    let up = h.steps a walk.1 here (λ q. is (sym at ∙ q)) reached in
-    let more = walk_level p levels last flows h (k + 1) (tail flows a) arcs v reached (omega (arith, up, at, le)) (omega (arith, less)) walk.2 (λ j d l. opens (suc j) d (omega arith)) in
-    (more.0, omega (arith, more.1))
+    let more = walk_level p levels last flows h (head flows a) arcs w k is le (omega (arith, less)) walk.2 (λ j d l. opens (suc j) d (omega arith)) in
+    let reached : IsReached levels (tail flows a) = h.all a walk.1 here more.0 (omega (arith, more.1, less)) in
+    let up = h.steps a walk.1 here more.0 reached in
+    (λ q. reached (at ∙ q), omega (arith, up, at, more.1))
 
 pub none_is_shorter : (flows : List Flow) (p surplus lack levels : List ℕ) (last : ℕ) → AreShortest flows p surplus lack levels last → NoneIsShorter flows p surplus lack last
 none_is_shorter flows p surplus lack levels last h v w arcs sends receives walk opens =
@@ -140,14 +119,14 @@ none_is_shorter flows p surplus lack levels last h v w arcs sends receives walk 
       | inr enough ↦ enough
       | inl less ↦
           let zero = h.receivers w receives (omega arith) in
-          let up = walk_level p levels last flows h.fewest 0 w arcs v (λ q. omega (arith, q, zero)) (omega (arith, zero)) (omega (arith, less)) walk opens in
+          let up = walk_level p levels last flows h.fewest v arcs w 0 (λ q. omega (arith, q, zero)) (omega (arith, zero)) (omega (arith, less)) walk opens in
           absurd (omega (arith, less, up.1, h.senders v sends up.0))
     ]
 
 -- after an amount went along a path down, none is shorter either
 pub shortest_sent : (x : ℕ) (p levels : List ℕ) (last : ℕ) (old new : ResidualData) (surplus lack surplus' lack' : List ℕ) (from end : ℕ) (path : List ℕ) → IsPathDown old.flows p levels lack from end path → All (λ a. x ≤ room old.flows a) path → get_or levels from 0 ≡ last → new.flows ≡ pushed_all x old.flows path → IsSentAlong p old new surplus lack surplus' lack' → AreShortest old.flows p surplus lack levels last → AreShortest new.flows p surplus' lack' levels last
 shortest_sent x p levels last old new surplus lack surplus' lack' from end path h roomy at_from flows sent s =
-    let can = can_push x old.flows path (λ k d l. (h.arcs k d l, roomy k d l)) (path_different old.flows p levels lack from end path h) in
+    let can = path_can x old.flows path (path_of x old.flows p levels lack from end path h roomy) in
     record {
       fewest = subst (λ (fs : List Flow). AreFewest fs p levels last) (sym flows) (fewest_walk x p levels last old.flows path can (path_steps old.flows p levels lack from end path h (omega (arith, at_from, s.low))) s.fewest);
       senders = λ v sends. s.senders v (sent.senders v sends);

@@ -1,8 +1,9 @@
 -- One more pair is taken back to its lower bound.
 use Rattle.std.proofs.Common.{◌≡◌, ◌≢◌, ℕ, ◌+◌, ◌*◌, ◌<◌, ◌≤◌, ◌%◌, true, false, cond, eqb, List, length, get_or, set, pos, ◌*ℤ◌, refl, sym, ap, ◌∙◌, arith, ⊎_elim, get_or-set_same, get_or-set_other}
+use Rattle.std.specs.Prelude.{All}
 use Rattle.std.proofs.lemmas.Bool.{cases_eq, eq-eqb, ne_eqb}
 use Rattle.std.proofs.lemmas.Int.{ints}
-use Rattle.std.proofs.lemmas.List.{get_or-map, length-map}
+use Rattle.std.proofs.lemmas.List.{get_or-map, get_or_default, length-map}
 use Rattle.std.proofs.lemmas.List.Sums.{get_or-le-sum_by}
 use Rattle.network_laws.specs.declared.rows.Row.{Row}
 use Rattle.network_laws.specs.Networks.{total}
@@ -74,3 +75,6 @@ none_back old flows surplus lack k h none = record {
   few_to_send = h.few_to_send;
   few_to_receive = h.few_to_receive;
 }
+
+pub lowest_all : (flows : List Flow) (n : ℕ) → ((k : ℕ) → k < n → (flow_at flows k).back ≡ 0) → length flows ≤ n → All (λ (f : Flow). f.back ≡ 0) flows
+lowest_all flows n h le k d l = ap (λ (f : Flow). f.back) (get_or_default flows k d no_flow l) ∙ h k (omega (arith, l, le))

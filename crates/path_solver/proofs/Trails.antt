@@ -1,5 +1,5 @@
 -- The way that a walk has come so far.
-use Rattle.std.proofs.Common.{◌≡◌, ◌≢◌, ℕ, suc, ◌+◌, ◌<◌, ◌≤◌, true, not, eqb, ◌&&◌, List, [], ◌∷◌, length, get_or, set, take, refl, sym, ap, ◌∙◌, subst, inl, inr, arith, get_or-set_same, get_or-set_other}
+use Rattle.std.proofs.Common.{◌≡◌, ◌≢◌, ℕ, suc, ◌+◌, ◌-◌, ◌<◌, ◌≤◌, true, not, eqb, ◌&&◌, List, [], ◌∷◌, length, get_or, set, take, refl, sym, ap, ◌∙◌, subst, inl, inr, arith, get_or-set_same, get_or-set_other}
 use Rattle.std.specs.Prelude.{sum_by}
 use Rattle.std.proofs.lemmas.Bool.{cases_eq, and_parts}
 use Rattle.std.proofs.lemmas.List.{get_or-take, length-take-le, get_or_default}
@@ -12,7 +12,8 @@ use Rattle.residual_graph.specs.Residual.{ResidualData, IsResidual}
 use Rattle.residual_graph.specs.Arcs.{arc_count, head, tail}
 use Rattle.path_solver.specs.Prices.{IsOpen}
 use Rattle.path_solver.specs.Levels.{layer_at, AreLayers}
-use Rattle.path_solver.specs.Paths.{IsWalkBack, IsPathDown}
+use Rattle.residual_graph.specs.Paths.{IsWalk}
+use Rattle.path_solver.specs.Paths.{IsPathDown}
 use Rattle.path_solver.proofs.Ends.{ends_in}
 use Rattle.path_solver.proofs.Ways.{Leads}
 
@@ -23,16 +24,20 @@ pub record IsRung (flows : List Flow) (p levels : List ℕ) (i a : ℕ) : Type 0
   pub ends : get_or levels (head flows a) 0 ≡ i
   pub starts : get_or levels (tail flows a) 0 ≡ i + 1
 
--- the arc of level i in the path leads to it; from the level `top` down to `low`, where the walk is
+-- the arc of the path that leads to this level, where the first leads to the one below `top`
+abbrev pub arc_to : List ℕ → ℕ → ℕ → ℕ
+arc_to path top i = get_or path (top - (i + 1)) 0
+
+-- from the level `top` down to `low`, where the walk is
 pub record IsTrail (r : ResidualData) (p levels : List ℕ) (layers : List MemberSet) (path : List ℕ) (low top here from : ℕ) : Type 0 where
   pub within : low ≤ top
   pub member : here < r.members
   pub level : get_or levels here 0 ≡ low
-  pub rungs : (i : ℕ) → low ≤ i → i < top → IsRung r.flows p levels i (get_or path i 0)
-  pub kept : (i : ℕ) → low ≤ i → i < top → has (layer_at layers i) (head r.flows (get_or path i 0)) ≡ true
-  pub joined : (i : ℕ) → low ≤ i → i + 1 < top → head r.flows (get_or path (i + 1) 0) ≡ tail r.flows (get_or path i 0)
-  pub start : low < top → head r.flows (get_or path low 0) ≡ here
-  pub end : (i : ℕ) → low ≤ i → i + 1 ≡ top → tail r.flows (get_or path i 0) ≡ from
+  pub rungs : (i : ℕ) → low ≤ i → i < top → IsRung r.flows p levels i (arc_to path top i)
+  pub kept : (i : ℕ) → low ≤ i → i < top → has (layer_at layers i) (head r.flows (arc_to path top i)) ≡ true
+  pub joined : (i : ℕ) → low ≤ i → i + 1 < top → head r.flows (arc_to path top (i + 1)) ≡ tail r.flows (arc_to path top i)
+  pub start : low < top → head r.flows (arc_to path top low) ≡ here
+  pub end : (i : ℕ) → low ≤ i → i + 1 ≡ top → tail r.flows (arc_to path top i) ≡ from
   pub none : low ≡ top → here ≡ from
 
 pub trail_none : (r : ResidualData) (p levels : List ℕ) (layers : List MemberSet) (path : List ℕ) (top from : ℕ) → from < r.members → get_or levels from 0 ≡ top → IsTrail r p levels layers path top top from from
@@ -50,12 +55,12 @@ trail_none r p levels layers path top from l at_from = record {
 
 module _ (r : ResidualData) (p levels : List ℕ) (layers : List MemberSet) (path : List ℕ) (residual : IsResidual r) where
   -- a level further down
-  pub trail_down : (low top here from a u : ℕ) → IsTrail r p levels layers path (low + 1) top here from → Leads r.flows p here u a → low < length path → get_or levels u 0 ≡ low → has (layer_at layers low) u ≡ true → IsTrail r p levels layers (set path low a) low top u from
+  pub trail_down : (low top here from a u : ℕ) → IsTrail r p levels layers path (low + 1) top here from → Leads r.flows p here u a → top - (low + 1) < length path → get_or levels u 0 ≡ low → has (layer_at layers low) u ≡ true → IsTrail r p levels layers (set path (top - (low + 1)) a) low top u from
   trail_down low top here from a u h leads inside at_u on =
-      let at_low : get_or (set path low a) low 0 ≡ a = get_or-set_same path low a 0 inside in
-      let other = λ (i : ℕ) (ne : i ≢ low). get_or-set_other path low i a 0 ne in
-      let at_head : head r.flows (get_or (set path low a) low 0) ≡ u = ap (head r.flows) at_low ∙ leads.ends in
-      let at_tail : tail r.flows (get_or (set path low a) low 0) ≡ here = ap (tail r.flows) at_low ∙ leads.starts in
+      let at_low : arc_to (set path (top - (low + 1)) a) top low ≡ a = get_or-set_same path (top - (low + 1)) a 0 inside in
+      let other : (i : ℕ) → i ≢ low → i < top → arc_to (set path (top - (low + 1)) a) top i ≡ arc_to path top i = λ i ne lt. get_or-set_other path (top - (low + 1)) (top - (i + 1)) a 0 (λ q. ne (omega (arith, q, lt, h.within))) in
+      let at_head : head r.flows (arc_to (set path (top - (low + 1)) a) top low) ≡ u = ap (head r.flows) at_low ∙ leads.ends in
+      let at_tail : tail r.flows (arc_to (set path (top - (low + 1)) a) top low) ≡ here = ap (tail r.flows) at_low ∙ leads.starts in
       record {
         within = omega (arith, h.within);
         member = let l : head r.flows a < r.members = (ends_in r residual a leads.arc).1 in omega (arith, l, leads.ends);
@@ -63,7 +68,7 @@ module _ (r : ResidualData) (p levels : List ℕ) (layers : List MemberSet) (pat
         rungs = λ i le lt.
             elim (cases_eq i low) [
               | inl e ↦
-                  subst (λ j. IsRung r.flows p levels j (get_or (set path low a) j 0)) (sym e)
+                  subst (λ j. IsRung r.flows p levels j (arc_to (set path (top - (low + 1)) a) top j)) (sym e)
                   (subst (IsRung r.flows p levels low) (sym at_low)
                   (record {
                     arc = leads.arc;
@@ -71,39 +76,39 @@ module _ (r : ResidualData) (p levels : List ℕ) (layers : List MemberSet) (pat
                     ends = ap (λ v. get_or levels v 0) leads.ends ∙ at_u;
                     starts = ap (λ v. get_or levels v 0) leads.starts ∙ h.level;
                   }))
-              | inr ne ↦ subst (IsRung r.flows p levels i) (sym (other i ne)) (h.rungs i (omega (arith, le, ne)) lt)
+              | inr ne ↦ subst (IsRung r.flows p levels i) (sym (other i ne (omega (arith, lt)))) (h.rungs i (omega (arith, le, ne)) lt)
             ];
         kept = λ i le lt.
             elim (cases_eq i low) [
-              | inl e ↦ subst (λ j. has (layer_at layers j) (head r.flows (get_or (set path low a) j 0)) ≡ true) (sym e) (ap (has (layer_at layers low)) at_head ∙ on)
-              | inr ne ↦ ap (λ b. has (layer_at layers i) (head r.flows b)) (other i ne) ∙ h.kept i (omega (arith, le, ne)) lt
+              | inl e ↦ subst (λ j. has (layer_at layers j) (head r.flows (arc_to (set path (top - (low + 1)) a) top j)) ≡ true) (sym e) (ap (has (layer_at layers low)) at_head ∙ on)
+              | inr ne ↦ ap (λ b. has (layer_at layers i) (head r.flows b)) (other i ne (omega (arith, lt))) ∙ h.kept i (omega (arith, le, ne)) lt
             ];
         joined = λ i le lt.
             elim (cases_eq i low) [
               | inl e ↦
-                  subst (λ j. head r.flows (get_or (set path low a) (j + 1) 0) ≡ tail r.flows (get_or (set path low a) j 0)) (sym e)
-                  (ap (head r.flows) (other (low + 1) (λ q. omega (arith, q))) ∙ h.start (omega (arith, e, lt)) ∙ sym at_tail)
-              | inr ne ↦ ap (head r.flows) (other (i + 1) (λ q. omega (arith, q, le))) ∙ h.joined i (omega (arith, le, ne)) lt ∙ sym (ap (tail r.flows) (other i ne))
+                  subst (λ j. head r.flows (arc_to (set path (top - (low + 1)) a) top (j + 1)) ≡ tail r.flows (arc_to (set path (top - (low + 1)) a) top j)) (sym e)
+                  (ap (head r.flows) (other (low + 1) (λ q. omega (arith, q)) (omega (arith, e, lt))) ∙ h.start (omega (arith, e, lt)) ∙ sym at_tail)
+              | inr ne ↦ ap (head r.flows) (other (i + 1) (λ q. omega (arith, q, le)) lt) ∙ h.joined i (omega (arith, le, ne)) lt ∙ sym (ap (tail r.flows) (other i ne (omega (arith, lt))))
             ];
         start = λ lt. at_head;
         end = λ i le e.
             elim (cases_eq i low) [
-              | inl q ↦ subst (λ j. tail r.flows (get_or (set path low a) j 0) ≡ from) (sym q) (at_tail ∙ h.none (omega (arith, q, e)))
-              | inr ne ↦ ap (tail r.flows) (other i ne) ∙ h.end i (omega (arith, le, ne)) e
+              | inl q ↦ subst (λ j. tail r.flows (arc_to (set path (top - (low + 1)) a) top j) ≡ from) (sym q) (at_tail ∙ h.none (omega (arith, q, e)))
+              | inr ne ↦ ap (tail r.flows) (other i ne (omega (arith, e))) ∙ h.end i (omega (arith, le, ne)) e
             ];
         none = λ e. absurd (omega (arith, e, h.within));
       }
 
   -- back up a level, where a member is taken out of the layer below
-  pub trail_up : (low top here from : ℕ) (gone : MemberSet) → IsTrail r p levels layers path low top here from → low < top → IsTrail r p levels (set layers low gone) path (low + 1) top (tail r.flows (get_or path low 0)) from
+  pub trail_up : (low top here from : ℕ) (gone : MemberSet) → IsTrail r p levels layers path low top here from → low < top → IsTrail r p levels (set layers low gone) path (low + 1) top (tail r.flows (arc_to path top low)) from
   trail_up low top here from gone h less =
       let rung = h.rungs low (omega arith) less in
       record {
         within = omega (arith, less);
-        member = (ends_in r residual (get_or path low 0) rung.arc).0;
+        member = (ends_in r residual (arc_to path top low) rung.arc).0;
         level = rung.starts;
         rungs = λ i le lt. h.rungs i (omega (arith, le)) lt;
-        kept = λ i le lt. ap (λ s. has s (head r.flows (get_or path i 0))) (get_or-set_other layers low i gone no_members (λ q. omega (arith, q, le))) ∙ h.kept i (omega (arith, le)) lt;
+        kept = λ i le lt. ap (λ s. has s (head r.flows (arc_to path top i))) (get_or-set_other layers low i gone no_members (λ q. omega (arith, q, le))) ∙ h.kept i (omega (arith, le)) lt;
         joined = λ i le lt. h.joined i (omega (arith, le)) lt;
         start = λ lt. h.joined low (omega arith) lt;
         end = λ i le e. h.end i (omega (arith, le)) e;
@@ -127,33 +132,38 @@ in_layers layers = sum_by size layers
 pub in_layers_less : (layers : List MemberSet) (k : ℕ) (gone : MemberSet) (l : ℕ) → k < length layers → ((m : ℕ) → has gone m ≡ (not (eqb m l) && has (layer_at layers k) m)) → l < 256 → has (layer_at layers k) l ≡ true → in_layers (set layers k gone) < in_layers layers
 in_layers_less layers k gone l inside taken small on = omega (arith, sum_by-set size layers k gone no_members inside, size_less (layer_at layers k) gone l taken small on)
 
-walk_from : (flows : List Flow) (w : ℕ) (arcs : List ℕ) (v : ℕ) → ((k : ℕ) → k < length arcs → get_or arcs k 0 < arc_count flows) → ((k : ℕ) → suc k < length arcs → head flows (get_or arcs (suc k) 0) ≡ tail flows (get_or arcs k 0)) → (0 < length arcs → head flows (get_or arcs 0 0) ≡ w)
-    → ((k : ℕ) → k + 1 ≡ length arcs → tail flows (get_or arcs k 0) ≡ v) → (length arcs ≡ 0 → w ≡ v) → IsWalkBack flows w arcs v
-walk_from flows w [] v each joined start end none = none refl
-walk_from flows w (a ∷ arcs) v each joined start end none = (
+walk_from : (flows : List Flow) (v : ℕ) (arcs : List ℕ) (w : ℕ) → ((k : ℕ) → k < length arcs → get_or arcs k 0 < arc_count flows) → ((k : ℕ) → suc k < length arcs → tail flows (get_or arcs (suc k) 0) ≡ head flows (get_or arcs k 0)) → (0 < length arcs → tail flows (get_or arcs 0 0) ≡ v)
+    → ((k : ℕ) → k + 1 ≡ length arcs → head flows (get_or arcs k 0) ≡ w) → (length arcs ≡ 0 → v ≡ w) → IsWalk flows v arcs w
+walk_from flows v [] w each joined start end none = none refl
+walk_from flows v (a ∷ arcs) w each joined start end none = (
   start (omega arith),
   each 0 (omega arith),
-  walk_from flows (tail flows a) arcs v (λ k l. each (suc k) (omega (arith, l))) (λ k l. joined (suc k) (omega (arith, l))) (λ l. joined 0 (omega (arith, l))) (λ k e. end (suc k) (omega (arith, e))) (λ z. end 0 (omega (arith, z))),
+  walk_from flows (head flows a) arcs w (λ k l. each (suc k) (omega (arith, l))) (λ k l. joined (suc k) (omega (arith, l))) (λ l. joined 0 (omega (arith, l))) (λ k e. end (suc k) (omega (arith, e))) (λ z. end 0 (omega (arith, z))),
 )
 
 -- down to the lowest level, and to one that has to receive, it is a path down
 pub trail_path : (r : ResidualData) (p levels lack : List ℕ) (layers : List MemberSet) (path : List ℕ) (top here from : ℕ) → IsTrail r p levels layers path 0 top here from → top ≤ length path → get_or levels from 0 ≡ top → r.members ≡ length levels → 0 < get_or lack here 0 → IsPathDown r.flows p levels lack from here (take top path)
 trail_path r p levels lack layers path top here from h room at_from one_each receives =
     let long : length (take top path) ≡ top = length-take-le top path room in
-    let at : (k : ℕ) (d : ℕ) → k < length (take top path) → get_or (take top path) k d ≡ get_or path k 0 = λ k d l. get_or_default (take top path) k d 0 l ∙ get_or-take top path k 0 (omega (arith, l, long)) in
-    let next : (k : ℕ) → k + 1 ≡ suc k = λ k. omega arith in
-    let rung : (k : ℕ) (d : ℕ) → k < length (take top path) → IsRung r.flows p levels k (get_or (take top path) k d) = λ k d l. subst (IsRung r.flows p levels k) (sym (at k d l)) (h.rungs k (omega arith) (omega (arith, l, long))) in
+    let place : (k : ℕ) → k < top → k ≡ top - (top - (k + 1) + 1) = λ k l. omega (arith, l) in
+    let at : (k : ℕ) (d : ℕ) → k < length (take top path) → get_or (take top path) k d ≡ arc_to path top (top - (k + 1)) =
+    λ k d l. get_or_default (take top path) k d 0 l ∙ get_or-take top path k 0 (omega (arith, l, long)) ∙ ap (λ j. get_or path j 0) (place k (omega (arith, l, long))) in
+    let rung : (k : ℕ) (d : ℕ) → k < length (take top path) → IsRung r.flows p levels (top - (k + 1)) (get_or (take top path) k d) =
+    λ k d l. subst (IsRung r.flows p levels (top - (k + 1))) (sym (at k d l)) (h.rungs (top - (k + 1)) (omega arith) (omega (arith, l, long))) in
+    let above : (k : ℕ) → suc k < top → top - (suc k + 1) + 1 ≡ top - (k + 1) = λ k l. omega (arith, l) in
+    let lowest : (k : ℕ) → k + 1 ≡ top → top - (k + 1) ≡ 0 = λ k e. omega (arith, e) in
     record {
-      walk = walk_from r.flows here (take top path) from (λ k l. (rung k 0 l).arc)
-          (λ k l. subst (λ j. head r.flows (get_or (take top path) j 0) ≡ tail r.flows (get_or (take top path) k 0)) (next k)
-          (ap (head r.flows) (at (k + 1) 0 (omega (arith, l))) ∙ h.joined k (omega arith) (omega (arith, l, long)) ∙ sym (ap (tail r.flows) (at k 0 (omega (arith, l))))))
-          (λ l. ap (head r.flows) (at 0 0 l) ∙ h.start (omega (arith, l, long)))
-          (λ k e. ap (tail r.flows) (at k 0 (omega (arith, e))) ∙ h.end k (omega arith) (omega (arith, e, long)))
-          (λ z. h.none (omega (arith, z, long)));
+      walk = walk_from r.flows from (take top path) here (λ k l. (rung k 0 l).arc)
+          (λ k l.
+          ap (tail r.flows) (at (suc k) 0 l) ∙ sym (h.joined (top - (suc k + 1)) (omega arith) (omega (arith, l, long)))
+          ∙ ap (λ j. head r.flows (arc_to path top j)) (above k (omega (arith, l, long))) ∙ sym (ap (head r.flows) (at k 0 (omega (arith, l)))))
+          (λ l. ap (tail r.flows) (at 0 0 l) ∙ h.end (top - 1) (omega arith) (omega (arith, l, long)))
+          (λ k e. ap (head r.flows) (at k 0 (omega (arith, e))) ∙ ap (λ j. head r.flows (arc_to path top j)) (lowest k (omega (arith, e, long))) ∙ h.start (omega (arith, e, long)))
+          (λ z. sym (h.none (omega (arith, z, long))));
       arcs = λ k d l. (rung k d l).arc;
       open_arcs = λ k d l. (rung k d l).is_open;
       below = λ k d l. omega (arith, (rung k d l).starts, l, long, at_from);
-      rising = λ i j d lt l. omega (arith, (rung i d (omega (arith, lt, l))).starts, (rung j d l).starts, lt);
+      falling = λ i j d lt l. omega (arith, (rung i d (omega (arith, lt, l))).starts, (rung j d l).starts, lt, l, long);
       steps = λ k d l. omega (arith, (rung k d l).ends, (rung k d l).starts);
       long = omega (arith, long, h.level, at_from);
       receives = receives;

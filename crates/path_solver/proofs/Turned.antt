@@ -5,12 +5,12 @@ use Rattle.std.proofs.lemmas.List.{length-map, get_or-map}
 use Rattle.member_set.specs.Members.{has}
 use Rattle.residual_graph.specs.declared.flow.Flow.{Flow}
 use Rattle.residual_graph.specs.Residual.{ResidualData, IsResidual}
-use Rattle.residual_graph.specs.Arcs.{no_flow, flow_at, room_in, moved, has_turned}
+use Rattle.residual_graph.specs.Arcs.{no_flow, flow_at, room_in, moved}
 use Rattle.path_solver.specs.declared.entries.Entry.{Entry}
 use Rattle.path_solver.specs.declared.neighbours.PairRow.{PairRow}
 use Rattle.path_solver.specs.declared.neighbours.Neighbours.{Neighbours}
 use Rattle.path_solver.specs.Entries.{entry_at, AreEntriesTo, IsNoted}
-use Rattle.path_solver.specs.Neighbours.{turned, turned_graph, AreNumbers, AreNeighbours, IsChanged}
+use Rattle.path_solver.specs.Neighbours.{turned, turned_graph, has_turned, AreNumbers, AreNeighbours, IsChanged}
 use Rattle.path_solver.proofs.Noted.{IsNext, noted_more}
 
 pub flow_turned : (flows : List Flow) (k : ℕ) → flow_at (map turned flows) k ≡ turned (flow_at flows k)

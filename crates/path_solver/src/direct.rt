@@ -4,8 +4,9 @@ ghost use Rattle.std.specs.Prelude.{◌≡◌, ℕ, ◌<◌, length, slice_index
 ghost use Rattle.path_solver.specs.Prices.{first_price};
 ghost use Rattle.path_solver.specs.Rests.{IsSentAlong};
 
-use residual_graph::{Flow, Residual};
+use residual_graph::{Flow, Residual, Steps};
 use std::alloc::{AllocError, Global};
+use std::sync::ledger::Ledger;
 
 /// The prices of the first phase: 0 for the members that have to receive, and 1 for all others.
 pub fn first_prices(alloc: Global, lack: &[u64]) -> Result<Vec<u16>, AllocError>
@@ -20,12 +21,13 @@ pub fn first_prices(alloc: Global, lack: &[u64]) -> Result<Vec<u16>, AllocError>
 
 /// Sends over a pair as much as can be sent.
 #[inline(always)]
-fn send_over(
+fn send_over<L: Ledger>(
     residual: &mut Residual,
     prices: &[u16],
     surplus: &mut [u64],
     lack: &mut [u64],
     pair: usize,
+    steps: &mut Steps<L>,
 )
     requires prices { residual.old.members ≡ length prices.now }
     requires surplus { residual.old.members ≡ length surplus.old }
@@ -39,7 +41,8 @@ fn send_over(
     let both = surplus[flow.seller as usize].min(lack[flow.buyer as usize]);
     let amount = both.min(flow.room);
     if amount > 0 {
-        residual.push(2 * pair as u32, amount);
+        let arc = [2 * pair as u32];
+        residual.push_path(&arc, amount, steps);
         surplus[flow.seller as usize] -= amount;
         lack[flow.buyer as usize] -= amount;
     }
@@ -58,7 +61,13 @@ fn behind_seller(flows: &[Flow], pair: usize) -> usize
 
 /// Sends over each pair from a member that has to send to one that has to receive as much as the three can take. At
 /// these prices such a pair is tight: its arc alone is a path. Pairs of a member that has nothing to send are passed over.
-pub fn send_direct(residual: &mut Residual, prices: &[u16], surplus: &mut [u64], lack: &mut [u64])
+pub fn send_direct<L: Ledger>(
+    residual: &mut Residual,
+    prices: &[u16],
+    surplus: &mut [u64],
+    lack: &mut [u64],
+    steps: &mut Steps<L>,
+)
     requires prices { residual.old.members ≡ length prices.now }
     requires surplus { residual.old.members ≡ length surplus.old }
     requires lack { residual.old.members ≡ length lack.old }
@@ -70,7 +79,7 @@ pub fn send_direct(residual: &mut Residual, prices: &[u16], surplus: &mut [u64],
     while pair < residual.flows().len() {
         let seller = residual.flows()[pair].seller;
         if surplus[seller as usize] > 0 {
-            send_over(residual, prices, surplus, lack, pair);
+            send_over(residual, prices, surplus, lack, pair, steps);
             pair += 1;
         } else {
             pair = behind_seller(residual.flows(), pair);

@@ -6,11 +6,17 @@ ghost use Rattle.residual_graph.specs.Residual.{flow_rows};
 ghost use Rattle.path_solver.specs.Rests.{AreSamePairs, AreApart, net_of, owed};
 ghost use Rattle.units_core.specs.declared.limits.TheConstants.{MOST_GROSS};
 
-use residual_graph::Residual;
+use residual_graph::{Residual, Steps};
+use std::sync::ledger::Ledger;
 
 /// Takes each pair back to its lower bound, and tells what each member then has to send or to receive to
 /// have its net position again.
-pub fn lower_all(residual: &mut Residual, surplus: &mut [u64], lack: &mut [u64])
+pub fn lower_all<L: Ledger>(
+    residual: &mut Residual,
+    surplus: &mut [u64],
+    lack: &mut [u64],
+    steps: &mut Steps<L>,
+)
     requires surplus { surplus.old ≡ replicate residual.old.members 0 }
     requires lack { lack.old ≡ replicate residual.old.members 0 }
     requires gross { total (flow_rows residual.old.flows) ≤ MOST_GROSS }
@@ -20,13 +26,18 @@ pub fn lower_all(residual: &mut Residual, surplus: &mut [u64], lack: &mut [u64])
     ensures apart { AreApart surplus.new lack.new }
     ensures owed { (i : ℕ) → owed residual.new.flows surplus.new lack.new i ≡ net_of residual.old.flows i }
 {
-    take_back(residual, surplus, lack);
+    take_back(residual, surplus, lack, steps);
     net_out(surplus, lack);
 }
 
 /// Takes each pair back to its lower bound. The seller then has to send what it sold above that, and the
 /// buyer to receive it.
-fn take_back(residual: &mut Residual, surplus: &mut [u64], lack: &mut [u64])
+fn take_back<L: Ledger>(
+    residual: &mut Residual,
+    surplus: &mut [u64],
+    lack: &mut [u64],
+    steps: &mut Steps<L>,
+)
     requires surplus { surplus.old ≡ replicate residual.old.members 0 }
     requires lack { lack.old ≡ replicate residual.old.members 0 }
     requires gross { total (flow_rows residual.old.flows) ≤ MOST_GROSS }
@@ -38,7 +49,8 @@ fn take_back(residual: &mut Residual, surplus: &mut [u64], lack: &mut [u64])
     for pair in 0..residual.flows().len() {
         let flow = residual.flows()[pair];
         if flow.back > 0 {
-            residual.push(2 * pair as u32 + 1, flow.back);
+            let arc = [2 * pair as u32 + 1];
+            residual.push_path(&arc, flow.back, steps);
             surplus[flow.seller as usize] += flow.back;
             lack[flow.buyer as usize] += flow.back;
         }

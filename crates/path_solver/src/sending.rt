@@ -8,13 +8,14 @@ ghost use Rattle.path_solver.specs.Paths.{NoneIsShorter};
 ghost use Rattle.path_solver.specs.Rests.{IsSentAlong};
 
 use crate::neighbours::Neighbours;
-use crate::paths::{least_room, push_all};
+use crate::paths::{least_room, push_noting};
 use crate::walk::walk;
 use member_set::MemberSet;
-use residual_graph::Residual;
+use residual_graph::{Residual, Steps};
+use std::sync::ledger::Ledger;
 
 /// Sends from the members at the level of the one that was reached first, that one first.
-pub fn send_phase(
+pub fn send_phase<L: Ledger>(
     residual: &mut Residual,
     neighbours: &mut Neighbours,
     groups: &[MemberSet],
@@ -25,6 +26,7 @@ pub fn send_phase(
     layers: &mut [MemberSet],
     path: &mut [u32],
     source: u16,
+    steps: &mut Steps<L>,
 )
     requires neighbours { AreNeighbours residual.old neighbours.old }
     requires groups { length groups.now ≡ residual.old.members + 3 }
@@ -48,18 +50,19 @@ pub fn send_phase(
 {
     let mut left = layers[levels[source as usize] as usize];
     send_once(
-        residual, neighbours, groups, prices, levels, surplus, lack, layers, path, source,
+        residual, neighbours, groups, prices, levels, surplus, lack, layers, path, source, steps,
     );
     'senders: while let Some(member) = left.take_lowest() {
         send_all(
             residual, neighbours, groups, prices, levels, surplus, lack, layers, path, member,
+            steps,
         );
     }
 }
 
 /// Sends from a member along one path as much as the path can take, and tells whether there was one. No path of
 /// open arcs from one that has to send to one that has to receive has fewer.
-fn send_once(
+fn send_once<L: Ledger>(
     residual: &mut Residual,
     neighbours: &mut Neighbours,
     groups: &[MemberSet],
@@ -70,6 +73,7 @@ fn send_once(
     layers: &mut [MemberSet],
     path: &mut [u32],
     from: u16,
+    steps: &mut Steps<L>,
 ) -> bool
     requires neighbours { AreNeighbours residual.old neighbours.old }
     requires groups { length groups.now ≡ residual.old.members + 3 }
@@ -104,14 +108,14 @@ fn send_once(
     let arcs = &path[..levels[from as usize] as usize];
     let most = surplus[from as usize].min(lack[end as usize]);
     let amount = least_room(residual, arcs).min(most);
-    push_all(residual, neighbours, arcs, amount);
+    push_noting(residual, neighbours, arcs, amount, steps);
     surplus[from as usize] -= amount;
     lack[end as usize] -= amount;
     true
 }
 
 /// Sends from a member along paths until there is none, or nothing is left.
-fn send_all(
+fn send_all<L: Ledger>(
     residual: &mut Residual,
     neighbours: &mut Neighbours,
     groups: &[MemberSet],
@@ -122,6 +126,7 @@ fn send_all(
     layers: &mut [MemberSet],
     path: &mut [u32],
     from: u16,
+    steps: &mut Steps<L>,
 )
     requires neighbours { AreNeighbours residual.old neighbours.old }
     requires groups { length groups.now ≡ residual.old.members + 3 }
@@ -143,6 +148,6 @@ fn send_all(
     ensures along { IsSentAlong prices.now residual.old residual.new surplus.old lack.old surplus.new lack.new }
 {
     'paths: while send_once(
-        residual, neighbours, groups, prices, levels, surplus, lack, layers, path, from,
+        residual, neighbours, groups, prices, levels, surplus, lack, layers, path, from, steps,
     ) {}
 }

@@ -13,8 +13,9 @@ use crate::outside::{around, everyone, has_way};
 use crate::prices::raise;
 use crate::sending::send_phase;
 use member_set::MemberSet;
-use residual_graph::Residual;
+use residual_graph::{Residual, Steps};
 use std::alloc::{AllocError, Global};
+use std::sync::ledger::Ledger;
 
 /// As many of one value as there are members.
 pub fn all_of<T: Copy>(alloc: Global, members: u16, value: T) -> Result<Vec<T>, AllocError>
@@ -58,11 +59,12 @@ fn still_with(amounts: &[u64], members: MemberSet) -> MemberSet
 }
 
 /// Sends everything that is to be sent, and answers the prices, which are 0 where nothing is.
-pub fn settle(
+pub fn settle<L: Ledger>(
     alloc: Global,
     residual: &mut Residual,
     surplus: &mut [u64],
     lack: &mut [u64],
+    steps: &mut Steps<L>,
 ) -> Result<Vec<u16>, AllocError>
     requires surplus { residual.old.members ≡ length surplus.old }
     requires lack { residual.old.members ≡ length lack.old }
@@ -76,16 +78,17 @@ pub fn settle(
         let prices = all_of(alloc, members, 0u16)?;
         return Ok(prices);
     }
-    let prices = settle_first(alloc, residual, surplus, lack)?;
+    let prices = settle_first(alloc, residual, surplus, lack, steps)?;
     Ok(prices)
 }
 
 /// Sends straight what can go so, and the rest along paths, and answers the prices.
-fn settle_first(
+fn settle_first<L: Ledger>(
     alloc: Global,
     residual: &mut Residual,
     surplus: &mut [u64],
     lack: &mut [u64],
+    steps: &mut Steps<L>,
 ) -> Result<Vec<u16>, AllocError>
     requires surplus { residual.old.members ≡ length surplus.old }
     requires lack { residual.old.members ≡ length lack.old }
@@ -96,21 +99,22 @@ fn settle_first(
 {
     let _members = residual.members();
     let prices = first_prices(alloc, lack)?;
-    send_direct(residual, &prices, surplus, lack);
+    send_direct(residual, &prices, surplus, lack, steps);
     if those_with(surplus).is_empty() {
         return Ok(prices);
     }
-    let prices = settle_rest(alloc, residual, surplus, lack, prices)?;
+    let prices = settle_rest(alloc, residual, surplus, lack, prices, steps)?;
     Ok(prices)
 }
 
 /// Sends along paths what is left to send in the first phase, and in those behind it, and answers the prices.
-fn settle_rest(
+fn settle_rest<L: Ledger>(
     alloc: Global,
     residual: &mut Residual,
     surplus: &mut [u64],
     lack: &mut [u64],
     first: Vec<u16>,
+    steps: &mut Steps<L>,
 ) -> Result<Vec<u16>, AllocError>
     requires surplus { residual.old.members ≡ length surplus.old }
     requires lack { residual.old.members ≡ length lack.old }
@@ -169,6 +173,7 @@ fn settle_rest(
                     &mut layers,
                     &mut path,
                     source,
+                    steps,
                 );
                 senders = still_with(surplus, senders);
                 receivers = still_with(lack, receivers);

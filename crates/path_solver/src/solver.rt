@@ -1,6 +1,6 @@
 //! The solver.
 
-ghost use Rattle.std.specs.Prelude.{◌≡◌, ◌≤◌, ◌^◌, IfOk};
+ghost use Rattle.std.specs.Prelude.{◌≡◌, ◌<◌, ◌≤◌, ◌^◌, IfOk};
 ghost use Rattle.network_laws.specs.Networks.{total};
 ghost use Rattle.network_laws.specs.Limits.{IsWithinLimits};
 ghost use Rattle.network_laws.specs.Solutions.{Solves};
@@ -13,8 +13,10 @@ use crate::lowest::lower_all;
 use crate::settle::{all_of, settle};
 use net_positions::gross;
 use network_laws::{Limits, Network, Solution, Solver};
-use residual_graph::Residual;
+use residual_graph::{Residual, Steps};
 use std::alloc::{AllocError, Global};
+use std::marker::Brand;
+use std::sync::ledger::{Blank, Ledger};
 
 /// Finds a certified network by successive shortest paths, from the lower bounds on.
 #[derive(Clone, Copy)]
@@ -27,18 +29,56 @@ impl PathSolver {
     pub fn new(alloc: Global) -> PathSolver {
         PathSolver { alloc }
     }
+
+    /// What `solve` answers, with each path along which an amount is sent counted.
+    pub fn solve_counted<L: Ledger>(
+        &self,
+        limits: &Limits,
+        network: &Network,
+        steps: &mut Steps<L>,
+    ) -> Result<Solution, AllocError>
+        requires same_members { limits.now.members ≡ network.now.members }
+        requires within { IsWithinLimits limits.now network.now }
+        ensures solves { IfOk result (Solves limits.now network.now) }
+    {
+        solution_of(self.alloc, limits, network, steps)
+    }
 }
 
 impl Solver for PathSolver {
     fn solve(&self, limits: &Limits, network: &Network) -> Result<Solution, AllocError> {
-        solution_of(self.alloc, limits, network)
+        let blank = Blank::new(1);
+        solve_apart::<Brand>(self, limits, network, blank)
     }
+}
+
+/// What the solver answers, with a count of its own.
+fn solve_apart<L: Ledger>(
+    solver: &PathSolver,
+    limits: &Limits,
+    network: &Network,
+    blank: Blank,
+) -> Result<Solution, AllocError>
+    requires same_members { limits.now.members ≡ network.now.members }
+    requires within { IsWithinLimits limits.now network.now }
+    requires name { blank.name ≡ L.name }
+    requires parts { blank.parts ≡ L.parts }
+    requires some { 0 < blank.parts }
+    ensures { IfOk result (Solves limits.now network.now) }
+{
+    let mut steps = Steps::<L>::new(blank);
+    solver.solve_counted(limits, network, &mut steps)
 }
 
 /// A certified network and its potentials, and the old network itself where its gross is least. It is not
 /// inlined, so that a profile tells what solving costs.
 #[inline(never)]
-fn solution_of(alloc: Global, limits: &Limits, network: &Network) -> Result<Solution, AllocError>
+fn solution_of<L: Ledger>(
+    alloc: Global,
+    limits: &Limits,
+    network: &Network,
+    steps: &mut Steps<L>,
+) -> Result<Solution, AllocError>
     requires same_members { limits.now.members ≡ network.now.members }
     requires within { IsWithinLimits limits.now network.now }
     ensures { IfOk result (Solves limits.now network.now) }
@@ -46,7 +86,7 @@ fn solution_of(alloc: Global, limits: &Limits, network: &Network) -> Result<Solu
     let _members = network.members();
     let before = gross(network);
     let mut residual = Residual::of(alloc, limits, network, before + 1)?;
-    let prices = find_prices(alloc, &mut residual)?;
+    let prices = find_prices(alloc, &mut residual, steps)?;
     let found = residual.network()?;
     let potentials = potentials_of(alloc, &prices)?;
     if gross(&found) < before {
@@ -57,15 +97,19 @@ fn solution_of(alloc: Global, limits: &Limits, network: &Network) -> Result<Solu
 }
 
 /// Moves amounts until prices fit them, from the lower bounds on, and answers the prices.
-fn find_prices(alloc: Global, residual: &mut Residual) -> Result<Vec<u16>, AllocError>
+fn find_prices<L: Ledger>(
+    alloc: Global,
+    residual: &mut Residual,
+    steps: &mut Steps<L>,
+) -> Result<Vec<u16>, AllocError>
     requires { total (flow_rows residual.old.flows) ≤ MOST_GROSS }
     ensures { IfOk result (λ prices. IsPricedAnew residual.old residual.new prices.items) }
 {
     let members = residual.members();
     let mut surplus = all_of(alloc, members, 0u64)?;
     let mut lack = all_of(alloc, members, 0u64)?;
-    lower_all(residual, &mut surplus, &mut lack);
-    let prices = settle(alloc, residual, &mut surplus, &mut lack)?;
+    lower_all(residual, &mut surplus, &mut lack, steps);
+    let prices = settle(alloc, residual, &mut surplus, &mut lack, steps)?;
     Ok(prices)
 }
 

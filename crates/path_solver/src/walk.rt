@@ -10,9 +10,9 @@ use crate::neighbours::Neighbours;
 use member_set::MemberSet;
 use residual_graph::Residual;
 
-/// From a member down the levels along open arcs to one that has to receive. The path has the arcs from the last
-/// to the first, as many as the member's level tells. A member from which there is no way on is taken out of
-/// its layer: no later walk comes there again. The first walk over new levels always finds a way.
+/// From a member down the levels along open arcs to one that has to receive. The path has as many arcs as the
+/// member's level tells. A member from which there is no way on is taken out of its layer: no later walk comes there
+/// again. The first walk over new levels always finds a way.
 pub fn walk(
     residual: &Residual,
     neighbours: &Neighbours,
@@ -55,8 +55,8 @@ pub fn walk(
             here,
             &layers[level - 1],
         ) {
+            path[top - level] = exit.arc;
             level -= 1;
-            path[level] = exit.arc;
             here = exit.head;
             continue 'steps;
         }
@@ -64,7 +64,7 @@ pub fn walk(
         if level == top {
             return None;
         }
-        here = residual.tail(path[level]);
         level += 1;
+        here = residual.tail(path[top - level]);
     }
 }

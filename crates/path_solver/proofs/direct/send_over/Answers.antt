@@ -1,19 +1,28 @@
-use Rattle.std.proofs.Common.{◌≡◌, ◌<◌, List, length, get_or, sym, ap, arith}
+use Rattle.std.proofs.Common.{◌≡◌, ◌*◌, ◌<◌, true, List, length, get_or, sym, ap, arith}
 use Rattle.residual_graph.specs.declared.flow.Flow.{Flow}
 use Rattle.residual_graph.specs.Residual.{ResidualData}
 use Rattle.residual_graph.specs.Arcs.{flow_at, no_flow}
 use Rattle.residual_graph.proofs.Kept.{few_pairs}
-use Rattle.path_solver.proofs.Straight.{sent_straight}
+use Rattle.path_solver.proofs.Straight.{path_one, sent_straight}
+use Rattle.path_solver.proofs.Phased.{forward_of, arc_is}
 use Rattle.path_solver.proofs.direct.send_over.Goals as goal
 
-pub overflow_cast-pair : goal.overflow_cast-pair
-overflow_cast-pair c = omega (arith, c.requires.pair, few_pairs c.args.residual.now c.flows.ensures.residual)
+pub overflow_cast-arc : goal.overflow_cast-arc
+overflow_cast-arc g c = omega (arith, c.requires.pair, few_pairs c.args.residual.now c.flows.ensures.residual)
 
-pub overflow_mul-pair : goal.overflow_mul-pair
-overflow_mul-pair c = omega (arith, c.requires.pair, few_pairs c.args.residual.now c.flows.ensures.residual)
+pub overflow_mul-arc : goal.overflow_mul-arc
+overflow_mul-arc g c = omega (arith, c.requires.pair, few_pairs c.args.residual.now c.flows.ensures.residual)
+
+pub push_path-requires : goal.push_path-requires
+push_path-requires g c =
+    let k = c.args.pair in
+    let at : get_or c.flows.result.now c.args.pair no_flow ≡ flow_at c.args.residual.now.flows c.args.pair = ap (λ (fs : List Flow). get_or fs c.args.pair no_flow) c.flows.ensures.value in
+    let there = forward_of k in
+    let arc = arc_is c.args.residual.now.flows (2 * k) k true there.0 there.1 in
+    path_one c.min-amount.result c.args.residual.now.flows (2 * k) (omega (arith, c.requires.pair)) (omega (arith, arc.0, c.min-amount.ensures, ap (λ (g : Flow). g.room) at))
 
 pub returns-then-amount-gt0 : goal.returns-then-amount-gt0
-returns-then-amount-gt0 c =
+returns-then-amount-gt0 g c =
     let k = c.args.pair in
     let f = get_or c.flows.result.now c.args.pair no_flow in
     let at : get_or c.flows.result.now c.args.pair no_flow ≡ flow_at c.args.residual.now.flows c.args.pair = ap (λ (fs : List Flow). get_or fs c.args.pair no_flow) c.flows.ensures.value in
@@ -24,7 +33,7 @@ returns-then-amount-gt0 c =
     let some = c.if-amount-gt0.true in
     let sends = c.requires.senders f.seller (omega (arith, some, c.min-amount.ensures, c.min-both.ensures)) in
     let receives = c.requires.receivers f.buyer (omega (arith, some, c.min-amount.ensures, c.min-both.ensures)) in
-    sent_straight c.args.prices.now c.args.residual.now c.push.new.self c.args.surplus.now c.args.lack.now k f.seller f.buyer c.min-amount.result in_k (sym at_s) (sym at_b)
+    sent_straight c.args.prices.now c.args.residual.now c.push_path.new.self c.args.surplus.now c.args.lack.now k f.seller f.buyer c.min-amount.result in_k (sym at_s) (sym at_b)
     (omega (arith, c.min-amount.ensures, ap (λ (g : Flow). g.room) at))
     some
     (omega (arith, sends, receives))
@@ -33,5 +42,5 @@ returns-then-amount-gt0 c =
     (omega (arith, good.buyer, at_b, c.requires.prices))
     (omega (arith, c.min-amount.ensures, c.min-both.ensures))
     (omega (arith, c.min-amount.ensures, c.min-both.ensures))
-    (ap (λ (r : ResidualData). r.members) c.push.ensures)
-    (ap (λ (r : ResidualData). r.flows) c.push.ensures)
+    (ap (λ (r : ResidualData). r.members) c.push_path.ensures.pushed)
+    (ap (λ (r : ResidualData). r.flows) c.push_path.ensures.pushed)

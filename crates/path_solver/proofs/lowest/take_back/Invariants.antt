@@ -3,7 +3,7 @@ use Rattle.path_solver.proofs.TakenBack.{IsTakenBack}
 use Rattle.path_solver.proofs.lowest.take_back.Given as goal
 
 abbrev pub invariant-loop-pair : goal.invariant-loop-pair
-invariant-loop-pair l = record {
+invariant-loop-pair g l = record {
   members : l.residual.members ≡ l.initial.residual.members;
   taken : IsTakenBack l.initial.residual.flows l.residual.flows l.surplus l.lack l.pair;
 }

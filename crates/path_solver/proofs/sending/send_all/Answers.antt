@@ -2,7 +2,7 @@ use Rattle.path_solver.proofs.SentAlong.{sent_more}
 use Rattle.path_solver.proofs.sending.send_all.Goals as goal
 
 pub paths-preserved : goal.paths-preserved
-paths-preserved c = record {
+paths-preserved g c = record {
   neighbours = c.send_once.ensures.neighbours;
   layers = c.send_once.ensures.layers;
   shortest = c.send_once.ensures.kept;
@@ -10,7 +10,7 @@ paths-preserved c = record {
 }
 
 pub returns : goal.returns
-returns c = record {
+returns g c = record {
   neighbours = c.send_once.ensures.neighbours;
   layers = c.send_once.ensures.layers;
   kept = c.send_once.ensures.kept;

@@ -5,7 +5,7 @@ use Rattle.path_solver.specs.Neighbours.{AreNeighbours}
 use Rattle.path_solver.proofs.sending.send_all.Given as goal
 
 abbrev pub invariant-paths : goal.invariant-paths
-invariant-paths l = record {
+invariant-paths g l = record {
   neighbours : AreNeighbours l.residual l.neighbours;
   layers : AreLayers l.levels l.layers (get_or l.levels l.from 0 + 1);
   shortest : AreShortest l.residual.flows l.prices l.surplus l.lack l.levels (get_or l.levels l.from 0);
@@ -13,4 +13,4 @@ invariant-paths l = record {
 }
 
 abbrev pub decreases-paths : goal.decreases-paths
-decreases-paths l = sum l.surplus
+decreases-paths g l = sum l.surplus

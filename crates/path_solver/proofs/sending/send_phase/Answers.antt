@@ -6,7 +6,7 @@ use Rattle.path_solver.proofs.SentAlong.{sent_more}
 use Rattle.path_solver.proofs.sending.send_phase.Goals as goal
 
 pub senders-preserved : goal.senders-preserved
-senders-preserved c =
+senders-preserved g c =
     let inv = c.senders.invariant in
     let at : get_or c.args.levels.now c.in-Some.member 0 ≡ get_or c.args.levels.now c.args.source 0 = (inv.left c.in-Some.member c.in-Some.ensures.member).1 in
     record {

@@ -6,7 +6,7 @@ use Rattle.path_solver.specs.Neighbours.{AreNeighbours}
 use Rattle.path_solver.proofs.sending.send_phase.Given as goal
 
 abbrev pub invariant-senders : goal.invariant-senders
-invariant-senders l = record {
+invariant-senders g l = record {
   neighbours : AreNeighbours l.residual l.neighbours;
   layers : AreLayers l.levels l.layers (get_or l.levels l.source 0 + 1);
   left : (v : ℕ) → has l.left v ≡ true → (v < length l.levels) × (get_or l.levels v 0 ≡ get_or l.levels l.source 0);
@@ -16,4 +16,4 @@ invariant-senders l = record {
 }
 
 abbrev pub decreases-senders : goal.decreases-senders
-decreases-senders l = size l.left
+decreases-senders g l = size l.left

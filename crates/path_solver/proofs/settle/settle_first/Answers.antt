@@ -8,7 +8,7 @@ use Rattle.path_solver.proofs.Phased.{first_top, straight_phase, phase_anew, non
 use Rattle.path_solver.proofs.settle.settle_first.Goals as goal
 
 pub returns-then-is_empty : goal.returns-then-is_empty
-returns-then-is_empty c =
+returns-then-is_empty g c =
     let old = c.args.residual.now in
     let p = c.in_ok-prices.prices.items in
     let sent : IsSentAlong c.in_ok-prices.prices.items c.args.residual.now c.send_direct.new.residual c.args.surplus.now c.args.lack.now c.send_direct.new.surplus c.send_direct.new.lack =
@@ -20,7 +20,7 @@ returns-then-is_empty c =
     phase
 
 pub settle_rest-requires-clause-phase : goal.settle_rest-requires-clause-phase
-settle_rest-requires-clause-phase c =
+settle_rest-requires-clause-phase g c =
     let old = c.args.residual.now in
     let mid = c.send_direct.new.residual in
     let p = c.in_ok-prices.prices.items in

@@ -16,34 +16,34 @@ use Rattle.path_solver.proofs.StillClosed.{still_closed}
 use Rattle.path_solver.proofs.settle.settle_rest.Goals as goal
 
 pub layer-requires-clause-entries : goal.layer-requires-clause-entries
-layer-requires-clause-entries c = subst (AreEntries c.phases.residual) (sym c.deref-in-phases.ensures.value) c.phases.invariant.neighbours.entries
+layer-requires-clause-entries g c = subst (AreEntries c.phases.residual) (sym c.deref-in-phases.ensures.value) c.phases.invariant.neighbours.entries
 
 pub layer-requires-clause-sorted : goal.layer-requires-clause-sorted
-layer-requires-clause-sorted c =
+layer-requires-clause-sorted g c =
     subst (λ (xs : List ℕ). AreGroups xs c.deref-in-phases-3.result.now) (sym c.deref-in-phases-2.ensures.value)
     (subst (AreGroups c.phases.prices.items) (sym c.deref-in-phases-3.ensures.value) c.phases.invariant.sorted)
 
 pub still_with-senders-requires-clause-small : goal.still_with-senders-requires-clause-small
-still_with-senders-requires-clause-small c v on =
+still_with-senders-requires-clause-small g c v on =
     amount_in c.phases.surplus v ((c.phases.invariant.senders v).0 on) (length c.send_phase.new.surplus) (sym c.send_phase.auto.surplus)
 
 pub still_with-senders-requires-clause-all : goal.still_with-senders-requires-clause-all
-still_with-senders-requires-clause-all c v some = (c.phases.invariant.senders v).1 (c.send_phase.ensures.along.senders v some)
+still_with-senders-requires-clause-all g c v some = (c.phases.invariant.senders v).1 (c.send_phase.ensures.along.senders v some)
 
 pub still_with-receivers-requires-clause-small : goal.still_with-receivers-requires-clause-small
-still_with-receivers-requires-clause-small c v on =
+still_with-receivers-requires-clause-small g c v on =
     amount_in c.phases.lack v ((c.phases.invariant.receivers v).0 on) (length c.send_phase.new.lack) (sym c.send_phase.auto.lack)
 
 pub still_with-receivers-requires-clause-all : goal.still_with-receivers-requires-clause-all
-still_with-receivers-requires-clause-all c v some = (c.phases.invariant.receivers v).1 (c.send_phase.ensures.along.receivers v some)
+still_with-receivers-requires-clause-all g c v some = (c.phases.invariant.receivers v).1 (c.send_phase.ensures.along.receivers v some)
 
 pub layer-requires-clause-low : goal.layer-requires-clause-low
-layer-requires-clause-low c v =
+layer-requires-clause-low g c v =
     let inv = c.phases.invariant in
     omega (arith, ap (λ (xs : List ℕ). get_or xs v 0) c.deref-in-phases-2.ensures.value, inv.phase.rated.most v, inv.phase.few, inv.phase.members)
 
 pub send_phase-requires-clause-layers : goal.send_phase-requires-clause-layers
-send_phase-requires-clause-layers c =
+send_phase-requires-clause-layers g c =
     let levels = with_items_is c.phases.levels c.layer.new.levels (c.layer.auto.levels ∙ c.deref_mut-in-phases.ensures.len) in
     let layers = with_items_is c.phases.layers c.layer.new.layers (c.layer.auto.layers ∙ c.deref_mut-in-phases-2.ensures.len) in
     let at_levels : c.deref-in-Some-3.result.now ≡ c.layer.new.levels = c.deref-in-Some-3.ensures.value ∙ levels in
@@ -53,7 +53,7 @@ send_phase-requires-clause-layers c =
     (subst (λ (ys : List MemberSet). AreLayers c.layer.new.levels ys (get_or c.layer.new.levels c.in-Some.source 0 + 1)) (sym at_layers) found)
 
 pub send_phase-requires-clause-whole : goal.send_phase-requires-clause-whole
-send_phase-requires-clause-whole c =
+send_phase-requires-clause-whole g c =
     let levels = with_items_is c.phases.levels c.layer.new.levels (c.layer.auto.levels ∙ c.deref_mut-in-phases.ensures.len) in
     let layers = with_items_is c.phases.layers c.layer.new.layers (c.layer.auto.layers ∙ c.deref_mut-in-phases-2.ensures.len) in
     let at_levels : c.deref-in-Some-3.result.now ≡ c.layer.new.levels = c.deref-in-Some-3.ensures.value ∙ levels in
@@ -63,17 +63,17 @@ send_phase-requires-clause-whole c =
     (subst (λ (ys : List MemberSet). AreWholeLayers c.layer.new.levels ys (get_or c.layer.new.levels c.in-Some.source 0 + 1)) (sym at_layers) found)
 
 pub send_phase-requires-clause-sorted : goal.send_phase-requires-clause-sorted
-send_phase-requires-clause-sorted c =
+send_phase-requires-clause-sorted g c =
     subst (λ (xs : List ℕ). AreGroups xs c.deref-in-Some.result.now) (sym c.deref-in-Some-2.ensures.value)
     (subst (AreGroups c.phases.prices.items) (sym c.deref-in-Some.ensures.value) c.phases.invariant.sorted)
 
 pub send_phase-requires-clause-low : goal.send_phase-requires-clause-low
-send_phase-requires-clause-low c v =
+send_phase-requires-clause-low g c v =
     let inv = c.phases.invariant in
     omega (arith, ap (λ (xs : List ℕ). get_or xs v 0) c.deref-in-Some-2.ensures.value, inv.phase.rated.most v, inv.phase.few, inv.phase.members)
 
 pub phases-preserved : goal.phases-preserved
-phases-preserved c =
+phases-preserved g c =
     let inv = c.phases.invariant in
     let levels = with_items_is c.phases.levels c.layer.new.levels (c.layer.auto.levels ∙ c.deref_mut-in-phases.ensures.len) in
     let layers = with_items_is c.phases.layers c.layer.new.layers (c.layer.auto.layers ∙ c.deref_mut-in-phases-2.ensures.len) in
@@ -95,16 +95,16 @@ phases-preserved c =
     }
 
 pub returns : goal.returns
-returns c =
+returns g c =
     settled c.args.residual.now c.phases.residual c.args.surplus.now c.args.lack.now c.phases.surplus c.phases.lack c.phases.prices.items c.phases.top c.members-members.ensures.residual c.requires.feasible c.phases.invariant.prices (none_left c.phases.surplus c.phases.senders c.phases.invariant.senders (c.is_empty.ensures.none.0 c.phases-test.false)) c.phases.invariant.phase
 
 pub raise-requires-clause-sorted : goal.raise-requires-clause-sorted
-raise-requires-clause-sorted c =
+raise-requires-clause-sorted g c =
     subst (λ (xs : List ℕ). AreGroups xs c.deref_mut-in-raises-2.result.now) (sym c.deref_mut-in-raises.ensures.value)
     (subst (AreGroups c.raises.prices.items) (sym c.deref_mut-in-raises-2.ensures.value) c.raises.invariant.sorted)
 
 pub raise-requires-clause-reached : goal.raise-requires-clause-reached
-raise-requires-clause-reached c v =
+raise-requires-clause-reached g c v =
     let levels = with_items_is c.phases.levels c.layer.new.levels (c.layer.auto.levels ∙ c.deref_mut-in-phases.ensures.len) in
     let at_levels : c.deref-in-raises.result.now ≡ c.layer.new.levels = c.deref-in-raises.ensures.value ∙ levels in
     let none : IsNone c.layer.result = subst (λ (o : Option ℕ). IsNone o) (sym c.in-None.is) refl in
@@ -115,7 +115,7 @@ raise-requires-clause-reached c v =
     )
 
 pub has_way-requires-clause-low : goal.has_way-requires-clause-low
-has_way-requires-clause-low c v =
+has_way-requires-clause-low g c v =
     let old = c.args.residual.now in
     let r = c.phases.residual in
     let inv = c.phases.invariant in
@@ -141,7 +141,7 @@ has_way-requires-clause-low c v =
     omega (arith, at_p, at_g, all.1.rated.most v, all.1.few)
 
 pub phases-smaller-then-has_way : goal.phases-smaller-then-has_way
-phases-smaller-then-has_way c =
+phases-smaller-then-has_way g c =
     let old = c.args.residual.now in
     let r = c.phases.residual in
     let inv = c.phases.invariant in
@@ -165,7 +165,7 @@ phases-smaller-then-has_way c =
     omega (arith, all.0, rising.up, c.members-members.ensures.residual.few)
 
 pub phases-preserved-then-has_way : goal.phases-preserved-then-has_way
-phases-preserved-then-has_way c =
+phases-preserved-then-has_way g c =
     let old = c.args.residual.now in
     let r = c.phases.residual in
     let inv = c.phases.invariant in
@@ -201,7 +201,7 @@ phases-preserved-then-has_way c =
     }
 
 pub raises-preserved : goal.raises-preserved
-raises-preserved c =
+raises-preserved g c =
     let old = c.args.residual.now in
     let r = c.phases.residual in
     let inv = c.phases.invariant in

@@ -7,7 +7,7 @@ use Rattle.path_solver.specs.Groups.{AreGroups}
 use Rattle.path_solver.proofs.settle.settle_rest.Given as goal
 
 abbrev pub invariant-phases : goal.invariant-phases
-invariant-phases l = record {
+invariant-phases g l = record {
   phase : IsPhase l.initial.residual l.residual l.initial.surplus l.initial.lack l.surplus l.lack l.prices.items l.top;
   neighbours : AreNeighbours l.residual l.neighbours;
   groups : length l.groups.items ≡ l.initial.residual.members + 3;
@@ -21,7 +21,7 @@ invariant-phases l = record {
 }
 
 abbrev pub invariant-raises : goal.invariant-raises
-invariant-raises l = record {
+invariant-raises g l = record {
   phase : IsPhase l.fn.residual l.residual l.fn.surplus l.fn.lack l.surplus l.lack l.prices.items l.top;
   cut : AreCut l.residual.flows l.prices.items l.surplus l.lack l.levels.items;
   groups : length l.groups.items ≡ l.fn.residual.members + 3;
@@ -31,7 +31,7 @@ invariant-raises l = record {
 }
 
 abbrev pub decreases-raises : goal.decreases-raises
-decreases-raises l = 512 - l.top
+decreases-raises g l = 512 - l.top
 
 abbrev pub decreases-phases : goal.decreases-phases
-decreases-phases l = sum l.surplus * 512 + (512 - l.top)
+decreases-phases g l = sum l.surplus * 512 + (512 - l.top)

@@ -7,7 +7,7 @@ use Rattle.path_solver.proofs.Same.{same_sym, same_trans}
 use Rattle.path_solver.proofs.solver.find_prices.Goals as goal
 
 pub settle-requires-clause-feasible : goal.settle-requires-clause-feasible
-settle-requires-clause-feasible c =
+settle-requires-clause-feasible g c =
     let surplus = c.deref_mut-3.ensures.value ∙ with_items_is c.in_ok-surplus.surplus c.lower_all.new.surplus (c.lower_all.auto.surplus ∙ c.deref_mut.ensures.len) in
     let lack = c.deref_mut-4.ensures.value ∙ with_items_is c.in_ok-lack.lack c.lower_all.new.lack (c.lower_all.auto.lack ∙ c.deref_mut-2.ensures.len) in
     (c.args.residual.now.flows, same_sym c.args.residual.now.flows c.lower_all.new.residual.flows c.lower_all.ensures.pairs, λ i. sym (c.lower_all.ensures.owed i) ∙ ap (λ s. owed c.lower_all.new.residual.flows s c.lower_all.new.lack i) (sym surplus) ∙ ap (λ l. owed c.lower_all.new.residual.flows c.deref_mut-3.result.now l i) (sym lack))
@@ -24,7 +24,7 @@ anew old mid new s l p residual members pairs nets h = record {
 }
 
 pub returns : goal.returns
-returns c =
+returns g c =
     let surplus = c.deref_mut-3.ensures.value ∙ with_items_is c.in_ok-surplus.surplus c.lower_all.new.surplus (c.lower_all.auto.surplus ∙ c.deref_mut.ensures.len) in
     let lack = c.deref_mut-4.ensures.value ∙ with_items_is c.in_ok-lack.lack c.lower_all.new.lack (c.lower_all.auto.lack ∙ c.deref_mut-2.ensures.len) in
     anew c.args.residual.now c.lower_all.new.residual c.settle.new.residual c.deref_mut-3.result.now c.deref_mut-4.result.now c.in_ok-prices.prices.items c.members-members.ensures.residual c.lower_all.ensures.members c.lower_all.ensures.pairs

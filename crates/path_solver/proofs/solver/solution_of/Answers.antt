@@ -14,10 +14,10 @@ same_solution : (y z : NetworkData) (p q : List ℤ) → y ≡ z → p ≡ q →
 same_solution y z p q e f = ap (λ (x : NetworkData). solution x p) e ∙ ap (solution z) f
 
 pub of-requires-clause-capped : goal.of-requires-clause-capped
-of-requires-clause-capped c i j li lj e = omega (arith, amount_le c.args.network.now.rows i j, c.gross-before.ensures)
+of-requires-clause-capped g c i j li lj e = omega (arith, amount_le c.args.network.now.rows i j, c.gross-before.ensures)
 
 pub find_prices-requires : goal.find_prices-requires
-find_prices-requires c =
+find_prices-requires g c =
     let is : c.in_ok-residual.residual ≡ residual_of (gross c.args.network.now + 1) c.args.limits.now c.args.network.now = c.in_ok-residual.ensures.value ∙ ap (λ g. residual_of (g + 1) c.args.limits.now c.args.network.now) c.gross-before.ensures in
     let same = ap (λ (r : ResidualData). total (flow_rows r.flows)) is in
     omega (arith, same, start_gross c.args.limits.now c.args.network.now c.in_ok-residual.ensures.limits c.members-members.ensures.network c.requires.same_members c.requires.within, c.members-members.ensures.network.rows.within)
@@ -27,7 +27,7 @@ found_anew : (before : ℕ) (old : NetworkData) (start : ℕ → ResidualData) (
 found_anew before old start r new p e g h = subst (λ (x : ResidualData). IsPricedAnew x new p) (e ∙ ap start g) h
 
 pub network-requires : goal.network-requires
-network-requires c =
+network-requires g c =
     let found = found_anew c.gross-before.result c.args.network.now (λ g. residual_of (g + 1) c.args.limits.now c.args.network.now) c.in_ok-residual.residual c.find_prices.new.residual c.in_ok-prices.prices.items c.in_ok-residual.ensures.value c.gross-before.ensures c.in_ok-prices.ensures in
     few_rows c.args.limits.now c.args.network.now c.find_prices.new.residual c.in_ok-prices.prices.items c.in_ok-residual.ensures.limits c.members-members.ensures.network c.requires.same_members c.requires.within found
 
@@ -35,12 +35,12 @@ range_at : (n : ℕ) (xs : List ℤ) (ps qs : List ℕ) → n ≤ 256 → xs ≡
 range_at n xs ps qs few e f most = subst (λ (ys : List ℤ). All IsPotential ys) (sym (e ∙ ap potentials f)) (in_range n ps few most)
 
 pub new-requires-clause-in_range : goal.new-requires-clause-in_range
-new-requires-clause-in_range c =
+new-requires-clause-in_range g c =
     let members = ap (λ (r : ResidualData). r.members) c.in_ok-residual.ensures.value in
     range_at c.in_ok-residual.residual.members c.in_ok-potentials.potentials.items c.in_ok-prices.prices.items c.deref.result.now (omega (arith, members, c.members-members.ensures.network.few)) c.in_ok-potentials.ensures c.deref.ensures.value c.in_ok-prices.ensures.most
 
 pub returns-then-gross-before : goal.returns-then-gross-before
-returns-then-gross-before c =
+returns-then-gross-before g c =
     let found = found_anew c.gross-before.result c.args.network.now (λ g. residual_of (g + 1) c.args.limits.now c.args.network.now) c.in_ok-residual.residual c.find_prices.new.residual c.in_ok-prices.prices.items c.in_ok-residual.ensures.value c.gross-before.ensures c.in_ok-prices.ensures in
     let p : c.in_ok-potentials.potentials.items ≡ potentials c.in_ok-prices.prices.items = c.in_ok-potentials.ensures ∙ ap potentials c.deref.ensures.value in
     let y : c.in_ok-found.found ≡ network_of c.find_prices.new.residual = c.in_ok-found.ensures in
@@ -49,12 +49,12 @@ returns-then-gross-before c =
     (solves_new c.args.limits.now c.args.network.now c.find_prices.new.residual c.in_ok-prices.prices.items c.in_ok-residual.ensures.limits c.members-members.ensures.network c.requires.same_members c.requires.within found less)
 
 pub new-requires-else-gross-before-clause-in_range : goal.new-requires-else-gross-before-clause-in_range
-new-requires-else-gross-before-clause-in_range c =
+new-requires-else-gross-before-clause-in_range g c =
     let members = ap (λ (r : ResidualData). r.members) c.in_ok-residual.ensures.value in
     range_at c.in_ok-residual.residual.members c.in_ok-potentials.potentials.items c.in_ok-prices.prices.items c.deref.result.now (omega (arith, members, c.members-members.ensures.network.few)) c.in_ok-potentials.ensures c.deref.ensures.value c.in_ok-prices.ensures.most
 
 pub returns : goal.returns
-returns c =
+returns g c =
     let found = found_anew c.gross-before.result c.args.network.now (λ g. residual_of (g + 1) c.args.limits.now c.args.network.now) c.in_ok-residual.residual c.find_prices.new.residual c.in_ok-prices.prices.items c.in_ok-residual.ensures.value c.gross-before.ensures c.in_ok-prices.ensures in
     let p : c.in_ok-potentials.potentials.items ≡ potentials c.in_ok-prices.prices.items = c.in_ok-potentials.ensures ∙ ap potentials c.deref.ensures.value in
     let least : gross c.args.network.now ≤ gross (network_of c.find_prices.new.residual) = omega (arith, c.if-gross-before.false, c.gross.ensures, c.gross-before.ensures, ap gross c.in_ok-found.ensures) in

@@ -25,9 +25,10 @@ steps-preserved-in-Some c =
     let above : c.steps.level ≡ c.steps.level - 1 + 1 = omega (arith, c.if-level-eq0.false) in
     let at = (inv.layers (c.steps.level - 1) c.in-Some.exit.head (omega (arith, inv.trail.within)) way.inside).1 in
     record {
-      trail = trail_down c.args.residual.now c.args.prices.now c.args.levels.now c.steps.layers c.steps.path c.members-members.ensures.residual (c.steps.level - 1) (get_or c.args.levels.now c.args.from 0) c.steps.here c.args.from c.in-Some.exit.arc c.in-Some.exit.head
+      trail = subst (λ n. IsTrail c.args.residual.now c.args.prices.now c.args.levels.now c.steps.layers (set c.steps.path (get_or c.args.levels.now c.args.from 0 - n) c.in-Some.exit.arc) (c.steps.level - 1) (get_or c.args.levels.now c.args.from 0) c.in-Some.exit.head c.args.from) (sym above)
+          (trail_down c.args.residual.now c.args.prices.now c.args.levels.now c.steps.layers c.steps.path c.members-members.ensures.residual (c.steps.level - 1) (get_or c.args.levels.now c.args.from 0) c.steps.here c.args.from c.in-Some.exit.arc c.in-Some.exit.head
           (subst (λ n. IsTrail c.args.residual.now c.args.prices.now c.args.levels.now c.steps.layers c.steps.path n (get_or c.args.levels.now c.args.from 0) c.steps.here c.args.from) above inv.trail)
-          leads (omega (arith, c.if-level-eq0.false, inv.trail.within, c.requires.top, c.requires.path, c.steps.auto.path)) at way.inside;
+          leads (omega (arith, c.if-level-eq0.false, inv.trail.within, c.requires.top, c.requires.path, c.steps.auto.path)) at way.inside);
       layers = inv.layers;
       whole = inv.whole;
     }
