@@ -21,3 +21,7 @@ pub mod NotedAlong
 pub mod Near
 pub mod Raised
 pub mod StillClosed
+pub mod Measured
+pub mod Pruned
+pub mod Blocked
+pub mod Counted

@@ -7,7 +7,7 @@ use Rattle.residual_graph.specs.Residual.{ResidualData}
 use Rattle.residual_graph.specs.Arcs.{arc_count, pair, is_forward, room, room_in, head, tail, pushed}
 use Rattle.residual_graph.proofs.Kept.{pair_below}
 use Rattle.path_solver.specs.Prices.{IsTight, IsOpen}
-use Rattle.path_solver.specs.Levels.{IsReached, AreFewest, AreShortest}
+use Rattle.path_solver.specs.Levels.{IsReached, AreFewest, AreMet, AreShortest}
 use Rattle.residual_graph.specs.Paths.{IsWalk, pushed_all}
 use Rattle.residual_graph.proofs.Walks.{CanPush, path_can}
 use Rattle.path_solver.specs.Paths.{IsPathDown, NoneIsShorter}
@@ -24,7 +24,7 @@ pub record IsStep (flows : List Flow) (levels : List ℕ) (a : ℕ) : Type 0 whe
   pub down : get_or levels (head flows a) 0 + 1 ≡ get_or levels (tail flows a) 0
 
 -- an arc of another pair is as it was
-open_other : (x : ℕ) (p : List ℕ) (flows : List Flow) (a b : ℕ) → pair b ≢ pair a → IsOpen (pushed x flows a) p b → IsOpen flows p b
+pub open_other : (x : ℕ) (p : List ℕ) (flows : List Flow) (a b : ℕ) → pair b ≢ pair a → IsOpen (pushed x flows a) p b → IsOpen flows p b
 open_other x p flows a b ne h =
     let at = flow_at_other x flows a (pair b) ne in
     (omega (arith, h.0, ap (λ f. room_in f (is_forward b)) at), subst (IsTight p) at h.1)
@@ -67,7 +67,19 @@ fewest_pushed x p levels last flows a s roomy h = record {
     kept : (b : ℕ) → b < arc_count flows → (tail (pushed x flows a) b ≡ tail flows b) × (head (pushed x flows a) b ≡ head flows b)
     kept b l = same_ends flows (pushed x flows a) (pushed_same x flows a in_pairs roomy) b l
 
-step_kept : (x : ℕ) (levels : List ℕ) (flows : List Flow) (a b : ℕ) → a < arc_count flows → x ≤ room flows a → IsStep flows levels b → IsStep (pushed x flows a) levels b
+-- nor one behind which somebody is not reached who has to send
+met_pushed : (x : ℕ) (p surplus levels : List ℕ) (last : ℕ) (flows : List Flow) (a : ℕ) → IsStep flows levels a → x ≤ room flows a → AreMet flows p surplus levels last → AreMet (pushed x flows a) p surplus levels last
+met_pushed x p surplus levels last flows a s roomy h b l is_open is at sends =
+    let same = pushed_same x flows a (pair_below a (length flows) s.arc) roomy in
+    let old : b < arc_count flows = omega (arith, l, same.same_length) in
+    let ends = same_ends flows (pushed x flows a) same b old in
+    let at_h = ap (λ v. get_or levels v 0) ends.1 in
+    elim (cases_eq (pair b) (pair a)) [
+      | inl e ↦ λ q. (step_pair flows levels a b s e).0 (ap (λ v. get_or levels v 0) (sym ends.0) ∙ q)
+      | inr ne ↦ λ q. h b old (open_other x p flows a b ne is_open) (λ z. is (at_h ∙ z)) (omega (arith, at, at_h)) (subst (λ v. 0 < get_or surplus v 0) ends.0 sends) (ap (λ v. get_or levels v 0) (sym ends.0) ∙ q)
+    ]
+
+pub step_kept : (x : ℕ) (levels : List ℕ) (flows : List Flow) (a b : ℕ) → a < arc_count flows → x ≤ room flows a → IsStep flows levels b → IsStep (pushed x flows a) levels b
 step_kept x levels flows a b l roomy s =
     let same = pushed_same x flows a (pair_below a (length flows) l) roomy in
     let ends = same_ends flows (pushed x flows a) same b s.arc in
@@ -88,6 +100,13 @@ fewest_walk x p levels last flows (a ∷ arcs) can steps h =
     (λ k d l. step_kept x levels flows a (get_or arcs k d) can.0 can.1 (steps (suc k) d (omega arith)))
     (fewest_pushed x p levels last flows a (steps 0 a (omega arith)) can.1 h)
 
+met_walk : (x : ℕ) (p surplus levels : List ℕ) (last : ℕ) (flows : List Flow) (arcs : List ℕ) → CanPush x flows arcs → All (IsStep flows levels) arcs → AreMet flows p surplus levels last → AreMet (pushed_all x flows arcs) p surplus levels last
+met_walk x p surplus levels last flows [] can steps h = h
+met_walk x p surplus levels last flows (a ∷ arcs) can steps h =
+    met_walk x p surplus levels last (pushed x flows a) arcs can.2
+    (λ k d l. step_kept x levels flows a (get_or arcs k d) can.0 can.1 (steps (suc k) d (omega arith)))
+    (met_pushed x p surplus levels last flows a (steps 0 a (omega arith)) can.1 h)
+
 -- a path down is of steps
 pub path_steps : (flows : List Flow) (p levels lack : List ℕ) (from end : ℕ) (path : List ℕ) → IsPathDown flows p levels lack from end path → get_or levels from 0 < 65535 → All (IsStep flows levels) path
 path_steps flows p levels lack from end path h low k d l =
@@ -101,7 +120,7 @@ path_steps flows p levels lack from end path h low k d l =
     }
 
 -- along open arcs to a level, each arc goes down by one at the most
-walk_level : (p levels : List ℕ) (last : ℕ) (flows : List Flow) → AreFewest flows p levels last → (v : ℕ) (arcs : List ℕ) (w k : ℕ) → IsReached levels w → get_or levels w 0 ≤ k → k + length arcs < last → IsWalk flows v arcs w → All (IsOpen flows p) arcs → IsReached levels v × (get_or levels v 0 ≤ k + length arcs)
+pub walk_level : (p levels : List ℕ) (last : ℕ) (flows : List Flow) → AreFewest flows p levels last → (v : ℕ) (arcs : List ℕ) (w k : ℕ) → IsReached levels w → get_or levels w 0 ≤ k → k + length arcs < last → IsWalk flows v arcs w → All (IsOpen flows p) arcs → IsReached levels v × (get_or levels v 0 ≤ k + length arcs)
 walk_level p levels last flows h v [] w k is le less walk opens =
     let at = ap (λ u. get_or levels u 0) walk in
     (λ q. is (sym at ∙ q), omega (arith, at, le))
@@ -129,6 +148,9 @@ shortest_sent x p levels last old new surplus lack surplus' lack' from end path 
     let can = path_can x old.flows path (path_of x old.flows p levels lack from end path h roomy) in
     record {
       fewest = subst (λ (fs : List Flow). AreFewest fs p levels last) (sym flows) (fewest_walk x p levels last old.flows path can (path_steps old.flows p levels lack from end path h (omega (arith, at_from, s.low))) s.fewest);
+      met = λ b l is_open is at sends.
+          subst (λ (fs : List Flow). AreMet fs p surplus levels last) (sym flows)
+          (met_walk x p surplus levels last old.flows path can (path_steps old.flows p levels lack from end path h (omega (arith, at_from, s.low))) s.met) b l is_open is at (sent.senders (tail new.flows b) sends);
       senders = λ v sends. s.senders v (sent.senders v sends);
       receivers = λ v receives. s.receivers v (sent.receivers v receives);
       low = s.low;

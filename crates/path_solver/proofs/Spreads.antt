@@ -12,7 +12,7 @@ use Rattle.path_solver.specs.Prices.{IsTight, IsOpen}
 use Rattle.path_solver.specs.Entries.{AreEntries, IsOpenInto, is_open_to}
 use Rattle.path_solver.specs.Groups.{AreGroups}
 use Rattle.path_solver.specs.Rests.{HaveSome}
-use Rattle.path_solver.specs.Levels.{IsReached, LeadsDown, AreLevels, AreFewest, AreShortest, AreCut, IsSource, layer_at, AreLayers, AreWholeLayers}
+use Rattle.path_solver.specs.Levels.{IsReached, LeadsDown, AreLevels, AreFewest, AreMet, AreShortest, AreCut, IsSource, layer_at, AreLayers, AreWholeLayers}
 use Rattle.path_solver.proofs.Near.{near_open, open_near}
 use Rattle.path_solver.proofs.Ends.{ends_in}
 use Rattle.path_solver.proofs.Pigeons.{few_values, IsTaken}
@@ -174,11 +174,27 @@ module _ (r : ResidualData) (p surplus lack levels new : List ℕ) (level : ℕ)
         let zero = h.first v l receives above in
         was_there v (λ e. omega (arith, e, zero)) ∙ zero
 
-    pub shortest_found : (s : ℕ) → has some s ≡ true → length surplus ≡ r.members → length lack ≡ r.members → AreShortest r.flows p surplus lack new (get_or new s 0)
-    shortest_found s on len len_l =
+    met_more : ((v : ℕ) → has now v ≡ true → 0 < get_or surplus v 0 → has some v ≡ true) → AreMet r.flows p surplus new level
+    met_more meets a l is_open is_head at sends e =
+        let h' = head r.flows a in
+        let t' = tail r.flows a in
+        elim (cases_Bool (has some (head r.flows a))) [
+          | inl on ↦ omega (arith, marked h' on, at)
+          | inr off_h ↦
+              elim (cases_Bool (has some (tail r.flows a))) [
+                | inl on ↦ marked_reached t' on e
+                | inr off_t ↦
+                    let next = h.closed a l is_open (λ q. is_head (others h' off_h ∙ q)) (sym (others t' off_t) ∙ e) in
+                    true≢false (sym (meets t' next sends) ∙ off_t)
+              ]
+        ]
+
+    pub shortest_found : ((v : ℕ) → has now v ≡ true → 0 < get_or surplus v 0 → has some v ≡ true) → (s : ℕ) → has some s ≡ true → length surplus ≡ r.members → length lack ≡ r.members → AreShortest r.flows p surplus lack new (get_or new s 0)
+    shortest_found meets s on len len_l =
         subst (AreShortest r.flows p surplus lack new) (sym (marked s on))
         (record {
           fewest = record { all = all_more; steps = steps_more };
+          met = met_more meets;
           senders = λ v sends is.
               elim (cases_Bool (has some v)) [
                 | inl on_v ↦ omega (arith, marked v on_v)

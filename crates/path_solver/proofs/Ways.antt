@@ -1,6 +1,6 @@
 -- Open arcs that leave a member, by its exits.
 use Rattle.std.proofs.Common.{◌≡◌, ℕ, ◌+◌, ◌-◌, ◌*◌, ◌<◌, ◌≤◌, Bool, true, false, ◌&&◌, List, length, get_or, map, sym, ap, ◌∙◌, subst, inl, inr, arith, true≢false}
-use Rattle.std.proofs.lemmas.Bool.{cases_Bool, ltb-true, and_parts, or_cases, cond-true, cond-false}
+use Rattle.std.proofs.lemmas.Bool.{cases_Bool, ltb-true, false_from_ne_true, and_parts, or_cases, cond-true, cond-false}
 use Rattle.member_set.specs.declared.set.MemberSet.{MemberSet}
 use Rattle.member_set.specs.Members.{has}
 use Rattle.residual_graph.specs.declared.flow.Flow.{Flow}
@@ -110,6 +110,13 @@ module _ (r : ResidualData) (p : List ℕ) (n : Neighbours) (groups : List Membe
   -- and each open arc is one
   pub open_exit : (a : ℕ) → a < arc_count r.flows → IsOpen r.flows p a → tail r.flows a ≡ here → is_open_to n.exits.items groups (get_or p here 0) here (head r.flows a) ≡ true
   open_exit a l is_open starts = exit_case (pair a) (is_forward a) (pair_below a (length r.flows) l) is_open.0 is_open.1 starts
+
+  -- where there is no way to a layer, no open arc leads there
+  pub no_way_in : (layers : List MemberSet) (level k a : ℕ) → level ≡ k + 1 → ((u : ℕ) → has (layer_at layers (level - 1)) u ≡ true → is_open_to n.exits.items groups (get_or p here 0) here u ≡ false) → a < arc_count r.flows → IsOpen r.flows p a → tail r.flows a ≡ here → has (layer_at layers k) (head r.flows a) ≡ false
+  no_way_in layers level k a e none l is_open starts =
+      let below : level - 1 ≡ k = omega (arith, e) in
+      subst (λ j. has (layer_at layers j) (head r.flows a) ≡ false) below
+      (false_from_ne_true (has (layer_at layers (level - 1)) (head r.flows a)) (λ on. true≢false (sym (open_exit a l is_open starts) ∙ none (head r.flows a) on)))
 
   -- over new levels, all members of the layer below are ways of a member, so it has one
   pub some_way : (lack levels : List ℕ) (layers : List MemberSet) (level m : ℕ) → AreLevels r.flows p lack levels → AreWholeLayers levels layers m → r.members ≡ length levels → get_or levels here 0 ≡ level → 0 < level → level < 65535 → level ≤ m

@@ -29,9 +29,15 @@ pub record AreFewest (flows : List Flow) (p levels : List ℕ) (last : ℕ) : Ty
   pub all : (a : ℕ) → a < arc_count flows → IsOpen flows p a → IsReached levels (head flows a) → slice_index levels (head flows a) + 1 < last → IsReached levels (tail flows a)
   pub steps : (a : ℕ) → a < arc_count flows → IsOpen flows p a → IsReached levels (head flows a) → IsReached levels (tail flows a) → slice_index levels (tail flows a) ≤ slice_index levels (head flows a) + 1
 
+-- who has to send, and has an open arc to the level before `last`, is reached
+abbrev pub AreMet : List Flow → List ℕ → List ℕ → List ℕ → ℕ → Type 0
+AreMet flows p surplus levels last =
+    (a : ℕ) → a < arc_count flows → IsOpen flows p a → IsReached levels (head flows a) → slice_index levels (head flows a) + 1 ≡ last → 0 < slice_index surplus (tail flows a) → IsReached levels (tail flows a)
+
 -- the levels tell how many arcs a path of least cost has at the least: `last`, the level of those that send
 pub record AreShortest (flows : List Flow) (p surplus lack levels : List ℕ) (last : ℕ) : Type 0 where
   pub fewest : AreFewest flows p levels last
+  pub met : AreMet flows p surplus levels last
   pub senders : (v : ℕ) → 0 < slice_index surplus v → IsReached levels v → last ≤ slice_index levels v
   pub receivers : (v : ℕ) → 0 < slice_index lack v → 0 < last → slice_index levels v ≡ 0
   pub low : last < 65535

@@ -6,3 +6,5 @@ pub mod Phases
 pub mod Entries
 pub mod Groups
 pub mod Neighbours
+pub mod Counts
+pub mod Pruned

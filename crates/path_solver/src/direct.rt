@@ -1,6 +1,6 @@
 //! The first phase: straight from members that have to send to members that have to receive.
 
-ghost use Rattle.std.specs.Prelude.{◌≡◌, ℕ, ◌<◌, length, slice_index, map, IfOk};
+ghost use Rattle.std.specs.Prelude.{◌≡◌, ℕ, ◌+◌, ◌<◌, ◌≤◌, length, slice_index, map, IfOk};
 ghost use Rattle.path_solver.specs.Prices.{first_price};
 ghost use Rattle.path_solver.specs.Rests.{IsSentAlong};
 
@@ -35,7 +35,8 @@ fn send_over<L: Ledger>(
     requires senders { (v : ℕ) → 0 < slice_index surplus.old v → slice_index prices.now v ≡ 1 }
     requires receivers { (v : ℕ) → 0 < slice_index lack.old v → slice_index prices.now v ≡ 0 }
     requires pair { pair < length residual.old.flows }
-    ensures { IsSentAlong prices.now residual.old residual.new surplus.old lack.old surplus.new lack.new }
+    ensures along { IsSentAlong prices.now residual.old residual.new surplus.old lack.old surplus.new lack.new }
+    ensures few { steps.new ≤ steps.old + 1 }
 {
     let flow = residual.flows()[pair];
     let both = surplus[flow.seller as usize].min(lack[flow.buyer as usize]);
@@ -73,7 +74,8 @@ pub fn send_direct<L: Ledger>(
     requires lack { residual.old.members ≡ length lack.old }
     requires senders { (v : ℕ) → 0 < slice_index surplus.old v → slice_index prices.now v ≡ 1 }
     requires receivers { (v : ℕ) → 0 < slice_index lack.old v → slice_index prices.now v ≡ 0 }
-    ensures { IsSentAlong prices.now residual.old residual.new surplus.old lack.old surplus.new lack.new }
+    ensures along { IsSentAlong prices.now residual.old residual.new surplus.old lack.old surplus.new lack.new }
+    ensures few { steps.new ≤ steps.old + length residual.old.flows }
 {
     let mut pair = 0;
     while pair < residual.flows().len() {

@@ -25,6 +25,7 @@ pub fn lower_all<L: Ledger>(
     ensures lowest { All (λ f. f.back ≡ 0) residual.new.flows }
     ensures apart { AreApart surplus.new lack.new }
     ensures owed { (i : ℕ) → owed residual.new.flows surplus.new lack.new i ≡ net_of residual.old.flows i }
+    ensures few { steps.new ≤ steps.old + length residual.old.flows }
 {
     take_back(residual, surplus, lack, steps);
     net_out(surplus, lack);
@@ -45,6 +46,7 @@ fn take_back<L: Ledger>(
     ensures pairs { AreSamePairs residual.old.flows residual.new.flows }
     ensures lowest { All (λ f. f.back ≡ 0) residual.new.flows }
     ensures owed { (i : ℕ) → owed residual.new.flows surplus.new lack.new i ≡ net_of residual.old.flows i }
+    ensures few { steps.new ≤ steps.old + length residual.old.flows }
 {
     for pair in 0..residual.flows().len() {
         let flow = residual.flows()[pair];

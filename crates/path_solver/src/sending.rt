@@ -1,11 +1,14 @@
 //! Sending what members have to send.
 
-ghost use Rattle.std.specs.Prelude.{◌≡◌, ◌+◌, ℕ, true, ◌<◌, ◌≤◌, length, slice_index, sum, IsTrue};
+ghost use Rattle.std.specs.Prelude.{◌≡◌, ◌+◌, ℕ, true, false, ◌<◌, ◌≤◌, length, slice_index, sum, IsTrue};
 ghost use Rattle.path_solver.specs.Groups.{AreGroups};
 ghost use Rattle.path_solver.specs.Neighbours.{AreNeighbours};
-ghost use Rattle.path_solver.specs.Levels.{AreLevels, AreShortest, AreLayers, AreWholeLayers, IsSource};
+ghost use Rattle.path_solver.specs.Levels.{layer_at, AreLevels, AreShortest, AreLayers, AreWholeLayers, IsSource};
 ghost use Rattle.path_solver.specs.Paths.{NoneIsShorter};
-ghost use Rattle.path_solver.specs.Rests.{IsSentAlong};
+ghost use Rattle.path_solver.specs.Rests.{AreApart, IsSentAlong};
+ghost use Rattle.path_solver.specs.Pruned.{ArePruned, AreFewer};
+ghost use Rattle.path_solver.specs.Counts.{left_to_do};
+ghost use Rattle.member_set.specs.Members.{has};
 
 use crate::neighbours::Neighbours;
 use crate::paths::{least_room, push_noting};
@@ -14,7 +17,8 @@ use member_set::MemberSet;
 use residual_graph::{Residual, Steps};
 use std::sync::ledger::Ledger;
 
-/// Sends from the members at the level of the one that was reached first, that one first.
+/// Sends from the members at the level of the one that was reached first, that one first. Afterwards each path of open
+/// arcs from one that has to send to one that has to receive has more.
 pub fn send_phase<L: Ledger>(
     residual: &mut Residual,
     neighbours: &mut Neighbours,
@@ -43,11 +47,15 @@ pub fn send_phase<L: Ledger>(
     requires path { residual.old.members ≤ length path.old }
     requires source { IsSource surplus.old levels.now source }
     requires shortest { AreShortest residual.old.flows prices.now surplus.old lack.old levels.now (slice_index levels.now source) }
+    requires apart { AreApart surplus.old lack.old }
     requires down { AreLevels residual.old.flows prices.now lack.old levels.now }
     ensures neighbours { AreNeighbours residual.new neighbours.new }
     ensures along { IsSentAlong prices.now residual.old residual.new surplus.old lack.old surplus.new lack.new }
     ensures sent { sum surplus.new < sum surplus.old }
+    ensures few { steps.new + left_to_do levels.now residual.new.flows surplus.new lack.new ≤ steps.old + left_to_do levels.now residual.old.flows surplus.old lack.old }
+    ensures deeper { NoneIsShorter residual.new.flows prices.now surplus.new lack.new (slice_index levels.now source + 1) }
 {
+    let _members = residual.members();
     let mut left = layers[levels[source as usize] as usize];
     send_once(
         residual, neighbours, groups, prices, levels, surplus, lack, layers, path, source, steps,
@@ -89,10 +97,15 @@ fn send_once<L: Ledger>(
     requires path { residual.old.members ≤ length path.old }
     requires shortest { AreShortest residual.old.flows prices.now surplus.old lack.old levels.now (slice_index levels.now from) }
     requires from { from < residual.old.members }
+    requires pruned { ArePruned residual.old.flows prices.now lack.old levels.now layers.old (slice_index levels.now from + 1) }
     ensures neighbours { AreNeighbours residual.new neighbours.new }
     ensures layers { AreLayers levels.now layers.new (slice_index levels.now from + 1) }
+    ensures pruned { ArePruned residual.new.flows prices.now lack.new levels.now layers.new (slice_index levels.now from + 1) }
+    ensures fewer { AreFewer layers.old layers.new }
     ensures kept { AreShortest residual.new.flows prices.now surplus.new lack.new levels.now (slice_index levels.now from) }
     ensures along { IsSentAlong prices.now residual.old residual.new surplus.old lack.old surplus.new lack.new }
+    ensures few { steps.new + left_to_do levels.now residual.new.flows surplus.new lack.new ≤ steps.old + left_to_do levels.now residual.old.flows surplus.old lack.old }
+    ensures done { result ≡ false → has (layer_at layers.new (slice_index levels.now from)) from ≡ true → slice_index surplus.new from ≡ 0 }
     ensures sent { IsTrue result → sum surplus.new < sum surplus.old }
     ensures shortest { IsTrue result → NoneIsShorter residual.old.flows prices.now surplus.old lack.old (slice_index levels.now from) }
     ensures fresh { AreLevels residual.old.flows prices.now lack.old levels.now → AreWholeLayers levels.now layers.old (slice_index levels.now from + 1) → 0 < slice_index surplus.old from → result ≡ true }
@@ -142,10 +155,15 @@ fn send_all<L: Ledger>(
     requires path { residual.old.members ≤ length path.old }
     requires shortest { AreShortest residual.old.flows prices.now surplus.old lack.old levels.now (slice_index levels.now from) }
     requires from { from < residual.old.members }
+    requires pruned { ArePruned residual.old.flows prices.now lack.old levels.now layers.old (slice_index levels.now from + 1) }
     ensures neighbours { AreNeighbours residual.new neighbours.new }
     ensures layers { AreLayers levels.now layers.new (slice_index levels.now from + 1) }
+    ensures pruned { ArePruned residual.new.flows prices.now lack.new levels.now layers.new (slice_index levels.now from + 1) }
+    ensures fewer { AreFewer layers.old layers.new }
     ensures kept { AreShortest residual.new.flows prices.now surplus.new lack.new levels.now (slice_index levels.now from) }
     ensures along { IsSentAlong prices.now residual.old residual.new surplus.old lack.old surplus.new lack.new }
+    ensures few { steps.new + left_to_do levels.now residual.new.flows surplus.new lack.new ≤ steps.old + left_to_do levels.now residual.old.flows surplus.old lack.old }
+    ensures done { has (layer_at layers.new (slice_index levels.now from)) from ≡ true → slice_index surplus.new from ≡ 0 }
 {
     'paths: while send_once(
         residual, neighbours, groups, prices, levels, surplus, lack, layers, path, from, steps,

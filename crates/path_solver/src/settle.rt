@@ -1,9 +1,10 @@
 //! Phases, until nothing is left to send.
 
-ghost use Rattle.std.specs.Prelude.{◌≡◌, ℕ, ◌<◌, ◌≤◌, length, slice_index, replicate, IfOk, true, All};
+ghost use Rattle.std.specs.Prelude.{◌≡◌, ℕ, ◌+◌, ◌*◌, ◌<◌, ◌≤◌, length, slice_index, replicate, IfOk, true, All};
 ghost use Rattle.member_set.specs.Members.{has};
 ghost use Rattle.path_solver.specs.Rests.{IsFeasible, AreApart, HaveSome};
 ghost use Rattle.path_solver.specs.Phases.{IsPhase, IsSettled};
+ghost use Rattle.path_solver.specs.Counts.{phase_steps};
 
 use crate::direct::{first_prices, send_direct};
 use crate::groups::sort_by_price;
@@ -71,7 +72,8 @@ pub fn settle<L: Ledger>(
     requires lowest { All (λ f. f.back ≡ 0) residual.old.flows }
     requires apart { AreApart surplus.old lack.old }
     requires feasible { IsFeasible residual.old.flows surplus.old lack.old }
-    ensures { IfOk result (λ prices. IsSettled residual.old residual.new surplus.old lack.old prices.items) }
+    ensures settled { IfOk result (λ prices. IsSettled residual.old residual.new surplus.old lack.old prices.items) }
+    ensures counted { steps.new ≤ steps.old + length residual.old.flows + (residual.old.members + 1) * phase_steps residual.old }
 {
     let members = residual.members();
     if those_with(surplus).is_empty() {
@@ -95,7 +97,8 @@ fn settle_first<L: Ledger>(
     requires lowest { All (λ f. f.back ≡ 0) residual.old.flows }
     requires apart { AreApart surplus.old lack.old }
     requires feasible { IsFeasible residual.old.flows surplus.old lack.old }
-    ensures { IfOk result (λ prices. IsSettled residual.old residual.new surplus.old lack.old prices.items) }
+    ensures settled { IfOk result (λ prices. IsSettled residual.old residual.new surplus.old lack.old prices.items) }
+    ensures counted { steps.new ≤ steps.old + length residual.old.flows + (residual.old.members + 1) * phase_steps residual.old }
 {
     let _members = residual.members();
     let prices = first_prices(alloc, lack)?;
@@ -121,7 +124,8 @@ fn settle_rest<L: Ledger>(
     requires prices { residual.old.members ≡ length first.items }
     requires phase { IsPhase residual.old residual.old surplus.old lack.old surplus.old lack.old first.items 1 }
     requires feasible { IsFeasible residual.old.flows surplus.old lack.old }
-    ensures { IfOk result (λ prices. IsSettled residual.old residual.new surplus.old lack.old prices.items) }
+    ensures settled { IfOk result (λ prices. IsSettled residual.old residual.new surplus.old lack.old prices.items) }
+    ensures counted { steps.new ≤ steps.old + (residual.old.members + 1) * phase_steps residual.old }
 {
     let members = residual.members();
     let mut prices = first;

@@ -1,12 +1,13 @@
 //! The solver.
 
-ghost use Rattle.std.specs.Prelude.{◌≡◌, ◌<◌, ◌≤◌, ◌^◌, IfOk};
+ghost use Rattle.std.specs.Prelude.{◌≡◌, ◌+◌, ◌*◌, ◌<◌, ◌≤◌, ◌^◌, IfOk};
 ghost use Rattle.network_laws.specs.Networks.{total};
 ghost use Rattle.network_laws.specs.Limits.{IsWithinLimits};
 ghost use Rattle.network_laws.specs.Solutions.{Solves};
 ghost use Rattle.residual_graph.specs.Residual.{flow_rows};
 ghost use Rattle.path_solver.specs.Prices.{potentials};
 ghost use Rattle.path_solver.specs.Phases.{IsPricedAnew};
+ghost use Rattle.path_solver.specs.Counts.{most_steps, phase_steps};
 ghost use Rattle.units_core.specs.declared.limits.TheConstants.{MOST_GROSS};
 
 use crate::lowest::lower_all;
@@ -30,7 +31,9 @@ impl PathSolver {
         PathSolver { alloc }
     }
 
-    /// What `solve` answers, with each path along which an amount is sent counted.
+    /// What `solve` answers, with each path counted along which an amount is sent. Also where it answers want of memory
+    /// there are at most V * V * E of them, where V is the number of members and 2, a source and a sink, and E twice the
+    /// number of limit rows and members.
     pub fn solve_counted<L: Ledger>(
         &self,
         limits: &Limits,
@@ -40,6 +43,7 @@ impl PathSolver {
         requires same_members { limits.now.members ≡ network.now.members }
         requires within { IsWithinLimits limits.now network.now }
         ensures solves { IfOk result (Solves limits.now network.now) }
+        ensures counted { steps.new ≤ steps.old + most_steps limits.now }
     {
         solution_of(self.alloc, limits, network, steps)
     }
@@ -81,7 +85,8 @@ fn solution_of<L: Ledger>(
 ) -> Result<Solution, AllocError>
     requires same_members { limits.now.members ≡ network.now.members }
     requires within { IsWithinLimits limits.now network.now }
-    ensures { IfOk result (Solves limits.now network.now) }
+    ensures solves { IfOk result (Solves limits.now network.now) }
+    ensures counted { steps.new ≤ steps.old + most_steps limits.now }
 {
     let _members = network.members();
     let before = gross(network);
@@ -103,7 +108,8 @@ fn find_prices<L: Ledger>(
     steps: &mut Steps<L>,
 ) -> Result<Vec<u16>, AllocError>
     requires { total (flow_rows residual.old.flows) ≤ MOST_GROSS }
-    ensures { IfOk result (λ prices. IsPricedAnew residual.old residual.new prices.items) }
+    ensures priced { IfOk result (λ prices. IsPricedAnew residual.old residual.new prices.items) }
+    ensures counted { steps.new ≤ steps.old + (residual.old.members + 2) * phase_steps residual.old }
 {
     let members = residual.members();
     let mut surplus = all_of(alloc, members, 0u64)?;

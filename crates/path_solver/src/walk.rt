@@ -1,10 +1,12 @@
 //! Down the levels of a search, back where there is no way on.
 
-ghost use Rattle.std.specs.Prelude.{◌≡◌, ◌+◌, ℕ, ◌<◌, ◌≤◌, length, slice_index, take, IfSome, IsSome};
+ghost use Rattle.std.specs.Prelude.{◌≡◌, ◌+◌, ℕ, ◌<◌, ◌≤◌, length, false, slice_index, take, IfSome, IsNone, IsSome};
 ghost use Rattle.path_solver.specs.Groups.{AreGroups};
 ghost use Rattle.path_solver.specs.Neighbours.{AreNeighbours};
-ghost use Rattle.path_solver.specs.Levels.{IsReached, AreLevels, AreLayers, AreWholeLayers};
+ghost use Rattle.path_solver.specs.Levels.{layer_at, AreLevels, AreLayers, AreWholeLayers};
 ghost use Rattle.path_solver.specs.Paths.{IsPathDown};
+ghost use Rattle.path_solver.specs.Pruned.{ArePruned, AreFewer};
+ghost use Rattle.member_set.specs.Members.{has};
 
 use crate::neighbours::Neighbours;
 use member_set::MemberSet;
@@ -36,8 +38,12 @@ pub fn walk(
     requires room { residual.now.members < length layers.old }
     requires path { residual.now.members ≤ length path.old }
     requires from { from < residual.now.members }
+    requires pruned { ArePruned residual.now.flows prices.now lack.now levels.now layers.old (slice_index levels.now from + 1) }
     ensures path { IfSome result (λ end. IsPathDown residual.now.flows prices.now levels.now lack.now from end (take (slice_index levels.now from) path.new)) }
     ensures layers { AreLayers levels.now layers.new (slice_index levels.now from + 1) }
+    ensures pruned { ArePruned residual.now.flows prices.now lack.now levels.now layers.new (slice_index levels.now from + 1) }
+    ensures fewer { AreFewer layers.old layers.new }
+    ensures gone { IsNone result → has (layer_at layers.new (slice_index levels.now from)) from ≡ false }
     ensures fresh { AreLevels residual.now.flows prices.now lack.now levels.now → AreWholeLayers levels.now layers.old (slice_index levels.now from + 1) → IsSome result }
 {
     let _members = residual.members();

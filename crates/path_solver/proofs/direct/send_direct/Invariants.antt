@@ -1,9 +1,12 @@
-use Rattle.std.proofs.Common.{◌-◌, length}
+use Rattle.std.proofs.Common.{◌+◌, ◌-◌, ◌≤◌, length}
 use Rattle.path_solver.specs.Rests.{IsSentAlong}
 use Rattle.path_solver.proofs.direct.send_direct.Given as goal
 
 abbrev pub invariant-loop-pair : goal.invariant-loop-pair
-invariant-loop-pair g l = IsSentAlong l.prices l.initial.residual l.residual l.initial.surplus l.initial.lack l.surplus l.lack
+invariant-loop-pair g l = record {
+  along : IsSentAlong l.prices l.initial.residual l.residual l.initial.surplus l.initial.lack l.surplus l.lack;
+  few : l.steps + (length l.residual.flows - l.pair) ≤ l.initial.steps + length l.initial.residual.flows;
+}
 
 abbrev pub decreases-loop-pair : goal.decreases-loop-pair
 decreases-loop-pair g l = length l.residual.flows - l.pair

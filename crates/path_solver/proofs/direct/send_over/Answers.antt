@@ -21,8 +21,8 @@ push_path-requires g c =
     let arc = arc_is c.args.residual.now.flows (2 * k) k true there.0 there.1 in
     path_one c.min-amount.result c.args.residual.now.flows (2 * k) (omega (arith, c.requires.pair)) (omega (arith, arc.0, c.min-amount.ensures, ap (λ (g : Flow). g.room) at))
 
-pub returns-then-amount-gt0 : goal.returns-then-amount-gt0
-returns-then-amount-gt0 g c =
+pub returns-then-amount-gt0-clause-along : goal.returns-then-amount-gt0-clause-along
+returns-then-amount-gt0-clause-along g c =
     let k = c.args.pair in
     let f = get_or c.flows.result.now c.args.pair no_flow in
     let at : get_or c.flows.result.now c.args.pair no_flow ≡ flow_at c.args.residual.now.flows c.args.pair = ap (λ (fs : List Flow). get_or fs c.args.pair no_flow) c.flows.ensures.value in

@@ -25,7 +25,9 @@ pub returns-in-Some-clause-shortest : goal.returns-in-Some-clause-shortest
 returns-in-Some-clause-shortest c =
     shortest_found c.args.residual.now c.args.prices.now c.args.surplus.now c.args.lack.now c.loop-now.levels c.mark.new.levels c.loop-now.level c.loop-now.now c.loop-now.seen c.members-members.ensures.residual c.loop-now.invariant.spread
     c.and-met.result (λ v on. (and_parts (has c.loop-now.now v) (has c.args.senders.now v) (sym (c.and-met.ensures v) ∙ on)).0)
-    c.mark.auto.levels c.mark.ensures.marked c.mark.ensures.others c.in-Some.source c.in-Some.ensures.member (sym c.requires.surplus) (sym c.requires.lack)
+    c.mark.auto.levels c.mark.ensures.marked c.mark.ensures.others
+    (λ v on sends. c.and-met.ensures v ∙ and_from (has c.loop-now.now v) (has c.args.senders.now v) on ((c.requires.senders v).1 sends))
+    c.in-Some.source c.in-Some.ensures.member (sym c.requires.surplus) (sym c.requires.lack)
 
 pub overflow_add-level : goal.overflow_add-level
 overflow_add-level c =

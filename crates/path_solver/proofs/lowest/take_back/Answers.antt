@@ -79,10 +79,12 @@ loop-pair-preserved g c =
             members = ap (λ (r : ResidualData). r.members) w.residual-is ∙ ap (λ (r : ResidualData). r.members) w.push_path.ensures.pushed ∙ inv.members;
             taken = named start (pushed f.back flows (2 * k + 1)) c.if-flow-gt0.residual.flows (set sends f.seller (get_or sends f.seller 0 + f.back)) c.if-flow-gt0.surplus (set lacks f.buyer (get_or lacks f.buyer 0 + f.back)) c.if-flow-gt0.lack (k + 1)
                 (ap (λ (r : ResidualData). r.flows) w.residual-is ∙ ap (λ (r : ResidualData). r.flows) w.push_path.ensures.pushed) w.surplus-is w.lack-is one;
+            few = omega (arith, inv.few, w.steps-is, w.push_path.ensures.counted);
           }
       | else-flow-gt0 w ↦ record {
         members = ap (λ (r : ResidualData). r.members) w.residual-is ∙ inv.members;
         taken = named start flows c.if-flow-gt0.residual.flows sends c.if-flow-gt0.surplus lacks c.if-flow-gt0.lack (k + 1) (ap (λ (r : ResidualData). r.flows) w.residual-is) w.surplus-is w.lack-is
             (none_back start flows sends lacks k inv.taken (omega (arith, w.if-flow-gt0.false, ap (λ (g : Flow). g.back) at)));
+        few = omega (arith, inv.few, w.steps-is);
       }
     ]

@@ -1,4 +1,6 @@
+use Rattle.std.proofs.Common.{arith}
 use Rattle.path_solver.proofs.SentAlong.{sent_more}
+use Rattle.path_solver.proofs.Pruned.{fewer_more}
 use Rattle.path_solver.proofs.sending.send_all.Goals as goal
 
 pub paths-preserved : goal.paths-preserved
@@ -6,6 +8,9 @@ paths-preserved g c = record {
   neighbours = c.send_once.ensures.neighbours;
   layers = c.send_once.ensures.layers;
   shortest = c.send_once.ensures.kept;
+  pruned = c.send_once.ensures.pruned;
+  fewer = fewer_more c.args.layers.now c.paths.layers c.send_once.new.layers c.paths.invariant.fewer c.send_once.ensures.fewer;
+  few = omega (arith, c.paths.invariant.few, c.send_once.ensures.few);
   along = sent_more c.args.prices.now c.args.residual.now c.paths.residual c.send_once.new.residual c.args.surplus.now c.args.lack.now c.paths.surplus c.paths.lack c.send_once.new.surplus c.send_once.new.lack c.paths.invariant.along c.send_once.ensures.along;
 }
 
@@ -14,5 +19,9 @@ returns g c = record {
   neighbours = c.send_once.ensures.neighbours;
   layers = c.send_once.ensures.layers;
   kept = c.send_once.ensures.kept;
+  pruned = c.send_once.ensures.pruned;
+  fewer = fewer_more c.args.layers.now c.paths.layers c.send_once.new.layers c.paths.invariant.fewer c.send_once.ensures.fewer;
+  few = omega (arith, c.paths.invariant.few, c.send_once.ensures.few);
+  done = λ on. c.send_once.ensures.done c.paths-test.false on;
   along = sent_more c.args.prices.now c.args.residual.now c.paths.residual c.send_once.new.residual c.args.surplus.now c.args.lack.now c.paths.surplus c.paths.lack c.send_once.new.surplus c.send_once.new.lack c.paths.invariant.along c.send_once.ensures.along;
 }

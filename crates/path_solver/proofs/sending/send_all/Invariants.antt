@@ -1,6 +1,8 @@
-use Rattle.std.proofs.Common.{◌+◌, get_or, sum}
+use Rattle.std.proofs.Common.{◌+◌, ◌≤◌, get_or, sum}
 use Rattle.path_solver.specs.Rests.{IsSentAlong}
 use Rattle.path_solver.specs.Levels.{AreShortest, AreLayers}
+use Rattle.path_solver.specs.Pruned.{ArePruned, AreFewer}
+use Rattle.path_solver.specs.Counts.{left_to_do}
 use Rattle.path_solver.specs.Neighbours.{AreNeighbours}
 use Rattle.path_solver.proofs.sending.send_all.Given as goal
 
@@ -9,6 +11,9 @@ invariant-paths g l = record {
   neighbours : AreNeighbours l.residual l.neighbours;
   layers : AreLayers l.levels l.layers (get_or l.levels l.from 0 + 1);
   shortest : AreShortest l.residual.flows l.prices l.surplus l.lack l.levels (get_or l.levels l.from 0);
+  pruned : ArePruned l.residual.flows l.prices l.lack l.levels l.layers (get_or l.levels l.from 0 + 1);
+  fewer : AreFewer l.initial.layers l.layers;
+  few : l.steps + left_to_do l.levels l.residual.flows l.surplus l.lack ≤ l.initial.steps + left_to_do l.levels l.initial.residual.flows l.initial.surplus l.initial.lack;
   along : IsSentAlong l.prices l.initial.residual l.residual l.initial.surplus l.initial.lack l.surplus l.lack;
 }
 

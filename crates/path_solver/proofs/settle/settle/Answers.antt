@@ -3,8 +3,8 @@ use Rattle.std.proofs.lemmas.List.{length-replicate}
 use Rattle.path_solver.proofs.Phased.{phase_none, none_left, settled}
 use Rattle.path_solver.proofs.settle.settle.Goals as goal
 
-pub returns-then-is_empty : goal.returns-then-is_empty
-returns-then-is_empty g c =
+pub returns-then-is_empty-clause-settled : goal.returns-then-is_empty-clause-settled
+returns-then-is_empty-clause-settled g c =
     let r = c.args.residual.now in
     let s = c.args.surplus.now in
     let l = c.args.lack.now in

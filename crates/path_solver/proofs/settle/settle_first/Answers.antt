@@ -7,12 +7,12 @@ use Rattle.path_solver.proofs.Spreads.{amount_in}
 use Rattle.path_solver.proofs.Phased.{first_top, straight_phase, phase_anew, none_left, settled}
 use Rattle.path_solver.proofs.settle.settle_first.Goals as goal
 
-pub returns-then-is_empty : goal.returns-then-is_empty
-returns-then-is_empty g c =
+pub returns-then-is_empty-clause-settled : goal.returns-then-is_empty-clause-settled
+returns-then-is_empty-clause-settled g c =
     let old = c.args.residual.now in
     let p = c.in_ok-prices.prices.items in
     let sent : IsSentAlong c.in_ok-prices.prices.items c.args.residual.now c.send_direct.new.residual c.args.surplus.now c.args.lack.now c.send_direct.new.surplus c.send_direct.new.lack =
-    subst (λ (xs : List ℕ). IsSentAlong xs c.args.residual.now c.send_direct.new.residual c.args.surplus.now c.args.lack.now c.send_direct.new.surplus c.send_direct.new.lack) c.deref.ensures.value c.send_direct.ensures in
+    subst (λ (xs : List ℕ). IsSentAlong xs c.args.residual.now c.send_direct.new.residual c.args.surplus.now c.args.lack.now c.send_direct.new.surplus c.send_direct.new.lack) c.deref.ensures.value c.send_direct.ensures.along in
     let phase = straight_phase old c.send_direct.new.residual c.args.surplus.now c.args.lack.now c.send_direct.new.surplus c.send_direct.new.lack p c.in_ok-prices.ensures (sym c.requires.surplus) (sym c.requires.lack) c.requires.lowest c.requires.apart sent in
     settled old c.send_direct.new.residual c.args.surplus.now c.args.lack.now c.send_direct.new.surplus c.send_direct.new.lack p (first_top old.members).0 c.members-members.ensures.residual c.requires.feasible
     (omega (arith, ap length c.in_ok-prices.ensures, length-map c.args.lack.now first_price, c.requires.lack))
@@ -25,7 +25,7 @@ settle_rest-requires-clause-phase g c =
     let mid = c.send_direct.new.residual in
     let p = c.in_ok-prices.prices.items in
     let sent : IsSentAlong c.in_ok-prices.prices.items c.args.residual.now c.send_direct.new.residual c.args.surplus.now c.args.lack.now c.send_direct.new.surplus c.send_direct.new.lack =
-    subst (λ (xs : List ℕ). IsSentAlong xs c.args.residual.now c.send_direct.new.residual c.args.surplus.now c.args.lack.now c.send_direct.new.surplus c.send_direct.new.lack) c.deref.ensures.value c.send_direct.ensures in
+    subst (λ (xs : List ℕ). IsSentAlong xs c.args.residual.now c.send_direct.new.residual c.args.surplus.now c.args.lack.now c.send_direct.new.surplus c.send_direct.new.lack) c.deref.ensures.value c.send_direct.ensures.along in
     let phase = straight_phase old mid c.args.surplus.now c.args.lack.now c.send_direct.new.surplus c.send_direct.new.lack p c.in_ok-prices.ensures (sym c.requires.surplus) (sym c.requires.lack) c.requires.lowest c.requires.apart sent in
     let source = c.is_empty.ensures.some c.if-is_empty.false in
     let sends : 0 < get_or c.send_direct.new.surplus source.0 0 = (c.those_with.ensures source.0).0 source.1 in

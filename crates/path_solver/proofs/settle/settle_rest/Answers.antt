@@ -1,5 +1,6 @@
-use Rattle.std.proofs.Common.{◌≡◌, ℕ, ◌+◌, ◌<◌, true, false, ltb, List, length, get_or, Option, refl, sym, ap, ◌∙◌, subst, arith}
-use Rattle.std.proofs.lemmas.List.{with_items_is}
+use Rattle.std.proofs.Common.{◌≡◌, ℕ, ◌+◌, ◌<◌, ◌≤◌, true, false, ltb, List, length, get_or, Option, refl, sym, ap, ◌∙◌, subst, arith}
+use Rattle.std.proofs.lemmas.Bool.{and_parts, ltb-true}
+use Rattle.std.proofs.lemmas.List.{with_items_is, length-replicate}
 use Rattle.std.specs.Prelude.{IsNone}
 use Rattle.std.specs.Vec.{with_items}
 use Rattle.member_set.specs.declared.set.MemberSet.{MemberSet}
@@ -7,11 +8,14 @@ use Rattle.member_set.specs.Members.{has}
 use Rattle.path_solver.specs.declared.entries.Entry.{Entry}
 use Rattle.path_solver.specs.Entries.{AreEntries, is_entry, is_open_to}
 use Rattle.path_solver.specs.Groups.{AreGroups}
-use Rattle.path_solver.specs.Levels.{IsReached, AreCut, AreLayers, AreWholeLayers}
+use Rattle.path_solver.specs.Levels.{IsReached, IsSource, AreLevels, AreShortest, AreCut, AreLayers, AreWholeLayers}
 use Rattle.path_solver.specs.Rests.{IsSentAlong}
 use Rattle.path_solver.specs.Phases.{IsPhase, raised_price}
 use Rattle.path_solver.proofs.Spreads.{amount_in}
 use Rattle.path_solver.proofs.Phased.{residual_kept, none_left, settled, raised_phase, phase_sent}
+use Rattle.path_solver.specs.Paths.{NoneIsShorter}
+use Rattle.path_solver.specs.Counts.{left_to_do}
+use Rattle.path_solver.proofs.Counted.{counted_none, counted_round, counted_phase, counted_all}
 use Rattle.path_solver.proofs.StillClosed.{still_closed}
 use Rattle.path_solver.proofs.settle.settle_rest.Goals as goal
 
@@ -81,7 +85,22 @@ phases-preserved g c =
     subst (λ (xs : List ℕ). IsSentAlong xs c.phases.residual c.send_phase.new.residual c.phases.surplus c.phases.lack c.send_phase.new.surplus c.send_phase.new.lack) c.deref-in-Some-2.ensures.value c.send_phase.ensures.along in
     let sent_layers = with_items_is (with_items c.phases.layers c.layer.new.layers) c.send_phase.new.layers (c.send_phase.auto.layers ∙ c.deref_mut-in-Some.ensures.len) in
     let path = with_items_is c.phases.path c.send_phase.new.path (c.send_phase.auto.path ∙ c.deref_mut-in-Some-2.ensures.len) in
+    let r = c.phases.residual in
+    let found : IsSource c.phases.surplus c.layer.new.levels c.in-Some.source × AreLevels c.phases.residual.flows c.deref-in-phases-2.result.now c.phases.lack c.layer.new.levels = rw c.in-Some.is at c.layer.ensures.layered in
+    let low : get_or c.layer.new.levels c.in-Some.source 0 ≤ c.phases.residual.members = rw c.in-Some.is at c.layer.ensures.low in
+    let at_levels : c.deref-in-Some-3.result.now ≡ c.layer.new.levels = c.deref-in-Some-3.ensures.value ∙ levels in
+    let at_prices : c.deref-in-phases-2.result.now ≡ c.phases.prices.items = c.deref-in-phases-2.ensures.value in
+    let are : AreLevels c.phases.residual.flows c.phases.prices.items c.phases.lack c.layer.new.levels = subst (λ (xs : List ℕ). AreLevels c.phases.residual.flows xs c.phases.lack c.layer.new.levels) at_prices found.1 in
+    let deeper : NoneIsShorter c.send_phase.new.residual.flows c.phases.prices.items c.send_phase.new.surplus c.send_phase.new.lack (get_or c.layer.new.levels c.in-Some.source 0 + 1) =
+    subst (λ (xs : List ℕ). NoneIsShorter c.send_phase.new.residual.flows xs c.send_phase.new.surplus c.send_phase.new.lack (get_or c.layer.new.levels c.in-Some.source 0 + 1)) c.deref-in-Some-2.ensures.value
+    (subst (λ (xs : List ℕ). NoneIsShorter c.send_phase.new.residual.flows c.deref-in-Some-2.result.now c.send_phase.new.surplus c.send_phase.new.lack (get_or xs c.in-Some.source 0 + 1)) at_levels c.send_phase.ensures.deeper) in
+    let fewer : c.send_phase.new.steps + left_to_do c.layer.new.levels c.send_phase.new.residual.flows c.send_phase.new.surplus c.send_phase.new.lack ≤ c.phases.steps + left_to_do c.layer.new.levels c.phases.residual.flows c.phases.surplus c.phases.lack =
+    subst (λ (xs : List ℕ). c.send_phase.new.steps + left_to_do xs c.send_phase.new.residual.flows c.send_phase.new.surplus c.send_phase.new.lack ≤ c.phases.steps + left_to_do xs c.phases.residual.flows c.phases.surplus c.phases.lack) at_levels c.send_phase.ensures.few in
+    let one_each : c.phases.residual.members ≡ length c.layer.new.levels = inv.phase.members ∙ sym (c.layer.auto.levels ∙ ap length c.deref_mut-in-phases.ensures.value ∙ inv.levels) in
     record {
+      counted = counted_round c.args.steps.now c.phases.steps c.send_phase.new.steps c.args.residual.now r c.send_phase.new.residual c.phases.prices.items c.phases.surplus c.phases.lack c.send_phase.new.surplus c.send_phase.new.lack c.layer.new.levels c.phases.top c.in-Some.source inv.counted
+          (residual_kept c.args.residual.now r inv.phase.members inv.phase.pairs c.members-members.ensures.residual) inv.phase.members inv.phase.pairs.same_length one_each (c.phases.auto.surplus ∙ sym c.requires.surplus) (c.phases.auto.lack ∙ sym c.requires.lack)
+          are (omega (arith, found.0.member, one_each)) found.0.sends low fewer deeper;
       neighbours = c.send_phase.ensures.neighbours;
       groups = inv.groups;
       sorted = inv.sorted;
@@ -94,9 +113,12 @@ phases-preserved g c =
       path = ap length path ∙ c.send_phase.auto.path ∙ ap length c.deref_mut-in-Some-2.ensures.value ∙ inv.path;
     }
 
-pub returns : goal.returns
-returns g c =
+pub returns-clause-settled : goal.returns-clause-settled
+returns-clause-settled g c =
     settled c.args.residual.now c.phases.residual c.args.surplus.now c.args.lack.now c.phases.surplus c.phases.lack c.phases.prices.items c.phases.top c.members-members.ensures.residual c.requires.feasible c.phases.invariant.prices (none_left c.phases.surplus c.phases.senders c.phases.invariant.senders (c.is_empty.ensures.none.0 c.phases-test.false)) c.phases.invariant.phase
+
+pub returns-clause-counted : goal.returns-clause-counted
+returns-clause-counted g c = counted_all c.args.steps.now c.phases.steps c.args.residual.now c.phases.residual c.phases.prices.items c.phases.surplus c.phases.lack c.phases.top c.phases.invariant.counted c.phases.invariant.phase.few
 
 pub raise-requires-clause-sorted : goal.raise-requires-clause-sorted
 raise-requires-clause-sorted g c =
@@ -189,6 +211,7 @@ phases-preserved-then-has_way g c =
     let layers = with_items_is c.phases.layers c.layer.new.layers (c.layer.auto.layers ∙ c.deref_mut-in-phases-2.ensures.len) in
     record {
       phase = subst (λ (xs : List ℕ). IsPhase c.args.residual.now c.phases.residual c.args.surplus.now c.args.lack.now c.phases.surplus c.phases.lack xs (c.raises.top + 1)) (sym prices) all.1;
+      counted = counted_phase c.args.steps.now c.phases.steps c.args.residual.now c.phases.residual c.phases.prices.items (with_items c.raises.prices c.raise.new.prices).items c.phases.surplus c.phases.lack c.phases.top (c.raises.top + 1) inv.counted (omega (arith, rising.up));
       neighbours = inv.neighbours;
       groups = ap length groups ∙ c.raise.auto.groups ∙ ap length c.deref_mut-in-raises-2.ensures.value ∙ rising.groups;
       sorted = rw (prices, groups) c.raise.ensures.sorted;
@@ -249,3 +272,46 @@ raises-preserved g c =
       prices = ap length prices ∙ len_new ∙ rising.prices;
       up = omega (arith, rising.up);
     }
+
+pub phases-init : goal.phases-init
+phases-init g c =
+    let n = c.members-members.result in
+    let is = c.members-members.ensures.value in
+    let groups = with_items_is c.in_ok-groups.groups c.sort_by_price.new.groups (c.sort_by_price.auto.groups ∙ c.deref_mut.ensures.len) in
+    record {
+      phase = c.requires.phase;
+      counted = counted_none c.args.steps.now c.args.residual.now c.args.residual.now c.args.first.items c.args.surplus.now c.args.lack.now 1;
+      neighbours = c.in_ok-neighbours.ensures;
+      groups = ap length groups ∙ c.sort_by_price.auto.groups ∙ ap length c.deref_mut.ensures.value ∙ ap length c.in_ok-groups.ensures ∙ length-replicate {A = MemberSet} (n + 3) c.new.result ∙ ap (λ m. m + 3) is;
+      sorted = subst (AreGroups c.args.first.items) (sym groups) (subst (λ (xs : List ℕ). AreGroups xs c.sort_by_price.new.groups) c.deref.ensures.value c.sort_by_price.ensures);
+      prices = sym c.requires.prices;
+      levels = ap length c.in_ok-levels.ensures ∙ length-replicate {A = ℕ} n 65535 ∙ is;
+      senders = c.those_with-senders.ensures;
+      receivers = c.those_with-receivers.ensures;
+      layers = ap length c.in_ok-layers.ensures ∙ length-replicate {A = MemberSet} (n + 1) c.new-2.result ∙ ap (λ m. m + 1) is;
+      path = ap length c.in_ok-path.ensures ∙ length-replicate {A = ℕ} n 0 ∙ is;
+    }
+
+pub has_way-requires-clause-exits : goal.has_way-requires-clause-exits
+has_way-requires-clause-exits g c v on =
+    let both = and_parts (has c.without.result v) (has c.everyone-all.result v) (sym (c.and-others.ensures v) ∙ on) in
+    let l = ltb-true v c.members-members.result (sym (c.everyone-all.ensures v) ∙ both.1) in
+    omega (arith, l, c.members-members.ensures.value, c.phases.invariant.phase.members, ap length c.deref-in-raises-2.ensures.value, c.phases.invariant.neighbours.exits.one_each)
+
+pub send_phase-requires-clause-shortest : goal.send_phase-requires-clause-shortest
+send_phase-requires-clause-shortest g c =
+    let levels = with_items_is c.phases.levels c.layer.new.levels (c.layer.auto.levels ∙ c.deref_mut-in-phases.ensures.len) in
+    let at_levels : c.deref-in-Some-3.result.now ≡ c.layer.new.levels = c.deref-in-Some-3.ensures.value ∙ levels in
+    let at_prices : c.deref-in-phases-2.result.now ≡ c.deref-in-Some-2.result.now = c.deref-in-phases-2.ensures.value ∙ sym c.deref-in-Some-2.ensures.value in
+    let found : AreShortest c.phases.residual.flows c.deref-in-phases-2.result.now c.phases.surplus c.phases.lack c.layer.new.levels (get_or c.layer.new.levels c.in-Some.source 0) = rw c.in-Some.is at c.layer.ensures.shortest in
+    subst (λ (xs : List ℕ). AreShortest c.phases.residual.flows c.deref-in-Some-2.result.now c.phases.surplus c.phases.lack xs (get_or xs c.in-Some.source 0)) (sym at_levels)
+    (subst (λ (xs : List ℕ). AreShortest c.phases.residual.flows xs c.phases.surplus c.phases.lack c.layer.new.levels (get_or c.layer.new.levels c.in-Some.source 0)) at_prices found)
+
+pub send_phase-requires-clause-down : goal.send_phase-requires-clause-down
+send_phase-requires-clause-down g c =
+    let levels = with_items_is c.phases.levels c.layer.new.levels (c.layer.auto.levels ∙ c.deref_mut-in-phases.ensures.len) in
+    let at_levels : c.deref-in-Some-3.result.now ≡ c.layer.new.levels = c.deref-in-Some-3.ensures.value ∙ levels in
+    let at_prices : c.deref-in-phases-2.result.now ≡ c.deref-in-Some-2.result.now = c.deref-in-phases-2.ensures.value ∙ sym c.deref-in-Some-2.ensures.value in
+    let found : IsSource c.phases.surplus c.layer.new.levels c.in-Some.source × AreLevels c.phases.residual.flows c.deref-in-phases-2.result.now c.phases.lack c.layer.new.levels = rw c.in-Some.is at c.layer.ensures.layered in
+    subst (λ (xs : List ℕ). AreLevels c.phases.residual.flows c.deref-in-Some-2.result.now c.phases.lack xs) (sym at_levels)
+    (subst (λ (xs : List ℕ). AreLevels c.phases.residual.flows xs c.phases.lack c.layer.new.levels) at_prices found.1)

@@ -4,11 +4,13 @@ use Rattle.path_solver.specs.Neighbours.{AreNeighbours}
 use Rattle.path_solver.specs.Rests.{HaveSome}
 use Rattle.path_solver.specs.Levels.{AreCut}
 use Rattle.path_solver.specs.Groups.{AreGroups}
+use Rattle.path_solver.proofs.Counted.{AreCounted}
 use Rattle.path_solver.proofs.settle.settle_rest.Given as goal
 
 abbrev pub invariant-phases : goal.invariant-phases
 invariant-phases g l = record {
   phase : IsPhase l.initial.residual l.residual l.initial.surplus l.initial.lack l.surplus l.lack l.prices.items l.top;
+  counted : AreCounted l.initial.steps l.steps l.initial.residual l.residual l.prices.items l.surplus l.lack l.top;
   neighbours : AreNeighbours l.residual l.neighbours;
   groups : length l.groups.items ≡ l.initial.residual.members + 3;
   sorted : AreGroups l.prices.items l.groups.items;

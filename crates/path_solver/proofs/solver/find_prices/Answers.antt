@@ -23,10 +23,10 @@ anew old mid new s l p residual members pairs nets h = record {
   most = λ v. omega (arith, h.most v, members);
 }
 
-pub returns : goal.returns
-returns g c =
+pub returns-clause-priced : goal.returns-clause-priced
+returns-clause-priced g c =
     let surplus = c.deref_mut-3.ensures.value ∙ with_items_is c.in_ok-surplus.surplus c.lower_all.new.surplus (c.lower_all.auto.surplus ∙ c.deref_mut.ensures.len) in
     let lack = c.deref_mut-4.ensures.value ∙ with_items_is c.in_ok-lack.lack c.lower_all.new.lack (c.lower_all.auto.lack ∙ c.deref_mut-2.ensures.len) in
     anew c.args.residual.now c.lower_all.new.residual c.settle.new.residual c.deref_mut-3.result.now c.deref_mut-4.result.now c.in_ok-prices.prices.items c.members-members.ensures.residual c.lower_all.ensures.members c.lower_all.ensures.pairs
     (λ i. ap (λ s. owed c.lower_all.new.residual.flows s c.deref_mut-4.result.now i) surplus ∙ ap (λ l. owed c.lower_all.new.residual.flows c.lower_all.new.surplus l i) lack ∙ c.lower_all.ensures.owed i)
-    c.in_ok-prices.ensures
+    c.in_ok-prices.ensures.settled

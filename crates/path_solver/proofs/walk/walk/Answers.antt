@@ -1,9 +1,10 @@
-use Rattle.std.proofs.Common.{◌≡◌, ◌+◌, ◌-◌, ◌<◌, true, List, get_or, set, refl, sym, ◌∙◌, subst, arith}
+use Rattle.std.proofs.Common.{◌≡◌, ◌+◌, ◌-◌, ◌<◌, true, false, List, length, get_or, set, refl, sym, ◌∙◌, subst, arith}
 use Rattle.member_set.specs.declared.set.MemberSet.{MemberSet}
 use Rattle.member_set.specs.Members.{has}
 use Rattle.path_solver.specs.Levels.{layer_at, AreWholeLayers}
 use Rattle.path_solver.proofs.Trails.{IsTrail, trail_down, trail_up, trail_path, layers_less, in_layers_less}
-use Rattle.path_solver.proofs.Ways.{way_leads, some_way}
+use Rattle.path_solver.proofs.Ways.{way_leads, no_way_in, some_way}
+use Rattle.path_solver.proofs.Pruned.{IsStuck, pruned_taken, fewer_taken, fewer_more, out_now}
 use Rattle.path_solver.proofs.walk.walk.Goals as goal
 use Rattle.path_solver.proofs.walk.walk.Goals.{then-level-eq0+else-lack-here-gt0, else-level-eq0+in_default}
 
@@ -30,6 +31,8 @@ steps-preserved-in-Some c =
           (subst (λ n. IsTrail c.args.residual.now c.args.prices.now c.args.levels.now c.steps.layers c.steps.path n (get_or c.args.levels.now c.args.from 0) c.steps.here c.args.from) above inv.trail)
           leads (omega (arith, c.if-level-eq0.false, inv.trail.within, c.requires.top, c.requires.path, c.steps.auto.path)) at way.inside);
       layers = inv.layers;
+      pruned = inv.pruned;
+      fewer = inv.fewer;
       whole = inv.whole;
     }
 
@@ -60,14 +63,52 @@ steps-smaller c =
           (subst (λ v. has (layer_at c.steps.layers c.steps.level) v ≡ true) (c.steps.invariant.trail.start less) (c.steps.invariant.trail.kept c.steps.level (omega arith) less)),
     )
 
+pub returns-then-level-top-clause-pruned : goal.returns-then-level-top-clause-pruned
+returns-then-level-top-clause-pruned c =
+    let stuck_here : IsStuck c.args.residual.now.flows c.args.prices.now c.args.lack.now c.steps.layers c.steps.level c.steps.here =
+    elim c.if-level-eq0.branch [
+      | then-level-eq0+else-lack-here-gt0 w ↦ (λ _. omega (arith, w.if-lack-here-gt0.false), λ k a e. absurd (omega (arith, e, w.if-level-eq0.true)))
+      | else-level-eq0+in_default w ↦ (
+        λ e. absurd (w.if-level-eq0.false e),
+        λ k a e l is_open starts. no_way_in c.args.residual.now c.args.prices.now c.args.neighbours.now c.args.groups.now c.steps.here c.members-members.ensures.residual c.requires.neighbours c.requires.sorted c.steps.invariant.trail.member c.requires.prices (omega (arith, c.requires.low c.steps.here, c.requires.groups))
+            c.steps.layers c.steps.level k a e (w.in_default.ensures.none refl) l is_open starts,
+      )
+    ] in
+    let inside : c.steps.level < length c.steps.layers = omega (arith, c.steps.invariant.trail.within, c.requires.top, c.requires.room, c.steps.auto.layers) in
+    pruned_taken c.steps.layers c.steps.level c.steps.here c.drop_member.new.self inside c.drop_member.ensures c.args.residual.now.flows c.args.prices.now c.args.lack.now c.args.levels.now (get_or c.args.levels.now c.args.from 0 + 1) c.steps.invariant.pruned stuck_here
+
+pub returns-then-level-top-clause-fewer : goal.returns-then-level-top-clause-fewer
+returns-then-level-top-clause-fewer c =
+    let inside : c.steps.level < length c.steps.layers = omega (arith, c.steps.invariant.trail.within, c.requires.top, c.requires.room, c.steps.auto.layers) in
+    fewer_more c.args.layers.now c.steps.layers (set c.steps.layers c.steps.level c.drop_member.new.self) c.steps.invariant.fewer (fewer_taken c.steps.layers c.steps.level c.steps.here c.drop_member.new.self inside c.drop_member.ensures)
+
+pub returns-then-level-top-clause-gone : goal.returns-then-level-top-clause-gone
+returns-then-level-top-clause-gone c none =
+    let inside : c.steps.level < length c.steps.layers = omega (arith, c.steps.invariant.trail.within, c.requires.top, c.requires.room, c.steps.auto.layers) in
+    let at = c.steps.invariant.trail.none c.if-level-top.true in
+    subst (λ k. has (layer_at (set c.steps.layers c.steps.level c.drop_member.new.self) k) c.args.from ≡ false) c.if-level-top.true
+    (subst (λ v. has (layer_at (set c.steps.layers c.steps.level c.drop_member.new.self) c.steps.level) v ≡ false) at (out_now c.steps.layers c.steps.level c.steps.here c.drop_member.new.self inside c.drop_member.ensures))
+
 pub steps-preserved : goal.steps-preserved
 steps-preserved c =
     let inv = c.steps.invariant in
     let less : c.steps.level < get_or c.args.levels.now c.args.from 0 = omega (arith, c.if-level-top.false, inv.trail.within) in
+    let stuck_here : IsStuck c.args.residual.now.flows c.args.prices.now c.args.lack.now c.steps.layers c.steps.level c.steps.here =
+    elim c.if-level-eq0.branch [
+      | then-level-eq0+else-lack-here-gt0 w ↦ (λ _. omega (arith, w.if-lack-here-gt0.false), λ k a e. absurd (omega (arith, e, w.if-level-eq0.true)))
+      | else-level-eq0+in_default w ↦ (
+        λ e. absurd (w.if-level-eq0.false e),
+        λ k a e l is_open starts. no_way_in c.args.residual.now c.args.prices.now c.args.neighbours.now c.args.groups.now c.steps.here c.members-members.ensures.residual c.requires.neighbours c.requires.sorted c.steps.invariant.trail.member c.requires.prices (omega (arith, c.requires.low c.steps.here, c.requires.groups))
+            c.steps.layers c.steps.level k a e (w.in_default.ensures.none refl) l is_open starts,
+      )
+    ] in
+    let inside : c.steps.level < length c.steps.layers = omega (arith, c.steps.invariant.trail.within, c.requires.top, c.requires.room, c.steps.auto.layers) in
     record {
       trail = subst (λ v. IsTrail c.args.residual.now c.args.prices.now c.args.levels.now (set c.steps.layers c.steps.level c.drop_member.new.self) c.steps.path (c.steps.level + 1) (get_or c.args.levels.now c.args.from 0) v c.args.from) (sym c.tail-here.ensures.value)
           (trail_up c.args.residual.now c.args.prices.now c.args.levels.now c.steps.layers c.steps.path c.members-members.ensures.residual c.steps.level (get_or c.args.levels.now c.args.from 0) c.steps.here c.args.from c.drop_member.new.self inv.trail less);
       layers = layers_less c.args.levels.now c.steps.layers (get_or c.args.levels.now c.args.from 0 + 1) c.steps.level c.drop_member.new.self c.steps.here (omega (arith, less, c.requires.top, c.requires.room, c.steps.auto.layers)) c.drop_member.ensures inv.layers;
+      pruned = pruned_taken c.steps.layers c.steps.level c.steps.here c.drop_member.new.self inside c.drop_member.ensures c.args.residual.now.flows c.args.prices.now c.args.lack.now c.args.levels.now (get_or c.args.levels.now c.args.from 0 + 1) c.steps.invariant.pruned stuck_here;
+      fewer = fewer_more c.args.layers.now c.steps.layers (set c.steps.layers c.steps.level c.drop_member.new.self) c.steps.invariant.fewer (fewer_taken c.steps.layers c.steps.level c.steps.here c.drop_member.new.self inside c.drop_member.ensures);
       whole = λ levels whole.
           let stuck : ⊥ =
           elim c.if-level-eq0.branch [
