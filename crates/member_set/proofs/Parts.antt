@@ -1,12 +1,13 @@
 -- The members of a part.
-use Rattle.std.proofs.Common.{◌≡◌, ℕ, ◌+◌, ◌*◌, ◌/◌, ◌%◌, ◌^◌, ◌<◌, true, false, not, ◌&&◌, eqb, ltb, List, get_or, refl, ap, ◌∙◌, inl, inr, arith, w64, bit_and}
+use Rattle.std.proofs.Common.{◌≡◌, ℕ, ◌+◌, ◌*◌, ◌/◌, ◌%◌, ◌^◌, ◌<◌, Bool, true, false, not, ◌&&◌, eqb, ltb, List, get_or, refl, sym, ap, ◌∙◌, inl, inr, arith, w64, bit_and}
 use Rattle.std.proofs.lemmas.Bool.{cases_eq, lt-ltb, ltb-true, eqb-true, eq-eqb, ne_eqb, and_parts, false_from_ne_true}
-use Rattle.std.proofs.lemmas.Nat.Bits.{bit_at-zero, bit_at_clear_same, bit_at_clear_other, bit_at-trailing_zeros}
+use Rattle.std.proofs.lemmas.Nat.Bits.{bit_at-zero, bit_at-lt, bit_at_and, bit_at_clear_same, bit_at_clear_other, bit_at-trailing_zeros}
 use Rattle.std.specs.Int.{bit_at, bit_not, trailing_zeros}
 use Rattle.member_set.specs.declared.set.MemberSet.{MemberSet}
 use Rattle.member_set.specs.declared.part.Part.{Part}
 use Rattle.member_set.specs.Members.{has, has_in, has_bit, size_in}
 use Rattle.member_set.proofs.Sizes.{fewer}
+use Rattle.member_set.proofs.Words.{of_min}
 
 -- a part of a set has the members whose numbers are in it
 pub in_part : (words : List ℕ) (place : ℕ) → place < 4 → (m : ℕ) → (eqb (m / 64) place && eqb (bit_at (get_or words place 0) (m % 64)) 1) ≡ (eqb (m / 64) place && has_bit words m)
@@ -51,6 +52,31 @@ module _ (place word : ℕ) (some : 0 < word) (fits : word < 2 ^ 64) where
               | inr off ↦ rw (ne_eqb m (64 * place + trailing_zeros w64 word) ne, ne_eqb (m / 64) place off) refl
             ]
       ]
+
+  pub taken_least : (m : ℕ) → m < 64 * place + trailing_zeros w64 word → (eqb (m / 64) place && eqb (bit_at word (m % 64)) 1) ≡ false
+  taken_least m less =
+      false_from_ne_true (eqb (m / 64) place && eqb (bit_at word (m % 64)) 1)
+      (λ on.
+      let both = and_parts (eqb (m / 64) place) (eqb (bit_at word (m % 64)) 1) on in
+      let at_word : m / 64 ≡ place = eqb-true (m / 64) place both.0 in
+      let off : bit_at word (m % 64) ≡ 0 = (bit_at-trailing_zeros w64 word some fits).2 (m % 64) (omega (arith, less, at_word)) in
+      omega (arith, off, eqb-true (bit_at word (m % 64)) 1 both.1))
+
+-- a member of both
+guarded : (q x y h : Bool) → (q && y) ≡ (q && h) → (q && (x && y)) ≡ ((q && x) && h)
+guarded true x y h same = ap (λ z. x && z) same
+guarded false x y h same = refl
+
+pub both_in : (old other : Part) (h : ℕ → Bool) → other.place ≡ old.place → ((m : ℕ) → has_in other m ≡ (eqb (m / 64) old.place && h m)) → (m : ℕ) → (eqb (m / 64) old.place && eqb (bit_at (bit_and old.word other.word) (m % 64)) 1) ≡ (has_in old m && h m)
+unfolding has_in
+both_in old other h place members m =
+    let i : ℕ = m % 64 in
+    let q = eqb (m / 64) old.place in
+    let x = eqb (bit_at old.word i) 1 in
+    let y = eqb (bit_at other.word i) 1 in
+    let same : (q && y) ≡ (q && h m) = ap (λ k. eqb (m / 64) k && y) (sym place) ∙ members m in
+    let bits : eqb (bit_at (bit_and old.word other.word) i) 1 ≡ (x && y) = ap (λ b. eqb b 1) (bit_at_and old.word other.word i) ∙ of_min (bit_at old.word i) (bit_at other.word i) (bit_at-lt old.word i) (bit_at-lt other.word i) in
+    ap (λ z. q && z) bits ∙ guarded q x y (h m) same
 
 -- a part without a bit has no member
 pub no_part : (place word m : ℕ) → word ≡ 0 → (eqb (m / 64) place && eqb (bit_at word (m % 64)) 1) ≡ false

@@ -14,7 +14,7 @@ four f (suc (suc (suc zero))) h = refl
 four f (suc (suc (suc (suc k)))) h = absurd (omega arith)
 
 -- bits as tests
-of_min : (x y : ℕ) → x < 2 → y < 2 → eqb (min x y) 1 ≡ (eqb x 1 && eqb y 1)
+pub of_min : (x y : ℕ) → x < 2 → y < 2 → eqb (min x y) 1 ≡ (eqb x 1 && eqb y 1)
 of_min zero zero p q = refl
 of_min zero (suc zero) p q = refl
 of_min (suc zero) zero p q = refl

@@ -64,21 +64,29 @@ impl Neighbours {
         ensures none { IsNone result → (u : ℕ) → has set.now u ≡ true → is_open_to self.now.exits.items groups.now price here u ≡ false }
     {
         let exit = &self.exits[here as usize];
-        let buyers = exit.buyers.and(&groups[price as usize]).and(set);
-        if let Some(head) = buyers.lowest() {
-            let number = self.rows[here as usize].numbers[head as usize];
-            return Some(Exit {
-                arc: 2 * number as u32,
-                head,
-            });
+        let lower = &groups[price as usize];
+        let higher = &groups[price as usize + 2];
+        for place in 0..4u16 {
+            let left = set.part(place);
+            if left.is_empty() {
+                continue;
+            }
+            if let Some(head) = left.and(&exit.buyers).and(lower).lowest() {
+                let number = self.rows[here as usize].numbers[head as usize];
+                return Some(Exit {
+                    arc: 2 * number as u32,
+                    head,
+                });
+            }
+            if let Some(head) = left.and(&exit.sellers).and(higher).lowest() {
+                let number = self.rows[head as usize].numbers[here as usize];
+                return Some(Exit {
+                    arc: 2 * number as u32 + 1,
+                    head,
+                });
+            }
         }
-        let sellers = exit.sellers.and(&groups[price as usize + 2]).and(set);
-        let head = sellers.lowest()?;
-        let number = self.rows[head as usize].numbers[here as usize];
-        Some(Exit {
-            arc: 2 * number as u32 + 1,
-            head,
-        })
+        None
     }
 
     /// Notes what a pair can do.
