@@ -16,7 +16,9 @@ use residual_graph::Residual;
 pub const UNREACHED: u16 = u16::MAX;
 
 /// Finds the levels, and a member that has to send on the first level that has one. The last level then
-/// has those alone, and other members on it or behind it stay unreached.
+/// has those alone, and other members on it or behind it stay unreached. It is not inlined, so that its sets
+/// stay in registers.
+#[inline(never)]
 pub fn layer(
     residual: &Residual,
     entries: &[Entry],
