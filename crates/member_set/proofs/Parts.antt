@@ -1,5 +1,5 @@
 -- The members of a part.
-use Rattle.std.proofs.Common.{◌≡◌, ℕ, ◌+◌, ◌*◌, ◌/◌, ◌%◌, ◌^◌, ◌<◌, Bool, true, false, not, ◌&&◌, eqb, ltb, List, get_or, refl, sym, ap, ◌∙◌, inl, inr, arith, w64, bit_and}
+use Rattle.std.proofs.Common.{◌≡◌, ℕ, ◌+◌, ◌-◌, ◌*◌, ◌/◌, ◌%◌, ◌^◌, ◌<◌, Bool, true, false, not, ◌&&◌, eqb, ltb, List, get_or, refl, sym, ap, ◌∙◌, inl, inr, arith, w64, bit_and}
 use Rattle.std.proofs.lemmas.Bool.{cases_eq, lt-ltb, ltb-true, eqb-true, eq-eqb, ne_eqb, and_parts, false_from_ne_true}
 use Rattle.std.proofs.lemmas.Nat.Bits.{bit_at-zero, bit_at-lt, bit_at_and, bit_at_clear_same, bit_at_clear_other, bit_at-trailing_zeros}
 use Rattle.std.specs.Int.{bit_at, bit_not, trailing_zeros}
@@ -8,6 +8,7 @@ use Rattle.member_set.specs.declared.part.Part.{Part}
 use Rattle.member_set.specs.Members.{has, has_in, has_bit, size_in}
 use Rattle.member_set.proofs.Sizes.{fewer}
 use Rattle.member_set.proofs.Words.{of_min}
+use Rattle.member_set.proofs.Cleared.{lowest_cleared}
 
 -- a part of a set has the members whose numbers are in it
 pub in_part : (words : List ℕ) (place : ℕ) → place < 4 → (m : ℕ) → (eqb (m / 64) place && eqb (bit_at (get_or words place 0) (m % 64)) 1) ≡ (eqb (m / 64) place && has_bit words m)
@@ -31,9 +32,9 @@ module _ (place word : ℕ) (some : 0 < word) (fits : word < 2 ^ 64) where
       let at_bit : (64 * place + trailing_zeros w64 word) % 64 ≡ trailing_zeros w64 word = omega (arith, h) in
       rw (at_word, at_bit, eq-eqb place place refl) (eq-eqb (bit_at word (trailing_zeros w64 word)) 1 (bit_at-trailing_zeros w64 word some fits).1)
 
-  pub taken_out_of : (m : ℕ) → (eqb (m / 64) place && eqb (bit_at (bit_and word (bit_not w64 (1 * 2 ^ trailing_zeros w64 word % 2 ^ 64))) (m % 64)) 1)
+  cleared_out_of : (m : ℕ) → (eqb (m / 64) place && eqb (bit_at (bit_and word (bit_not w64 (1 * 2 ^ trailing_zeros w64 word % 2 ^ 64))) (m % 64)) 1)
       ≡ (not (eqb m (64 * place + trailing_zeros w64 word)) && (eqb (m / 64) place && eqb (bit_at word (m % 64)) 1))
-  taken_out_of m =
+  cleared_out_of m =
       let h = low in
       let zeros : ℕ = trailing_zeros w64 word in
       let new : ℕ = bit_and word (bit_not w64 (1 * 2 ^ zeros % 2 ^ 64)) in
@@ -52,6 +53,10 @@ module _ (place word : ℕ) (some : 0 < word) (fits : word < 2 ^ 64) where
               | inr off ↦ rw (ne_eqb m (64 * place + trailing_zeros w64 word) ne, ne_eqb (m / 64) place off) refl
             ]
       ]
+
+  pub taken_out_of : (m : ℕ) → (eqb (m / 64) place && eqb (bit_at (bit_and word (word - 1)) (m % 64)) 1)
+      ≡ (not (eqb m (64 * place + trailing_zeros w64 word)) && (eqb (m / 64) place && eqb (bit_at word (m % 64)) 1))
+  taken_out_of m = ap (λ w. eqb (m / 64) place && eqb (bit_at w (m % 64)) 1) (lowest_cleared word some fits) ∙ cleared_out_of m
 
   pub taken_least : (m : ℕ) → m < 64 * place + trailing_zeros w64 word → (eqb (m / 64) place && eqb (bit_at word (m % 64)) 1) ≡ false
   taken_least m less =

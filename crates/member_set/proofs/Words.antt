@@ -1,9 +1,11 @@
 -- Members as bits of four words.
 use Rattle.std.proofs.Common.{◌≡◌, ℕ, zero, suc, ◌+◌, ◌-◌, ◌*◌, ◌/◌, ◌%◌, ◌^◌, ◌<◌, min, max, Bool, true, false, not, ◌&&◌, ◌||◌, ltb, eqb, List, [], ◌∷◌, length, get_or, set, refl, sym, ap, ◌∙◌, inl, inr, arith, w64, bit_and, bit_or, get_or-set_same, get_or-set_other}
 use Rattle.std.proofs.lemmas.Bool.{cases_eq, cases_lt, ltb-true, lt-ltb, eqb-true, eq-eqb, ne_eqb, and_parts, false_from_ne_true}
+use Rattle.std.proofs.lemmas.Nat.{le_or_l, le_or_r}
 use Rattle.std.proofs.lemmas.Nat.Bits.{bit_at_and, bit_at_or, bit_at_not, bit_at-lt, bit_at-zero, shr_and_one, bit_at_set_same, bit_at_set_other, bit_at_clear_same, bit_at_clear_other, bit_at-trailing_zeros}
 use Rattle.std.specs.Int.{bit_at, bit_not, trailing_zeros}
 use Rattle.member_set.specs.Members.{has_bit}
+use Rattle.member_set.proofs.Cleared.{lowest_cleared}
 
 -- a word by its place
 pub four : (f : ℕ → ℕ) (k : ℕ) → k < 4 → get_or (f 0 ∷ f 1 ∷ f 2 ∷ f 3 ∷ []) k 0 ≡ f k
@@ -149,15 +151,8 @@ module _ (words : List ℕ) (v : ℕ) (member : v < 256) (place : v / 64 < lengt
             rw (ne_eqb m v ne) (ap (λ x. ltb m 256 && eqb x 1) (kept new m ne (λ i small other. bit_at_clear_other w64 old (v % 64) low i small other)))
       ]
 
--- the lowest bit of the first word that is not 0
-module _ (words : List ℕ) (k : ℕ) (place : k < 4) (below : (j : ℕ) → j < k → get_or words j 0 ≡ 0)
-    (some : 0 < get_or words k 0) (fits : get_or words k 0 < 2 ^ 64) where
-  pub lowest_small : 64 * k + trailing_zeros w64 (get_or words k 0) < 256
-  lowest_small =
-      let low = bit_at-trailing_zeros w64 (get_or words k 0) some fits in
-      let inside : trailing_zeros w64 (get_or words k 0) < 64 = low.0 in
-      omega arith
-
+-- the lowest bit of a word that is not 0
+module _ (words : List ℕ) (k : ℕ) (place : k < 4) (some : 0 < get_or words k 0) (fits : get_or words k 0 < 2 ^ 64) where
   pub lowest_has : has_bit words (64 * k + trailing_zeros w64 (get_or words k 0)) ≡ true
   lowest_has =
       let low = bit_at-trailing_zeros w64 (get_or words k 0) some fits in
@@ -167,6 +162,50 @@ module _ (words : List ℕ) (k : ℕ) (place : k < 4) (below : (j : ℕ) → j <
       let at_bit : (64 * k + zeros) % 64 ≡ zeros = omega arith in
       let on : bit words (64 * k + zeros) ≡ 1 = rw (at_word, at_bit) low.1 in
       rw (lt-ltb (64 * k + zeros) 256 (omega arith)) (eq-eqb (bit words (64 * k + zeros)) 1 on)
+
+-- four words together are 0 where each is
+module _ (words : List ℕ) (none : bit_or (bit_or (bit_or (get_or words 0 0) (get_or words 1 0)) (get_or words 2 0)) (get_or words 3 0) ≡ 0) where
+  abbrev two : ℕ
+  two = bit_or (get_or words 0 0) (get_or words 1 0)
+
+  abbrev three : ℕ
+  three = bit_or (bit_or (get_or words 0 0) (get_or words 1 0)) (get_or words 2 0)
+
+  pub all_none : (k : ℕ) → k < 4 → get_or words k 0 ≡ 0
+  all_none zero l = omega (arith, none, le_or_l three (get_or words 3 0), le_or_l two (get_or words 2 0), le_or_l (get_or words 0 0) (get_or words 1 0))
+  all_none (suc zero) l = omega (arith, none, le_or_l three (get_or words 3 0), le_or_l two (get_or words 2 0), le_or_r (get_or words 0 0) (get_or words 1 0))
+  all_none (suc (suc zero)) l = omega (arith, none, le_or_l three (get_or words 3 0), le_or_r two (get_or words 2 0))
+  all_none (suc (suc (suc zero))) l = omega (arith, none, le_or_r three (get_or words 3 0))
+  all_none (suc (suc (suc (suc k)))) l = absurd (omega (arith, l))
+
+-- and else one is not
+pub one_some : (words : List ℕ) → (bit_or (bit_or (bit_or (get_or words 0 0) (get_or words 1 0)) (get_or words 2 0)) (get_or words 3 0) ≡ 0 → ⊥) → (k : ℕ) × (k < 4) × (0 < get_or words k 0)
+one_some words some =
+    elim (cases_eq (get_or words 0 0) 0) [
+      | inr ne ↦ (0, omega arith, omega (arith, ne))
+      | inl e0 ↦
+          elim (cases_eq (get_or words 1 0) 0) [
+            | inr ne ↦ (1, omega arith, omega (arith, ne))
+            | inl e1 ↦
+                elim (cases_eq (get_or words 2 0) 0) [
+                  | inr ne ↦ (2, omega arith, omega (arith, ne))
+                  | inl e2 ↦
+                      elim (cases_eq (get_or words 3 0) 0) [
+                        | inr ne ↦ (3, omega arith, omega (arith, ne))
+                        | inl e3 ↦ absurd (some (rw (e0, e1, e2, e3) refl))
+                      ]
+                ]
+          ]
+    ]
+
+-- the lowest bit of the first word that is not 0
+module _ (words : List ℕ) (k : ℕ) (place : k < 4) (below : (j : ℕ) → j < k → get_or words j 0 ≡ 0)
+    (some : 0 < get_or words k 0) (fits : get_or words k 0 < 2 ^ 64) where
+  pub lowest_small : 64 * k + trailing_zeros w64 (get_or words k 0) < 256
+  lowest_small =
+      let low = bit_at-trailing_zeros w64 (get_or words k 0) some fits in
+      let inside : trailing_zeros w64 (get_or words k 0) < 64 = low.0 in
+      omega arith
 
   pub lowest_least : (m : ℕ) → m < 64 * k + trailing_zeros w64 (get_or words k 0) → has_bit words m ≡ false
   lowest_least m less =
@@ -183,12 +222,13 @@ module _ (words : List ℕ) (k : ℕ) (place : k < 4) (below : (j : ℕ) → j <
       false_from_ne_true (has_bit words m)
       (λ has. omega (arith, off, eqb-true (bit words m) 1 (and_parts (ltb m 256) (eqb (bit words m) 1) has).1))
 
-  pub lowest_out : k < length words → (m : ℕ) → has_bit (set words k (bit_and (get_or words k 0) (bit_not w64 (1 * 2 ^ trailing_zeros w64 (get_or words k 0) % 2 ^ 64)))) m ≡ (not (eqb m (64 * k + trailing_zeros w64 (get_or words k 0))) && has_bit words m)
+  pub lowest_out : k < length words → (m : ℕ) → has_bit (set words k (bit_and (get_or words k 0) (get_or words k 0 - 1))) m ≡ (not (eqb m (64 * k + trailing_zeros w64 (get_or words k 0))) && has_bit words m)
   lowest_out inside m =
       let low = bit_at-trailing_zeros w64 (get_or words k 0) some fits in
       let zeros : ℕ = trailing_zeros w64 (get_or words k 0) in
       let few : zeros < 64 = low.0 in
       let at_word : (64 * k + zeros) / 64 ≡ k = omega arith in
       let at_bit : (64 * k + zeros) % 64 ≡ zeros = omega arith in
+      let cleared = lowest_cleared (get_or words k 0) some fits in
       let out = taken_out words (64 * k + zeros) (omega arith) (omega (arith, at_word, inside)) m in
-      rw (at_word, at_bit) at out
+      ap (λ w. has_bit (set words k w) m) cleared ∙ rw (at_word, at_bit) at out

@@ -61,8 +61,8 @@ impl Part {
         if self.word == 0 {
             return None;
         }
-        let bit = self.word.trailing_zeros();
-        self.word &= !(1u64 << bit);
-        Some(64 * self.place + bit as u16)
+        let lowest = 64 * self.place + self.word.trailing_zeros() as u16;
+        self.word &= self.word - 1;
+        Some(lowest)
     }
 }

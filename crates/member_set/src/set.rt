@@ -26,7 +26,7 @@ impl MemberSet {
         ensures none { IsTrue result ↔ ((m : ℕ) → has self.now m ≡ false) }
         ensures some { result ≡ false → (m : ℕ) × (has self.now m ≡ true) }
     {
-        self.lowest().is_none()
+        self.words[0] | self.words[1] | self.words[2] | self.words[3] == 0
     }
 
     /// Whether it has a member.
@@ -83,7 +83,7 @@ impl MemberSet {
             let word = self.words[place];
             if word != 0 {
                 let bit = word.trailing_zeros();
-                self.words[place] = word & !(1u64 << bit);
+                self.words[place] = word & (word - 1);
                 return Some(64 * place as u16 + bit as u16);
             }
         }

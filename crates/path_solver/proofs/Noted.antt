@@ -21,6 +21,27 @@ one_pair flows rising j k lj lk seller buyer =
           ]
     ]
 
+-- nothing is noted of this pair
+abbrev pub IsNew : List Entry → Flow → Type 0
+IsNew entries f =
+    (has (entry_at entries f.buyer).sellers f.seller ≡ false) × (has (entry_at entries f.seller).buyers f.buyer ≡ false)
+
+-- nor of any behind the first k
+pub not_noted : (r : ResidualData) (entries : List Entry) (k : ℕ) → IsResidual r → k < length r.flows → AreEntriesTo k r entries → IsNew entries (flow_at r.flows k)
+not_noted r entries k residual l h =
+    let good = residual.good k no_flow l in (
+      false_from_ne_true (has (entry_at entries (flow_at r.flows k).buyer).sellers (flow_at r.flows k).seller)
+          (λ on.
+          let was = h.sellers (flow_at r.flows k).buyer (flow_at r.flows k).seller good.buyer on in
+          let same : was.0 ≡ k = one_pair r.flows residual.rising was.0 k was.1.0 l was.1.1 was.1.2 in
+          omega (arith, same, was.2)),
+      false_from_ne_true (has (entry_at entries (flow_at r.flows k).seller).buyers (flow_at r.flows k).buyer)
+          (λ on.
+          let was = h.buyers (flow_at r.flows k).seller (flow_at r.flows k).buyer good.seller on in
+          let same : was.0 ≡ k = one_pair r.flows residual.rising was.0 k was.1.0 l was.1.1 was.1.2 in
+          omega (arith, same, was.2)),
+    )
+
 -- from the first n pairs to the first m, of which k alone is new or can do something else
 pub record IsNext (n m k : ℕ) (r s : ResidualData) : Type 0 where
   pub members : s.members ≡ r.members

@@ -1,8 +1,8 @@
 //! For each member the members from which arcs with room lead to it, as sets.
 
-ghost use Rattle.std.specs.Prelude.{◌≡◌, ◌==◌, if◌then◌else◌, ℕ, ◌<◌, ◌≤◌, length, IfOk};
+ghost use Rattle.std.specs.Prelude.{◌≡◌, ◌==◌, if◌then◌else◌, ℕ, ◌<◌, ◌≤◌, false, length, IfOk};
 ghost use Rattle.member_set.specs.Members.{has};
-ghost use Rattle.path_solver.specs.Entries.{AreEntries, IsNoted};
+ghost use Rattle.path_solver.specs.Entries.{AreEntries, IsNoted, entry_at};
 
 use crate::settle::all_of;
 use member_set::MemberSet;
@@ -27,9 +27,39 @@ pub fn entries_of(alloc: Global, residual: &Residual) -> Result<Vec<Entry>, Allo
     };
     let mut entries = all_of(alloc, residual.members(), none)?;
     for flow in residual.flows() {
-        note(&mut entries, *flow);
+        note_first(&mut entries, *flow);
     }
     Ok(entries)
+}
+
+/// Notes whether a pair can grow, and whether it can fall, where nothing was noted of it before.
+pub fn note_first(entries: &mut [Entry], flow: Flow)
+    requires few { length entries.old ≤ 256 }
+    requires seller { flow.seller < length entries.old }
+    requires buyer { flow.buyer < length entries.old }
+    requires growing { has (entry_at entries.old flow.buyer).sellers flow.seller ≡ false }
+    requires falling { has (entry_at entries.old flow.seller).buyers flow.buyer ≡ false }
+    ensures { IsNoted flow entries.old entries.new }
+{
+    let grows = flow.room > 0;
+    let falls = flow.back > 0;
+    put_if(
+        &mut entries[flow.buyer as usize].sellers,
+        flow.seller,
+        grows,
+    );
+    put_if(&mut entries[flow.seller as usize].buyers, flow.buyer, falls);
+}
+
+/// Puts a member into a set that does not have it, or does nothing.
+fn put_if(set: &mut MemberSet, member: u16, there: bool)
+    requires small { member < 256 }
+    requires new { has set.old member ≡ false }
+    ensures { (m : ℕ) → has set.new m ≡ (if m == member then there else has set.old m) }
+{
+    if there {
+        set.put(member);
+    }
 }
 
 /// Notes whether a pair can grow, and whether it can fall.

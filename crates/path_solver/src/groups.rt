@@ -29,10 +29,11 @@ pub fn move_up(groups: &mut [MemberSet], stay: &MemberSet, most: usize)
     ensures lowest { group_at groups.new 0 ≡ group_at groups.old 0 }
     ensures others { (g : ℕ) → most + 1 < g → group_at groups.new g ≡ group_at groups.old g }
 {
+    let stay = *stay;
     let mut leaving = MemberSet::new();
     for place in 1..most + 2 {
         let here = groups[place];
-        groups[place] = here.and(stay).or(&leaving);
-        leaving = here.without(stay);
+        groups[place] = here.and(&stay).or(&leaving);
+        leaving = here.without(&stay);
     }
 }

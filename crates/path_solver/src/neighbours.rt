@@ -5,7 +5,7 @@ ghost use Rattle.member_set.specs.Members.{has};
 ghost use Rattle.path_solver.specs.Entries.{AreEntries, is_open_to};
 ghost use Rattle.path_solver.specs.Neighbours.{AreNumbers, AreNeighbours, turned, turned_graph, IsWayInto, IsChanged};
 
-use crate::entries::{Entry, entries_of, note};
+use crate::entries::{Entry, entries_of, note, note_first};
 use crate::settle::all_of;
 use member_set::MemberSet;
 use residual_graph::{Flow, Residual};
@@ -123,7 +123,7 @@ fn exits_of(alloc: Global, residual: &Residual) -> Result<Vec<Entry>, AllocError
     };
     let mut exits = all_of(alloc, residual.members(), none)?;
     for flow in residual.flows() {
-        note(&mut exits, turned(*flow));
+        note_first(&mut exits, turned(*flow));
     }
     Ok(exits)
 }

@@ -50,10 +50,12 @@ fn still_with(amounts: &[u64], members: MemberSet) -> MemberSet
     ensures { HaveSome amounts.now result }
 {
     let mut some = members;
-    let mut left = members;
-    while let Some(member) = left.take_lowest() {
-        if amounts[member as usize] == 0 {
-            some.drop_member(member);
+    for place in 0..4u16 {
+        let mut left = members.part(place);
+        while let Some(member) = left.take_lowest() {
+            if amounts[member as usize] == 0 {
+                some.drop_member(member);
+            }
         }
     }
     some

@@ -7,13 +7,13 @@ pub returns-then-word-ne0-clause-none : goal.returns-then-word-ne0-clause-none
 unfolding has
 returns-then-word-ne0-clause-none c = (
   λ e. absurd (true≢false e),
-  λ none. sym (lowest_has c.args.self.now.words c.loop-place.place (omega arith) c.loop-place.invariant (omega arith) (search rules)) ∙ none _,
+  λ none. sym (lowest_has c.args.self.now.words c.loop-place.place (omega arith) (omega arith) (search rules)) ∙ none _,
 )
 
 pub returns-then-word-ne0-clause-member : goal.returns-then-word-ne0-clause-member
 unfolding has
 returns-then-word-ne0-clause-member c =
-    lowest_has c.args.self.now.words c.loop-place.place (omega arith) c.loop-place.invariant (omega arith) (search rules)
+    lowest_has c.args.self.now.words c.loop-place.place (omega arith) (omega arith) (search rules)
 
 pub returns-then-word-ne0-clause-least : goal.returns-then-word-ne0-clause-least
 unfolding has

@@ -9,7 +9,7 @@ pub returns-then-word-ne0-clause-member : goal.returns-then-word-ne0-clause-memb
 unfolding has
 returns-then-word-ne0-clause-member c =
     subst (λ (ws : List ℕ). has_bit ws (64 * c.loop-place.place + trailing_zeros w64 (get_or c.loop-place.self.words c.loop-place.place 0)) ≡ true) c.loop-place.invariant.same
-    (lowest_has c.loop-place.self.words c.loop-place.place (omega arith) c.loop-place.invariant.before (omega arith) (search rules))
+    (lowest_has c.loop-place.self.words c.loop-place.place (omega arith) (omega arith) (search rules))
 
 pub returns-then-word-ne0-clause-least : goal.returns-then-word-ne0-clause-least
 unfolding has
