@@ -1,5 +1,5 @@
 -- Notes of what pairs can do.
-use Rattle.std.proofs.Common.{◌≡◌, ◌≢◌, ℕ, ◌<◌, ◌≤◌, Bool, true, false, ltb, eqb, ◌&&◌, List, length, sym, ap, ◌∙◌, subst, inl, inr, arith}
+use Rattle.std.proofs.Common.{◌≡◌, ◌≢◌, ℕ, ◌+◌, ◌<◌, ◌≤◌, Bool, true, false, ltb, eqb, ◌&&◌, List, length, refl, sym, ap, ◌∙◌, subst, inl, inr, arith}
 use Rattle.std.proofs.lemmas.Bool.{cases_eq, cases_Bool, cases_order, eqb-true, eq-eqb, and_parts, and_from, cond-true, cond-false, false_from_ne_true}
 use Rattle.member_set.specs.Members.{has}
 use Rattle.residual_graph.specs.declared.flow.Flow.{Flow}
@@ -54,6 +54,21 @@ pub record IsNext (n m k : ℕ) (r s : ResidualData) : Type 0 where
   pub last : k < m
   pub rest : (j : ℕ) → j < m → j ≢ k → j < n
   pub all : m ≤ length s.flows
+
+-- one pair more of the same graph
+pub next_pair : (r : ResidualData) (k : ℕ) → k < length r.flows → IsNext k (k + 1) k r r
+next_pair r k within = record {
+  members = refl;
+  within = within;
+  pairs = refl;
+  seller = λ j l. refl;
+  buyer = λ j l. refl;
+  others = λ j ne. refl;
+  fewer = omega arith;
+  last = omega arith;
+  rest = λ j l ne. omega arith;
+  all = omega (arith, within);
+}
 
 module _ (n m k : ℕ) (r s : ResidualData) (old new : List Entry) (residual : IsResidual s) (next : IsNext n m k r s) (h : AreEntriesTo n r old) (noted : IsNoted (flow_at s.flows k) old new) where
   other : (j : ℕ) → j < m → j ≢ k → (eqb (flow_at s.flows j).buyer (flow_at s.flows k).buyer && eqb (flow_at s.flows j).seller (flow_at s.flows k).seller) ≡ false

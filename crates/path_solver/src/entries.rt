@@ -1,13 +1,11 @@
 //! For each member the members from which arcs with room lead to it, as sets.
 
-ghost use Rattle.std.specs.Prelude.{◌≡◌, ◌==◌, if◌then◌else◌, ℕ, ◌<◌, ◌≤◌, false, length, IfOk};
+ghost use Rattle.std.specs.Prelude.{◌≡◌, ◌==◌, if◌then◌else◌, ℕ, ◌<◌, ◌≤◌, false, length};
 ghost use Rattle.member_set.specs.Members.{has};
-ghost use Rattle.path_solver.specs.Entries.{AreEntries, IsNoted, entry_at};
+ghost use Rattle.path_solver.specs.Entries.{IsNoted, entry_at};
 
-use crate::settle::all_of;
 use member_set::MemberSet;
-use residual_graph::{Flow, Residual};
-use std::alloc::{AllocError, Global};
+use residual_graph::Flow;
 
 /// From where arcs with room lead to one member: the sellers to it whose pair can grow, and the buyers
 /// from it whose pair can fall. In the graph that is turned round they tell to where arcs lead from it.
@@ -15,21 +13,6 @@ use std::alloc::{AllocError, Global};
 pub struct Entry {
     pub sellers: MemberSet,
     pub buyers: MemberSet,
-}
-
-/// The entries of a residual graph's members.
-pub fn entries_of(alloc: Global, residual: &Residual) -> Result<Vec<Entry>, AllocError>
-    ensures { IfOk result (λ entries. AreEntries residual.now entries.items) }
-{
-    let none = Entry {
-        sellers: MemberSet::new(),
-        buyers: MemberSet::new(),
-    };
-    let mut entries = all_of(alloc, residual.members(), none)?;
-    for flow in residual.flows() {
-        note_first(&mut entries, *flow);
-    }
-    Ok(entries)
 }
 
 /// Notes whether a pair can grow, and whether it can fall, where nothing was noted of it before.

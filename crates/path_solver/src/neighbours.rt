@@ -2,10 +2,10 @@
 
 ghost use Rattle.std.specs.Prelude.{◌≡◌, ◌+◌, ℕ, ◌<◌, ◌≤◌, true, false, length, IfOk, IfSome, IsNone};
 ghost use Rattle.member_set.specs.Members.{has};
-ghost use Rattle.path_solver.specs.Entries.{AreEntries, is_open_to};
+ghost use Rattle.path_solver.specs.Entries.{is_open_to};
 ghost use Rattle.path_solver.specs.Neighbours.{AreNumbers, AreNeighbours, turned, turned_graph, IsWayInto, IsChanged};
 
-use crate::entries::{Entry, entries_of, note, note_first};
+use crate::entries::{Entry, note, note_first};
 use crate::settle::all_of;
 use member_set::MemberSet;
 use residual_graph::{Flow, Residual};
@@ -37,8 +37,19 @@ impl Neighbours {
     pub fn of(alloc: Global, residual: &Residual) -> Result<Neighbours, AllocError>
         ensures { IfOk result (AreNeighbours residual.now) }
     {
-        let entries = entries_of(alloc, residual)?;
-        let exits = exits_of(alloc, residual)?;
+        let members = residual.members();
+        let none = Entry {
+            sellers: MemberSet::new(),
+            buyers: MemberSet::new(),
+        };
+        let mut entries = all_of(alloc, members, none)?;
+        let mut exits = all_of(alloc, members, none)?;
+        let flows = residual.flows();
+        for number in 0..flows.len() {
+            let flow = flows[number];
+            note_first(&mut entries, flow);
+            note_first(&mut exits, turned(flow));
+        }
         let rows = numbers_of(alloc, residual)?;
         Ok(Neighbours {
             entries,
@@ -111,21 +122,6 @@ fn turned(flow: Flow) -> Flow
         room: flow.back,
         ..flow
     }
-}
-
-/// To where arcs with room lead from the members of a residual graph.
-fn exits_of(alloc: Global, residual: &Residual) -> Result<Vec<Entry>, AllocError>
-    ensures { IfOk result (λ exits. AreEntries (turned_graph residual.now) exits.items) }
-{
-    let none = Entry {
-        sellers: MemberSet::new(),
-        buyers: MemberSet::new(),
-    };
-    let mut exits = all_of(alloc, residual.members(), none)?;
-    for flow in residual.flows() {
-        note_first(&mut exits, turned(*flow));
-    }
-    Ok(exits)
 }
 
 /// The numbers of a residual graph's pairs.
