@@ -7,6 +7,8 @@ mod bounded;
 #[cfg(test)]
 mod certificates;
 #[cfg(test)]
+mod counted;
+#[cfg(test)]
 mod figures;
 #[cfg(test)]
 mod files;

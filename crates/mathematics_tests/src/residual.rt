@@ -1,11 +1,13 @@
 //! The residual graph of a chain of three members, and what a push makes of it.
 
-ghost use Rattle.std.specs.Prelude.{◌^◌, ◌≤◌};
+ghost use Rattle.std.specs.Prelude.{◌≡◌, ◌^◌, ◌<◌, ◌≤◌};
 
 use crate::networks::Market;
 use crate::problems::problem_of;
-use residual_graph::Residual;
+use residual_graph::{Residual, Steps};
 use std::alloc::Global;
+use std::marker::Brand;
+use std::sync::ledger::{Blank, Ledger};
 use std::test::Fail;
 
 const CAP: u64 = 1_000_000_000_000_000_001;
@@ -58,23 +60,40 @@ fn a_chain_has_six_arcs(rt: HostRuntime) -> Result<(), Fail> {
     Ok(())
 }
 
-/// Moves an amount along an arc, where it can take it.
-fn try_push(residual: &mut Residual, arc: u32, amount: u64) -> bool {
+/// Moves an amount along an arc alone, where it can take it.
+fn try_push<L: Ledger>(
+    residual: &mut Residual,
+    arc: u32,
+    amount: u64,
+    steps: &mut Steps<L>,
+) -> bool {
     if arc < residual.arcs() && amount <= residual.room(arc) {
-        residual.push(arc, amount);
+        let path = [arc];
+        residual.push_path(&path, amount, steps);
         return true;
     }
     false
 }
 
 /// Whether amounts can be moved along arcs, one behind the other, or not, as it says beside each.
-fn takes(residual: &mut Residual, pushes: &[(u32, u64, bool)]) -> bool {
+fn takes_all<L: Ledger>(residual: &mut Residual, pushes: &[(u32, u64, bool)], blank: Blank) -> bool
+    requires name { blank.name ≡ L.name }
+    requires parts { blank.parts ≡ L.parts }
+    requires some { 0 < blank.parts }
+{
+    let mut steps = Steps::<L>::new(blank);
     for &(arc, amount, taken) in pushes {
-        if try_push(residual, arc, amount) != taken {
+        if try_push(residual, arc, amount, &mut steps) != taken {
             return false;
         }
     }
     true
+}
+
+/// The same, over a new count.
+fn takes(residual: &mut Residual, pushes: &[(u32, u64, bool)]) -> bool {
+    let blank = Blank::new(1);
+    takes_all::<Brand>(residual, pushes, blank)
 }
 
 #[test]
