@@ -46,7 +46,7 @@ fn join(parents: &mut [u16], row: LimitRow) -> bool
     requires low { EachIndex parents.old (λ m. slice_index parents.old m ≤ m) }
     ensures { LeadsOn row parents.old parents.new }
 {
-    if row.upper == Some(0) || parents[row.seller as usize] == parents[row.buyer as usize] {
+    if parents[row.seller as usize] == parents[row.buyer as usize] || row.upper == Some(0) {
         return false;
     }
     let seller = label_of(parents, row.seller);
