@@ -26,9 +26,6 @@ pruned_whole r p lack levels layers n residual one_each whole = record {
       absurd (true≢false (sym (whole (k + 1) (tail r.flows a) lt inside at) ∙ off));
 }
 
-pub fewer_none : (layers : List MemberSet) → AreFewer layers layers
-fewer_none layers k v on = on
-
 pub fewer_more : (a b c : List MemberSet) → AreFewer a b → AreFewer b c → AreFewer a c
 fewer_more a b c x y k v on = x k v (y k v on)
 
@@ -97,7 +94,7 @@ module _ (layers : List MemberSet) (level here : ℕ) (gone : MemberSet) (inside
   }
 
 -- an arc down the levels opens its twin alone, which leads up
-pub pruned_pushed : (x : ℕ) (p lack levels : List ℕ) (layers : List MemberSet) (n : ℕ) (flows : List Flow) (a : ℕ) → AreLayers levels layers n → IsStep flows levels a → IsOpen flows p a → x ≤ room flows a → ArePruned flows p lack levels layers n → ArePruned (pushed x flows a) p lack levels layers n
+pruned_pushed : (x : ℕ) (p lack levels : List ℕ) (layers : List MemberSet) (n : ℕ) (flows : List Flow) (a : ℕ) → AreLayers levels layers n → IsStep flows levels a → IsOpen flows p a → x ≤ room flows a → ArePruned flows p lack levels layers n → ArePruned (pushed x flows a) p lack levels layers n
 pruned_pushed x p lack levels layers n flows a known s own_open roomy h = record {
   lowest = h.lowest;
   others = λ k b lt l is_open at off.

@@ -11,7 +11,7 @@ use Rattle.path_solver.specs.Rests.{IsSentAlong}
 use Rattle.path_solver.proofs.SentAlong.{sent}
 use Rattle.path_solver.proofs.Phased.{forward_of, arc_is}
 
-pub all_one : (P : ℕ → Type 0) (a : ℕ) → P a → All P (a ∷ [])
+all_one : (P : ℕ → Type 0) (a : ℕ) → P a → All P (a ∷ [])
 all_one P a h zero d l = h
 all_one P a h (suc k) d l = absurd (omega arith)
 
