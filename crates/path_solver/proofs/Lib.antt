@@ -18,6 +18,7 @@ pub mod Certifying
 pub mod Noted
 pub mod NotedOne
 pub mod NotedAlong
+pub mod Bottlenecks
 pub mod Near
 pub mod Raised
 pub mod StillClosed

@@ -1,6 +1,6 @@
 -- The graph whose arcs lead the other way, and what is noted of both.
-use Rattle.std.proofs.Common.{◌≡◌, ℕ, zero, suc, ◌<◌, ◌≤◌, Bool, true, false, ltb, eqb, ◌&&◌, List, [], ◌∷◌, length, map, refl, sym, ap, ◌∙◌, subst, inl, inr, arith}
-use Rattle.std.proofs.lemmas.Bool.{cases_Bool, or_parts, eqb-true, eqb-false, lt-ltb, and_parts, cond-true, cond-false}
+use Rattle.std.proofs.Common.{◌≡◌, ℕ, zero, suc, ◌<◌, Bool, true, false, cond, ltb, eqb, ◌&&◌, List, [], ◌∷◌, length, map, refl, sym, ap, ◌∙◌, subst, inl, inr, arith}
+use Rattle.std.proofs.lemmas.Bool.{cases_Bool, eqb-true, lt-ltb, and_parts, cond-true, cond-false}
 use Rattle.std.proofs.lemmas.List.{length-map, get_or-map}
 use Rattle.member_set.specs.Members.{has}
 use Rattle.residual_graph.specs.declared.flow.Flow.{Flow}
@@ -10,7 +10,7 @@ use Rattle.path_solver.specs.declared.entries.Entry.{Entry}
 use Rattle.path_solver.specs.declared.neighbours.PairRow.{PairRow}
 use Rattle.path_solver.specs.declared.neighbours.Neighbours.{Neighbours}
 use Rattle.path_solver.specs.Entries.{entry_at, AreEntriesTo, IsNoted}
-use Rattle.path_solver.specs.Neighbours.{turned, turned_graph, has_turned, AreNumbers, AreNeighbours, IsChanged}
+use Rattle.path_solver.specs.Neighbours.{turned, turned_graph, AreNumbers, AreNeighbours, IsChanged}
 use Rattle.path_solver.proofs.Noted.{IsNext, noted_more}
 
 pub flow_turned : (flows : List Flow) (k : ℕ) → flow_at (map turned flows) k ≡ turned (flow_at flows k)
@@ -86,21 +86,19 @@ record IsRoomy (f : Flow) : Type 0 where
   pub room : 0 < f.room
   pub back : 0 < f.back
 
-untouched : (x : ℕ) (f g : Flow) (b : Bool) → f ≡ moved x b g → x ≤ room_in g b → has_turned b x f ≡ false → IsRoomy f × IsRoomy g
-untouched x f g true is le off =
-    let both = or_parts (eqb f.room 0) (eqb f.back x) off in
-    let room = eqb-false f.room 0 both.0 in
-    let back = eqb-false f.back x both.1 in
+-- what a pair can take the other way
+abbrev twin_in : Flow → Bool → ℕ
+twin_in f forward = cond forward f.back f.room
+
+untouched : (x : ℕ) (f g : Flow) (b : Bool) → f ≡ moved x b g → x < room_in g b → 0 < twin_in g b → IsRoomy f × IsRoomy g
+untouched x f g true is less twin =
     let at_room = ap (λ (h : Flow). h.room) is in
     let at_back = ap (λ (h : Flow). h.back) is in
-    (record { room = omega (arith, room); back = omega (arith, back, at_back) }, record { room = omega (arith, le, room, at_room); back = omega (arith, back, at_back) })
-untouched x f g false is le off =
-    let both = or_parts (eqb f.back 0) (eqb f.room x) off in
-    let back = eqb-false f.back 0 both.0 in
-    let room = eqb-false f.room x both.1 in
+    (record { room = omega (arith, less, at_room); back = omega (arith, twin, at_back) }, record { room = omega (arith, less); back = omega (arith, twin) })
+untouched x f g false is less twin =
     let at_room = ap (λ (h : Flow). h.room) is in
     let at_back = ap (λ (h : Flow). h.back) is in
-    (record { room = omega (arith, room, at_room); back = omega (arith, back) }, record { room = omega (arith, room, at_room); back = omega (arith, le, back, at_back) })
+    (record { room = omega (arith, twin, at_room); back = omega (arith, less, at_back) }, record { room = omega (arith, twin); back = omega (arith, less) })
 
 same_test : (x y : ℕ) → 0 < x → 0 < y → ltb 0 x ≡ ltb 0 y
 same_test x y p q = lt-ltb 0 x p ∙ sym (lt-ltb 0 y q)
@@ -114,15 +112,15 @@ numbers_kept r s rows members pairs seller buyer h = record {
 }
 
 -- where nothing turned, what was noted of the pair holds still
-pub still_noted : (x : ℕ) (r s : ResidualData) (k : ℕ) (b : Bool) (old : Neighbours) → IsNext (length r.flows) (length r.flows) k r s → flow_at s.flows k ≡ moved x b (flow_at r.flows k) → x ≤ room_in (flow_at r.flows k) b → AreNeighbours r old → has_turned b x (flow_at s.flows k) ≡ false → IsChanged (flow_at s.flows k) old old
-still_noted x r s k b old next is le are off =
+pub still_noted : (x : ℕ) (r s : ResidualData) (k : ℕ) (b : Bool) (old : Neighbours) → IsNext (length r.flows) (length r.flows) k r s → flow_at s.flows k ≡ moved x b (flow_at r.flows k) → AreNeighbours r old → x < room_in (flow_at r.flows k) b → 0 < cond b (flow_at r.flows k).back (flow_at r.flows k).room → IsChanged (flow_at s.flows k) old old
+still_noted x r s k b old next is are less twin =
     let n = length r.flows in
     let f = flow_at s.flows k in
     let g = flow_at r.flows k in
     let seller : g.seller ≡ f.seller = sym (next.seller k next.last) in
     let buyer : g.buyer ≡ f.buyer = sym (next.buyer k next.last) in
     let there : AreEntriesTo (length r.flows) (turned_graph r) old.exits.items = subst (λ m. AreEntriesTo m (turned_graph r) old.exits.items) (count_turned r.flows) are.exits in
-    let roomy = untouched x f g b is le off in
+    let roomy = untouched x f g b is less twin in
     let at_t = flow_turned r.flows k in
     record {
       rows = refl;

@@ -1,5 +1,5 @@
 -- Moving an amount along a path.
-use Rattle.std.proofs.Common.{◌≡◌, ◌≢◌, ℕ, zero, suc, ◌<◌, ◌≤◌, List, [], ◌∷◌, length, get_or, take, refl, ◌∙◌, arith}
+use Rattle.std.proofs.Common.{◌≡◌, ◌≢◌, ℕ, zero, suc, ◌<◌, ◌≤◌, List, [], ◌∷◌, length, get_or, take, refl, sym, ◌∙◌, arith}
 use Rattle.std.specs.Prelude.{All, AllPairs}
 use Rattle.residual_graph.specs.declared.flow.Flow.{Flow}
 use Rattle.residual_graph.specs.Arcs.{arc_count, pair, flow_at, room, pushed}
@@ -49,3 +49,11 @@ pub flow_after : (x : ℕ) (flows : List Flow) (arcs : List ℕ) (m : ℕ) → A
 flow_after x flows [] m different l = absurd (omega arith)
 flow_after x flows (a ∷ arcs) zero different l = flow_later x (pushed x flows a) arcs (pair a) (λ j d lj. different 0 (suc j) d (omega arith) (omega arith))
 flow_after x flows (a ∷ arcs) (suc m) different l = flow_after x (pushed x flows a) arcs m (λ i j d lt lj. different (suc i) (suc j) d (omega arith) (omega arith)) (omega arith)
+
+-- and as it was at first before it
+pub flow_before : (x : ℕ) (flows : List Flow) (arcs : List ℕ) (m : ℕ) → AllPairs (λ a b. pair a ≢ pair b) arcs → m < length arcs → flow_at (pushed_all x flows (take m arcs)) (pair (get_or arcs m 0)) ≡ flow_at flows (pair (get_or arcs m 0))
+flow_before x flows [] m different l = absurd (omega arith)
+flow_before x flows (a ∷ arcs) zero different l = refl
+flow_before x flows (a ∷ arcs) (suc m) different l =
+    flow_before x (pushed x flows a) arcs m (λ i j d lt lj. different (suc i) (suc j) d (omega arith) (omega arith)) (omega arith)
+    ∙ flow_at_other x flows a (pair (get_or arcs m 0)) (λ e. different 0 (suc m) 0 (omega arith) (omega arith) (sym e))

@@ -1,5 +1,5 @@
 -- Between which members arcs with room lead, and by which pairs.
-use Rattle.std.specs.Prelude.{◌≡◌, ◌==◌, ◌&&◌, ◌||◌, Bool, if◌then◌else◌, ℕ, ◌+◌, ◌*◌, ◌<◌, true, List, [], length, map, slice_index, slice_index_or}
+use Rattle.std.specs.Prelude.{◌≡◌, ◌&&◌, if◌then◌else◌, ℕ, ◌+◌, ◌*◌, ◌<◌, true, List, [], length, map, slice_index, slice_index_or}
 use Rattle.member_set.specs.declared.set.MemberSet.{MemberSet}
 use Rattle.member_set.specs.Members.{has}
 use Rattle.residual_graph.specs.declared.flow.Flow.{Flow}
@@ -51,12 +51,6 @@ pub record IsWayInto (n : Neighbours) (groups : List MemberSet) (price here : �
   pub inside : has set e.head ≡ true
   pub is_open : is_open_to n.exits.items groups price here e.head ≡ true
   pub between : e.arc ≡ arc_between n groups price here e.head
-
--- whether x, which was moved over a pair, from seller to buyer or back, took all the room that there was, or is all
--- that can now move the other way
-abbrev pub has_turned : Bool → ℕ → Flow → Bool
-has_turned forward x f =
-    if forward then (f.room == 0 || f.back == x) else (f.back == 0 || f.room == x)
 
 -- noted what a pair can do
 pub record IsChanged (f : Flow) (old new : Neighbours) : Type 0 where

@@ -1,44 +1,60 @@
 //! Moving an amount along a path.
 
-ghost use Rattle.std.specs.Prelude.{◌≡◌, ℕ, ◌+◌, ◌-◌, ◌^◌, ◌<◌, ◌≤◌, length, slice_index, All};
-ghost use Rattle.residual_graph.specs.Arcs.{arc_count, room};
+ghost use Rattle.std.specs.Prelude.{◌≡◌, ℕ, ◌+◌, ◌<◌, ◌≤◌, if◌then◌else◌, length, slice_index, All};
+ghost use Rattle.residual_graph.specs.Arcs.{arc_count, room, room_in};
 ghost use Rattle.residual_graph.specs.Paths.{pushed_all};
-ghost use Rattle.path_solver.specs.Paths.{IsPlainPath};
-ghost use Rattle.path_solver.specs.Neighbours.{AreNeighbours, has_turned};
+ghost use Rattle.path_solver.specs.Paths.{IsPlainPath, AreTurning};
+ghost use Rattle.path_solver.specs.Neighbours.{AreNeighbours};
 
 use crate::neighbours::Neighbours;
+use member_set::MemberSet;
 use residual_graph::{Flow, Residual, Steps};
 use std::sync::ledger::Ledger;
 
-/// The most that every arc can take.
-pub fn least_room(residual: &Residual, arcs: &[u32]) -> u64
-    requires arc { All (λ a. a < arc_count residual.now.flows) arcs.now }
-    requires room { All (λ a. 0 < room residual.now.flows a) arcs.now }
-    ensures some { 0 < result }
-    ensures all { All (λ a. result ≤ room residual.now.flows a) arcs.now }
-    ensures reached { result < 2 ^ 64 - 1 → (k : ℕ) × (k < length arcs.now) × (room residual.now.flows (slice_index arcs.now k) ≡ result) }
-{
-    let mut least = u64::MAX;
-    for arc in arcs {
-        let room = residual.room(*arc);
-        if room < least {
-            least = room;
-        }
-    }
-    least
+/// How much can move along a path, and the places of the arcs that this may fill, or whose twins it may open.
+#[derive(Clone, Copy)]
+pub struct Bottleneck {
+    pub amount: u64,
+    pub turning: MemberSet,
 }
 
-/// Whether an amount that was moved over a pair, from seller to buyer or back, took all the room that there was, or is
-/// all that can now move the other way.
+/// What can move over a pair, from seller to buyer or back, and what the other way.
 #[inline(always)]
-fn has_turned(flow: Flow, forward: bool, amount: u64) -> bool
-    ensures { result ≡ has_turned forward amount flow }
+fn rooms_of(flow: Flow, forward: bool) -> (u64, u64)
+    ensures room { result.0 ≡ room_in flow forward }
+    ensures twin { result.1 ≡ (if forward then flow.back else flow.room) }
 {
     if forward {
-        flow.room == 0 || flow.back == amount
+        (flow.room, flow.back)
     } else {
-        flow.back == 0 || flow.room == amount
+        (flow.back, flow.room)
     }
+}
+
+/// As much as every arc can take, and `most` at the most.
+pub fn bottleneck_of(residual: &Residual, arcs: &[u32], most: u64) -> Bottleneck
+    requires few { length arcs.now ≤ 256 }
+    requires arc { All (λ a. a < arc_count residual.now.flows) arcs.now }
+    requires room { All (λ a. 0 < room residual.now.flows a) arcs.now }
+    requires some { 0 < most }
+    ensures some { 0 < result.amount }
+    ensures most { result.amount ≤ most }
+    ensures all { All (λ a. result.amount ≤ room residual.now.flows a) arcs.now }
+    ensures reached { result.amount < most → (k : ℕ) × (k < length arcs.now) × (room residual.now.flows (slice_index arcs.now k) ≡ result.amount) }
+    ensures turning { AreTurning result.amount residual.now.flows arcs.now result.turning }
+{
+    let flows = residual.flows();
+    let mut amount = most;
+    let mut turning = MemberSet::new();
+    for place in 0..arcs.len() {
+        let arc = arcs[place];
+        let (room, twin) = rooms_of(flows[(arc / 2) as usize], arc % 2 == 0);
+        if room <= amount || twin == 0 {
+            amount = amount.min(room);
+            turning.put(place as u16);
+        }
+    }
+    Bottleneck { amount, turning }
 }
 
 /// Moves an amount along a path, and notes what its pairs can then do.
@@ -47,21 +63,21 @@ pub fn push_noting<L: Ledger>(
     residual: &mut Residual,
     neighbours: &mut Neighbours,
     path: &[u32],
-    amount: u64,
+    found: Bottleneck,
     steps: &mut Steps<L>,
 )
-    requires path { IsPlainPath amount residual.old.flows path.now }
+    requires path { IsPlainPath found.amount residual.old.flows path.now }
+    requires turning { AreTurning found.amount residual.old.flows path.now found.turning }
     requires neighbours { AreNeighbours residual.old neighbours.old }
-    ensures pushed { residual.new ≡ record residual.old { flows = pushed_all amount residual.old.flows path.now } }
+    ensures pushed { residual.new ≡ record residual.old { flows = pushed_all found.amount residual.old.flows path.now } }
     ensures neighbours { AreNeighbours residual.new neighbours.new }
     ensures counted { steps.new ≡ steps.old + 1 }
 {
     let _members = residual.members();
-    residual.push_path(path, amount, steps);
-    for arc in path {
-        let flow = residual.flows()[(*arc / 2) as usize];
-        if has_turned(flow, *arc % 2 == 0, amount) {
-            neighbours.note(flow);
-        }
+    residual.push_path(path, found.amount, steps);
+    let mut left = found.turning;
+    'places: while let Some(place) = left.take_lowest() {
+        let pair = (path[place as usize] / 2) as usize;
+        neighbours.note(residual.flows()[pair]);
     }
 }

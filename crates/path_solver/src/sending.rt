@@ -11,7 +11,7 @@ ghost use Rattle.path_solver.specs.Counts.{left_to_do};
 ghost use Rattle.member_set.specs.Members.{has};
 
 use crate::neighbours::Neighbours;
-use crate::paths::{least_room, push_noting};
+use crate::paths::{bottleneck_of, push_noting};
 use crate::walk::walk;
 use member_set::MemberSet;
 use residual_graph::{Residual, Steps};
@@ -110,6 +110,7 @@ fn send_once<L: Ledger>(
     ensures shortest { IsTrue result → NoneIsShorter residual.old.flows prices.now surplus.old lack.old (slice_index levels.now from) }
     ensures fresh { AreLevels residual.old.flows prices.now lack.old levels.now → AreWholeLayers levels.now layers.old (slice_index levels.now from + 1) → 0 < slice_index surplus.old from → result ≡ true }
 {
+    let _members = residual.members();
     if surplus[from as usize] == 0 {
         return false;
     }
@@ -120,10 +121,10 @@ fn send_once<L: Ledger>(
     };
     let arcs = &path[..levels[from as usize] as usize];
     let most = surplus[from as usize].min(lack[end as usize]);
-    let amount = least_room(residual, arcs).min(most);
-    push_noting(residual, neighbours, arcs, amount, steps);
-    surplus[from as usize] -= amount;
-    lack[end as usize] -= amount;
+    let found = bottleneck_of(residual, arcs, most);
+    push_noting(residual, neighbours, arcs, found, steps);
+    surplus[from as usize] -= found.amount;
+    lack[end as usize] -= found.amount;
     true
 }
 

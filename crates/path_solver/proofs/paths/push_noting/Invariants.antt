@@ -1,7 +1,10 @@
-use Rattle.std.proofs.Common.{take}
-use Rattle.residual_graph.specs.Paths.{pushed_all}
-use Rattle.path_solver.specs.Neighbours.{AreNeighbours}
+use Rattle.std.proofs.Common.{ℕ}
+use Rattle.member_set.specs.Members.{size}
+use Rattle.path_solver.proofs.NotedAlong.{IsNotedTo}
 use Rattle.path_solver.proofs.paths.push_noting.Given as goal
 
-abbrev pub invariant-loop-arc : goal.invariant-loop-arc
-invariant-loop-arc g l = AreNeighbours (record { members = l.fn.residual.members; flows = pushed_all l.amount l.fn.residual.flows (take l.arc-index l.path) }) l.neighbours
+abbrev pub invariant-places : goal.invariant-places
+invariant-places g l = (m : ℕ) × IsNotedTo l.fn.found.amount l.fn.residual l.path l.left l.neighbours m
+
+abbrev pub decreases-places : goal.decreases-places
+decreases-places g l = size l.left

@@ -14,36 +14,46 @@ use Rattle.path_solver.proofs.Pruned.{pruned_walk, pruned_less}
 use Rattle.path_solver.proofs.Measured.{Fills, less_to_do}
 use Rattle.path_solver.proofs.sending.send_once.Goals as goal
 
+pub bottleneck_of-found-requires-clause-few : goal.bottleneck_of-found-requires-clause-few
+bottleneck_of-found-requires-clause-few g c =
+    let walked : IsPathDown c.args.residual.now.flows c.args.prices.now c.args.levels.now c.args.lack.now c.args.from c.in-Some.end (take (get_or c.args.levels.now c.args.from 0) c.walk.new.path) = c.in-Some.ensures.path in
+    omega (arith, walked.long, c.requires.top, c.members-members.ensures.residual.few)
+
+pub bottleneck_of-found-requires-clause-some : goal.bottleneck_of-found-requires-clause-some
+bottleneck_of-found-requires-clause-some g c =
+    let walked : IsPathDown c.args.residual.now.flows c.args.prices.now c.args.levels.now c.args.lack.now c.args.from c.in-Some.end (take (get_or c.args.levels.now c.args.from 0) c.walk.new.path) = c.in-Some.ensures.path in
+    omega (arith, c.min-most.ensures, walked.receives, c.if-surplus-from-eq0.false)
+
 pub push_noting-requires-clause-path : goal.push_noting-requires-clause-path
 push_noting-requires-clause-path g c =
     let walked : IsPathDown c.args.residual.now.flows c.args.prices.now c.args.levels.now c.args.lack.now c.args.from c.in-Some.end (take (get_or c.args.levels.now c.args.from 0) c.walk.new.path) = c.in-Some.ensures.path in
-    plain_path c.min-amount.result c.args.residual.now.flows c.args.prices.now c.args.levels.now c.args.lack.now c.args.from c.in-Some.end (take (get_or c.args.levels.now c.args.from 0) c.walk.new.path) walked
-    (λ k d l. omega (arith, c.least_room.ensures.all k d l, c.min-amount.ensures))
+    plain_path c.bottleneck_of-found.result.amount c.args.residual.now.flows c.args.prices.now c.args.levels.now c.args.lack.now c.args.from c.in-Some.end (take (get_or c.args.levels.now c.args.from 0) c.walk.new.path) walked
+    c.bottleneck_of-found.ensures.all
 
 pub returns-clause-along : goal.returns-clause-along
 returns-clause-along g c =
-    let x = c.min-amount.result in
+    let x = c.bottleneck_of-found.result.amount in
     let path = take (get_or c.args.levels.now c.args.from 0) c.walk.new.path in
     let walked : IsPathDown c.args.residual.now.flows c.args.prices.now c.args.levels.now c.args.lack.now c.args.from c.in-Some.end (take (get_or c.args.levels.now c.args.from 0) c.walk.new.path) = c.in-Some.ensures.path in
-    let roomy : All (λ a. c.min-amount.result ≤ room c.args.residual.now.flows a) (take (get_or c.args.levels.now c.args.from 0) c.walk.new.path) = λ k d l. omega (arith, c.least_room.ensures.all k d l, c.min-amount.ensures) in
+    let roomy : All (λ a. c.bottleneck_of-found.result.amount ≤ room c.args.residual.now.flows a) (take (get_or c.args.levels.now c.args.from 0) c.walk.new.path) = c.bottleneck_of-found.ensures.all in
     sent c.args.prices.now c.args.levels.now c.args.residual.now c.push_noting.new.residual c.args.surplus.now c.args.lack.now c.args.from c.in-Some.end x path walked roomy
     (omega (arith, c.requires.from, c.requires.surplus))
     (omega (arith, walked.member, c.requires.levels, c.requires.lack))
-    (omega (arith, c.min-amount.ensures, c.min-most.ensures))
-    (omega (arith, c.min-amount.ensures, c.min-most.ensures))
+    (omega (arith, c.bottleneck_of-found.ensures.most, c.min-most.ensures))
+    (omega (arith, c.bottleneck_of-found.ensures.most, c.min-most.ensures))
     (ap (λ (r : ResidualData). r.members) c.push_noting.ensures.pushed) (ap (λ (r : ResidualData). r.flows) c.push_noting.ensures.pushed)
 
 pub returns-clause-kept : goal.returns-clause-kept
 returns-clause-kept g c =
-    let x = c.min-amount.result in
+    let x = c.bottleneck_of-found.result.amount in
     let path = take (get_or c.args.levels.now c.args.from 0) c.walk.new.path in
     let walked : IsPathDown c.args.residual.now.flows c.args.prices.now c.args.levels.now c.args.lack.now c.args.from c.in-Some.end (take (get_or c.args.levels.now c.args.from 0) c.walk.new.path) = c.in-Some.ensures.path in
-    let roomy : All (λ a. c.min-amount.result ≤ room c.args.residual.now.flows a) (take (get_or c.args.levels.now c.args.from 0) c.walk.new.path) = λ k d l. omega (arith, c.least_room.ensures.all k d l, c.min-amount.ensures) in
+    let roomy : All (λ a. c.bottleneck_of-found.result.amount ≤ room c.args.residual.now.flows a) (take (get_or c.args.levels.now c.args.from 0) c.walk.new.path) = c.bottleneck_of-found.ensures.all in
     shortest_sent x c.args.prices.now c.args.levels.now (get_or c.args.levels.now c.args.from 0) c.args.residual.now c.push_noting.new.residual c.args.surplus.now c.args.lack.now (set c.args.surplus.now c.args.from (get_or c.args.surplus.now c.args.from 0 - x)) (set c.args.lack.now c.in-Some.end (get_or c.args.lack.now c.in-Some.end 0 - x)) c.args.from c.in-Some.end path walked roomy refl (ap (λ (r : ResidualData). r.flows) c.push_noting.ensures.pushed) (returns-clause-along g c) c.requires.shortest
 
 pub returns-clause-pruned : goal.returns-clause-pruned
 returns-clause-pruned g c =
-    let x = c.min-amount.result in
+    let x = c.bottleneck_of-found.result.amount in
     let flows = c.args.residual.now.flows in
     let p = c.args.prices.now in
     let levels = c.args.levels.now in
@@ -52,20 +62,20 @@ returns-clause-pruned g c =
     let n = get_or c.args.levels.now c.args.from 0 + 1 in
     let path = take (get_or c.args.levels.now c.args.from 0) c.walk.new.path in
     let walked : IsPathDown c.args.residual.now.flows c.args.prices.now c.args.levels.now c.args.lack.now c.args.from c.in-Some.end (take (get_or c.args.levels.now c.args.from 0) c.walk.new.path) = c.in-Some.ensures.path in
-    let roomy : All (λ a. c.min-amount.result ≤ room c.args.residual.now.flows a) (take (get_or c.args.levels.now c.args.from 0) c.walk.new.path) = λ k d l. omega (arith, c.least_room.ensures.all k d l, c.min-amount.ensures) in
+    let roomy : All (λ a. c.bottleneck_of-found.result.amount ≤ room c.args.residual.now.flows a) (take (get_or c.args.levels.now c.args.from 0) c.walk.new.path) = c.bottleneck_of-found.ensures.all in
     let plain = plain_path x flows p levels lack c.args.from c.in-Some.end path walked roomy in
     let gone = returns-clause-along g c in
     let now = ap (λ (r : ResidualData). r.flows) c.push_noting.ensures.pushed in
-    pruned_less c.push_noting.new.residual.flows p lack (set c.args.lack.now c.in-Some.end (get_or c.args.lack.now c.in-Some.end 0 - c.min-amount.result)) levels layers n gone.receivers
+    pruned_less c.push_noting.new.residual.flows p lack (set c.args.lack.now c.in-Some.end (get_or c.args.lack.now c.in-Some.end 0 - c.bottleneck_of-found.result.amount)) levels layers n gone.receivers
     (subst (λ (fs : List Flow). ArePruned fs c.args.prices.now c.args.lack.now c.args.levels.now c.walk.new.layers (get_or c.args.levels.now c.args.from 0 + 1)) (sym now)
     (pruned_walk x p lack levels layers n flows path
-    (omega (arith, c.min-amount.ensures, c.min-most.ensures, c.least_room.ensures.some, walked.receives, c.if-surplus-from-eq0.false))
+    c.bottleneck_of-found.ensures.some
     c.walk.ensures.layers (path_can x flows path plain.along) (path_steps flows p levels lack c.args.from c.in-Some.end path walked c.requires.shortest.low)
     (λ k d l. (walked.arcs k d l, (walked.open_arcs k d l).1)) c.walk.ensures.pruned))
 
 pub returns-clause-few : goal.returns-clause-few
 returns-clause-few g c =
-    let x = c.min-amount.result in
+    let x = c.bottleneck_of-found.result.amount in
     let flows = c.args.residual.now.flows in
     let p = c.args.prices.now in
     let levels = c.args.levels.now in
@@ -73,25 +83,24 @@ returns-clause-few g c =
     let lack = c.args.lack.now in
     let path = take (get_or c.args.levels.now c.args.from 0) c.walk.new.path in
     let walked : IsPathDown c.args.residual.now.flows c.args.prices.now c.args.levels.now c.args.lack.now c.args.from c.in-Some.end (take (get_or c.args.levels.now c.args.from 0) c.walk.new.path) = c.in-Some.ensures.path in
-    let roomy : All (λ a. c.min-amount.result ≤ room c.args.residual.now.flows a) (take (get_or c.args.levels.now c.args.from 0) c.walk.new.path) = λ k d l. omega (arith, c.least_room.ensures.all k d l, c.min-amount.ensures) in
+    let roomy : All (λ a. c.bottleneck_of-found.result.amount ≤ room c.args.residual.now.flows a) (take (get_or c.args.levels.now c.args.from 0) c.walk.new.path) = c.bottleneck_of-found.ensures.all in
     let plain = plain_path x flows p levels lack c.args.from c.in-Some.end path walked roomy in
-    let fills : Fills c.min-amount.result c.args.residual.now.flows (take (get_or c.args.levels.now c.args.from 0) c.walk.new.path) (get_or c.args.surplus.now c.args.from 0) (get_or c.args.lack.now c.in-Some.end 0) =
-    elim (cases_eq c.min-amount.result (get_or c.args.surplus.now c.args.from 0)) [
+    let fills : Fills c.bottleneck_of-found.result.amount c.args.residual.now.flows (take (get_or c.args.levels.now c.args.from 0) c.walk.new.path) (get_or c.args.surplus.now c.args.from 0) (get_or c.args.lack.now c.in-Some.end 0) =
+    elim (cases_eq c.bottleneck_of-found.result.amount (get_or c.args.surplus.now c.args.from 0)) [
       | inl e ↦ inr (inl e)
       | inr ne_s ↦
-          elim (cases_eq c.min-amount.result (get_or c.args.lack.now c.in-Some.end 0)) [
+          elim (cases_eq c.bottleneck_of-found.result.amount (get_or c.args.lack.now c.in-Some.end 0)) [
             | inl e ↦ inr (inr e)
             | inr ne_l ↦
-                let arc = c.least_room.ensures.reached (omega (arith, ne_s, ne_l, c.min-amount.ensures, c.min-most.ensures, c.min-most.type_inv)) in
-                inl (arc.0, arc.1, omega (arith, arc.2, ne_s, ne_l, c.min-amount.ensures, c.min-most.ensures))
+                inl (c.bottleneck_of-found.ensures.reached (omega (arith, ne_s, ne_l, c.bottleneck_of-found.ensures.most, c.min-most.ensures)))
           ]
     ] in
     let less = less_to_do levels x flows surplus lack c.args.from c.in-Some.end path plain (λ k d l. walked.steps k d l)
-    (omega (arith, c.min-amount.ensures, c.min-most.ensures, c.least_room.ensures.some, walked.receives, c.if-surplus-from-eq0.false))
+    c.bottleneck_of-found.ensures.some
     (omega (arith, c.requires.from, c.requires.surplus))
     (omega (arith, walked.member, c.requires.levels, c.requires.lack))
-    (omega (arith, c.min-amount.ensures, c.min-most.ensures))
-    (omega (arith, c.min-amount.ensures, c.min-most.ensures)) fills in
+    (omega (arith, c.bottleneck_of-found.ensures.most, c.min-most.ensures))
+    (omega (arith, c.bottleneck_of-found.ensures.most, c.min-most.ensures)) fills in
     let now = ap (λ (r : ResidualData). left_to_do levels r.flows (set surplus c.args.from (get_or surplus c.args.from 0 - x)) (set lack c.in-Some.end (get_or lack c.in-Some.end 0 - x))) c.push_noting.ensures.pushed in
     omega (arith, less, now, c.push_noting.ensures.counted)
 
