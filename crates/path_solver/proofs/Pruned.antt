@@ -1,7 +1,7 @@
 -- What members that are out of their layers have no way to, as walks and sendings go on.
 use Rattle.std.proofs.Common.{◌≡◌, ◌≢◌, ℕ, zero, suc, ◌+◌, ◌<◌, ◌≤◌, true, false, not, eqb, ◌&&◌, List, [], ◌∷◌, length, get_or, set, refl, sym, ap, ◌∙◌, subst, inl, inr, arith, true≢false, get_or-set_same, get_or-set_other}
 use Rattle.std.specs.Prelude.{All}
-use Rattle.std.proofs.lemmas.Bool.{cases_eq, and_parts, and_from, false_from_ne_true, eq-eqb, ne_eqb}
+use Rattle.std.proofs.lemmas.Bool.{cases_eq, cases_order, and_parts, and_from, false_from_ne_true, eq-eqb, ne_eqb}
 use Rattle.member_set.specs.declared.set.MemberSet.{MemberSet}
 use Rattle.member_set.specs.Members.{has, no_members}
 use Rattle.residual_graph.specs.declared.flow.Flow.{Flow}
@@ -92,6 +92,36 @@ module _ (layers : List MemberSet) (level here : ℕ) (gone : MemberSet) (inside
           | inr other ↦ h.others k a lt l is_open at (was_out (k + 1) (tail flows a) (λ q. absurd (other q)) off)
         ]);
   }
+
+-- a layer is empty, and those above it are emptied
+module _ (before after : List MemberSet) (level top : ℕ) (within : level ≤ top) (empty : (v : ℕ) → has (layer_at before level) v ≡ false) (above : (k v : ℕ) → level < k → k ≤ top → has (layer_at after k) v ≡ false) (below : (k : ℕ) → k ≤ level → layer_at after k ≡ layer_at before k) where
+  as_before : (k v : ℕ) → k ≤ level → has (layer_at after k) v ≡ has (layer_at before k) v
+  as_before k v le = ap (λ s. has s v) (below k le)
+
+  -- nobody is in the layer, nor in those above it
+  pub out_above : (k v : ℕ) → level ≤ k → k ≤ top → has (layer_at after k) v ≡ false
+  out_above k v low high =
+      elim (cases_eq k level) [
+        | inl e ↦ as_before k v (omega (arith, e)) ∙ subst (λ j. has (layer_at before j) v ≡ false) (sym e) (empty v)
+        | inr ne ↦ above k v (omega (arith, low, ne)) high
+      ]
+
+  pub pruned_emptied : (flows : List Flow) (p lack levels : List ℕ) → ArePruned flows p lack levels before (top + 1) → ArePruned flows p lack levels after (top + 1)
+  pruned_emptied flows p lack levels h = record {
+    lowest = λ v some l at off. h.lowest v some l at (sym (as_before 0 v (omega arith)) ∙ off);
+    others = λ k a lt l is_open at off.
+        elim (cases_order k level) [
+          | inl e ↦ out_above k (head flows a) (omega (arith, e)) (omega (arith, lt))
+          | inr other ↦
+              elim other [
+                | inl less ↦ as_before k (head flows a) (omega (arith, less)) ∙ h.others k a lt l is_open at (sym (as_before (k + 1) (tail flows a) (omega (arith, less))) ∙ off)
+                | inr more ↦ out_above k (head flows a) (omega (arith, more)) (omega (arith, lt))
+              ]
+        ];
+  }
+
+pub layers_fewer : (levels : List ℕ) (before after : List MemberSet) (n : ℕ) → AreFewer before after → AreLayers levels before n → AreLayers levels after n
+layers_fewer levels before after n fewer known k v lt on = known k v lt (fewer k v on)
 
 -- an arc down the levels opens its twin alone, which leads up
 pruned_pushed : (x : ℕ) (p lack levels : List ℕ) (layers : List MemberSet) (n : ℕ) (flows : List Flow) (a : ℕ) → AreLayers levels layers n → IsStep flows levels a → IsOpen flows p a → x ≤ room flows a → ArePruned flows p lack levels layers n → ArePruned (pushed x flows a) p lack levels layers n

@@ -14,7 +14,8 @@ use residual_graph::Residual;
 
 /// From a member down the levels along open arcs to one that has to receive. The path has as many arcs as the
 /// member's level tells. A member from which there is no way on is taken out of its layer: no later walk comes there
-/// again. The first walk over new levels always finds a way.
+/// again. Where nobody is left in a layer there is no way from those above it, which are emptied then. The first walk over
+/// new levels always finds a way.
 pub fn walk(
     residual: &Residual,
     neighbours: &Neighbours,
@@ -67,10 +68,27 @@ pub fn walk(
             continue 'steps;
         }
         layers[level].drop_member(here);
+        if layers[level].is_empty() {
+            empty_above(layers, level, top);
+            return None;
+        }
         if level == top {
             return None;
         }
         level += 1;
         here = residual.tail(path[top - level]);
+    }
+}
+
+/// Empties the layers above a level, up to the top.
+fn empty_above(layers: &mut [MemberSet], level: usize, top: usize)
+    requires order { level ≤ top }
+    requires room { top < length layers.old }
+    ensures above { (k v : ℕ) → level < k → k ≤ top → has (layer_at layers.new k) v ≡ false }
+    ensures below { (k : ℕ) → k ≤ level → layer_at layers.new k ≡ layer_at layers.old k }
+    ensures fewer { AreFewer layers.old layers.new }
+{
+    for place in level + 1..top + 1 {
+        layers[place] = MemberSet::new();
     }
 }

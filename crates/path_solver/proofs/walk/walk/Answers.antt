@@ -4,7 +4,7 @@ use Rattle.member_set.specs.Members.{has}
 use Rattle.path_solver.specs.Levels.{layer_at, AreWholeLayers}
 use Rattle.path_solver.proofs.Trails.{IsTrail, trail_down, trail_up, trail_path, layers_less, in_layers_less}
 use Rattle.path_solver.proofs.Ways.{way_leads, no_way_in, some_way}
-use Rattle.path_solver.proofs.Pruned.{IsStuck, pruned_taken, fewer_taken, fewer_more, out_now}
+use Rattle.path_solver.proofs.Pruned.{IsStuck, pruned_taken, pruned_emptied, out_above, layers_fewer, fewer_taken, fewer_more, out_now}
 use Rattle.path_solver.proofs.walk.walk.Goals as goal
 use Rattle.path_solver.proofs.walk.walk.Goals.{then-level-eq0+else-lack-here-gt0, else-level-eq0+in_default}
 
@@ -88,6 +88,53 @@ returns-then-level-top-clause-gone c none =
     let at = c.steps.invariant.trail.none c.if-level-top.true in
     subst (λ k. has (layer_at (set c.steps.layers c.steps.level c.drop_member.new.self) k) c.args.from ≡ false) c.if-level-top.true
     (subst (λ v. has (layer_at (set c.steps.layers c.steps.level c.drop_member.new.self) c.steps.level) v ≡ false) at (out_now c.steps.layers c.steps.level c.steps.here c.drop_member.new.self inside c.drop_member.ensures))
+
+pub returns-then-is_empty-clause-layers : goal.returns-then-is_empty-clause-layers
+returns-then-is_empty-clause-layers c =
+    let inside : c.steps.level < length c.steps.layers = omega (arith, c.steps.invariant.trail.within, c.requires.top, c.requires.room, c.steps.auto.layers) in
+    layers_fewer c.args.levels.now (set c.steps.layers c.steps.level c.drop_member.new.self) c.empty_above.new.layers (get_or c.args.levels.now c.args.from 0 + 1) c.empty_above.ensures.fewer
+    (layers_less c.args.levels.now c.steps.layers (get_or c.args.levels.now c.args.from 0 + 1) c.steps.level c.drop_member.new.self c.steps.here inside c.drop_member.ensures c.steps.invariant.layers)
+
+pub returns-then-is_empty-clause-pruned : goal.returns-then-is_empty-clause-pruned
+returns-then-is_empty-clause-pruned c =
+    let stuck_here : IsStuck c.args.residual.now.flows c.args.prices.now c.args.lack.now c.steps.layers c.steps.level c.steps.here =
+    elim c.if-level-eq0.branch [
+      | then-level-eq0+else-lack-here-gt0 w ↦ (λ _. omega (arith, w.if-lack-here-gt0.false), λ k a e. absurd (omega (arith, e, w.if-level-eq0.true)))
+      | else-level-eq0+in_default w ↦ (
+        λ e. absurd (w.if-level-eq0.false e),
+        λ k a e l is_open starts. no_way_in c.args.residual.now c.args.prices.now c.args.neighbours.now c.args.groups.now c.steps.here c.members-members.ensures.residual c.requires.neighbours c.requires.sorted c.steps.invariant.trail.member c.requires.prices (omega (arith, c.requires.low c.steps.here, c.requires.groups))
+            c.steps.layers c.steps.level k a e (w.in_default.ensures.none refl) l is_open starts,
+      )
+    ] in
+    let inside : c.steps.level < length c.steps.layers = omega (arith, c.steps.invariant.trail.within, c.requires.top, c.requires.room, c.steps.auto.layers) in
+    pruned_emptied (set c.steps.layers c.steps.level c.drop_member.new.self) c.empty_above.new.layers c.steps.level (get_or c.args.levels.now c.args.from 0) c.steps.invariant.trail.within (c.is_empty.ensures.none.0 c.if-is_empty.true) c.empty_above.ensures.above c.empty_above.ensures.below
+    c.args.residual.now.flows c.args.prices.now c.args.lack.now c.args.levels.now
+    (pruned_taken c.steps.layers c.steps.level c.steps.here c.drop_member.new.self inside c.drop_member.ensures c.args.residual.now.flows c.args.prices.now c.args.lack.now c.args.levels.now (get_or c.args.levels.now c.args.from 0 + 1) c.steps.invariant.pruned stuck_here)
+
+pub returns-then-is_empty-clause-fewer : goal.returns-then-is_empty-clause-fewer
+returns-then-is_empty-clause-fewer c =
+    let inside : c.steps.level < length c.steps.layers = omega (arith, c.steps.invariant.trail.within, c.requires.top, c.requires.room, c.steps.auto.layers) in
+    fewer_more c.args.layers.now (set c.steps.layers c.steps.level c.drop_member.new.self) c.empty_above.new.layers
+    (fewer_more c.args.layers.now c.steps.layers (set c.steps.layers c.steps.level c.drop_member.new.self) c.steps.invariant.fewer (fewer_taken c.steps.layers c.steps.level c.steps.here c.drop_member.new.self inside c.drop_member.ensures)) c.empty_above.ensures.fewer
+
+pub returns-then-is_empty-clause-gone : goal.returns-then-is_empty-clause-gone
+returns-then-is_empty-clause-gone c none =
+    out_above (set c.steps.layers c.steps.level c.drop_member.new.self) c.empty_above.new.layers c.steps.level (get_or c.args.levels.now c.args.from 0) c.steps.invariant.trail.within (c.is_empty.ensures.none.0 c.if-is_empty.true) c.empty_above.ensures.above c.empty_above.ensures.below
+    (get_or c.args.levels.now c.args.from 0) c.args.from c.steps.invariant.trail.within (omega arith)
+
+pub returns-then-is_empty-clause-fresh : goal.returns-then-is_empty-clause-fresh
+returns-then-is_empty-clause-fresh c levels whole =
+    let stuck : ⊥ =
+    elim c.if-level-eq0.branch [
+      | then-level-eq0+else-lack-here-gt0 w ↦
+          omega (arith, levels.lowest c.steps.here (omega (arith, c.steps.invariant.trail.member, c.requires.levels)) (c.steps.invariant.trail.level ∙ w.if-level-eq0.true), w.if-lack-here-gt0.false)
+      | else-level-eq0+in_default w ↦
+          some_way c.args.residual.now c.args.prices.now c.args.neighbours.now c.args.groups.now c.steps.here c.members-members.ensures.residual c.requires.neighbours c.requires.sorted c.steps.invariant.trail.member c.requires.prices (omega (arith, c.requires.low c.steps.here, c.requires.groups))
+          c.args.lack.now c.args.levels.now c.steps.layers c.steps.level (get_or c.args.levels.now c.args.from 0 + 1) levels (subst (λ (xs : List MemberSet). AreWholeLayers c.args.levels.now xs (get_or c.args.levels.now c.args.from 0 + 1)) (sym (c.steps.invariant.whole levels whole)) whole)
+          c.requires.levels c.steps.invariant.trail.level (omega (arith, w.if-level-eq0.false)) (omega (arith, c.steps.invariant.trail.within, c.requires.top, c.members-members.ensures.residual.few)) (omega (arith, c.steps.invariant.trail.within))
+          (w.in_default.ensures.none refl)
+    ] in
+    absurd stuck
 
 pub steps-preserved : goal.steps-preserved
 steps-preserved c =
