@@ -10,6 +10,7 @@ pub mod Turned
 pub mod Numbers
 pub mod Ways
 pub mod Trails
+pub mod Resumed
 pub mod Twins
 pub mod Spreads
 pub mod TakenBack

@@ -10,35 +10,13 @@ use Rattle.member_set.proofs.Sizes.{size_less}
 use Rattle.residual_graph.specs.declared.flow.Flow.{Flow}
 use Rattle.residual_graph.specs.Residual.{ResidualData, IsResidual}
 use Rattle.residual_graph.specs.Arcs.{arc_count, head, tail}
-use Rattle.path_solver.specs.Prices.{IsOpen}
+use Rattle.path_solver.specs.declared.stand.Stand.{Stand}
 use Rattle.path_solver.specs.Levels.{layer_at, AreLayers}
 use Rattle.residual_graph.specs.Paths.{IsWalk}
 use Rattle.path_solver.specs.Paths.{IsPathDown}
+use Rattle.path_solver.specs.Trails.{IsRung, IsTrail, IsBegun, arc_to}
 use Rattle.path_solver.proofs.Ends.{ends_in}
 use Rattle.path_solver.proofs.Ways.{Leads}
-
--- an open arc from level i + 1 to level i
-pub record IsRung (flows : List Flow) (p levels : List ℕ) (i a : ℕ) : Type 0 where
-  pub arc : a < arc_count flows
-  pub is_open : IsOpen flows p a
-  pub ends : get_or levels (head flows a) 0 ≡ i
-  pub starts : get_or levels (tail flows a) 0 ≡ i + 1
-
--- the arc of the path that leads to this level, where the first leads to the one below `top`
-abbrev pub arc_to : List ℕ → ℕ → ℕ → ℕ
-arc_to path top i = get_or path (top - (i + 1)) 0
-
--- from the level `top` down to `low`, where the walk is
-pub record IsTrail (r : ResidualData) (p levels : List ℕ) (layers : List MemberSet) (path : List ℕ) (low top here from : ℕ) : Type 0 where
-  pub within : low ≤ top
-  pub member : here < r.members
-  pub level : get_or levels here 0 ≡ low
-  pub rungs : (i : ℕ) → low ≤ i → i < top → IsRung r.flows p levels i (arc_to path top i)
-  pub kept : (i : ℕ) → low ≤ i → i < top → has (layer_at layers i) (head r.flows (arc_to path top i)) ≡ true
-  pub joined : (i : ℕ) → low ≤ i → i + 1 < top → head r.flows (arc_to path top (i + 1)) ≡ tail r.flows (arc_to path top i)
-  pub start : low < top → head r.flows (arc_to path top low) ≡ here
-  pub end : (i : ℕ) → low ≤ i → i + 1 ≡ top → tail r.flows (arc_to path top i) ≡ from
-  pub none : low ≡ top → here ≡ from
 
 pub trail_none : (r : ResidualData) (p levels : List ℕ) (layers : List MemberSet) (path : List ℕ) (top from : ℕ) → from < r.members → get_or levels from 0 ≡ top → IsTrail r p levels layers path top top from from
 trail_none r p levels layers path top from l at_from = record {
@@ -51,6 +29,14 @@ trail_none r p levels layers path top from l at_from = record {
   start = λ lt. absurd (omega (arith, lt));
   end = λ i le e. absurd (omega (arith, le, e));
   none = λ e. refl;
+}
+
+-- a walk that has not begun
+pub begun_none : (r : ResidualData) (p levels : List ℕ) (layers : List MemberSet) (path : List ℕ) (from : ℕ) → from < r.members → (s : Stand) → s.done ≡ 0 → s.here ≡ from → IsBegun r p levels layers path from s
+begun_none r p levels layers path from l s done here = record {
+  done = omega (arith, done);
+  trail = subst (λ v. IsTrail r p levels layers path (get_or levels from 0 - s.done) (get_or levels from 0) v from) (sym here)
+      (subst (λ low. IsTrail r p levels layers path low (get_or levels from 0) from from) (omega (arith, done)) (trail_none r p levels layers path (get_or levels from 0) from l refl));
 }
 
 module _ (r : ResidualData) (p levels : List ℕ) (layers : List MemberSet) (path : List ℕ) (residual : IsResidual r) where

@@ -8,3 +8,4 @@ pub mod Groups
 pub mod Neighbours
 pub mod Counts
 pub mod Pruned
+pub mod Trails

@@ -21,6 +21,7 @@ mod prices;
 mod sending;
 mod settle;
 mod solver;
+mod stand;
 mod walk;
 
 pub use solver::PathSolver;

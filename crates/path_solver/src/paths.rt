@@ -57,7 +57,8 @@ pub fn bottleneck_of(residual: &Residual, arcs: &[u32], most: u64) -> Bottleneck
     Bottleneck { amount, turning }
 }
 
-/// Moves an amount along a path, and notes what its pairs can then do.
+/// Moves an amount along a path, notes what its pairs can then do, and tells how many arcs lead to the first that is
+/// filled.
 #[inline(always)]
 pub fn push_noting<L: Ledger>(
     residual: &mut Residual,
@@ -65,19 +66,27 @@ pub fn push_noting<L: Ledger>(
     path: &[u32],
     found: Bottleneck,
     steps: &mut Steps<L>,
-)
+) -> usize
     requires path { IsPlainPath found.amount residual.old.flows path.now }
     requires turning { AreTurning found.amount residual.old.flows path.now found.turning }
     requires neighbours { AreNeighbours residual.old neighbours.old }
     ensures pushed { residual.new ≡ record residual.old { flows = pushed_all found.amount residual.old.flows path.now } }
     ensures neighbours { AreNeighbours residual.new neighbours.new }
     ensures counted { steps.new ≡ steps.old + 1 }
+    ensures within { result ≤ length path.now }
+    ensures open { (k : ℕ) → k < result → 0 < room residual.new.flows (slice_index path.now k) }
 {
     let _members = residual.members();
     residual.push_path(path, found.amount, steps);
+    let mut behind = path.len();
     let mut left = found.turning;
     'places: while let Some(place) = left.take_lowest() {
-        let pair = (path[place as usize] / 2) as usize;
-        neighbours.note(residual.flows()[pair]);
+        let arc = path[place as usize];
+        let room = residual.room(arc);
+        if room == 0 {
+            behind = behind.min(place as usize);
+        }
+        neighbours.note(residual.flows()[(arc / 2) as usize]);
     }
+    behind
 }

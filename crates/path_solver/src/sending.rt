@@ -1,6 +1,6 @@
 //! Sending what members have to send.
 
-ghost use Rattle.std.specs.Prelude.{◌≡◌, ◌+◌, ℕ, true, false, ◌<◌, ◌≤◌, length, slice_index, sum, IsTrue};
+ghost use Rattle.std.specs.Prelude.{◌≡◌, ◌+◌, ℕ, true, false, ◌<◌, ◌≤◌, length, slice_index, sum, IsNone, IsSome, IfSome};
 ghost use Rattle.path_solver.specs.Groups.{AreGroups};
 ghost use Rattle.path_solver.specs.Neighbours.{AreNeighbours};
 ghost use Rattle.path_solver.specs.Levels.{layer_at, AreLevels, AreShortest, AreLayers, AreWholeLayers, IsSource};
@@ -8,10 +8,12 @@ ghost use Rattle.path_solver.specs.Paths.{NoneIsShorter};
 ghost use Rattle.path_solver.specs.Rests.{AreApart, IsSentAlong};
 ghost use Rattle.path_solver.specs.Pruned.{ArePruned, AreFewer};
 ghost use Rattle.path_solver.specs.Counts.{left_to_do};
+ghost use Rattle.path_solver.specs.Trails.{IsBegun};
 ghost use Rattle.member_set.specs.Members.{has};
 
 use crate::neighbours::Neighbours;
 use crate::paths::{bottleneck_of, push_noting};
+use crate::stand::Stand;
 use crate::walk::walk;
 use member_set::MemberSet;
 use residual_graph::{Residual, Steps};
@@ -57,8 +59,13 @@ pub fn send_phase<L: Ledger>(
 {
     let _members = residual.members();
     let mut left = layers[levels[source as usize] as usize];
+    let first = Stand {
+        done: 0,
+        here: source,
+    };
     send_once(
-        residual, neighbours, groups, prices, levels, surplus, lack, layers, path, source, steps,
+        residual, neighbours, groups, prices, levels, surplus, lack, layers, path, source, first,
+        steps,
     );
     'senders: while let Some(member) = left.take_lowest() {
         send_all(
@@ -68,8 +75,8 @@ pub fn send_phase<L: Ledger>(
     }
 }
 
-/// Sends from a member along one path as much as the path can take, and tells whether there was one. No path of
-/// open arcs from one that has to send to one that has to receive has fewer.
+/// Sends from a member along one path as much as the path can take, and tells where the next walk can go on if
+/// there was one. No path of open arcs from one that has to send to one that has to receive has fewer.
 fn send_once<L: Ledger>(
     residual: &mut Residual,
     neighbours: &mut Neighbours,
@@ -81,8 +88,9 @@ fn send_once<L: Ledger>(
     layers: &mut [MemberSet],
     path: &mut [u32],
     from: u16,
+    stand: Stand,
     steps: &mut Steps<L>,
-) -> bool
+) -> Option<Stand>
     requires neighbours { AreNeighbours residual.old neighbours.old }
     requires groups { length groups.now ≡ residual.old.members + 3 }
     requires sorted { AreGroups prices.now groups.now }
@@ -98,34 +106,36 @@ fn send_once<L: Ledger>(
     requires shortest { AreShortest residual.old.flows prices.now surplus.old lack.old levels.now (slice_index levels.now from) }
     requires from { from < residual.old.members }
     requires pruned { ArePruned residual.old.flows prices.now lack.old levels.now layers.old (slice_index levels.now from + 1) }
+    requires begun { IsBegun residual.old prices.now levels.now layers.old path.old from stand }
     ensures neighbours { AreNeighbours residual.new neighbours.new }
     ensures layers { AreLayers levels.now layers.new (slice_index levels.now from + 1) }
+    ensures begun { IfSome result (λ s. IsBegun residual.new prices.now levels.now layers.new path.new from s) }
     ensures pruned { ArePruned residual.new.flows prices.now lack.new levels.now layers.new (slice_index levels.now from + 1) }
     ensures fewer { AreFewer layers.old layers.new }
     ensures kept { AreShortest residual.new.flows prices.now surplus.new lack.new levels.now (slice_index levels.now from) }
     ensures along { IsSentAlong prices.now residual.old residual.new surplus.old lack.old surplus.new lack.new }
     ensures few { steps.new + left_to_do levels.now residual.new.flows surplus.new lack.new ≤ steps.old + left_to_do levels.now residual.old.flows surplus.old lack.old }
-    ensures done { result ≡ false → has (layer_at layers.new (slice_index levels.now from)) from ≡ true → slice_index surplus.new from ≡ 0 }
-    ensures sent { IsTrue result → sum surplus.new < sum surplus.old }
-    ensures shortest { IsTrue result → NoneIsShorter residual.old.flows prices.now surplus.old lack.old (slice_index levels.now from) }
-    ensures fresh { AreLevels residual.old.flows prices.now lack.old levels.now → AreWholeLayers levels.now layers.old (slice_index levels.now from + 1) → 0 < slice_index surplus.old from → result ≡ true }
+    ensures done { IsNone result → has (layer_at layers.new (slice_index levels.now from)) from ≡ true → slice_index surplus.new from ≡ 0 }
+    ensures sent { IsSome result → sum surplus.new < sum surplus.old }
+    ensures shortest { IsSome result → NoneIsShorter residual.old.flows prices.now surplus.old lack.old (slice_index levels.now from) }
+    ensures fresh { AreLevels residual.old.flows prices.now lack.old levels.now → AreWholeLayers levels.now layers.old (slice_index levels.now from + 1) → 0 < slice_index surplus.old from → IsSome result }
 {
     let _members = residual.members();
     if surplus[from as usize] == 0 {
-        return false;
+        return None;
     }
     let Some(end) = walk(
-        residual, neighbours, groups, prices, levels, lack, layers, path, from,
+        residual, neighbours, groups, prices, levels, lack, layers, path, from, stand,
     ) else {
-        return false;
+        return None;
     };
     let arcs = &path[..levels[from as usize] as usize];
     let most = surplus[from as usize].min(lack[end as usize]);
     let found = bottleneck_of(residual, arcs, most);
-    push_noting(residual, neighbours, arcs, found, steps);
+    let filled = push_noting(residual, neighbours, arcs, found, steps);
     surplus[from as usize] -= found.amount;
     lack[end as usize] -= found.amount;
-    true
+    Some(Stand::behind(residual, arcs, filled, end))
 }
 
 /// Sends from a member along paths until there is none, or nothing is left.
@@ -166,7 +176,14 @@ fn send_all<L: Ledger>(
     ensures few { steps.new + left_to_do levels.now residual.new.flows surplus.new lack.new ≤ steps.old + left_to_do levels.now residual.old.flows surplus.old lack.old }
     ensures done { has (layer_at layers.new (slice_index levels.now from)) from ≡ true → slice_index surplus.new from ≡ 0 }
 {
-    'paths: while send_once(
-        residual, neighbours, groups, prices, levels, surplus, lack, layers, path, from, steps,
-    ) {}
+    let mut stand = Stand {
+        done: 0,
+        here: from,
+    };
+    'paths: while let Some(behind) = send_once(
+        residual, neighbours, groups, prices, levels, surplus, lack, layers, path, from, stand,
+        steps,
+    ) {
+        stand = behind;
+    }
 }

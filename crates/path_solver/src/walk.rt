@@ -6,16 +6,18 @@ ghost use Rattle.path_solver.specs.Neighbours.{AreNeighbours};
 ghost use Rattle.path_solver.specs.Levels.{layer_at, AreLevels, AreLayers, AreWholeLayers};
 ghost use Rattle.path_solver.specs.Paths.{IsPathDown};
 ghost use Rattle.path_solver.specs.Pruned.{ArePruned, AreFewer};
+ghost use Rattle.path_solver.specs.Trails.{IsTrail, IsBegun};
 ghost use Rattle.member_set.specs.Members.{has};
 
 use crate::neighbours::Neighbours;
+use crate::stand::Stand;
 use member_set::MemberSet;
 use residual_graph::Residual;
 
-/// From a member down the levels along open arcs to one that has to receive. The path has as many arcs as the
-/// member's level tells. A member from which there is no way on is taken out of its layer: no later walk comes there
-/// again. Where nobody is left in a layer there is no way from those above it, which are emptied then. The first walk over
-/// new levels always finds a way.
+/// From a member down the levels along open arcs to one that has to receive, on from where a walk stands. The path has
+/// as many arcs as the member's level tells. A member from which there is no way on is taken out of its layer: no later
+/// walk comes there again. Where nobody is left in a layer there is no way from those above it, which are emptied then.
+/// The first walk over new levels always finds a way.
 pub fn walk(
     residual: &Residual,
     neighbours: &Neighbours,
@@ -26,6 +28,7 @@ pub fn walk(
     layers: &mut [MemberSet],
     path: &mut [u32],
     from: u16,
+    stand: Stand,
 ) -> Option<u16>
     requires neighbours { AreNeighbours residual.now neighbours.now }
     requires groups { length groups.now ≡ residual.now.members + 3 }
@@ -40,7 +43,9 @@ pub fn walk(
     requires path { residual.now.members ≤ length path.old }
     requires from { from < residual.now.members }
     requires pruned { ArePruned residual.now.flows prices.now lack.now levels.now layers.old (slice_index levels.now from + 1) }
+    requires begun { IsBegun residual.now prices.now levels.now layers.old path.old from stand }
     ensures path { IfSome result (λ end. IsPathDown residual.now.flows prices.now levels.now lack.now from end (take (slice_index levels.now from) path.new)) }
+    ensures trail { IfSome result (λ end. IsTrail residual.now prices.now levels.now layers.new path.new 0 (slice_index levels.now from) end from) }
     ensures layers { AreLayers levels.now layers.new (slice_index levels.now from + 1) }
     ensures pruned { ArePruned residual.now.flows prices.now lack.now levels.now layers.new (slice_index levels.now from + 1) }
     ensures fewer { AreFewer layers.old layers.new }
@@ -49,8 +54,8 @@ pub fn walk(
 {
     let _members = residual.members();
     let top = levels[from as usize] as usize;
-    let mut level = top;
-    let mut here = from;
+    let mut level = top - stand.done;
+    let mut here = stand.here;
     'steps: loop {
         if level == 0 {
             if lack[here as usize] > 0 {

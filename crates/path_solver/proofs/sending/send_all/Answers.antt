@@ -1,4 +1,4 @@
-use Rattle.std.proofs.Common.{arith}
+use Rattle.std.proofs.Common.{refl, arith}
 use Rattle.path_solver.proofs.SentAlong.{sent_more}
 use Rattle.path_solver.proofs.Pruned.{fewer_more}
 use Rattle.path_solver.proofs.sending.send_all.Goals as goal
@@ -11,6 +11,7 @@ paths-preserved g c = record {
   pruned = c.send_once.ensures.pruned;
   fewer = fewer_more c.args.layers.now c.paths.layers c.send_once.new.layers c.paths.invariant.fewer c.send_once.ensures.fewer;
   few = omega (arith, c.paths.invariant.few, c.send_once.ensures.few);
+  begun = c.in-Some.ensures.begun;
   along = sent_more c.args.prices.now c.args.residual.now c.paths.residual c.send_once.new.residual c.args.surplus.now c.args.lack.now c.paths.surplus c.paths.lack c.send_once.new.surplus c.send_once.new.lack c.paths.invariant.along c.send_once.ensures.along;
 }
 
@@ -22,6 +23,6 @@ returns g c = record {
   pruned = c.send_once.ensures.pruned;
   fewer = fewer_more c.args.layers.now c.paths.layers c.send_once.new.layers c.paths.invariant.fewer c.send_once.ensures.fewer;
   few = omega (arith, c.paths.invariant.few, c.send_once.ensures.few);
-  done = λ on. c.send_once.ensures.done c.paths-test.false on;
+  done = λ on. c.in_default.ensures.done refl on;
   along = sent_more c.args.prices.now c.args.residual.now c.paths.residual c.send_once.new.residual c.args.surplus.now c.args.lack.now c.paths.surplus c.paths.lack c.send_once.new.surplus c.send_once.new.lack c.paths.invariant.along c.send_once.ensures.along;
 }

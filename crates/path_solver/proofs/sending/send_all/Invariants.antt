@@ -4,6 +4,7 @@ use Rattle.path_solver.specs.Levels.{AreShortest, AreLayers}
 use Rattle.path_solver.specs.Pruned.{ArePruned, AreFewer}
 use Rattle.path_solver.specs.Counts.{left_to_do}
 use Rattle.path_solver.specs.Neighbours.{AreNeighbours}
+use Rattle.path_solver.specs.Trails.{IsBegun}
 use Rattle.path_solver.proofs.sending.send_all.Given as goal
 
 abbrev pub invariant-paths : goal.invariant-paths
@@ -14,6 +15,7 @@ invariant-paths g l = record {
   pruned : ArePruned l.residual.flows l.prices l.lack l.levels l.layers (get_or l.levels l.from 0 + 1);
   fewer : AreFewer l.initial.layers l.layers;
   few : l.steps + left_to_do l.levels l.residual.flows l.surplus l.lack ≤ l.initial.steps + left_to_do l.levels l.initial.residual.flows l.initial.surplus l.initial.lack;
+  begun : IsBegun l.residual l.prices l.levels l.layers l.path l.from l.stand;
   along : IsSentAlong l.prices l.initial.residual l.residual l.initial.surplus l.initial.lack l.surplus l.lack;
 }
 

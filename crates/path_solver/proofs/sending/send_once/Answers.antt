@@ -1,11 +1,16 @@
-use Rattle.std.proofs.Common.{◌+◌, ◌-◌, ◌≤◌, List, get_or, set, take, refl, sym, ap, subst, inl, inr, arith}
+use Rattle.std.proofs.Common.{◌≡◌, ℕ, ◌+◌, ◌-◌, ◌≤◌, ltb, List, length, get_or, set, take, refl, sym, ap, ◌∙◌, subst, inl, inr, arith}
 use Rattle.std.specs.Prelude.{All}
-use Rattle.std.proofs.lemmas.Bool.{cases_eq}
+use Rattle.std.proofs.lemmas.Bool.{cases_eq, lt-ltb, le-ltb, cond-true, cond-false}
+use Rattle.std.proofs.lemmas.List.{get_or-take}
 use Rattle.residual_graph.specs.declared.flow.Flow.{Flow}
 use Rattle.residual_graph.specs.Residual.{ResidualData}
-use Rattle.residual_graph.specs.Arcs.{room}
+use Rattle.residual_graph.specs.Arcs.{room, tail}
 use Rattle.residual_graph.proofs.Walks.{path_can}
 use Rattle.path_solver.specs.Paths.{IsPathDown}
+use Rattle.path_solver.specs.Rests.{AreSamePairs}
+use Rattle.path_solver.specs.Trails.{IsTrail}
+use Rattle.path_solver.proofs.Walks.{all_same}
+use Rattle.path_solver.proofs.Resumed.{trail_behind}
 use Rattle.path_solver.specs.Pruned.{ArePruned}
 use Rattle.path_solver.specs.Counts.{left_to_do}
 use Rattle.path_solver.proofs.SentAlong.{plain_path, sent}
@@ -24,8 +29,8 @@ bottleneck_of-found-requires-clause-some g c =
     let walked : IsPathDown c.args.residual.now.flows c.args.prices.now c.args.levels.now c.args.lack.now c.args.from c.in-Some.end (take (get_or c.args.levels.now c.args.from 0) c.walk.new.path) = c.in-Some.ensures.path in
     omega (arith, c.min-most.ensures, walked.receives, c.if-surplus-from-eq0.false)
 
-pub push_noting-requires-clause-path : goal.push_noting-requires-clause-path
-push_noting-requires-clause-path g c =
+pub push_noting-filled-requires-clause-path : goal.push_noting-filled-requires-clause-path
+push_noting-filled-requires-clause-path g c =
     let walked : IsPathDown c.args.residual.now.flows c.args.prices.now c.args.levels.now c.args.lack.now c.args.from c.in-Some.end (take (get_or c.args.levels.now c.args.from 0) c.walk.new.path) = c.in-Some.ensures.path in
     plain_path c.bottleneck_of-found.result.amount c.args.residual.now.flows c.args.prices.now c.args.levels.now c.args.lack.now c.args.from c.in-Some.end (take (get_or c.args.levels.now c.args.from 0) c.walk.new.path) walked
     c.bottleneck_of-found.ensures.all
@@ -36,12 +41,12 @@ returns-clause-along g c =
     let path = take (get_or c.args.levels.now c.args.from 0) c.walk.new.path in
     let walked : IsPathDown c.args.residual.now.flows c.args.prices.now c.args.levels.now c.args.lack.now c.args.from c.in-Some.end (take (get_or c.args.levels.now c.args.from 0) c.walk.new.path) = c.in-Some.ensures.path in
     let roomy : All (λ a. c.bottleneck_of-found.result.amount ≤ room c.args.residual.now.flows a) (take (get_or c.args.levels.now c.args.from 0) c.walk.new.path) = c.bottleneck_of-found.ensures.all in
-    sent c.args.prices.now c.args.levels.now c.args.residual.now c.push_noting.new.residual c.args.surplus.now c.args.lack.now c.args.from c.in-Some.end x path walked roomy
+    sent c.args.prices.now c.args.levels.now c.args.residual.now c.push_noting-filled.new.residual c.args.surplus.now c.args.lack.now c.args.from c.in-Some.end x path walked roomy
     (omega (arith, c.requires.from, c.requires.surplus))
     (omega (arith, walked.member, c.requires.levels, c.requires.lack))
     (omega (arith, c.bottleneck_of-found.ensures.most, c.min-most.ensures))
     (omega (arith, c.bottleneck_of-found.ensures.most, c.min-most.ensures))
-    (ap (λ (r : ResidualData). r.members) c.push_noting.ensures.pushed) (ap (λ (r : ResidualData). r.flows) c.push_noting.ensures.pushed)
+    (ap (λ (r : ResidualData). r.members) c.push_noting-filled.ensures.pushed) (ap (λ (r : ResidualData). r.flows) c.push_noting-filled.ensures.pushed)
 
 pub returns-clause-kept : goal.returns-clause-kept
 returns-clause-kept g c =
@@ -49,7 +54,7 @@ returns-clause-kept g c =
     let path = take (get_or c.args.levels.now c.args.from 0) c.walk.new.path in
     let walked : IsPathDown c.args.residual.now.flows c.args.prices.now c.args.levels.now c.args.lack.now c.args.from c.in-Some.end (take (get_or c.args.levels.now c.args.from 0) c.walk.new.path) = c.in-Some.ensures.path in
     let roomy : All (λ a. c.bottleneck_of-found.result.amount ≤ room c.args.residual.now.flows a) (take (get_or c.args.levels.now c.args.from 0) c.walk.new.path) = c.bottleneck_of-found.ensures.all in
-    shortest_sent x c.args.prices.now c.args.levels.now (get_or c.args.levels.now c.args.from 0) c.args.residual.now c.push_noting.new.residual c.args.surplus.now c.args.lack.now (set c.args.surplus.now c.args.from (get_or c.args.surplus.now c.args.from 0 - x)) (set c.args.lack.now c.in-Some.end (get_or c.args.lack.now c.in-Some.end 0 - x)) c.args.from c.in-Some.end path walked roomy refl (ap (λ (r : ResidualData). r.flows) c.push_noting.ensures.pushed) (returns-clause-along g c) c.requires.shortest
+    shortest_sent x c.args.prices.now c.args.levels.now (get_or c.args.levels.now c.args.from 0) c.args.residual.now c.push_noting-filled.new.residual c.args.surplus.now c.args.lack.now (set c.args.surplus.now c.args.from (get_or c.args.surplus.now c.args.from 0 - x)) (set c.args.lack.now c.in-Some.end (get_or c.args.lack.now c.in-Some.end 0 - x)) c.args.from c.in-Some.end path walked roomy refl (ap (λ (r : ResidualData). r.flows) c.push_noting-filled.ensures.pushed) (returns-clause-along g c) c.requires.shortest
 
 pub returns-clause-pruned : goal.returns-clause-pruned
 returns-clause-pruned g c =
@@ -65,8 +70,8 @@ returns-clause-pruned g c =
     let roomy : All (λ a. c.bottleneck_of-found.result.amount ≤ room c.args.residual.now.flows a) (take (get_or c.args.levels.now c.args.from 0) c.walk.new.path) = c.bottleneck_of-found.ensures.all in
     let plain = plain_path x flows p levels lack c.args.from c.in-Some.end path walked roomy in
     let gone = returns-clause-along g c in
-    let now = ap (λ (r : ResidualData). r.flows) c.push_noting.ensures.pushed in
-    pruned_less c.push_noting.new.residual.flows p lack (set c.args.lack.now c.in-Some.end (get_or c.args.lack.now c.in-Some.end 0 - c.bottleneck_of-found.result.amount)) levels layers n gone.receivers
+    let now = ap (λ (r : ResidualData). r.flows) c.push_noting-filled.ensures.pushed in
+    pruned_less c.push_noting-filled.new.residual.flows p lack (set c.args.lack.now c.in-Some.end (get_or c.args.lack.now c.in-Some.end 0 - c.bottleneck_of-found.result.amount)) levels layers n gone.receivers
     (subst (λ (fs : List Flow). ArePruned fs c.args.prices.now c.args.lack.now c.args.levels.now c.walk.new.layers (get_or c.args.levels.now c.args.from 0 + 1)) (sym now)
     (pruned_walk x p lack levels layers n flows path
     c.bottleneck_of-found.ensures.some
@@ -101,9 +106,44 @@ returns-clause-few g c =
     (omega (arith, walked.member, c.requires.levels, c.requires.lack))
     (omega (arith, c.bottleneck_of-found.ensures.most, c.min-most.ensures))
     (omega (arith, c.bottleneck_of-found.ensures.most, c.min-most.ensures)) fills in
-    let now = ap (λ (r : ResidualData). left_to_do levels r.flows (set surplus c.args.from (get_or surplus c.args.from 0 - x)) (set lack c.in-Some.end (get_or lack c.in-Some.end 0 - x))) c.push_noting.ensures.pushed in
-    omega (arith, less, now, c.push_noting.ensures.counted)
+    let now = ap (λ (r : ResidualData). left_to_do levels r.flows (set surplus c.args.from (get_or surplus c.args.from 0 - x)) (set lack c.in-Some.end (get_or lack c.in-Some.end 0 - x))) c.push_noting-filled.ensures.pushed in
+    omega (arith, less, now, c.push_noting-filled.ensures.counted)
 
 pub returns-clause-shortest : goal.returns-clause-shortest
 returns-clause-shortest g c _ =
     none_is_shorter c.args.residual.now.flows c.args.prices.now c.args.surplus.now c.args.lack.now c.args.levels.now (get_or c.args.levels.now c.args.from 0) c.requires.shortest
+
+pub behind-requires : goal.behind-requires
+behind-requires g c k d l =
+    let x = c.bottleneck_of-found.result.amount in
+    let path = take (get_or c.args.levels.now c.args.from 0) c.walk.new.path in
+    let walked : IsPathDown c.args.residual.now.flows c.args.prices.now c.args.levels.now c.args.lack.now c.args.from c.in-Some.end (take (get_or c.args.levels.now c.args.from 0) c.walk.new.path) = c.in-Some.ensures.path in
+    let plain = plain_path x c.args.residual.now.flows c.args.prices.now c.args.levels.now c.args.lack.now c.args.from c.in-Some.end path walked c.bottleneck_of-found.ensures.all in
+    let same = all_same x c.args.residual.now.flows path (path_can x c.args.residual.now.flows path plain.along) in
+    omega (arith, walked.arcs k d l, same.same_length, ap (λ (r : ResidualData). length r.flows) c.push_noting-filled.ensures.pushed)
+
+pub returns-clause-begun : goal.returns-clause-begun
+returns-clause-begun g c =
+    let top = get_or c.args.levels.now c.args.from 0 in
+    let path = c.walk.new.path in
+    let new = c.push_noting-filled.new.residual in
+    let n = c.behind.result.done in
+    let walked : IsPathDown c.args.residual.now.flows c.args.prices.now c.args.levels.now c.args.lack.now c.args.from c.in-Some.end (take (get_or c.args.levels.now c.args.from 0) c.walk.new.path) = c.in-Some.ensures.path in
+    let trail : IsTrail c.args.residual.now c.args.prices.now c.args.levels.now c.walk.new.layers c.walk.new.path 0 (get_or c.args.levels.now c.args.from 0) c.in-Some.end c.args.from = c.in-Some.ensures.trail in
+    let long : length (take (get_or c.args.levels.now c.args.from 0) c.walk.new.path) ≡ get_or c.args.levels.now c.args.from 0 = omega (arith, walked.long, trail.level) in
+    let within : c.behind.result.done ≤ get_or c.args.levels.now c.args.from 0 = omega (arith, c.behind.ensures.done, c.push_noting-filled.ensures.within, long) in
+    let plain = plain_path c.bottleneck_of-found.result.amount c.args.residual.now.flows c.args.prices.now c.args.levels.now c.args.lack.now c.args.from c.in-Some.end (take (get_or c.args.levels.now c.args.from 0) c.walk.new.path) walked c.bottleneck_of-found.ensures.all in
+    let same = all_same c.bottleneck_of-found.result.amount c.args.residual.now.flows (take top path) (path_can c.bottleneck_of-found.result.amount c.args.residual.now.flows (take top path) plain.along) in
+    record {
+      done = within;
+      trail = trail_behind c.args.residual.now new c.args.prices.now c.args.levels.now c.walk.new.layers path top c.in-Some.end c.args.from n c.behind.result.here c.members-members.ensures.residual
+          (ap (λ (r : ResidualData). r.members) c.push_noting-filled.ensures.pushed)
+          (subst (AreSamePairs c.args.residual.now.flows) (sym (ap (λ (r : ResidualData). r.flows) c.push_noting-filled.ensures.pushed)) same)
+          trail within
+          (λ k lt. omega (arith, c.push_noting-filled.ensures.open k (omega (arith, lt, c.behind.ensures.done)), ap (room new.flows) (get_or-take top path k 0 (omega (arith, lt, within)))))
+          (λ lt. c.behind.ensures.here
+          ∙ cond-true {A = ℕ} (ltb c.push_noting-filled.result (length (take top path))) (tail new.flows (get_or (take top path) c.push_noting-filled.result 0)) c.in-Some.end (lt-ltb c.push_noting-filled.result (length (take top path)) (omega (arith, lt, long, c.behind.ensures.done)))
+          ∙ ap (tail new.flows) (get_or-take top path c.push_noting-filled.result 0 (omega (arith, lt, c.behind.ensures.done))) ∙ ap (λ j. tail new.flows (get_or path j 0)) (sym c.behind.ensures.done))
+          (λ e. c.behind.ensures.here
+          ∙ cond-false {A = ℕ} (ltb c.push_noting-filled.result (length (take top path))) (tail new.flows (get_or (take top path) c.push_noting-filled.result 0)) c.in-Some.end (le-ltb c.push_noting-filled.result (length (take top path)) (omega (arith, e, long, c.behind.ensures.done))));
+    }

@@ -7,6 +7,7 @@ use Rattle.path_solver.proofs.SentAlong.{sent_more}
 use Rattle.path_solver.proofs.Pruned.{pruned_whole, nothing_more}
 use Rattle.path_solver.proofs.Spreads.{amount_in}
 use Rattle.path_solver.proofs.Blocked.{none_at_last}
+use Rattle.path_solver.proofs.Trails.{begun_none}
 use Rattle.path_solver.proofs.sending.send_phase.Goals as goal
 
 pub send_once-requires-clause-pruned : goal.send_once-requires-clause-pruned
@@ -52,3 +53,8 @@ returns-clause-deeper g c =
     (λ v receives. nothing_more (get_or c.args.surplus.now v 0) (get_or c.senders.surplus v 0) (inv.along.senders v) (c.requires.apart v (inv.along.receivers v receives)))
     (λ w receives. amount_in c.senders.lack w receives (length c.args.levels.now) len)
     (λ v on. inv.spent v (c.in_default.ensures.none refl v) on)
+
+pub send_once-requires-clause-begun : goal.send_once-requires-clause-begun
+send_once-requires-clause-begun g c =
+    let source = c.requires.source in
+    begun_none c.args.residual.now c.args.prices.now c.args.levels.now c.args.layers.now c.args.path.now c.args.source (omega (arith, source.member, c.requires.levels)) (record { done = 0; here = c.args.source }) refl refl

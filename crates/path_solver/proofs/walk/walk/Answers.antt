@@ -2,7 +2,8 @@ use Rattle.std.proofs.Common.{◌≡◌, ◌+◌, ◌-◌, ◌<◌, true, false,
 use Rattle.member_set.specs.declared.set.MemberSet.{MemberSet}
 use Rattle.member_set.specs.Members.{has}
 use Rattle.path_solver.specs.Levels.{layer_at, AreWholeLayers}
-use Rattle.path_solver.proofs.Trails.{IsTrail, trail_down, trail_up, trail_path, layers_less, in_layers_less}
+use Rattle.path_solver.specs.Trails.{IsTrail}
+use Rattle.path_solver.proofs.Trails.{trail_down, trail_up, trail_path, layers_less, in_layers_less}
 use Rattle.path_solver.proofs.Ways.{way_leads, no_way_in, some_way}
 use Rattle.path_solver.proofs.Pruned.{IsStuck, pruned_taken, pruned_emptied, out_above, layers_fewer, fewer_taken, fewer_more, out_now}
 use Rattle.path_solver.proofs.walk.walk.Goals as goal
@@ -14,8 +15,16 @@ returns-then-lack-here-gt0-clause-path c =
     (subst (λ n. IsTrail c.args.residual.now c.args.prices.now c.args.levels.now c.steps.layers c.steps.path n (get_or c.args.levels.now c.args.from 0) c.steps.here c.args.from) c.if-level-eq0.true c.steps.invariant.trail)
     (omega (arith, c.requires.top, c.requires.path, c.steps.auto.path)) refl c.requires.levels c.if-lack-here-gt0.true
 
+pub returns-then-lack-here-gt0-clause-trail : goal.returns-then-lack-here-gt0-clause-trail
+returns-then-lack-here-gt0-clause-trail c =
+    subst (λ n. IsTrail c.args.residual.now c.args.prices.now c.args.levels.now c.steps.layers c.steps.path n (get_or c.args.levels.now c.args.from 0) c.steps.here c.args.from) c.if-level-eq0.true c.steps.invariant.trail
+
 pub way_into-requires-clause-few : goal.way_into-requires-clause-few
 way_into-requires-clause-few c = omega (arith, c.requires.neighbours.exits.one_each, c.members-members.ensures.residual.few)
+
+pub way_into-requires-clause-set : goal.way_into-requires-clause-set
+way_into-requires-clause-set c u on =
+    omega (arith, (c.steps.invariant.layers (c.steps.level - 1) u (omega (arith, c.steps.invariant.trail.within)) on).0, c.requires.levels, c.requires.neighbours.rows.one_each)
 
 pub steps-preserved-in-Some : goal.steps-preserved-in-Some
 steps-preserved-in-Some c =
@@ -62,6 +71,16 @@ steps-smaller c =
           (omega (arith, c.steps.invariant.trail.member, c.members-members.ensures.residual.few))
           (subst (λ v. has (layer_at c.steps.layers c.steps.level) v ≡ true) (c.steps.invariant.trail.start less) (c.steps.invariant.trail.kept c.steps.level (omega arith) less)),
     )
+
+pub returns-then-level-top-clause-layers : goal.returns-then-level-top-clause-layers
+returns-then-level-top-clause-layers c =
+    let inside : c.steps.level < length c.steps.layers = omega (arith, c.steps.invariant.trail.within, c.requires.top, c.requires.room, c.steps.auto.layers) in
+    layers_less c.args.levels.now c.steps.layers (get_or c.args.levels.now c.args.from 0 + 1) c.steps.level c.drop_member.new.self c.steps.here inside c.drop_member.ensures c.steps.invariant.layers
+
+pub tail-here-requires : goal.tail-here-requires
+tail-here-requires c =
+    let less : c.steps.level < get_or c.args.levels.now c.args.from 0 = omega (arith, c.if-level-top.false, c.steps.invariant.trail.within) in
+    (c.steps.invariant.trail.rungs c.steps.level (omega arith) less).arc
 
 pub returns-then-level-top-clause-pruned : goal.returns-then-level-top-clause-pruned
 returns-then-level-top-clause-pruned c =

@@ -1,7 +1,8 @@
 use Rattle.std.proofs.Common.{◌≡◌, ◌+◌, ◌*◌, get_or}
 use Rattle.path_solver.specs.Levels.{AreLevels, AreLayers, AreWholeLayers}
 use Rattle.path_solver.specs.Pruned.{ArePruned, AreFewer}
-use Rattle.path_solver.proofs.Trails.{IsTrail, in_layers}
+use Rattle.path_solver.specs.Trails.{IsTrail}
+use Rattle.path_solver.proofs.Trails.{in_layers}
 use Rattle.path_solver.proofs.walk.walk.Given as goal
 
 abbrev pub invariant-steps : goal.invariant-steps
