@@ -22,7 +22,8 @@ pub mod NotedAlong
 pub mod Bottlenecks
 pub mod Near
 pub mod Raised
-pub mod StillClosed
+pub mod Entered
+pub mod WentBack
 pub mod Measured
 pub mod Pruned
 pub mod Blocked

@@ -252,6 +252,18 @@ phase_anew old mid s0 l0 s l p top h = record {
   few = omega (arith, h.few, h.members);
 }
 
+-- a later phase of the same amounts
+pub phase_later : (old mid : ResidualData) (s0 l0 s l p p' : List ℕ) (top later : ℕ) → IsPhase old mid s0 l0 s l p top → IsPhase mid mid s l s l p' later → IsPhase old mid s0 l0 s l p' later
+phase_later old mid s0 l0 s l p p' top later h x = record {
+  members = h.members;
+  pairs = h.pairs;
+  owed = h.owed;
+  priced = x.priced;
+  rated = x.rated;
+  apart = h.apart;
+  few = omega (arith, x.few, h.members);
+}
+
 -- no member has an amount where none is in the set
 pub none_left : (amounts : List ℕ) (set : MemberSet) → HaveSome amounts set → ((v : ℕ) → has set v ≡ false) → (v : ℕ) → get_or amounts v 0 ≡ 0
 none_left amounts set are none v =

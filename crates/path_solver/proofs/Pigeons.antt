@@ -7,6 +7,7 @@ use Rattle.residual_graph.specs.Arcs.{flow_at, no_flow}
 use Rattle.path_solver.specs.Prices.{ArePrices}
 use Rattle.path_solver.specs.Rests.{IsFeasible}
 use Rattle.path_solver.specs.Phases.{AreRated}
+use Rattle.path_solver.specs.Searches.{IsTaken}
 use Rattle.path_solver.proofs.Cuts.{cut, IsClosedSet}
 
 -- a sum of terms of which one is larger
@@ -25,10 +26,6 @@ below_le g x =
     ⊎_elim (λ (l : x < g). omega (arith, cond-true {A = ℕ} (ltb x g) 1 0 (lt-ltb x g l), cond-true {A = ℕ} (ltb x (suc g)) 1 0 (lt-ltb x (suc g) (omega arith))))
     (λ (l : g ≤ x). omega (arith, cond-false {A = ℕ} (ltb x g) 1 0 (le-ltb x g l)))
     (cases_lt x g)
-
--- some place has this number
-abbrev pub IsTaken : List ℕ → ℕ → Type 0
-IsTaken xs g = (v : ℕ) × (v < length xs) × (get_or xs v 0 ≡ g)
 
 counted : (xs : List ℕ) (g : ℕ) → ((h : ℕ) → h < g → IsTaken xs h) → g ≤ sum_by (below g) xs
 counted xs zero taken = omega arith

@@ -4,7 +4,6 @@ use Rattle.std.proofs.lemmas.Bool.{cases_eq, cases_lt, cases_Bool, and_parts, an
 use Rattle.std.proofs.lemmas.List.{get_or_past}
 use Rattle.member_set.specs.declared.set.MemberSet.{MemberSet}
 use Rattle.member_set.specs.Members.{has, no_members}
-use Rattle.residual_graph.specs.declared.flow.Flow.{Flow}
 use Rattle.residual_graph.specs.Residual.{ResidualData, IsResidual}
 use Rattle.residual_graph.specs.Arcs.{arc_count, flow_at, head, tail}
 use Rattle.path_solver.specs.declared.entries.Entry.{Entry}
@@ -12,40 +11,12 @@ use Rattle.path_solver.specs.Prices.{IsTight, IsOpen}
 use Rattle.path_solver.specs.Entries.{AreEntries, IsOpenInto, is_open_to}
 use Rattle.path_solver.specs.Groups.{AreGroups}
 use Rattle.path_solver.specs.Rests.{HaveSome}
-use Rattle.path_solver.specs.Levels.{IsReached, LeadsDown, AreLevels, AreFewest, AreMet, AreShortest, AreCut, IsSource, layer_at, AreLayers, AreWholeLayers}
+use Rattle.path_solver.specs.Levels.{IsReached, LeadsDown, AreLevels, AreMet, AreShortest, AreCut, IsSource, layer_at, AreLayers, AreWholeLayers}
 use Rattle.path_solver.proofs.Near.{near_open, open_near}
 use Rattle.path_solver.proofs.Ends.{ends_in}
-use Rattle.path_solver.proofs.Pigeons.{few_values, IsTaken}
+use Rattle.path_solver.specs.Searches.{AreNext, IsSpread}
+use Rattle.path_solver.proofs.Pigeons.{few_values}
 use Rattle.path_solver.proofs.Twins.{twin_of}
-
--- an open arc leads from this member to one of the last level
-pub record LeadsIn (flows : List Flow) (p levels : List ℕ) (level v a : ℕ) : Type 0 where
-  pub arc : a < arc_count flows
-  pub tail : tail flows a ≡ v
-  pub is_open : IsOpen flows p a
-  pub down : get_or levels (head flows a) 0 + 1 ≡ level
-
--- the members of the set come next, on this level
-pub record AreNext (r : ResidualData) (p lack levels : List ℕ) (level : ℕ) (now : MemberSet) : Type 0 where
-  pub member : (v : ℕ) → has now v ≡ true → v < r.members
-  pub new : (v : ℕ) → has now v ≡ true → get_or levels v 0 ≡ 65535
-  pub lowest : (v : ℕ) → has now v ≡ true → level ≡ 0 → 0 < get_or lack v 0
-  pub led : (v : ℕ) → has now v ≡ true → 0 < level → (a : ℕ) × LeadsIn r.flows p levels level v a
-
--- what was reached below this level
-pub record IsSpread (r : ResidualData) (p surplus lack levels : List ℕ) (level : ℕ) (now reached : MemberSet) : Type 0 where
-  pub one_each : length levels ≡ r.members
-  pub known : (v : ℕ) → (has reached v ≡ true) ↔ ((v < r.members) × IsReached levels v)
-  pub below : (v : ℕ) → v < r.members → IsReached levels v → get_or levels v 0 < level
-  pub lowest : (v : ℕ) → v < r.members → get_or levels v 0 ≡ 0 → 0 < get_or lack v 0
-  pub down : (v : ℕ) → v < r.members → IsReached levels v → 0 < get_or levels v 0 → (a : ℕ) × LeadsDown r.flows p levels v a
-  pub senders : (v : ℕ) → v < r.members → 0 < get_or surplus v 0 → get_or levels v 0 ≡ 65535
-  pub filled : (g : ℕ) → g < level → IsTaken levels g
-  pub next : AreNext r p lack levels level now
-  pub receivers : (v : ℕ) → 0 < get_or lack v 0 → get_or levels v 0 ≡ 65535 → has now v ≡ true
-  pub closed : (a : ℕ) → a < arc_count r.flows → IsOpen r.flows p a → IsReached levels (head r.flows a) → get_or levels (tail r.flows a) 0 ≡ 65535 → has now (tail r.flows a) ≡ true
-  pub fewest : AreFewest r.flows p levels level
-  pub first : (v : ℕ) → v < r.members → 0 < get_or lack v 0 → 0 < level → get_or levels v 0 ≡ 0
 
 -- who has an amount is a member
 pub amount_in : (amounts : List ℕ) (v : ℕ) → 0 < get_or amounts v 0 → (n : ℕ) → length amounts ≡ n → v < n

@@ -1,6 +1,7 @@
 pub mod Prices
 pub mod Rests
 pub mod Levels
+pub mod Searches
 pub mod Paths
 pub mod Phases
 pub mod Entries

@@ -6,16 +6,14 @@ ghost use Rattle.path_solver.specs.Entries.{AreEntries, IsOpenInto, is_open_to};
 ghost use Rattle.path_solver.specs.Groups.{AreGroups};
 ghost use Rattle.path_solver.specs.Rests.{AreApart, HaveSome};
 ghost use Rattle.path_solver.specs.Levels.{IsReached, IsLayered, AreShortest, AreLayers, AreWholeLayers};
+ghost use Rattle.path_solver.specs.Searches.{IsSpread};
 
 use crate::entries::Entry;
+use crate::search::{Search, mark};
 use member_set::MemberSet;
 use residual_graph::Residual;
 
-/// The level of a member from which no open arcs lead to one that has to receive. Else the level tells how
-/// many such arcs the search went back.
-pub const UNREACHED: u16 = u16::MAX;
-
-/// Finds the levels, and a member that has to send on the first level that has one. The last level then
+/// Goes on with a search until it finds a member that has to send, on the first level that has one. The last level then
 /// has those alone, and other members on it or behind it stay unreached. It is not inlined, so that its sets
 /// stay in registers.
 #[inline(never)]
@@ -27,14 +25,12 @@ pub fn layer(
     lack: &[u64],
     groups: &[MemberSet],
     senders: &MemberSet,
-    receivers: &MemberSet,
     levels: &mut [u16],
     layers: &mut [MemberSet],
-    reached: &mut MemberSet,
+    search: &mut Search,
 ) -> Option<u16>
     requires entries { AreEntries residual.now entries.now }
     requires senders { HaveSome surplus.now senders.now }
-    requires receivers { HaveSome lack.now receivers.now }
     requires low { (v : ℕ) → slice_index prices.now v ≤ residual.now.members }
     requires groups { length groups.now ≡ residual.now.members + 3 }
     requires sorted { AreGroups prices.now groups.now }
@@ -44,18 +40,23 @@ pub fn layer(
     requires levels { residual.now.members ≡ length levels.old }
     requires layers { residual.now.members + 1 ≤ length layers.old }
     requires apart { AreApart surplus.now lack.now }
+    requires spread { IsSpread residual.now prices.now surplus.now lack.now levels.old search.old.level search.old.now search.old.seen }
+    requires layered { AreLayers levels.old layers.old search.old.level }
+    requires whole { AreWholeLayers levels.old layers.old search.old.level }
     ensures layered { IsLayered residual.now.flows prices.now surplus.now lack.now levels.new result }
     ensures shortest { IfSome result (λ s. AreShortest residual.now.flows prices.now surplus.now lack.now levels.new (slice_index levels.new s)) }
     ensures layers { IfSome result (λ s. AreLayers levels.new layers.new (slice_index levels.new s + 1)) }
     ensures whole { IfSome result (λ s. AreWholeLayers levels.new layers.new (slice_index levels.new s + 1)) }
     ensures low { IfSome result (λ s. slice_index levels.new s ≤ residual.now.members) }
-    ensures reached { IsNone result → (v : ℕ) → (has reached.new v ≡ true) ↔ ((v < residual.now.members) × IsReached levels.new v) }
+    ensures reached { IsNone result → (v : ℕ) → (has search.new.seen v ≡ true) ↔ ((v < residual.now.members) × IsReached levels.new v) }
+    ensures spread { IsNone result → IsSpread residual.now prices.now surplus.now lack.now levels.new search.new.level search.new.now search.new.seen }
+    ensures passed { IsNone result → AreLayers levels.new layers.new search.new.level }
+    ensures all_passed { IsNone result → AreWholeLayers levels.new layers.new search.new.level }
 {
     let _members = residual.members();
-    forget(levels);
-    let mut seen = MemberSet::new();
-    let mut now = *receivers;
-    let mut level = 0u16;
+    let mut seen = search.seen;
+    let mut now = search.now;
+    let mut level = search.level;
     while !now.is_empty() {
         let met = now.and(senders);
         if !met.is_empty() {
@@ -72,29 +73,8 @@ pub fn layer(
         now = near.without(&seen);
         level += 1;
     }
-    *reached = seen;
+    *search = Search { level, now, seen };
     None
-}
-
-/// No member is reached.
-fn forget(levels: &mut [u16])
-    ensures { (v : ℕ) → v < length levels.old → slice_index levels.new v ≡ 65535 }
-{
-    for level in levels.iter_mut() {
-        *level = UNREACHED;
-    }
-}
-
-/// Puts members on a level.
-fn mark(members: MemberSet, level: u16, levels: &mut [u16])
-    requires { (v : ℕ) → has members v ≡ true → v < length levels.old }
-    ensures marked { (v : ℕ) → has members v ≡ true → slice_index levels.new v ≡ level }
-    ensures others { (v : ℕ) → has members v ≡ false → slice_index levels.new v ≡ slice_index levels.old v }
-{
-    let mut left = members;
-    while let Some(here) = left.take_lowest() {
-        levels[here as usize] = level;
-    }
 }
 
 /// Puts members on a level, and tells from which members open arcs lead to one of them.

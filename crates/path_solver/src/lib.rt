@@ -5,8 +5,9 @@
 //! that has to receive, which are tight. While tight arcs with room lead from members that have to send to such
 //! that have to receive, amounts go along those paths that have the fewest arcs. Where none leads there, the
 //! prices of the members from which no tight arcs lead to one that has to receive rise by 1, and again until a tight
-//! arc leads from one of them to another member. So no arc with room ever costs less than the price that it bridges,
-//! and in the end the prices are the potentials of a certificate.
+//! arc leads from one of them to another member. The search then goes on from the lowest level that such an arc enters.
+//! So no arc with room ever costs less than the price that it bridges, and in the end the prices are the potentials of a
+//! certificate.
 #![tactic(auto)]
 
 mod direct;
@@ -17,7 +18,9 @@ mod lowest;
 mod neighbours;
 mod outside;
 mod paths;
+mod phases;
 mod prices;
+mod search;
 mod sending;
 mod settle;
 mod solver;

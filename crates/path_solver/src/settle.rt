@@ -1,18 +1,15 @@
-//! Phases, until nothing is left to send.
+//! Sends everything that is to be sent, straight where it can go so and else along paths.
 
-ghost use Rattle.std.specs.Prelude.{◌≡◌, ℕ, ◌+◌, ◌*◌, ◌<◌, ◌≤◌, length, slice_index, replicate, IfOk, true, All};
-ghost use Rattle.member_set.specs.Members.{has};
-ghost use Rattle.path_solver.specs.Rests.{IsFeasible, AreApart, HaveSome};
+ghost use Rattle.std.specs.Prelude.{◌≡◌, ◌+◌, ◌*◌, ◌≤◌, length, replicate, IfOk, All};
+ghost use Rattle.path_solver.specs.Rests.{IsFeasible, AreApart};
 ghost use Rattle.path_solver.specs.Phases.{IsPhase, IsSettled};
 ghost use Rattle.path_solver.specs.Counts.{phase_steps};
 
 use crate::direct::{first_prices, send_direct};
 use crate::groups::sort_by_price;
-use crate::layers::{UNREACHED, layer};
 use crate::neighbours::Neighbours;
-use crate::outside::{around, everyone, has_way};
-use crate::prices::raise;
-use crate::sending::send_phase;
+use crate::phases::{settle_phases, those_with};
+use crate::search::UNREACHED;
 use member_set::MemberSet;
 use residual_graph::{Residual, Steps};
 use std::alloc::{AllocError, Global};
@@ -27,38 +24,6 @@ pub fn all_of<T: Copy>(alloc: Global, members: u16, value: T) -> Result<Vec<T>, 
         values.push(value)?;
     }
     Ok(values)
-}
-
-/// The members with an amount.
-fn those_with(amounts: &[u64]) -> MemberSet
-    requires { length amounts.now ≤ 256 }
-    ensures { HaveSome amounts.now result }
-{
-    let mut some = MemberSet::new();
-    for member in 0..amounts.len() {
-        if amounts[member] > 0 {
-            some.put(member as u16);
-        }
-    }
-    some
-}
-
-/// The members of the set that still have an amount.
-fn still_with(amounts: &[u64], members: MemberSet) -> MemberSet
-    requires small { (v : ℕ) → has members v ≡ true → v < length amounts.now }
-    requires all { (v : ℕ) → 0 < slice_index amounts.now v → has members v ≡ true }
-    ensures { HaveSome amounts.now result }
-{
-    let mut some = members;
-    for place in 0..4u16 {
-        let mut left = members.part(place);
-        while let Some(member) = left.take_lowest() {
-            if amounts[member as usize] == 0 {
-                some.drop_member(member);
-            }
-        }
-    }
-    some
 }
 
 /// Sends everything that is to be sent, and answers the prices, which are 0 where nothing is.
@@ -137,54 +102,17 @@ fn settle_rest<L: Ledger>(
     let mut levels = all_of(alloc, members, UNREACHED)?;
     let mut layers = all_of(alloc, members + 1, MemberSet::new())?;
     let mut path = all_of(alloc, members, 0u32)?;
-    let mut senders = those_with(surplus);
-    let mut receivers = those_with(lack);
-    let mut reached = MemberSet::new();
-    let all = everyone(members);
-    let mut top = 1u16;
-    'phases: while !senders.is_empty() {
-        match layer(
-            residual,
-            &neighbours.entries,
-            &prices,
-            surplus,
-            lack,
-            &groups,
-            &senders,
-            &receivers,
-            &mut levels,
-            &mut layers,
-            &mut reached,
-        ) {
-            None => {
-                let near = around(&neighbours.entries, &reached);
-                let others = near.without(&reached).and(&all);
-                'raises: loop {
-                    raise(&mut prices, &mut groups, &levels, &reached, top);
-                    top += 1;
-                    if has_way(&neighbours.exits, &groups, &prices, others, &reached) {
-                        break;
-                    }
-                }
-            }
-            Some(source) => {
-                send_phase(
-                    residual,
-                    &mut neighbours,
-                    &groups,
-                    &prices,
-                    &levels,
-                    surplus,
-                    lack,
-                    &mut layers,
-                    &mut path,
-                    source,
-                    steps,
-                );
-                senders = still_with(surplus, senders);
-                receivers = still_with(lack, receivers);
-            }
-        }
-    }
+    settle_phases(
+        residual,
+        &mut neighbours,
+        &mut groups,
+        &mut prices,
+        &mut levels,
+        surplus,
+        lack,
+        &mut layers,
+        &mut path,
+        steps,
+    );
     Ok(prices)
 }

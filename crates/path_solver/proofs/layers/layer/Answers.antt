@@ -2,15 +2,14 @@ use Rattle.std.proofs.Common.{◌≡◌, ◌+◌, get_or, set, sym, ◌∙◌, s
 use Rattle.path_solver.specs.Levels.{AreLayers, AreWholeLayers}
 use Rattle.std.proofs.lemmas.Bool.{and_from, and_parts}
 use Rattle.member_set.specs.Members.{has}
-use Rattle.path_solver.proofs.Spreads.{few_levels, spread_none, spread_found, shortest_found, spread_more, spread_cut, layers_more, whole_more}
+use Rattle.path_solver.proofs.Spreads.{few_levels, spread_found, shortest_found, spread_more, spread_cut, layers_more, whole_more}
 use Rattle.path_solver.proofs.layers.layer.Goals as goal
 
 pub loop-now-init : goal.loop-now-init
 loop-now-init c = record {
-  spread = spread_none c.args.residual.now c.args.prices.now c.args.surplus.now c.args.lack.now c.forget.new.levels c.args.receivers.now c.new-seen.result (c.forget.auto.levels ∙ sym c.requires.levels) (sym c.requires.lack)
-      (λ v l. c.forget.ensures v (omega (arith, l, c.forget.auto.levels))) c.requires.receivers c.new-seen.ensures c.members-members.ensures.residual;
-  layers = λ k v l. absurd (omega (arith, l));
-  whole = λ k v l. absurd (omega (arith, l));
+  spread = c.requires.spread;
+  layers = c.requires.layered;
+  whole = c.requires.whole;
 }
 
 pub returns-in-Some-clause-layered : goal.returns-in-Some-clause-layered
@@ -63,6 +62,15 @@ returns-clause-layered c =
 
 pub returns-clause-reached : goal.returns-clause-reached
 returns-clause-reached c none = c.loop-now.invariant.spread.known
+
+pub returns-clause-spread : goal.returns-clause-spread
+returns-clause-spread c none = c.loop-now.invariant.spread
+
+pub returns-clause-passed : goal.returns-clause-passed
+returns-clause-passed c none = c.loop-now.invariant.layers
+
+pub returns-clause-all_passed : goal.returns-clause-all_passed
+returns-clause-all_passed c none = c.loop-now.invariant.whole
 
 pub returns-in-Some-clause-layers : goal.returns-in-Some-clause-layers
 returns-in-Some-clause-layers c =

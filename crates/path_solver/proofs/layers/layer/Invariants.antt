@@ -1,6 +1,6 @@
 use Rattle.std.proofs.Common.{◌+◌, ◌-◌}
 use Rattle.path_solver.specs.Levels.{AreLayers, AreWholeLayers}
-use Rattle.path_solver.proofs.Spreads.{IsSpread}
+use Rattle.path_solver.specs.Searches.{IsSpread}
 use Rattle.path_solver.proofs.layers.layer.Given as goal
 
 abbrev pub invariant-loop-now : goal.invariant-loop-now

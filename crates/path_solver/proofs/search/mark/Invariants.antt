@@ -1,6 +1,6 @@
 use Rattle.std.proofs.Common.{◌≡◌, ℕ, true, false, get_or}
 use Rattle.member_set.specs.Members.{has, size}
-use Rattle.path_solver.proofs.layers.mark.Given as goal
+use Rattle.path_solver.proofs.search.mark.Given as goal
 
 abbrev pub invariant-loop-here : goal.invariant-loop-here
 invariant-loop-here l = record {

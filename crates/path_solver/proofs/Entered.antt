@@ -1,15 +1,16 @@
--- No open arc enters the reached members where none is a way of the others around them.
-use Rattle.std.proofs.Common.{◌≡◌, ℕ, ◌+◌, ◌<◌, ◌≤◌, true, false, not, ltb, ◌&&◌, ◌↔◌, List, length, get_or, refl, sym, ap, ◌∙◌, inl, inr, arith, true≢false}
-use Rattle.std.proofs.lemmas.Bool.{false_from_ne_true, lt-ltb, and_parts, and_from, or_cases, or_left, or_right}
+-- Who is entered by an open arc from outside the reached members is told by the ways of the others around them.
+use Rattle.std.proofs.Common.{◌≡◌, ℕ, ◌+◌, ◌<◌, ◌≤◌, true, false, not, ◌&&◌, ◌↔◌, List, length, get_or, refl, ap, ◌∙◌, inl, inr, arith}
+use Rattle.std.proofs.lemmas.Bool.{false_from_ne_true, and_parts, and_from, or_cases, or_left, or_right}
 use Rattle.member_set.specs.declared.set.MemberSet.{MemberSet}
 use Rattle.member_set.specs.Members.{has}
 use Rattle.residual_graph.specs.Residual.{ResidualData, IsResidual}
-use Rattle.residual_graph.specs.Arcs.{head, tail}
+use Rattle.residual_graph.specs.Arcs.{no_flow, head, tail}
 use Rattle.path_solver.specs.declared.neighbours.Neighbours.{Neighbours}
 use Rattle.path_solver.specs.declared.entries.Entry.{Entry}
-use Rattle.path_solver.specs.Entries.{entry_at, is_entry, is_open_to}
+use Rattle.path_solver.specs.Entries.{entry_at, AreEntries, is_entry, is_open_to}
 use Rattle.path_solver.specs.Groups.{group_at, AreGroups}
-use Rattle.path_solver.specs.Levels.{IsReached, IsClosed}
+use Rattle.path_solver.specs.Levels.{IsReached}
+use Rattle.path_solver.specs.Searches.{AreEntered}
 use Rattle.path_solver.specs.Neighbours.{AreNeighbours}
 use Rattle.path_solver.proofs.Ends.{ends_in}
 use Rattle.path_solver.proofs.Near.{open_near}
@@ -25,15 +26,26 @@ entry_of entries groups price here u on =
           or_right (has (entry_at entries here).sellers u) (has (entry_at entries here).buyers u) (and_parts (has (entry_at entries here).buyers u) (has (group_at groups price) u) buying).0
     ]
 
-pub still_closed : (r : ResidualData) (p levels : List ℕ) (n : Neighbours) (groups : List MemberSet) (reached near out others all : MemberSet) → IsResidual r → AreNeighbours r n → AreGroups p groups → r.members ≡ length p → ((v : ℕ) → get_or p v 0 + 3 ≤ length groups)
+-- who has an entry is a member
+pub entry_in : (r : ResidualData) (entries : List Entry) (here u : ℕ) → IsResidual r → AreEntries r entries → here < r.members → is_entry entries here u ≡ true → u < r.members
+entry_in r entries here u residual are l on =
+    elim (or_cases (has (entry_at entries here).sellers u) (has (entry_at entries here).buyers u) on) [
+      | inl selling ↦
+          let k = are.sellers here u l selling in
+          omega (arith, (residual.good k.0 no_flow k.2).seller, k.1.1)
+      | inr buying ↦
+          let k = are.buyers here u l buying in
+          omega (arith, (residual.good k.0 no_flow k.2).buyer, k.1.2)
+    ]
+
+-- each open arc that enters the reached members comes from one of the others around them
+pub all_entered : (r : ResidualData) (p levels : List ℕ) (n : Neighbours) (groups : List MemberSet) (reached near others entered : MemberSet) → IsResidual r → AreNeighbours r n → AreGroups p groups → r.members ≡ length p → ((v : ℕ) → get_or p v 0 + 3 ≤ length groups)
     → ((v : ℕ) → (has reached v ≡ true) ↔ ((v < r.members) × IsReached levels v))
     → ((h u : ℕ) → has reached h ≡ true → is_entry n.entries.items h u ≡ true → has near u ≡ true)
-    → ((u : ℕ) → has out u ≡ (has near u && not (has reached u)))
-    → ((u : ℕ) → has others u ≡ (has out u && has all u))
-    → ((u : ℕ) → has all u ≡ ltb u r.members)
-    → ((u h : ℕ) → has others u ≡ true → has reached h ≡ true → is_open_to n.exits.items groups (get_or p u 0) u h ≡ false)
-    → IsClosed r.flows p levels
-still_closed r p levels n groups reached near out others all residual are sorted one_each long known around without anded every none a l is_open at_head q =
+    → ((u : ℕ) → has others u ≡ (has near u && not (has reached u)))
+    → ((u h : ℕ) → has others u ≡ true → has reached h ≡ true → is_open_to n.exits.items groups (get_or p u 0) u h ≡ true → has entered h ≡ true)
+    → AreEntered r.flows p levels entered
+all_entered r p levels n groups reached near others entered residual are sorted one_each long known around without ways a l is_open at_head q =
     let ends = ends_in r residual a l in
     let in_tail : tail r.flows a < r.members = ends.0 in
     let in_head : head r.flows a < r.members = ends.1 in
@@ -41,7 +53,6 @@ still_closed r p levels n groups reached near out others all residual are sorted
     let off : has reached (tail r.flows a) ≡ false = false_from_ne_true (has reached (tail r.flows a)) (λ e. ((known (tail r.flows a)).0 e).1 q) in
     let entering = open_near r p n.entries.items groups (head r.flows a) residual are.entries sorted in_head one_each (omega (arith, long (head r.flows a))) a l is_open refl in
     let close : has near (tail r.flows a) ≡ true = around (head r.flows a) (tail r.flows a) on (entry_of n.entries.items groups (get_or p (head r.flows a) 0) (head r.flows a) (tail r.flows a) entering) in
-    let outside : has out (tail r.flows a) ≡ true = without (tail r.flows a) ∙ and_from (has near (tail r.flows a)) (not (has reached (tail r.flows a))) close (ap not off) in
-    let other : has others (tail r.flows a) ≡ true = anded (tail r.flows a) ∙ and_from (has out (tail r.flows a)) (has all (tail r.flows a)) outside (every (tail r.flows a) ∙ lt-ltb (tail r.flows a) r.members in_tail) in
+    let other : has others (tail r.flows a) ≡ true = without (tail r.flows a) ∙ and_from (has near (tail r.flows a)) (not (has reached (tail r.flows a))) close (ap not off) in
     let leaving = open_exit r p n groups (tail r.flows a) residual are sorted in_tail one_each (omega (arith, long (tail r.flows a))) a l is_open refl in
-    true≢false (sym leaving ∙ none (tail r.flows a) (head r.flows a) other on)
+    ways (tail r.flows a) (head r.flows a) other on leaving
