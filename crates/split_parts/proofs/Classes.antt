@@ -1,28 +1,16 @@
 -- The members of one label, and all such lists of two members and more.
 use Rattle.std.proofs.Common.{◌≡◌, ◌≢◌, ℕ, zero, suc, ◌<◌, ◌≤◌, ◌+◌, List, [], ◌∷◌, ◌++◌, length, get_or, refl, sym, ap, ◌∙◌, subst, arith, ⊎_elim}
 use Rattle.std.specs.Prelude.{Any, Contains}
-use Rattle.std.proofs.lemmas.Bool.{cases_eq}
+use Rattle.std.proofs.lemmas.Bool.{cases_eq, cases_lt}
 use Rattle.std.proofs.lemmas.List.{length-append, get_or_default}
 use Rattle.std.proofs.lemmas.List.Elements.{All-push, All-weaker, Contains-append_left, Contains-push, Contains-push_cases}
 use Rattle.std.proofs.lemmas.List.Quantifiers.{all_pairs_push, Any-push}
-use Rattle.split_parts.specs.Labels.{IsClassTo, IsClass, AreClassesTo}
+use Rattle.split_parts.specs.Labels.{AreNext, IsClassTo, IsClass, AreClassesTo}
 
 pub front : {X : Type 0} (xs ys : List X) (k : ℕ) (d : X) → k < length xs → get_or (xs ++ ys) k d ≡ get_or xs k d
 front [] ys k d l = absurd (omega arith)
 front (x ∷ xs) ys zero d l = refl
 front (x ∷ xs) ys (suc k) d l = front xs ys k d (omega arith)
-
-pub class_first : (labels : List ℕ) (l : ℕ) → l < length labels → get_or labels l 0 ≡ l → ((m : ℕ) → m < length labels → get_or labels m 0 ≤ m) → IsClassTo labels l (l + 1) (l ∷ [])
-class_first labels l inside own low = record {
-  rising = λ i j d lt lj. absurd (omega arith);
-  head = refl;
-  filled = omega arith;
-  each = λ m h. let e = only h in (omega arith, ap (λ x. get_or labels x 0) (sym e) ∙ own);
-  every = λ m lt e. let le = low m (omega arith) in let is : l ≡ m = omega arith in (0, omega arith, is);
-}
-  where
-    only : {m : ℕ} → Contains (l ∷ []) m → l ≡ m
-    only {m} h = let zero_ : h.0 ≡ 0 = (let lt = h.1 in omega arith) in (let e = h.2 in ap (λ k. get_or (l ∷ []) k m) (sym zero_) ∙ e)
 
 pub class_yes : (labels : List ℕ) (l n : ℕ) (part part' : List ℕ) → IsClassTo labels l n part → get_or labels n 0 ≡ l → part' ≡ part ++ n ∷ [] → IsClassTo labels l (n + 1) part'
 class_yes labels l n part part' c e is = subst (IsClassTo labels l (n + 1)) (sym is) (record {
@@ -36,15 +24,21 @@ class_yes labels l n part part' c e is = subst (IsClassTo labels l (n + 1)) (sym
       (cases_eq m n);
 })
 
-pub class_no : (labels : List ℕ) (l n : ℕ) (part : List ℕ) → IsClassTo labels l n part → get_or labels n 0 ≢ l → IsClassTo labels l (n + 1) part
-class_no labels l n part c ne = record {
+-- the members up to one place more have it too, where none between has the label
+class_past : (labels : List ℕ) (l n n' : ℕ) (part : List ℕ) → IsClassTo labels l n part → n ≤ n' → ((m : ℕ) → n ≤ m → m < n' → get_or labels m 0 ≢ l) → IsClassTo labels l n' part
+class_past labels l n n' part c le none = record {
   rising = c.rising;
   head = c.head;
   filled = c.filled;
   each = λ m h. let o = c.each m h in (omega (arith, o.0), o.1);
-  every = λ m lt q.
-      ⊎_elim (λ (here : m ≡ n). absurd (ne (ap (λ x. get_or labels x 0) (sym here) ∙ q))) (λ (o : m ≢ n). c.every m (omega arith) q) (cases_eq m n);
+  every = λ m lt q. ⊎_elim (λ (b : m < n). c.every m b q) (λ (p : n ≤ m). absurd (none m p lt q)) (cases_lt m n);
 }
+
+-- up to the next member with the label
+pub class_next : (labels next part : List ℕ) (l n : ℕ) → AreNext labels next → n < length labels → get_or labels n 0 ≡ l → IsClassTo labels l (n + 1) part → IsClassTo labels l (get_or next n 0) part
+class_next labels next part l n a within e c =
+    let f = a.each n within in
+    class_past labels l (n + 1) (get_or next n 0) part c f.behind (λ m le lt q. f.none m le lt (q ∙ sym e))
 
 any_left : (P : List ℕ → Type 0) (parts : List (List ℕ)) (part : List ℕ) → Any P parts → Any P (parts ++ part ∷ [])
 any_left P parts part h = (h.0, h.1, (let l = h.2 in omega (arith, length-append parts (part ∷ []))), front parts (part ∷ []) h.0 h.1 h.2 ∙ h.3, h.4)

@@ -1,8 +1,7 @@
 -- The steps of putting parts together.
-use Rattle.std.proofs.Common.{◌≡◌, ◌≢◌, ℕ, zero, suc, ◌<◌, ◌+◌, List, [], ◌∷◌, ◌++◌, length, get_or, drop, take, map, Some, None, ℤ, ◌⊎◌, inl, inr, refl, sym, ap, ◌∙◌, subst, arith}
-use Rattle.std.specs.Prelude.{All, IsPermutation}
-use Rattle.std.proofs.lemmas.List.{drop_more, take_all, take-append-le}
-use Rattle.std.proofs.lemmas.List.Sorted.{IsPermutation-trans, IsPermutation-append_comm, IsPermutation-append_left}
+use Rattle.std.proofs.Common.{◌≡◌, ◌≢◌, ℕ, zero, suc, ◌<◌, ◌≤◌, ◌+◌, List, [], ◌∷◌, ◌++◌, length, get_or, drop, take, map, Some, None, ℤ, ◌⊎◌, inl, inr, refl, sym, ap, ◌∙◌, subst, append_assoc, arith}
+use Rattle.std.specs.Prelude.{All}
+use Rattle.std.proofs.lemmas.List.{append-nil, drop_all, drop_more, take_all, take-append-le}
 use Rattle.network_laws.specs.declared.rows.Row.{Row}
 use Rattle.network_laws.specs.Limits.{potential}
 use Rattle.network_laws.specs.Solutions.{SolutionData, IsSolution}
@@ -29,13 +28,17 @@ good_read n parts ss k part s h l ip is = subst (λ p. IsGoodPart n p s) (sym ip
 dropped : {X : Type 0} (xs : List X) (k : ℕ) (x : X) → k < length xs → x ≡ get_or xs k x → drop k xs ≡ x ∷ drop (k + 1) xs
 dropped xs k x l is = drop_more xs k x l ∙ ap (λ z. z ∷ drop (k + 1) xs) (sym is)
 
-pub rows_step : (parts : List (List ℕ)) (ss : List SolutionData) (k : ℕ) (part : List ℕ) (s : SolutionData) (rows rows' : List Row) → k < length parts → k < length ss → part ≡ get_or parts k part → s ≡ get_or ss k s → IsPermutation (rows_of (drop (k + 1) parts) (drop (k + 1) ss)) rows → rows' ≡ rows ++ map (named part) s.network.rows → IsPermutation (rows_of (drop k parts) (drop k ss)) rows'
-rows_step parts ss k part s rows rows' l l' ip is before e =
+-- with the rows of one part more, what was put together and what is left are still all rows
+pub rows_step : (parts : List (List ℕ)) (ss : List SolutionData) (k : ℕ) (part : List ℕ) (s : SolutionData) (rows rows' all : List Row) → k < length parts → k < length ss → part ≡ get_or parts k part → s ≡ get_or ss k s → rows ++ rows_of (drop k parts) (drop k ss) ≡ all → rows' ≡ rows ++ map (named part) s.network.rows → rows' ++ rows_of (drop (k + 1) parts) (drop (k + 1) ss) ≡ all
+rows_step parts ss k part s rows rows' all l l' ip is before e =
     let new = map (named part) s.network.rows in
-    let old = rows_of (drop (k + 1) parts) (drop (k + 1) ss) in
-    let P : List Row → Type 0 = λ xs. IsPermutation xs rows' in
-    let one : rows_of (drop k parts) (drop k ss) ≡ new ++ old = ap (λ ps. rows_of ps (drop k ss)) (dropped parts k part l ip) ∙ ap (rows_of (part ∷ drop (k + 1) parts)) (dropped ss k s l' is) in
-    subst P (sym one) (subst (IsPermutation (new ++ old)) (sym e) (IsPermutation-trans (new ++ old) (old ++ new) (rows ++ new) (IsPermutation-append_comm new old) (IsPermutation-append_left new old rows before)))
+    let left = rows_of (drop (k + 1) parts) (drop (k + 1) ss) in
+    let one : rows_of (drop k parts) (drop k ss) ≡ new ++ left = ap (λ ps. rows_of ps (drop k ss)) (dropped parts k part l ip) ∙ ap (rows_of (part ∷ drop (k + 1) parts)) (dropped ss k s l' is) in
+    ap (λ xs. xs ++ left) e ∙ append_assoc rows new left ∙ ap (λ xs. rows ++ xs) (sym one) ∙ before
+
+-- behind the last part nothing is left
+pub rows_done : (parts : List (List ℕ)) (ss : List SolutionData) (k : ℕ) (rows all : List Row) → length parts ≤ k → rows ++ rows_of (drop k parts) (drop k ss) ≡ all → rows ≡ all
+rows_done parts ss k rows all le e = sym (append-nil rows) ∙ ap (λ ps. rows ++ rows_of ps (drop k ss)) (sym (drop_all k parts le)) ∙ e
 
 pub potentials_step : (parts : List (List ℕ)) (ss : List SolutionData) (k : ℕ) (part : List ℕ) (s : SolutionData) (m : ℕ) → k < length parts → k < length ss → part ≡ get_or parts k part → s ≡ get_or ss k s → potential_in (drop k parts) (drop k ss) m ≡ own_or (number_in part m) s.potentials (potential_in (drop (k + 1) parts) (drop (k + 1) ss) m)
 potentials_step parts ss k part s m l l' ip is = ap (λ ps. potential_in ps (drop k ss) m) (dropped parts k part l ip) ∙ ap (λ xs. potential_in (part ∷ drop (k + 1) parts) xs m) (dropped ss k s l' is)

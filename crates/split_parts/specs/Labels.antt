@@ -1,5 +1,5 @@
 -- Labels of members: joined members have the same, which is the smallest of them.
-use Rattle.std.specs.Prelude.{◌≡◌, ◌≢◌, ℕ, ◌<◌, ◌≤◌, max, min, ◌⊎◌, ◌==◌, if◌then◌else◌, List, length, slice_index, slice_index_or, Some, All, AllPairs, Any, Contains}
+use Rattle.std.specs.Prelude.{◌≡◌, ◌≢◌, ℕ, ◌<◌, ◌≤◌, ◌+◌, max, min, ◌⊎◌, ◌==◌, if◌then◌else◌, List, length, slice_index, slice_index_or, Some, All, AllPairs, Any, Contains}
 use Rattle.network_laws.specs.declared.rows.LimitRow.{LimitRow}
 use Rattle.network_laws.specs.Limits.{LimitsData}
 use Rattle.split_parts.specs.Chains.{IsOpen, AreJoined}
@@ -46,6 +46,18 @@ LeadsOn row parents parents' =
 -- the pairs of the first rows, where they are open, have the same label
 abbrev pub CoversTo : List LimitRow → ℕ → List ℕ → Type 0
 CoversTo rows n labels = (k : ℕ) (d : LimitRow) → k < n → k < length rows → (slice_index_or rows k d).upper ≢ Some 0 → slice_index labels (slice_index_or rows k d).seller ≡ slice_index labels (slice_index_or rows k d).buyer
+
+-- n is the first member from a place on that has the label, or the number of members where none has it
+pub record IsFirstFrom (labels : List ℕ) (from label n : ℕ) : Type 0 where
+  pub behind : from ≤ n
+  pub within : n ≤ length labels
+  pub here : n < length labels → slice_index labels n ≡ label
+  pub none : (m : ℕ) → from ≤ m → m < n → slice_index labels m ≢ label
+
+-- for each member the next one with its label, or the number of members where there is none
+pub record AreNext (labels next : List ℕ) : Type 0 where
+  pub size : length next ≡ length labels
+  pub each : (m : ℕ) → m < length labels → IsFirstFrom labels (m + 1) (slice_index labels m) (slice_index next m)
 
 -- the members below n that have the label l, which is the first of them
 pub record IsClassTo (labels : List ℕ) (l n : ℕ) (part : List ℕ) : Type 0 where

@@ -22,14 +22,14 @@ impl Model for Draft {
 }
 
 impl Draft {
-    /// No row.
-    pub fn new(alloc: Global) -> Draft
-        ensures { result ≡ record { limits = []; rows = [] } }
+    /// No row yet, with room for so many rows of each.
+    pub fn with_capacity(alloc: Global, rows: usize) -> Result<Draft, AllocError>
+        ensures { IfOk result (λ draft. draft ≡ record { limits = []; rows = [] }) }
     {
-        Draft {
-            limits: Vec::new(alloc),
-            rows: Vec::new(alloc),
-        }
+        Ok(Draft {
+            limits: Vec::with_capacity(alloc, rows)?,
+            rows: Vec::with_capacity(alloc, rows)?,
+        })
     }
 
     /// Adds a row of the limits.

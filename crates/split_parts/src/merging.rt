@@ -1,6 +1,6 @@
 //! The solutions of parts, put together.
 //!
-//! From the last part to the first, so that what is put together is always the answer of the parts from one on.
+//! Rows go from the first part to the last: where no part stands between the members of another, they are in order.
 
 ghost use Rattle.std.specs.Prelude.{◌≡◌, ◌<◌, ℕ, ◌++◌, length, map, slice_index_or, replicate, All, IfOk, IsPermutation, ℤ, pos};
 ghost use Rattle.network_laws.specs.Limits.{potential};
@@ -66,9 +66,7 @@ fn merged_rows(
     ensures order { IfOk result (λ rows. IsNonDecreasingBy place rows.items) }
 {
     let mut rows = Vec::new(alloc);
-    let mut at = parts.len();
-    while at > 0 {
-        at -= 1;
+    for at in 0..parts.len() {
         add_rows(
             parts[at].members(),
             solutions[at].network().rows(),

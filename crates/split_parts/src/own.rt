@@ -87,6 +87,13 @@ fn add_rows(drafts: &mut [Draft], places: &[Option<Place>], rows: &[Row]) -> Res
     Ok(())
 }
 
+// How many rows to make room for at first: one for each pair of the part, but no more than there are.
+fn room_for(part: &Part, limits: &Limits) -> usize {
+    let members = part.members().len();
+    let pairs = members.saturating_mul(members.saturating_sub(1));
+    pairs.min(limits.rows().len())
+}
+
 // The rows of each part.
 fn drafts_of(
     alloc: Global,
@@ -100,9 +107,10 @@ fn drafts_of(
     ensures rows { IfOk result (λ drafts. AreDrafts (λ k. own_limit_rows limits.now (slice_index_or parts.now k [])) (λ k. own_rows network.now (slice_index_or parts.now k [])) drafts.items) }
 {
     let places = places_of(alloc, limits.members(), parts)?;
-    let mut drafts = Vec::new(alloc);
-    for _ in parts {
-        drafts.push(Draft::new(alloc))?;
+    let mut drafts = Vec::with_capacity(alloc, parts.len())?;
+    for part in parts {
+        let draft = Draft::with_capacity(alloc, room_for(part, limits))?;
+        drafts.push(draft)?;
     }
     add_limits(&mut drafts, &places, limits.rows())?;
     add_rows(&mut drafts, &places, network.rows())?;

@@ -1,8 +1,11 @@
 use Rattle.std.proofs.Common.{◌+◌, ◌∙◌, ◌++◌, ◌∷◌, [], ap, List, ℕ, sym, subst, arith}
-use Rattle.split_parts.specs.Labels.{AreClassesTo}
+use Rattle.split_parts.specs.Labels.{AreNext, AreClassesTo}
 use Rattle.split_parts.proofs.Classes.{classes_yes, classes_one, classes_skip}
 use Rattle.split_parts.proofs.members.parts_with.Goals as goal
 use Rattle.split_parts.proofs.members.parts_with.Goals.{then-labels-member+in_ok-members+then-len-gt1+in_ok-push, then-labels-member+in_ok-members+else-len-gt1, else-labels-member}
+
+pub members_with-requires-clause-next : goal.members_with-requires-clause-next
+members_with-requires-clause-next c = subst (AreNext c.args.labels.now) (sym c.deref.ensures.value) c.in_ok-next.ensures
 
 pub loop-member-preserved : goal.loop-member-preserved
 loop-member-preserved c =
