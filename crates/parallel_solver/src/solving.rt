@@ -25,7 +25,7 @@ fn taken(
     ensures size { IfOk result (λ own. length own.items ≡ count) }
     ensures rest { IfOk result (λ own. own.items ++ solutions.new.rest.items ≡ solutions.old.rest.items) }
 {
-    let mut own = Vec::new(alloc);
+    let mut own = Vec::with_capacity(alloc, count)?;
     for _ in 0..count {
         let Some(solution) = solutions.next() else {
             unreachable!()
