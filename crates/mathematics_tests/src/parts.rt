@@ -2,6 +2,7 @@
 
 use crate::networks::{Bound, Market, Sale, has_rows, unbounded};
 use crate::problems::problem_of;
+use network_laws::Solution;
 use outside::OpenGate;
 use parallel_solver::solve_all;
 use path_solver::PathSolver;
@@ -40,6 +41,11 @@ const PAIR_BOUNDS: [Bound; 5] = [
     (4, 0, 1, Some(1)),
 ];
 
+// One pair among five members, whose sale has to stay.
+const LINK: [Sale; 1] = [(1, 3, 5)];
+
+const LINK_BOUNDS: [Bound; 1] = [(1, 3, 5, Some(9))];
+
 // A chain of pairs that are open in one direction alone, from its last member to its first.
 const CHAIN_BOUNDS: [Bound; 2] = [(1, 0, 0, None), (2, 1, 0, Some(3))];
 
@@ -55,31 +61,42 @@ fn are_parts(parts: &Parts, members: &[&[u16]]) -> bool {
     true
 }
 
-/// Whether a market has these parts, and their solutions put together have these rows, with a potential of 0 for the
-/// members that are in none.
+// Whether a solution has these rows, and a potential of 0 for each member that is in none of the parts.
+fn suits(solution: &Solution, members: &[&[u16]], least: &[Sale]) -> bool {
+    for (member, potential) in solution.potentials().iter().enumerate() {
+        if *potential != 0 && members.iter().all(|list| !list.contains(&(member as u16))) {
+            return false;
+        }
+    }
+    has_rows(solution.network(), least)
+}
+
+/// Whether a market has these parts, and these rows are its solution, both where the parts' solutions are put together and
+/// where the market is solved as a whole.
 fn is_solved_apart<R: Threads + Sync + AllocGlobal>(
     rt: &R,
     market: Market<'_>,
     members: &[&[u16]],
     least: &[Sale],
 ) -> Result<bool, Fail> {
+    let solver = PathSolver::new(rt.alloc());
     let problem = problem_of(rt.alloc(), market)?;
     let parts = split(rt.alloc(), problem.limits(), problem.network())?;
-    let solver = PathSolver::new(rt.alloc());
     let solutions = solve_all(rt, rt.alloc(), 2, parts.problems(), &solver, &OpenGate)?;
     let merged = merge(rt.alloc(), &parts, problem.network().members(), &solutions)?;
-    for (member, potential) in merged.potentials().iter().enumerate() {
-        if *potential != 0 && members.iter().all(|list| !list.contains(&(member as u16))) {
-            return Ok(false);
-        }
-    }
-    Ok(are_parts(&parts, members) && has_rows(merged.network(), least))
+    let mut problems = Vec::new(rt.alloc());
+    problems.push(problem)?;
+    let solved = solve_all(rt, rt.alloc(), 2, &problems, &solver, &OpenGate)?;
+    let Some(whole) = solved.first() else {
+        return Ok(false);
+    };
+    Ok(are_parts(&parts, members) && suits(&merged, members, least) && suits(whole, members, least))
 }
 
 #[test]
 fn parts_are_solved_apart(rt: HostRuntime) -> Result<(), Fail> {
     let free = unbounded(rt.alloc(), 6)?;
-    let cases: [(u16, &[Sale], &[Bound], &[&[u16]], &[Sale]); 5] = [
+    let cases: [(u16, &[Sale], &[Bound], &[&[u16]], &[Sale]); 6] = [
         (6, &RINGS, &RING_BOUNDS, &[&[0, 1, 2], &[3, 4, 5]], &[]),
         (6, &RINGS, &free, &[&[0, 1, 2, 3, 4, 5]], &[]),
         (
@@ -89,6 +106,7 @@ fn parts_are_solved_apart(rt: HostRuntime) -> Result<(), Fail> {
             &[&[0, 4], &[1, 3]],
             &[(0, 4, 5), (1, 3, 5), (4, 0, 1)],
         ),
+        (5, &LINK, &LINK_BOUNDS, &[&[1, 3]], &LINK),
         (3, &[], &CHAIN_BOUNDS, &[&[0, 1, 2]], &[]),
         (3, &[], &[], &[], &[]),
     ];

@@ -3,7 +3,7 @@ use Rattle.std.specs.Prelude.{List, [], ◌∷◌, ◌++◌, Option, Some, None}
 use Rattle.network_laws.specs.Solutions.{ProblemData}
 use Rattle.split_parts.specs.Parts.{PartsData, IsCut}
 
--- the parts of each problem, in order; none are told where a problem has just one
+-- the parts of each problem, in order; none are told where one part has all members
 abbrev pub AreCuts : List ProblemData → List (Option PartsData) → Type 0
 AreCuts [] [] = Unit {0}
 AreCuts (problem ∷ problems) (cut ∷ cuts) = IsCut problem.limits problem.network cut × AreCuts problems cuts

@@ -1,4 +1,4 @@
-//! The pieces of problems: the parts of each, and where a problem has just one part, the problem itself.
+//! The pieces of problems: the parts of each, and where one part has all members, the problem itself.
 
 use network_laws::Problem;
 use std::marker::Model;
@@ -21,16 +21,16 @@ impl<'a> Model for Pieces<'a> {
 ghost use Rattle.std.specs.Prelude.{◌≡◌, ◌<◌, ◌+◌, ◌++◌, [], length, slice_get, Some, IfOk};
 ghost use Rattle.parallel_solver.specs.Cuts.{pieces_in, pieces_of, AreCuts};
 
-use split_parts::{Parts, split_unless_one};
+use split_parts::{Parts, split_unless_whole};
 use std::alloc::{AllocError, Global};
 
-/// The parts of each problem that has not just one.
+/// The parts of each problem, but where one part has all members.
 pub fn cuts_of(alloc: Global, problems: &[Problem]) -> Result<Vec<Option<Parts>>, AllocError>
     ensures { IfOk result (λ cuts. AreCuts problems.now cuts.items) }
 {
     let mut cuts = Vec::new(alloc);
     for problem in problems {
-        let cut = split_unless_one(alloc, problem.limits(), problem.network())?;
+        let cut = split_unless_whole(alloc, problem.limits(), problem.network())?;
         cuts.push(cut)?;
     }
     Ok(cuts)

@@ -83,7 +83,7 @@ fn merged(
 }
 
 /// A certified solution for each problem, in order, by so many workers, each of which claims one piece after another: a part
-/// of a problem, or a problem that has just one part. The only error is want of memory.
+/// of a problem, or a problem of which one part has all members. The only error is want of memory.
 pub fn solve_all<R: Threads + Sync, V: Solver, G: Gate>(
     rt: &R,
     alloc: Global,

@@ -41,7 +41,12 @@ pub record ArePartsOf (limits : LimitsData) (y : NetworkData) (parts : PartsData
   pub members : IsPartition limits parts.members
   pub problems : parts.problems ≡ map (own_problem limits y) parts.members
 
--- the parts of limits, each with its own limits and network; or none told, where there is just one
+-- a part that has all members
+pub record IsOnePart (limits : LimitsData) (part : List ℕ) : Type 0 where
+  pub alone : IsPartition limits (part ∷ [])
+  pub whole : length part ≡ limits.members
+
+-- the parts of limits, each with its own limits and network; or none told, where one part has all members
 abbrev pub IsCut : LimitsData → NetworkData → Option PartsData → Type 0
-IsCut limits y None = (part : List ℕ) × IsPartition limits (part ∷ [])
-IsCut limits y (Some parts) = ArePartsOf limits y parts × (length parts.members ≢ 1)
+IsCut limits y None = (part : List ℕ) × IsOnePart limits part
+IsCut limits y (Some parts) = ArePartsOf limits y parts × ((part : List ℕ) → parts.members ≡ part ∷ [] → length part ≢ limits.members)

@@ -17,4 +17,4 @@ mod places;
 pub use law::merged_is_solution;
 pub use merging::merge;
 pub use part::Part;
-pub use parts::{Parts, split, split_unless_one};
+pub use parts::{Parts, split, split_unless_whole};

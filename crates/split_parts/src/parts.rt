@@ -66,9 +66,9 @@ pub fn split(alloc: Global, limits: &Limits, network: &Network) -> Result<Parts,
     Ok(Parts { members, problems })
 }
 
-/// The parts of the limits, as `split` gives them. `None` where there is just one: such a problem is solved as it stands.
-/// The only error is want of memory.
-pub fn split_unless_one(
+/// The parts of the limits, as `split` gives them. `None` where one part has all members: such a problem is solved as it
+/// stands. The only error is want of memory.
+pub fn split_unless_whole(
     alloc: Global,
     limits: &Limits,
     network: &Network,
@@ -78,7 +78,7 @@ pub fn split_unless_one(
     ensures { IfOk result (IsCut limits.now network.now) }
 {
     let members = members_of(alloc, limits)?;
-    if members.len() == 1 {
+    if members.len() == 1 && members[0].members().len() == limits.members() as usize {
         return Ok(None);
     }
     let problems = problems_of(alloc, limits, network, &members)?;
