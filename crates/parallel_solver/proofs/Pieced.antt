@@ -1,10 +1,11 @@
 -- Problems, their cuts, and the solutions of their pieces.
-use Rattle.std.proofs.Common.{◌≡◌, ℕ, zero, suc, ◌≤◌, ◌⊎◌, inl, inr, ◌+◌, ◌-◌, ◌<◌, List, [], ◌∷◌, ◌++◌, length, take, drop, get_or, slice_get, Option, Some, None, append_assoc, sym, subst, ap, ◌∙◌, arith, refl}
+use Rattle.std.proofs.Common.{◌≡◌, ℕ, zero, suc, ◌≤◌, ◌⊎◌, inl, inr, ◌+◌, ◌-◌, ◌<◌, List, [], ◌∷◌, ◌++◌, length, take, drop, get_or, slice_get, Some, None, append_assoc, sym, subst, ap, ◌∙◌, arith, refl}
 use Rattle.std.proofs.lemmas.List.{append-nil, take_more, drop_more, length-append, length-take-le}
 use Rattle.std.proofs.lemmas.Option.{slice_get_cases, slice_get_within, get_or_from_slice_get}
 use Rattle.network_laws.specs.Solutions.{ProblemData, SolutionData}
 use Rattle.network_laws.specs.Solved.{IsSolved, AreSolved}
-use Rattle.split_parts.specs.Parts.{PartsData, IsCut}
+use Rattle.split_parts.specs.declared.parts.Cut.{Cut}
+use Rattle.split_parts.specs.Cut.{IsCut}
 use Rattle.parallel_solver.specs.Cuts.{AreCuts, pieces_in, pieces_of}
 
 -- what stands at a place, as a list
@@ -46,40 +47,40 @@ one_solved p s own new is h = last new (subst (AreSolved (p ∷ [])) is h)
     last (x ∷ (y ∷ new)) h = absurd h.1
 
 -- as many cuts as problems
-pub cuts_length : (problems : List ProblemData) (cuts : List (Option PartsData)) → AreCuts problems cuts → length problems ≡ length cuts
+pub cuts_length : (problems : List ProblemData) (cuts : List Cut) → AreCuts problems cuts → length problems ≡ length cuts
 cuts_length [] [] h = refl
 cuts_length [] (c ∷ cuts) h = absurd h
 cuts_length (p ∷ problems) [] h = absurd h
 cuts_length (p ∷ problems) (c ∷ cuts) h = let rest = cuts_length problems cuts h.1 in omega arith
 
-cuts_last : (problems : List ProblemData) (cuts : List (Option PartsData)) (p : ProblemData) (c : Option PartsData) → AreCuts problems cuts → IsCut p.limits p.network c → AreCuts (problems ++ p ∷ []) (cuts ++ c ∷ [])
+cuts_last : (problems : List ProblemData) (cuts : List Cut) (p : ProblemData) (c : Cut) → AreCuts problems cuts → IsCut p.limits p.network c → AreCuts (problems ++ p ∷ []) (cuts ++ c ∷ [])
 cuts_last [] [] p c h now = (now, tt)
 cuts_last [] (d ∷ cuts) p c h now = absurd h
 cuts_last (q ∷ problems) [] p c h now = absurd h
 cuts_last (q ∷ problems) (d ∷ cuts) p c h now = (h.0, cuts_last problems cuts p c h.1 now)
 
 -- one problem more is cut
-pub cuts_more : (k : ℕ) (problems : List ProblemData) (p d : ProblemData) (cuts cuts' : List (Option PartsData)) (c : Option PartsData) → k < length problems → get_or problems k d ≡ p → cuts' ≡ cuts ++ c ∷ [] →
+pub cuts_more : (k : ℕ) (problems : List ProblemData) (p d : ProblemData) (cuts cuts' : List Cut) (c : Cut) → k < length problems → get_or problems k d ≡ p → cuts' ≡ cuts ++ c ∷ [] →
     IsCut p.limits p.network c → AreCuts (take k problems) cuts → AreCuts (take (k + 1) problems) cuts'
 cuts_more k problems p d cuts cuts' c within is more now before =
     let one : take k problems ++ p ∷ [] ≡ take (k + 1) problems = ap (λ x. take k problems ++ x ∷ []) (sym is) ∙ sym (take_more problems k d within) in
     subst (λ ps. AreCuts ps cuts') one (subst (λ cs. AreCuts (take k problems ++ p ∷ []) cs) (sym more) (cuts_last (take k problems) cuts p c before now))
 
 -- the cut of one problem
-pub cut_at : (problems : List ProblemData) (cuts : List (Option PartsData)) (k : ℕ) (p : ProblemData) (c : Option PartsData) → AreCuts problems cuts → k < length problems → get_or problems k p ≡ p → get_or cuts k c ≡ c → IsCut p.limits p.network c
+pub cut_at : (problems : List ProblemData) (cuts : List Cut) (k : ℕ) (p : ProblemData) (c : Cut) → AreCuts problems cuts → k < length problems → get_or problems k p ≡ p → get_or cuts k c ≡ c → IsCut p.limits p.network c
 cut_at [] cuts k p c h lt same own = absurd (omega arith)
 cut_at (q ∷ problems) [] k p c h lt same own = absurd h
 cut_at (q ∷ problems) (d ∷ cuts) zero p c h lt same own = subst (λ x. IsCut p.limits p.network x) own (subst (λ x. IsCut x.limits x.network d) same h.0)
 cut_at (q ∷ problems) (d ∷ cuts) (suc k) p c h lt same own = cut_at problems cuts k p c h.1 (omega arith) same own
 
-pieces_last : (problems : List ProblemData) (cuts : List (Option PartsData)) (p : ProblemData) (c : Option PartsData) → length problems ≡ length cuts → pieces_of (problems ++ p ∷ []) (cuts ++ c ∷ []) ≡ pieces_of problems cuts ++ pieces_in p c
+pieces_last : (problems : List ProblemData) (cuts : List Cut) (p : ProblemData) (c : Cut) → length problems ≡ length cuts → pieces_of (problems ++ p ∷ []) (cuts ++ c ∷ []) ≡ pieces_of problems cuts ++ pieces_in p c
 pieces_last [] [] p c size = append-nil (pieces_in p c)
 pieces_last [] (d ∷ cuts) p c size = absurd (omega arith)
 pieces_last (q ∷ problems) [] p c size = absurd (omega arith)
 pieces_last (q ∷ problems) (d ∷ cuts) p c size =
     ap (λ ps. pieces_in q d ++ ps) (pieces_last problems cuts p c (omega arith)) ∙ sym (append_assoc (pieces_in q d) (pieces_of problems cuts) (pieces_in p c))
 
-front_more : (problems : List ProblemData) (cuts : List (Option PartsData)) (k : ℕ) (c : Option PartsData) (pieces pieces' own : List ProblemData) → length problems ≡ length cuts → k < length problems → get_or cuts k c ≡ c →
+front_more : (problems : List ProblemData) (cuts : List Cut) (k : ℕ) (c : Cut) (pieces pieces' own : List ProblemData) → length problems ≡ length cuts → k < length problems → get_or cuts k c ≡ c →
     ((p : ProblemData) → slice_get problems k ≡ Some p → own ≡ pieces_in p c) → pieces' ≡ pieces ++ own → pieces ≡ pieces_of (take k problems) (take k cuts) →
     ((x : ProblemData) × (k < length problems) × (slice_get problems k ≡ Some x) × (get_or problems k x ≡ x)) ⊎ ((length problems ≤ k) × (slice_get problems k ≡ None)) → pieces' ≡ pieces_of (take (k + 1) problems) (take (k + 1) cuts)
 front_more problems cuts k c pieces pieces' own size within same are more before (inl (p, lt, at, is)) =
@@ -91,11 +92,11 @@ front_more problems cuts k c pieces pieces' own size within same are more before
 front_more problems cuts k c pieces pieces' own size within same are more before (inr (past, none)) = absurd (omega arith)
 
 -- the pieces of one problem more
-pub pieces_more : (problems : List ProblemData) (cuts : List (Option PartsData)) (k : ℕ) (c : Option PartsData) (pieces pieces' own : List ProblemData) → length problems ≡ length cuts → k < length problems → get_or cuts k c ≡ c →
+pub pieces_more : (problems : List ProblemData) (cuts : List Cut) (k : ℕ) (c : Cut) (pieces pieces' own : List ProblemData) → length problems ≡ length cuts → k < length problems → get_or cuts k c ≡ c →
     ((p : ProblemData) → slice_get problems k ≡ Some p → own ≡ pieces_in p c) → pieces' ≡ pieces ++ own → pieces ≡ pieces_of (take k problems) (take k cuts) → pieces' ≡ pieces_of (take (k + 1) problems) (take (k + 1) cuts)
 pieces_more problems cuts k c pieces pieces' own size within same are more before = front_more problems cuts k c pieces pieces' own size within same are more before (slice_get_cases problems k).1
 
-back_less : (problems : List ProblemData) (cuts : List (Option PartsData)) (k : ℕ) (c : Option PartsData) (own : List ProblemData) (solutions : List SolutionData) → k < length problems → k < length cuts → get_or cuts k c ≡ c →
+back_less : (problems : List ProblemData) (cuts : List Cut) (k : ℕ) (c : Cut) (own : List ProblemData) (solutions : List SolutionData) → k < length problems → k < length cuts → get_or cuts k c ≡ c →
     ((p : ProblemData) → slice_get problems k ≡ Some p → own ≡ pieces_in p c) → AreSolved (pieces_of (drop k problems) (drop k cuts)) solutions →
     ((x : ProblemData) × (k < length problems) × (slice_get problems k ≡ Some x) × (get_or problems k x ≡ x)) ⊎ ((length problems ≤ k) × (slice_get problems k ≡ None)) →
     AreSolved (own ++ pieces_of (drop (k + 1) problems) (drop (k + 1) cuts)) solutions
@@ -108,7 +109,7 @@ back_less problems cuts k c own solutions within there same are solved (inl (p, 
 back_less problems cuts k c own solutions within there same are solved (inr (past, none)) = absurd (omega arith)
 
 -- the pieces of one problem, and those of the problems behind it
-pub left_in : (problems : List ProblemData) (cuts : List (Option PartsData)) (k : ℕ) (c : Option PartsData) (own : List ProblemData) (solutions : List SolutionData) → k < length problems → k < length cuts → get_or cuts k c ≡ c →
+pub left_in : (problems : List ProblemData) (cuts : List Cut) (k : ℕ) (c : Cut) (own : List ProblemData) (solutions : List SolutionData) → k < length problems → k < length cuts → get_or cuts k c ≡ c →
     ((p : ProblemData) → slice_get problems k ≡ Some p → own ≡ pieces_in p c) → AreSolved (pieces_of (drop k problems) (drop k cuts)) solutions → AreSolved (own ++ pieces_of (drop (k + 1) problems) (drop (k + 1) cuts)) solutions
 left_in problems cuts k c own solutions within there same are solved = back_less problems cuts k c own solutions within there same are solved (slice_get_cases problems k).1
 

@@ -1,4 +1,4 @@
-//! The pieces of problems: the parts of each, and where one part has all members, the problem itself.
+//! The pieces of problems: the parts of each, and where a problem has just one part, the problem itself.
 
 use network_laws::Problem;
 use std::marker::Model;
@@ -21,29 +21,29 @@ impl<'a> Model for Pieces<'a> {
 ghost use Rattle.std.specs.Prelude.{◌≡◌, ◌<◌, ◌+◌, ◌++◌, [], length, slice_get, Some, IfOk};
 ghost use Rattle.parallel_solver.specs.Cuts.{pieces_in, pieces_of, AreCuts};
 
-use split_parts::{Parts, split_unless_whole};
+use split_parts::{Cut, split_unless_one};
 use std::alloc::{AllocError, Global};
 
-/// The parts of each problem, but where one part has all members.
-pub fn cuts_of(alloc: Global, problems: &[Problem]) -> Result<Vec<Option<Parts>>, AllocError>
+/// The parts of each problem.
+pub fn cuts_of(alloc: Global, problems: &[Problem]) -> Result<Vec<Cut>, AllocError>
     ensures { IfOk result (λ cuts. AreCuts problems.now cuts.items) }
 {
     let mut cuts = Vec::new(alloc);
     for problem in problems {
-        let cut = split_unless_whole(alloc, problem.limits(), problem.network())?;
+        let cut = split_unless_one(alloc, problem.limits(), problem.network())?;
         cuts.push(cut)?;
     }
     Ok(cuts)
 }
 
 /// The pieces of the problem at a place.
-pub fn pieces_in<'a>(problems: &'a [Problem], at: usize, cut: &'a Option<Parts>) -> &'a [Problem]
+pub fn pieces_in<'a>(problems: &'a [Problem], at: usize, cut: &'a Cut) -> &'a [Problem]
     requires { at < length problems.now }
     ensures { (problem : _) → slice_get problems.now at ≡ Some problem → result.now ≡ pieces_in problem cut.now }
 {
     match cut {
-        None => &problems[at..at + 1],
-        Some(parts) => parts.problems(),
+        Cut::One(_) => &problems[at..at + 1],
+        Cut::Parts(parts) => parts.problems(),
     }
 }
 
@@ -71,7 +71,7 @@ impl<'a> Pieces<'a> {
     pub fn of(
         alloc: Global,
         problems: &'a [Problem],
-        cuts: &'a [Option<Parts>],
+        cuts: &'a [Cut],
     ) -> Result<Pieces<'a>, AllocError>
         requires { length problems.now ≡ length cuts.now }
         ensures { IfOk result (λ pieces. pieces ≡ pieces_of problems.now cuts.now) }

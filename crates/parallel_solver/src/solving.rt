@@ -2,7 +2,7 @@
 
 ghost use Rattle.std.specs.Prelude.{◌≡◌, ◌≤◌, ◌++◌, length, IfOk};
 ghost use Rattle.network_laws.specs.Solved.{IsSolved, AreSolved};
-ghost use Rattle.split_parts.specs.Parts.{IsCut};
+ghost use Rattle.split_parts.specs.Cut.{IsCut};
 ghost use Rattle.parallel_solver.specs.Cuts.{pieces_in, pieces_of, AreCuts};
 ghost use Rattle.units_core.specs.declared.limits.TheConstants.{MOST_WORKERS};
 
@@ -10,7 +10,7 @@ use crate::pieces::{Pieces, cuts_of, pieces_in};
 use crate::workers::solve_pieces;
 use network_laws::{Problem, Solution, Solver};
 use outside::Gate;
-use split_parts::{Parts, merge};
+use split_parts::{Cut, merge, settle_others};
 use std::alloc::{AllocError, Global};
 use std::thread::Threads;
 use std::vec::IntoIter;
@@ -39,7 +39,7 @@ fn taken(
 fn solution_of(
     alloc: Global,
     problem: &Problem,
-    cut: &Option<Parts>,
+    cut: &Cut,
     mut own: Vec<Solution>,
 ) -> Result<Solution, AllocError>
     requires cut { IsCut problem.now.limits problem.now.network cut.now }
@@ -47,15 +47,19 @@ fn solution_of(
     ensures { IfOk result (IsSolved problem.now) }
 {
     match cut {
-        Some(parts) => {
+        Cut::Parts(parts) => {
             let solution = merge(alloc, parts, problem.network().members(), &own)?;
             let _potentials = solution.potentials();
             Ok(solution)
         }
-        None => match own.pop() {
-            Some(solution) => Ok(solution),
-            None => unreachable!(),
-        },
+        Cut::One(part) => {
+            let Some(whole) = own.pop() else {
+                unreachable!()
+            };
+            let solution = settle_others(part, whole);
+            let _potentials = solution.potentials();
+            Ok(solution)
+        }
     }
 }
 
@@ -63,7 +67,7 @@ fn solution_of(
 fn merged(
     alloc: Global,
     problems: &[Problem],
-    cuts: &[Option<Parts>],
+    cuts: &[Cut],
     solutions: Vec<Solution>,
 ) -> Result<Vec<Solution>, AllocError>
     requires cuts { AreCuts problems.now cuts.now }
@@ -83,7 +87,7 @@ fn merged(
 }
 
 /// A certified solution for each problem, in order, by so many workers, each of which claims one piece after another: a part
-/// of a problem, or a problem of which one part has all members. The only error is want of memory.
+/// of a problem, or a problem that has just one part. The only error is want of memory.
 pub fn solve_all<R: Threads + Sync, V: Solver, G: Gate>(
     rt: &R,
     alloc: Global,

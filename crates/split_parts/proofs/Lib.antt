@@ -13,3 +13,4 @@ pub mod Together
 pub mod Whole
 pub mod Certified
 pub mod Good
+pub mod Settled

@@ -1,5 +1,5 @@
 -- The parts of limits.
-use Rattle.std.specs.Prelude.{◌≡◌, ◌≢◌, ◌↔◌, ℕ, ◌<◌, List, [], ◌∷◌, length, map, slice_index, Option, Some, None, All, AllPairs, Any, Contains}
+use Rattle.std.specs.Prelude.{◌≡◌, ◌↔◌, ℕ, ◌<◌, List, length, map, slice_index, All, AllPairs, Any, Contains}
 use Rattle.network_laws.specs.Networks.{NetworkData}
 use Rattle.network_laws.specs.Limits.{LimitsData}
 use Rattle.network_laws.specs.Solutions.{ProblemData}
@@ -40,13 +40,3 @@ pub record PartsData : Type 0 where
 pub record ArePartsOf (limits : LimitsData) (y : NetworkData) (parts : PartsData) : Type 0 where
   pub members : IsPartition limits parts.members
   pub problems : parts.problems ≡ map (own_problem limits y) parts.members
-
--- a part that has all members
-pub record IsOnePart (limits : LimitsData) (part : List ℕ) : Type 0 where
-  pub alone : IsPartition limits (part ∷ [])
-  pub whole : length part ≡ limits.members
-
--- the parts of limits, each with its own limits and network; or none told, where one part has all members
-abbrev pub IsCut : LimitsData → NetworkData → Option PartsData → Type 0
-IsCut limits y None = (part : List ℕ) × IsOnePart limits part
-IsCut limits y (Some parts) = ArePartsOf limits y parts × ((part : List ℕ) → parts.members ≡ part ∷ [] → length part ≢ limits.members)

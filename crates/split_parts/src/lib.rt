@@ -13,8 +13,10 @@ mod own;
 mod part;
 mod parts;
 mod places;
+mod settling;
 
-pub use law::merged_is_solution;
+pub use law::{merged_is_solution, settled_is_solution};
 pub use merging::merge;
 pub use part::Part;
-pub use parts::{Parts, split, split_unless_whole};
+pub use parts::{Cut, Parts, split, split_unless_one};
+pub use settling::settle_others;

@@ -2,7 +2,8 @@
 
 ghost use Rattle.std.specs.Prelude.{◌≡◌, IfOk};
 ghost use Rattle.network_laws.specs.Limits.{IsWithinLimits};
-ghost use Rattle.split_parts.specs.Parts.{PartsData, ArePartsOf, IsCut, IsPartition};
+ghost use Rattle.split_parts.specs.Parts.{PartsData, ArePartsOf, IsPartition};
+ghost use Rattle.split_parts.specs.Cut.{IsCut};
 
 use crate::labels::labels_of;
 use crate::members::parts_with;
@@ -66,21 +67,31 @@ pub fn split(alloc: Global, limits: &Limits, network: &Network) -> Result<Parts,
     Ok(Parts { members, problems })
 }
 
-/// The parts of the limits, as `split` gives them. `None` where one part has all members: such a problem is solved as it
-/// stands. The only error is want of memory.
-pub fn split_unless_whole(
+/// The one part of limits, or its parts where there is not just one.
+#[derive(Drop)]
+pub enum Cut {
+    One(Part),
+    Parts(Parts),
+}
+
+/// The parts of the limits, as `split` gives them. Where there is just one, its members alone: such a problem is solved as
+/// it stands, and `settle_others` sets the potentials of the members in no part. The only error is want of memory.
+pub fn split_unless_one(
     alloc: Global,
     limits: &Limits,
     network: &Network,
-) -> Result<Option<Parts>, AllocError>
+) -> Result<Cut, AllocError>
     requires same_members { limits.now.members ≡ network.now.members }
     requires within { IsWithinLimits limits.now network.now }
     ensures { IfOk result (IsCut limits.now network.now) }
 {
-    let members = members_of(alloc, limits)?;
-    if members.len() == 1 && members[0].members().len() == limits.members() as usize {
-        return Ok(None);
+    let mut members = members_of(alloc, limits)?;
+    if members.len() == 1 {
+        let Some(part) = members.pop() else {
+            unreachable!()
+        };
+        return Ok(Cut::One(part));
     }
     let problems = problems_of(alloc, limits, network, &members)?;
-    Ok(Some(Parts { members, problems }))
+    Ok(Cut::Parts(Parts { members, problems }))
 }

@@ -1,7 +1,7 @@
 use Rattle.std.proofs.Common.{sym, subst}
 use Rattle.network_laws.specs.Networks.{NetworkData}
 use Rattle.network_laws.specs.Limits.{LimitsData}
-use Rattle.split_parts.specs.Parts.{IsCut}
+use Rattle.split_parts.specs.Cut.{IsCut}
 use Rattle.parallel_solver.proofs.Pieced.{cuts_more}
 use Rattle.parallel_solver.proofs.pieces.cuts_of.Goals as goal
 
