@@ -8,8 +8,11 @@ uniformP    256 members, 64 of them dealers, P products, 100,000 trades between 
 coreP       the same, where each trade is between two dealers or between a dealer and a customer, by half
 latticeP    the same, where each member sells to the four that come next, round in a ring
 groupsP     the same, where each trade is between two of four members: 64 groups, with nothing between them
+slow1       256 customers, one product: eight groups of 32, with the trades of slow_group.csv in each, which a search found
+            to keep the solver long
 """
 
+import csv
 import pathlib
 import sys
 
@@ -69,21 +72,53 @@ MARKETS = [
 ]
 
 
-def write(folder, name, members, dealers, products, trades, parties):
-    names = [f"{'D' if v < dealers else 'C'}{v:02}" for v in range(members)]
+def names_of(members, dealers):
+    return [f"{'D' if v < dealers else 'C'}{v:02}" for v in range(members)]
+
+
+def write_roster(folder, name, members, dealers, products):
     with open(folder / f"{name}-roster.csv", "w") as roster:
         roster.write("name,role,key\n")
-        for v, party in enumerate(names):
+        for v, party in enumerate(names_of(members, dealers)):
             roster.write(f"{party},{'dealer' if v < dealers else 'customer'},{party}\n")
         for p in range(products):
             roster.write(f"P{p},product,2040-01-01\n")
-    draws = Draws(int(name[3:]) if name.startswith("gen") else 1)
+
+
+def write_trades(folder, name, names, trades):
     with open(folder / f"{name}-trades.csv", "w") as rows:
         rows.write("seller,buyer,product,amount\n")
-        for _ in range(trades):
-            seller, buyer = parties(draws, members, dealers)
-            product = draws.below(products)
-            rows.write(f"{names[seller]},{names[buyer]},P{product},{1 + draws.below(1_000_000)}\n")
+        for seller, buyer, product, amount in trades:
+            rows.write(f"{names[seller]},{names[buyer]},P{product},{amount}\n")
+
+
+def drawn(name, members, dealers, products, count, parties):
+    """So many trades, one drawn after another."""
+    draws = Draws(int(name[3:]) if name.startswith("gen") else 1)
+    for _ in range(count):
+        seller, buyer = parties(draws, members, dealers)
+        product = draws.below(products)
+        yield seller, buyer, product, 1 + draws.below(1_000_000)
+
+
+def in_groups():
+    """The trades of slow_group.csv in each of eight groups of 32."""
+    with open(pathlib.Path(__file__).parent / "slow_group.csv") as rows:
+        group = [(int(row["seller"]), int(row["buyer"]), row["amount"]) for row in csv.DictReader(rows)]
+    for first in range(0, 256, 32):
+        for seller, buyer, amount in group:
+            yield first + seller, first + buyer, 0, amount
+
+
+def write(folder, name, members, dealers, products, count, parties):
+    write_roster(folder, name, members, dealers, products)
+    trades = drawn(name, members, dealers, products, count, parties)
+    write_trades(folder, name, names_of(members, dealers), trades)
+
+
+def write_slow(folder, name):
+    write_roster(folder, name, 256, 0, 1)
+    write_trades(folder, name, names_of(256, 0), in_groups())
 
 
 def main():
@@ -92,6 +127,8 @@ def main():
     for market in MARKETS:
         if market[0] in (sys.argv[2:] or [market[0]]):
             write(folder, *market)
+    if "slow1" in (sys.argv[2:] or ["slow1"]):
+        write_slow(folder, "slow1")
 
 
 main()
