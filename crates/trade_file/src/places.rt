@@ -1,6 +1,7 @@
 //! The places of names. A name's place stands in a slot by a key that is made of the name; only one that lost its slot to
 //! another is looked for in the map.
 ghost use Rattle.std.specs.Prelude.{◌≡◌, ◌<◌, [], None, if◌then◌else◌, OnOk};
+ghost use Rattle.std.specs.Str.{bytes_eq};
 ghost use Rattle.units_core.specs.Name.{is_name};
 ghost use Rattle.trade_file.specs.Places.{place_in, with_place};
 
@@ -51,6 +52,21 @@ fn key_of(text: &[u8]) -> usize
     key % SLOTS
 }
 
+// Whether two texts are the same. Names are so short that byte by byte is fastest.
+fn is_same(a: &[u8], b: &[u8]) -> bool
+    ensures { result ≡ bytes_eq a.now b.now }
+{
+    if a.len() != b.len() {
+        return false;
+    }
+    for i in 0..a.len() {
+        if a[i] != b[i] {
+            return false;
+        }
+    }
+    true
+}
+
 impl Places {
     pub(crate) fn new(alloc: Global) -> Places
         ensures { result ≡ [] }
@@ -69,18 +85,27 @@ impl Places {
         self.places.get(&name).copied()
     }
 
+    // The same as `place_of`, from the map alone.
+    #[cold]
+    #[inline(never)]
+    fn place_in_map(&self, text: &[u8]) -> Option<u16>
+        ensures { result ≡ (if is_name text.now then place_in self.now text.now else None) }
+    {
+        match Name::read(text) {
+            Some(name) => self.place(name),
+            None => None,
+        }
+    }
+
     /// The place of the name that this text is, if it is a name and came.
     pub(crate) fn place_of(&self, text: &[u8]) -> Option<u16>
         ensures { result ≡ (if is_name text.now then place_in self.now text.now else None) }
     {
         let at = self.slots[key_of(text)] as usize;
-        if at < self.placed.len() && self.placed[at].name.text() == text {
+        if at < self.placed.len() && is_same(self.placed[at].name.text(), text) {
             return Some(self.placed[at].place);
         }
-        match Name::read(text) {
-            Some(name) => self.place(name),
-            None => None,
-        }
+        self.place_in_map(text)
     }
 
     /// Puts a name with its place last, if it did not come yet.
