@@ -10,4 +10,5 @@ pub mod TableFacts
 pub mod PileFacts
 pub mod NameFacts
 pub mod AmountFacts
+pub mod KeyFacts
 mod GeneratedFacts
