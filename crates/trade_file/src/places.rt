@@ -1,5 +1,5 @@
 //! The places of names. A name's place stands in a slot by a key that is made of the name; only one that lost its slot to
-//! another is looked for in the map. The key of a short name is a number that no other name of its size has.
+//! another is looked for in the map. No two short names of one size have the same key.
 ghost use Rattle.std.specs.Prelude.{◌≡◌, ◌≤◌, [], length, None, if◌then◌else◌, OnOk};
 ghost use Rattle.std.specs.Str.{bytes_eq};
 ghost use Rattle.units_core.specs.Name.{is_name};
@@ -10,13 +10,13 @@ use std::alloc::{AllocError, Global};
 use std::marker::Model;
 use units_core::Name;
 
-/// As many slots as keys leave rests.
+/// How many slots there are: a name's slot is the remainder of its key by this number.
 const SLOTS: u64 = 1024;
 
-/// The base of keys. It leaves the rest 10: names that end in other digits have other slots.
+/// The base of keys. By the slots it leaves 10, so that names in which only the last digits differ seldom share a slot.
 const BASE: u64 = 1034;
 
-/// Texts of up to so many bytes are told apart by their sizes and keys.
+/// Texts of up to so many bytes are told apart by size and key: their keys are below 2^64.
 const SHORT: usize = 6;
 
 /// A name with its key and its place.
@@ -33,7 +33,7 @@ pub(crate) struct Places {
     places: IndexMap<Name, u16>,
     /// The same, one after another.
     placed: Vec<Placed>,
-    /// By the rest of a name's key where it may stand among these.
+    /// By the slot of a name where it may stand among these.
     slots: [u16; 1024],
 }
 
@@ -48,7 +48,7 @@ impl Model for Places {
     ghost invariant = { λ p. ArePlaced p.places.entries p.placed.items };
 }
 
-// The number that the bytes write to the base, or what is left of it in 64 bits.
+// The number that the bytes write to the base, modulo 2^64.
 fn key_of(text: &[u8]) -> u64
     ensures { length text.now ≤ 6 → result ≡ key_number text.now }
 {
@@ -74,7 +74,7 @@ fn is_same(a: &[u8], b: &[u8]) -> bool
     true
 }
 
-// Whether a name is a text. Where they are short their keys say it.
+// Whether a name is a text, by their keys where the text is short.
 fn is_text(name: &[u8], name_key: u64, text: &[u8], text_key: u64) -> bool
     requires name { length name.now ≤ 6 → name_key ≡ key_number name.now }
     requires text { length text.now ≤ 6 → text_key ≡ key_number text.now }
