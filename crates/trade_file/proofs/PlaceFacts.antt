@@ -10,7 +10,7 @@ use Rattle.std.specs.List.{position, position_or_len}
 use Rattle.std.specs.Map.{lookup}
 use Rattle.std.specs.Str.{bytes_eq}
 use Rattle.trade_file.specs.declared.places.Placed.{Placed}
-use Rattle.trade_file.specs.Places.{place_in, with_place}
+use Rattle.trade_file.specs.Places.{place_in, with_place, key_number}
 use Rattle.trade_file.specs.Placed.{ArePlaced}
 
 -- the value, or else another
@@ -117,11 +117,15 @@ place_new places name place absent =
     lookup_push (bytes_eq name) places name place ∙ rw (none_from (place_in places name) absent, same) refl
 
 pub placed_kept : (places : List (List ℕ × ℕ)) (placed : List Placed) (name : List ℕ) (place : ℕ) → ArePlaced places placed → ArePlaced (places ++ ((name, place) ∷ [])) placed
-placed_kept places placed name place h k d l = place_kept places name place (get_or placed k d).name (get_or placed k d).place (h k d l)
+placed_kept places placed name place h k d l = record {
+  place = place_kept places name place (get_or placed k d).name (get_or placed k d).place (h k d l).place;
+  key = (h k d l).key;
+}
 
-pub placed_more : (places : List (List ℕ × ℕ)) (placed : List Placed) (name : List ℕ) (place : ℕ) → is_some (place_in places name) ≡ false → ArePlaced places placed → ArePlaced (places ++ ((name, place) ∷ [])) (placed ++ record { name = name; place = place } ∷ [])
-placed_more places placed name place absent h k d l =
-    let new : Placed = record { name = name; place = place } in
-    ⊎_elim (λ (e : k ≡ length placed). rw (get_or_push placed new d k (sym e)) (place_new places name place absent))
+pub placed_more : (places : List (List ℕ × ℕ)) (placed : List Placed) (name : List ℕ) (key place : ℕ) → is_some (place_in places name) ≡ false → (length name ≤ 6 → key ≡ key_number name)
+    → ArePlaced places placed → ArePlaced (places ++ ((name, place) ∷ [])) (placed ++ record { name = name; key = key; place = place } ∷ [])
+placed_more places placed name key place absent keyed h k d l =
+    let new : Placed = record { name = name; key = key; place = place } in
+    ⊎_elim (λ (e : k ≡ length placed). rw (get_or_push placed new d k (sym e)) (record { place = place_new places name place absent; key = keyed }))
     (λ (ne : k ≡ length placed → ⊥). let lt : k < length placed = omega (arith, length_push placed new) in rw (get_or_append_left placed (new ∷ []) d k lt) (placed_kept places placed name place h k d lt))
     (cases_eq k (length placed))

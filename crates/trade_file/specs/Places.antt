@@ -1,11 +1,19 @@
 -- Names with their places, and what a roster's directory keeps.
-use Rattle.std.specs.Prelude.{◌≡◌, ◌≤◌, ℕ, is_some, List, [], ◌∷◌, ◌++◌, length, position, Option, if◌then◌else◌}
+use Rattle.std.specs.Prelude.{◌≡◌, ◌≤◌, ℕ, ◌+◌, ◌*◌, fold, is_some, List, [], ◌∷◌, ◌++◌, length, position, Option, if◌then◌else◌}
 use Rattle.std.specs.Map.{lookup}
 use Rattle.std.specs.Str.{bytes_eq}
 use Rattle.command_types.specs.Roster.{Rows}
 use Rattle.command_types.specs.declared.roster.MemberRow.{MemberRow}
 use Rattle.command_types.specs.declared.roster.ProductRow.{ProductRow}
 use Rattle.units_core.specs.declared.limits.TheConstants.{MOST_PRODUCTS}
+
+-- a key with one more byte behind it
+abbrev pub key_on : ℕ → ℕ → ℕ
+key_on key byte = key * 1034 + byte
+
+-- the number to the base 1034 that the bytes of a text write
+abbrev pub key_number : List ℕ → ℕ
+key_number text = fold key_on 0 text
 
 -- the place of a name
 abbrev pub place_in : List (List ℕ × ℕ) → List ℕ → Option ℕ
