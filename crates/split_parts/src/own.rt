@@ -13,7 +13,7 @@ use crate::places::{Place, places_of};
 use network_laws::{LimitRow, Limits, Network, Problem, Row};
 use std::alloc::{AllocError, Global};
 
-// A row in own numbers, with the part of its members, if they are in one.
+// A row in own numbers, with the part of its members, if they are in one of so many.
 fn row_in(row: Row, places: &[Place], parts: usize) -> Option<(usize, Row)>
     requires seller { row.seller < length places.now }
     requires buyer { row.buyer < length places.now }
@@ -33,7 +33,7 @@ fn row_in(row: Row, places: &[Place], parts: usize) -> Option<(usize, Row)>
     Some((seller.part, own))
 }
 
-// Bounds in own numbers, with the part of their members, if they are in one.
+// Bounds in own numbers, with the part of their members, if they are in one of so many.
 fn limit_in(row: LimitRow, places: &[Place], parts: usize) -> Option<(usize, LimitRow)>
     requires seller { row.seller < length places.now }
     requires buyer { row.buyer < length places.now }
@@ -55,11 +55,7 @@ fn limit_in(row: LimitRow, places: &[Place], parts: usize) -> Option<(usize, Lim
 }
 
 // Gives each row of the limits to the part of its members.
-fn add_limits(
-    drafts: &mut [Draft],
-    places: &[Place],
-    rows: &[LimitRow],
-) -> Result<(), AllocError>
+fn add_limits(drafts: &mut [Draft], places: &[Place], rows: &[LimitRow]) -> Result<(), AllocError>
     requires rows { All (λ row. (row.seller < length places.now) × (row.buyer < length places.now)) rows.now }
     requires none { AreDrafts (λ _. []) (λ _. []) drafts.old }
     ensures { IfOk result (λ _. AreDrafts (λ k. filter_map (numbered_bounds (numbers_for places.now k)) rows.now) (λ _. []) drafts.new) }
@@ -175,7 +171,7 @@ fn problems_from(
     ensures { IfOk result (λ problems. problems.items ≡ map (own_problem limits.now network.now) parts.now) }
 {
     let _members = limits.members();
-    let mut problems = Vec::new(alloc);
+    let mut problems = Vec::with_capacity(alloc, parts.len())?;
     for draft in drafts {
         let part = parts[problems.len()].members();
         problems.push(problem_of(limits, network, part, draft))?;

@@ -33,11 +33,7 @@ fn put_part(places: &mut [Place], members: &[u16], part: usize)
 }
 
 /// The place of each member.
-pub fn places_of(
-    alloc: Global,
-    members: u16,
-    parts: &[Part],
-) -> Result<Vec<Place>, AllocError>
+pub fn places_of(alloc: Global, members: u16, parts: &[Part]) -> Result<Vec<Place>, AllocError>
     requires few { members ≤ MOST_MEMBERS }
     requires each { All IsPart parts.now }
     requires apart { AllPairs AreApart parts.now }
