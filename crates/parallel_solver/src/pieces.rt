@@ -28,7 +28,7 @@ use std::alloc::{AllocError, Global};
 pub fn cuts_of(alloc: Global, problems: &[Problem]) -> Result<Vec<Cut>, AllocError>
     ensures { IfOk result (λ cuts. AreCuts problems.now cuts.items) }
 {
-    let mut cuts = Vec::new(alloc);
+    let mut cuts = Vec::with_capacity(alloc, problems.len())?;
     for problem in problems {
         let cut = split_unless_one(alloc, problem.limits(), problem.network())?;
         cuts.push(cut)?;

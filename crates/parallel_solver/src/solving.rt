@@ -75,7 +75,7 @@ fn merged(
     ensures { IfOk result (λ merged. AreSolved problems.now merged.items) }
 {
     let mut solutions = solutions.into_iter();
-    let mut merged = Vec::new(alloc);
+    let mut merged = Vec::with_capacity(alloc, problems.len())?;
     for at in 0..problems.len() {
         let cut = &cuts[at];
         let count = pieces_in(problems, at, cut).len();

@@ -38,7 +38,7 @@ fn solve_one<V: Solver, G: Gate>(
 fn places(alloc: Global, pieces: &Pieces<'_>) -> Result<Vec<Option<Solution>>, AllocError>
     ensures { IfOk result (λ found. AreRight pieces.now found.items) }
 {
-    let mut found = Vec::new(alloc);
+    let mut found = Vec::with_capacity(alloc, pieces.len())?;
     for _ in 0..pieces.len() {
         found.push(None)?;
     }
@@ -55,7 +55,7 @@ fn collected(
     requires all { AreFound pieces.now found.items }
     ensures { IfOk result (λ solutions. AreSolved pieces.now solutions.items) }
 {
-    let mut solutions = Vec::new(alloc);
+    let mut solutions = Vec::with_capacity(alloc, found.len())?;
     for slot in found {
         let Some(solution) = slot else { unreachable!() };
         solutions.push(solution)?;
@@ -105,11 +105,12 @@ fn jobs(
     ensures parts { OnOk result ((view_of first.new).parts + count ≡ 65) }
     ensures none { OnOk result ((view_of first.new).taken ≡ []) }
 {
-    let mut jobs = Vec::new(alloc);
+    let mut jobs = Vec::with_capacity(alloc, count as usize)?;
     for _ in 0..count {
+        let done = Vec::with_capacity(alloc, pieces.len() / count as usize)?;
         jobs.push(Job {
             worker: table.split(first),
-            done: Vec::new(alloc),
+            done,
             finished: false,
         })?;
     }

@@ -25,42 +25,45 @@ draft limits rows = record { limits = limits; rows = rows }
 
 -- a row of limits that stands in a part is given to it, and to no other
 pub limits_more : {X : Type 0} (f : ℕ → X → Option LimitRow) (rows : ℕ → List Row) (xs : List X) (i : ℕ) (d : X) (drafts : List DraftData) (p : ℕ) (y : LimitRow) (new e0 : DraftData) → i < length xs → p < length drafts →
-    ((k : ℕ) → f k (get_or xs i d) ≡ if_in k (Some (p, y))) → new ≡ record { limits = (get_or drafts p e0).limits ++ y ∷ []; rows = (get_or drafts p e0).rows } → AreDrafts (λ k. filter_map (f k) (take i xs)) rows drafts →
+    ((k : ℕ) → k < length drafts → f k (get_or xs i d) ≡ if_in k (Some (p, y))) → new ≡ record { limits = (get_or drafts p e0).limits ++ y ∷ []; rows = (get_or drafts p e0).rows } → AreDrafts (λ k. filter_map (f k) (take i xs)) rows drafts →
     AreDrafts (λ k. filter_map (f k) (take (i + 1) xs)) rows (set drafts p new)
 limits_more {X} f rows xs i d drafts p y new e0 l lp own is before k e lk =
     let here : k < length drafts = let s = length-set drafts p new in omega arith in
-    ⊎_elim (λ (q : p ≡ k). get_or-set_at drafts p k new e (sym q) lp ∙ is ∙ ap (λ (r : DraftData). draft (r.limits ++ y ∷ []) r.rows) (before p e0 lp) ∙ ap (λ (zs : List LimitRow). draft zs (rows p)) (kept_more (f p) xs i d (filter_map (f p) (take i xs)) (filter_map (f p) (take i xs) ++ y ∷ []) y l refl (own p ∙ if_in-yes p p y refl) refl)
+    ⊎_elim (λ (q : p ≡ k). get_or-set_at drafts p k new e (sym q) lp ∙ is ∙ ap (λ (r : DraftData). draft (r.limits ++ y ∷ []) r.rows) (before p e0 lp) ∙ ap (λ (zs : List LimitRow). draft zs (rows p)) (kept_more (f p) xs i d (filter_map (f p) (take i xs)) (filter_map (f p) (take i xs) ++ y ∷ []) y l refl (own p lp ∙ if_in-yes p p y refl) refl)
     ∙ ap (λ n. draft (filter_map (f n) (take (i + 1) xs)) (rows n)) q)
-    (λ (n : p ≢ k). get_or-set_other drafts p k new e (λ q. n (sym q)) ∙ before k e here ∙ ap (λ (zs : List LimitRow). draft zs (rows k)) (kept_none (f k) xs i d (filter_map (f k) (take i xs)) l refl (own k ∙ if_in-no k p y n)))
+    (λ (n : p ≢ k). get_or-set_other drafts p k new e (λ q. n (sym q)) ∙ before k e here ∙ ap (λ (zs : List LimitRow). draft zs (rows k)) (kept_none (f k) xs i d (filter_map (f k) (take i xs)) l refl (own k here ∙ if_in-no k p y n)))
     (cases_eq p k)
 
 -- a row of limits that stands in none is left out
-pub limits_same : {X : Type 0} (f : ℕ → X → Option LimitRow) (rows : ℕ → List Row) (xs : List X) (i : ℕ) (d : X) (drafts : List DraftData) → i < length xs → ((k : ℕ) → f k (get_or xs i d) ≡ None) → AreDrafts (λ k. filter_map (f k) (take i xs)) rows drafts →
+pub limits_same : {X : Type 0} (f : ℕ → X → Option LimitRow) (rows : ℕ → List Row) (xs : List X) (i : ℕ) (d : X) (drafts : List DraftData) → i < length xs → ((k : ℕ) → k < length drafts → f k (get_or xs i d) ≡ None) → AreDrafts (λ k. filter_map (f k) (take i xs)) rows drafts →
     AreDrafts (λ k. filter_map (f k) (take (i + 1) xs)) rows drafts
-limits_same f rows xs i d drafts l own before k e lk = before k e lk ∙ ap (λ (zs : List LimitRow). draft zs (rows k)) (kept_none (f k) xs i d (filter_map (f k) (take i xs)) l refl (own k))
+limits_same f rows xs i d drafts l own before k e lk = before k e lk ∙ ap (λ (zs : List LimitRow). draft zs (rows k)) (kept_none (f k) xs i d (filter_map (f k) (take i xs)) l refl (own k lk))
 
 -- the same of rows of a network
 pub rows_more : {X : Type 0} (f : ℕ → X → Option Row) (limits : ℕ → List LimitRow) (xs : List X) (i : ℕ) (d : X) (drafts : List DraftData) (p : ℕ) (y : Row) (new e0 : DraftData) → i < length xs → p < length drafts →
-    ((k : ℕ) → f k (get_or xs i d) ≡ if_in k (Some (p, y))) → new ≡ record { limits = (get_or drafts p e0).limits; rows = (get_or drafts p e0).rows ++ y ∷ [] } → AreDrafts limits (λ k. filter_map (f k) (take i xs)) drafts →
+    ((k : ℕ) → k < length drafts → f k (get_or xs i d) ≡ if_in k (Some (p, y))) → new ≡ record { limits = (get_or drafts p e0).limits; rows = (get_or drafts p e0).rows ++ y ∷ [] } → AreDrafts limits (λ k. filter_map (f k) (take i xs)) drafts →
     AreDrafts limits (λ k. filter_map (f k) (take (i + 1) xs)) (set drafts p new)
 rows_more {X} f limits xs i d drafts p y new e0 l lp own is before k e lk =
     let here : k < length drafts = let s = length-set drafts p new in omega arith in
-    ⊎_elim (λ (q : p ≡ k). get_or-set_at drafts p k new e (sym q) lp ∙ is ∙ ap (λ (r : DraftData). draft r.limits (r.rows ++ y ∷ [])) (before p e0 lp) ∙ ap (λ (zs : List Row). draft (limits p) zs) (kept_more (f p) xs i d (filter_map (f p) (take i xs)) (filter_map (f p) (take i xs) ++ y ∷ []) y l refl (own p ∙ if_in-yes p p y refl) refl)
+    ⊎_elim (λ (q : p ≡ k). get_or-set_at drafts p k new e (sym q) lp ∙ is ∙ ap (λ (r : DraftData). draft r.limits (r.rows ++ y ∷ [])) (before p e0 lp) ∙ ap (λ (zs : List Row). draft (limits p) zs) (kept_more (f p) xs i d (filter_map (f p) (take i xs)) (filter_map (f p) (take i xs) ++ y ∷ []) y l refl (own p lp ∙ if_in-yes p p y refl) refl)
     ∙ ap (λ n. draft (limits n) (filter_map (f n) (take (i + 1) xs))) q)
-    (λ (n : p ≢ k). get_or-set_other drafts p k new e (λ q. n (sym q)) ∙ before k e here ∙ ap (λ (zs : List Row). draft (limits k) zs) (kept_none (f k) xs i d (filter_map (f k) (take i xs)) l refl (own k ∙ if_in-no k p y n)))
+    (λ (n : p ≢ k). get_or-set_other drafts p k new e (λ q. n (sym q)) ∙ before k e here ∙ ap (λ (zs : List Row). draft (limits k) zs) (kept_none (f k) xs i d (filter_map (f k) (take i xs)) l refl (own k here ∙ if_in-no k p y n)))
     (cases_eq p k)
 
-pub rows_same : {X : Type 0} (f : ℕ → X → Option Row) (limits : ℕ → List LimitRow) (xs : List X) (i : ℕ) (d : X) (drafts : List DraftData) → i < length xs → ((k : ℕ) → f k (get_or xs i d) ≡ None) → AreDrafts limits (λ k. filter_map (f k) (take i xs)) drafts →
+pub rows_same : {X : Type 0} (f : ℕ → X → Option Row) (limits : ℕ → List LimitRow) (xs : List X) (i : ℕ) (d : X) (drafts : List DraftData) → i < length xs → ((k : ℕ) → k < length drafts → f k (get_or xs i d) ≡ None) → AreDrafts limits (λ k. filter_map (f k) (take i xs)) drafts →
     AreDrafts limits (λ k. filter_map (f k) (take (i + 1) xs)) drafts
-rows_same f limits xs i d drafts l own before k e lk = before k e lk ∙ ap (λ (zs : List Row). draft (limits k) zs) (kept_none (f k) xs i d (filter_map (f k) (take i xs)) l refl (own k))
+rows_same f limits xs i d drafts l own before k e lk = before k e lk ∙ ap (λ (zs : List Row). draft (limits k) zs) (kept_none (f k) xs i d (filter_map (f k) (take i xs)) l refl (own k lk))
 
 -- by the places of members, they are the rows of the parts
-pub drafts_are : (limits : LimitsData) (y : NetworkData) (parts : List (List ℕ)) (places : List (Option Place)) (drafts : List DraftData) → AreLimits limits → IsNetwork y → limits.members ≡ y.members → ArePlaces parts limits.members (length parts) places → length drafts ≡ length parts →
+pub drafts_are : (limits : LimitsData) (y : NetworkData) (parts : List (List ℕ)) (places : List Place) (drafts : List DraftData) → AreLimits limits → IsNetwork y → limits.members ≡ y.members → ArePlaces parts limits.members (length parts) places → length drafts ≡ length parts →
     AreDrafts (λ k. filter_map (numbered_bounds (numbers_for places k)) limits.rows) (λ k. filter_map (numbered (numbers_for places k)) y.rows) drafts → AreDrafts (λ k. own_limit_rows limits (get_or parts k [])) (λ k. own_rows y (get_or parts k [])) drafts
 drafts_are limits y parts places drafts good good' same h size are k d l =
     let lk : k < length parts = omega arith in
     are k d l ∙ ap (λ (zs : List LimitRow). draft zs (filter_map (numbered (numbers_for places k)) y.rows)) (bounds_by_table limits (get_or parts k []) (numbers_for places k) good (λ m lm. table k m lk lm))
     ∙ ap (λ (zs : List Row). draft (own_limit_rows limits (get_or parts k [])) zs) (own_by_table y (get_or parts k []) (numbers_for places k) good' (λ m lm. table k m lk (omega arith)))
   where
+    nowhere : Place
+    nowhere = record { part = 0; number = 0 }
+
     table : (k m : ℕ) → k < length parts → m < limits.members → get_or (numbers_for places k) m None ≡ number_in (get_or parts k []) m
-    table k m lk lm = get_or-map (number_for k) places m None None (let s = h.size in omega arith) ∙ h.own m k lm lk
+    table k m lk lm = get_or-map (number_for k) places m nowhere None (let s = h.size in omega arith) ∙ h.own m k nowhere lm lk

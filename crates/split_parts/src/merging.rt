@@ -54,6 +54,15 @@ fn put_potentials(part: &[u16], own: &[i32], potentials: &mut [i32])
     }
 }
 
+// How many rows solutions have.
+fn count_of(solutions: &[Solution]) -> usize {
+    let mut count: usize = 0;
+    for solution in solutions {
+        count = count.saturating_add(solution.network().rows().len());
+    }
+    count
+}
+
 // The rows of all parts, in the order of members.
 fn merged_rows(
     alloc: Global,
@@ -65,7 +74,7 @@ fn merged_rows(
     ensures rows { IfOk result (λ rows. IsPermutation (rows_of parts.now solutions.now) rows.items) }
     ensures order { IfOk result (λ rows. IsNonDecreasingBy place rows.items) }
 {
-    let mut rows = Vec::new(alloc);
+    let mut rows = Vec::with_capacity(alloc, count_of(solutions))?;
     for at in 0..parts.len() {
         add_rows(
             parts[at].members(),

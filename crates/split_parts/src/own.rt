@@ -5,7 +5,7 @@ ghost use Rattle.network_laws.specs.Limits.{IsWithinLimits};
 ghost use Rattle.network_laws.specs.declared.rows.LimitRow.{LimitRow};
 ghost use Rattle.split_parts.specs.Own.{numbered, numbered_bounds, own_limit_rows, own_rows, own_limits, own_network, own_problem};
 ghost use Rattle.split_parts.specs.Parts.{IsPartition, IsRisingPart};
-ghost use Rattle.split_parts.specs.Places.{AreDrafts, AreWithin, if_in, numbers_for};
+ghost use Rattle.split_parts.specs.Places.{AreDrafts, if_in, numbers_for};
 
 use crate::draft::Draft;
 use crate::part::Part;
@@ -13,16 +13,16 @@ use crate::places::{Place, places_of};
 use network_laws::{LimitRow, Limits, Network, Problem, Row};
 use std::alloc::{AllocError, Global};
 
-// A row in own numbers, with the part of its members, if they are in one.
-fn row_in(row: Row, places: &[Option<Place>]) -> Option<(usize, Row)>
+// A row in own numbers, with the part of its members, if they are in one of so many.
+fn row_in(row: Row, places: &[Place], parts: usize) -> Option<(usize, Row)>
     requires seller { row.seller < length places.now }
     requires buyer { row.buyer < length places.now }
-    ensures own { (k : ℕ) → numbered (numbers_for places.now k) row ≡ if_in k result }
-    ensures within { (n : ℕ) → AreWithin n places.now → IfSome result (λ found. found.0 < n) }
+    ensures own { (k : ℕ) → k < parts → numbered (numbers_for places.now k) row ≡ if_in k result }
+    ensures within { IfSome result (λ found. found.0 < parts) }
 {
-    let seller = places[row.seller as usize]?;
-    let buyer = places[row.buyer as usize]?;
-    if seller.part != buyer.part {
+    let seller = places[row.seller as usize];
+    let buyer = places[row.buyer as usize];
+    if seller.part != buyer.part || seller.part >= parts {
         return None;
     }
     let own = Row {
@@ -33,16 +33,16 @@ fn row_in(row: Row, places: &[Option<Place>]) -> Option<(usize, Row)>
     Some((seller.part, own))
 }
 
-// Bounds in own numbers, with the part of their members, if they are in one.
-fn limit_in(row: LimitRow, places: &[Option<Place>]) -> Option<(usize, LimitRow)>
+// Bounds in own numbers, with the part of their members, if they are in one of so many.
+fn limit_in(row: LimitRow, places: &[Place], parts: usize) -> Option<(usize, LimitRow)>
     requires seller { row.seller < length places.now }
     requires buyer { row.buyer < length places.now }
-    ensures own { (k : ℕ) → numbered_bounds (numbers_for places.now k) row ≡ if_in k result }
-    ensures within { (n : ℕ) → AreWithin n places.now → IfSome result (λ found. found.0 < n) }
+    ensures own { (k : ℕ) → k < parts → numbered_bounds (numbers_for places.now k) row ≡ if_in k result }
+    ensures within { IfSome result (λ found. found.0 < parts) }
 {
-    let seller = places[row.seller as usize]?;
-    let buyer = places[row.buyer as usize]?;
-    if seller.part != buyer.part {
+    let seller = places[row.seller as usize];
+    let buyer = places[row.buyer as usize];
+    if seller.part != buyer.part || seller.part >= parts {
         return None;
     }
     let own = LimitRow {
@@ -55,18 +55,13 @@ fn limit_in(row: LimitRow, places: &[Option<Place>]) -> Option<(usize, LimitRow)
 }
 
 // Gives each row of the limits to the part of its members.
-fn add_limits(
-    drafts: &mut [Draft],
-    places: &[Option<Place>],
-    rows: &[LimitRow],
-) -> Result<(), AllocError>
+fn add_limits(drafts: &mut [Draft], places: &[Place], rows: &[LimitRow]) -> Result<(), AllocError>
     requires rows { All (λ row. (row.seller < length places.now) × (row.buyer < length places.now)) rows.now }
-    requires within { AreWithin (length drafts.old) places.now }
     requires none { AreDrafts (λ _. []) (λ _. []) drafts.old }
     ensures { IfOk result (λ _. AreDrafts (λ k. filter_map (numbered_bounds (numbers_for places.now k)) rows.now) (λ _. []) drafts.new) }
 {
     for row in rows {
-        if let Some((part, own)) = limit_in(*row, places) {
+        if let Some((part, own)) = limit_in(*row, places, drafts.len()) {
             drafts[part].add_limit(own)?;
         }
     }
@@ -74,13 +69,12 @@ fn add_limits(
 }
 
 // Gives each row of the network to the part of its members.
-fn add_rows(drafts: &mut [Draft], places: &[Option<Place>], rows: &[Row]) -> Result<(), AllocError>
+fn add_rows(drafts: &mut [Draft], places: &[Place], rows: &[Row]) -> Result<(), AllocError>
     requires rows { All (λ row. (row.seller < length places.now) × (row.buyer < length places.now)) rows.now }
-    requires within { AreWithin (length drafts.old) places.now }
     ensures { IfOk result (λ _. (limits : ℕ → List LimitRow) → AreDrafts limits (λ _. []) drafts.old → AreDrafts limits (λ k. filter_map (numbered (numbers_for places.now k)) rows.now) drafts.new) }
 {
     for row in rows {
-        if let Some((part, own)) = row_in(*row, places) {
+        if let Some((part, own)) = row_in(*row, places, drafts.len()) {
             drafts[part].add_row(own)?;
         }
     }
@@ -177,7 +171,7 @@ fn problems_from(
     ensures { IfOk result (λ problems. problems.items ≡ map (own_problem limits.now network.now) parts.now) }
 {
     let _members = limits.members();
-    let mut problems = Vec::new(alloc);
+    let mut problems = Vec::with_capacity(alloc, parts.len())?;
     for draft in drafts {
         let part = parts[problems.len()].members();
         problems.push(problem_of(limits, network, part, draft))?;

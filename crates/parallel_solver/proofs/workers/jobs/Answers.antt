@@ -18,5 +18,5 @@ loop-preserved c =
       count = c.in_ok-push.ensures.len ∙ ap (λ n. n + 1) i.count;
       jobs = all_more (MayWork c.args.table.now c.args.pieces.now) c.loop.jobs.items c.push.new.self.items _ c.in_ok-push.ensures.items i.jobs
           (new_work c.args.table.now c.args.pieces.now _ r.own.1 (let a = ap (λ v. v.room) r.worker in omega arith) (ap (λ v. v.parts) r.worker) (ap (λ v. v.pieces) r.worker ∙ i.pieces) (ap (λ v. v.taken) r.worker)
-          c.new.ensures.items refl);
+          c.in_ok-done.ensures.items refl);
     }

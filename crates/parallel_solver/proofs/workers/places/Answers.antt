@@ -4,7 +4,7 @@ use Rattle.parallel_solver.proofs.Rights.{AreEmpty, empty_none, empty_more, empt
 use Rattle.parallel_solver.proofs.workers.places.Goals as goal
 
 pub loop-init : goal.loop-init
-loop-init c = let P : List (Option SolutionData) → Type 0 = λ xs. AreEmpty xs 0 in subst P (sym c.new-found.ensures.items) empty_none
+loop-init c = let P : List (Option SolutionData) → Type 0 = λ xs. AreEmpty xs 0 in subst P (sym c.in_ok-found.ensures.items) empty_none
 
 pub loop-preserved : goal.loop-preserved
 loop-preserved c = empty_more c.loop.found.items c.push.new.self.items c.loop.counter c.in_ok-push.ensures.items c.loop.invariant

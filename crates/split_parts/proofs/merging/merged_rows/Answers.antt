@@ -8,7 +8,7 @@ use Rattle.split_parts.proofs.Good.{good_read, rows_step, rows_done, inside_rows
 use Rattle.split_parts.proofs.merging.merged_rows.Goals as goal
 
 pub loop-at-init : goal.loop-at-init
-loop-at-init c = ap (λ (xs : List Row). xs ++ rows_of c.args.parts.now c.args.solutions.now) c.new-rows.ensures.items
+loop-at-init c = ap (λ (xs : List Row). xs ++ rows_of c.args.parts.now c.args.solutions.now) c.in_ok-rows.ensures.items
 
 pub add_rows-requires : goal.add_rows-requires
 add_rows-requires c =

@@ -17,18 +17,18 @@ loop-row-preserved c =
     let drafts = c.loop-row.drafts in
     elim c.match-limit_in.branch [
       | in-Some+in_ok-add_limit w ↦
-          let p = w.in-Some.ensures.within (length c.args.drafts.now) c.requires.within in
+          let p = w.in-Some.ensures.within in
           let size = i.size in
           let within : w.in-Some.part < length drafts = omega arith in
           record {
             size = ap length w.drafts-is ∙ length-set drafts w.in-Some.part w.add_limit.new.self ∙ i.size;
             drafts = subst (λ (xs : List DraftData). AreDrafts (λ k. filter_map (f k) (take (n + 1) rows)) (λ _. []) xs) (sym w.drafts-is)
-                (limits_more f (λ _. []) rows n _ drafts w.in-Some.part w.in-Some.own w.add_limit.new.self _ c.loop-row-test.true within (λ k. c.limit_in.ensures.own k ∙ ap (if_in k) w.in-Some.is) w.in_ok-add_limit.ensures i.drafts);
+                (limits_more f (λ _. []) rows n _ drafts w.in-Some.part w.in-Some.own w.add_limit.new.self _ c.loop-row-test.true within (λ k lk. c.limit_in.ensures.own k lk ∙ ap (if_in k) w.in-Some.is) w.in_ok-add_limit.ensures i.drafts);
           }
       | in_default w ↦
           record {
             size = ap length w.drafts-is ∙ i.size;
             drafts = subst (λ (xs : List DraftData). AreDrafts (λ k. filter_map (f k) (take (n + 1) rows)) (λ _. []) xs) (sym w.drafts-is)
-                (limits_same f (λ _. []) rows n _ drafts c.loop-row-test.true (λ k. c.limit_in.ensures.own k ∙ ap (if_in k) (not_some _ w.in_default.not-Some)) i.drafts);
+                (limits_same f (λ _. []) rows n _ drafts c.loop-row-test.true (λ k lk. c.limit_in.ensures.own k lk ∙ ap (if_in k) (not_some _ w.in_default.not-Some)) i.drafts);
           }
     ]

@@ -18,19 +18,19 @@ loop-row-preserved c =
     let drafts = c.loop-row.drafts in
     elim c.match-row_in.branch [
       | in-Some+in_ok-add_row w ↦
-          let p = w.in-Some.ensures.within (length c.args.drafts.now) c.requires.within in
+          let p = w.in-Some.ensures.within in
           let size = i.size in
           let within : w.in-Some.part < length drafts = omega arith in
           record {
             size = ap length w.drafts-is ∙ length-set drafts w.in-Some.part w.add_row.new.self ∙ i.size;
             drafts = λ limits none. subst (λ (xs : List DraftData). AreDrafts limits (λ k. filter_map (f k) (take (n + 1) rows)) xs) (sym w.drafts-is)
-                (rows_more f limits rows n _ drafts w.in-Some.part w.in-Some.own w.add_row.new.self _ c.loop-row-test.true within (λ k. c.row_in.ensures.own k ∙ ap (if_in k) w.in-Some.is) w.in_ok-add_row.ensures (i.drafts limits none));
+                (rows_more f limits rows n _ drafts w.in-Some.part w.in-Some.own w.add_row.new.self _ c.loop-row-test.true within (λ k lk. c.row_in.ensures.own k lk ∙ ap (if_in k) w.in-Some.is) w.in_ok-add_row.ensures (i.drafts limits none));
           }
       | in_default w ↦
           record {
             size = ap length w.drafts-is ∙ i.size;
             drafts = λ limits none. subst (λ (xs : List DraftData). AreDrafts limits (λ k. filter_map (f k) (take (n + 1) rows)) xs) (sym w.drafts-is)
-                (rows_same f limits rows n _ drafts c.loop-row-test.true (λ k. c.row_in.ensures.own k ∙ ap (if_in k) (not_some _ w.in_default.not-Some)) (i.drafts limits none));
+                (rows_same f limits rows n _ drafts c.loop-row-test.true (λ k lk. c.row_in.ensures.own k lk ∙ ap (if_in k) (not_some _ w.in_default.not-Some)) (i.drafts limits none));
           }
     ]
 

@@ -1,4 +1,4 @@
-use Rattle.std.proofs.Common.{◌≡◌, ◌∙◌, ◌+◌, ◌++◌, ◌<◌, ℕ, List, [], ◌∷◌, Option, length, get_or, take, drop, ap, sym, subst, arith}
+use Rattle.std.proofs.Common.{◌≡◌, ◌∙◌, ◌+◌, ◌++◌, ◌<◌, ℕ, List, [], ◌∷◌, length, get_or, take, drop, ap, sym, subst, arith}
 use Rattle.std.specs.Prelude.{All, filter_map}
 use Rattle.std.proofs.lemmas.List.{get_or_default}
 use Rattle.std.proofs.lemmas.List.Elements.{All-nil, All-cons, All-append}
@@ -45,7 +45,7 @@ returns-clause-rows c =
     let f = λ (k : ℕ). filter_map (numbered_bounds (numbers_for c.deref.result.now k)) c.rows.result.now in
     let none = subst (λ (xs : List DraftData). AreDrafts f (λ _. []) xs) (sym (c.deref_mut-2.ensures.value ∙ whole1)) c.in_ok-add_limits.ensures in
     let size : length second ≡ length parts = let e = c.loop-part.auto.part-index-end in let i = c.loop-part.invariant.size in omega (arith, size2, c.loop-part-test.false) in
-    let of : List (Option Place) → List LimitRow → List (Option Place) → List Row → Type 0 = λ ps ls qs rs. AreDrafts (λ k. filter_map (numbered_bounds (numbers_for ps k)) ls) (λ k. filter_map (numbered (numbers_for qs k)) rs) second in
+    let of : List Place → List LimitRow → List Place → List Row → Type 0 = λ ps ls qs rs. AreDrafts (λ k. filter_map (numbered_bounds (numbers_for ps k)) ls) (λ k. filter_map (numbered (numbers_for qs k)) rs) second in
     let one : of places c.rows.result.now c.deref-2.result.now c.rows-2.result.now = subst (λ ps. of ps c.rows.result.now c.deref-2.result.now c.rows-2.result.now) c.deref.ensures.value (c.in_ok-add_rows.ensures f none) in
     let two : of places limits.rows c.deref-2.result.now c.rows-2.result.now = subst (λ ls. of places ls c.deref-2.result.now c.rows-2.result.now) c.rows.ensures.value one in
     let three : of places limits.rows places c.rows-2.result.now = subst (λ qs. of places limits.rows qs c.rows-2.result.now) c.deref-2.ensures.value two in
