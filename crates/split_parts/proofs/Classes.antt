@@ -43,14 +43,6 @@ class_next labels next part l n a within e c =
 any_left : (P : List ℕ → Type 0) (parts : List (List ℕ)) (part : List ℕ) → Any P parts → Any P (parts ++ part ∷ [])
 any_left P parts part h = (h.0, h.1, (let l = h.2 in omega (arith, length-append parts (part ∷ []))), front parts (part ∷ []) h.0 h.1 h.2 ∙ h.3, h.4)
 
-pub classes_none : (labels : List ℕ) (parts : List (List ℕ)) → parts ≡ [] → AreClassesTo labels 0 parts
-classes_none labels parts none = subst (AreClassesTo labels 0) (sym none) (record {
-  each = λ k d l. absurd (omega arith);
-  below = λ k d l. absurd (omega arith);
-  order = λ i j d lt l. absurd (omega arith);
-  every = λ m l lt ne. absurd (omega arith);
-})
-
 pub classes_yes : (labels : List ℕ) (n : ℕ) (part : List ℕ) (parts parts' : List (List ℕ)) → AreClassesTo labels n parts → IsClassTo labels n (length labels) part → 1 < length part → parts' ≡ parts ++ part ∷ [] → AreClassesTo labels (n + 1) parts'
 classes_yes labels n part parts parts' c class two is =
     let head : get_or part 0 0 ≡ n = class.head in

@@ -24,9 +24,6 @@ sound_first limits labels size own = record {
   joined = λ i j li lj e. inl (omega (arith, own i li, own j lj));
 }
 
-same_to : (limits : LimitsData) (labels : List ℕ) (i j : ℕ) → AreSound limits labels → i < length labels → j < length labels → get_or labels i 0 ≡ get_or labels j 0 → (i ≡ j) ⊎ AreJoined limits i j
-same_to limits labels i j s li lj e = s.joined i j li lj e
-
 joins : (limits : LimitsData) (labels labels' : List ℕ) (x y from to : ℕ) → AreSound limits labels → ((m : ℕ) → m < length labels → get_or labels' m 0 ≡ relabelled from to (get_or labels m 0)) → x < length labels → y < length labels → AreJoined limits x y → get_or labels x 0 ≡ from → get_or labels y 0 ≡ to →
     (i j : ℕ) → i < length labels → j < length labels → get_or labels' i 0 ≡ get_or labels' j 0 → (get_or labels i 0 ≡ from) ⊎ (get_or labels i 0 ≢ from) → (get_or labels j 0 ≡ from) ⊎ (get_or labels j 0 ≢ from) → (i ≡ j) ⊎ AreJoined limits i j
 joins limits labels labels' x y from to s step lx ly h ex ey i j li lj e (inl a) (inl b) = s.joined i j li lj (omega arith)

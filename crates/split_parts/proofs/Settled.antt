@@ -82,9 +82,6 @@ pub record AreCleared (part : List ℕ) (passed member : ℕ) (old new : List �
   pub done : (m : ℕ) → m < member → potential new m ≡ kept_or_zero (number_in part m) (potential old m)
   pub rest : (m : ℕ) → member ≤ m → potential new m ≡ potential old m
 
-pub cleared_none : (part : List ℕ) (old : List ℤ) → AreCleared part 0 0 old old
-cleared_none part old = record { few = omega arith; behind = λ q l. absurd (omega arith); ahead = λ q a b. omega arith; done = λ m l. absurd (omega arith); rest = λ m l. refl }
-
 -- the next one is in the part
 pub cleared_kept : (part : List ℕ) (passed member : ℕ) (old new : List ℤ) → IsRisingPart part → passed < length part → get_or part passed 0 ≡ member → AreCleared part passed member old new → AreCleared part (passed + 1) (member + 1) old new
 cleared_kept part passed member old new rising l is c = record {
