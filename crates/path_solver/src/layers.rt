@@ -8,6 +8,7 @@ ghost use Rattle.path_solver.specs.Rests.{AreApart, HaveSome};
 ghost use Rattle.path_solver.specs.Levels.{IsReached, IsLayered, AreShortest, AreLayers, AreWholeLayers};
 ghost use Rattle.path_solver.specs.Searches.{IsSpread};
 
+use crate::balance::Balance;
 use crate::entries::Entry;
 use crate::search::{Search, mark};
 use member_set::MemberSet;
@@ -21,8 +22,7 @@ pub fn layer(
     residual: &Residual,
     entries: &[Entry],
     prices: &[u16],
-    surplus: &[u64],
-    lack: &[u64],
+    balance: &Balance,
     groups: &[MemberSet],
     senders: &MemberSet,
     levels: &mut [u16],
@@ -30,26 +30,26 @@ pub fn layer(
     search: &mut Search,
 ) -> Option<u16>
     requires entries { AreEntries residual.now entries.now }
-    requires senders { HaveSome surplus.now senders.now }
+    requires senders { HaveSome balance.now.surplus.items senders.now }
     requires low { (v : ℕ) → slice_index prices.now v ≤ residual.now.members }
     requires groups { length groups.now ≡ residual.now.members + 3 }
     requires sorted { AreGroups prices.now groups.now }
     requires prices { residual.now.members ≡ length prices.now }
-    requires surplus { residual.now.members ≡ length surplus.now }
-    requires lack { residual.now.members ≡ length lack.now }
+    requires surplus { residual.now.members ≡ length balance.now.surplus.items }
+    requires lack { residual.now.members ≡ length balance.now.lack.items }
     requires levels { residual.now.members ≡ length levels.old }
     requires layers { residual.now.members + 1 ≤ length layers.old }
-    requires apart { AreApart surplus.now lack.now }
-    requires spread { IsSpread residual.now prices.now surplus.now lack.now levels.old search.old.level search.old.now search.old.seen }
+    requires apart { AreApart balance.now.surplus.items balance.now.lack.items }
+    requires spread { IsSpread residual.now prices.now balance.now.surplus.items balance.now.lack.items levels.old search.old.level search.old.now search.old.seen }
     requires layered { AreLayers levels.old layers.old search.old.level }
     requires whole { AreWholeLayers levels.old layers.old search.old.level }
-    ensures layered { IsLayered residual.now.flows prices.now surplus.now lack.now levels.new result }
-    ensures shortest { IfSome result (λ s. AreShortest residual.now.flows prices.now surplus.now lack.now levels.new (slice_index levels.new s)) }
+    ensures layered { IsLayered residual.now.flows prices.now balance.now.surplus.items balance.now.lack.items levels.new result }
+    ensures shortest { IfSome result (λ s. AreShortest residual.now.flows prices.now balance.now.surplus.items balance.now.lack.items levels.new (slice_index levels.new s)) }
     ensures layers { IfSome result (λ s. AreLayers levels.new layers.new (slice_index levels.new s + 1)) }
     ensures whole { IfSome result (λ s. AreWholeLayers levels.new layers.new (slice_index levels.new s + 1)) }
     ensures low { IfSome result (λ s. slice_index levels.new s ≤ residual.now.members) }
     ensures reached { IsNone result → (v : ℕ) → (has search.new.seen v ≡ true) ↔ ((v < residual.now.members) × IsReached levels.new v) }
-    ensures spread { IsNone result → IsSpread residual.now prices.now surplus.now lack.now levels.new search.new.level search.new.now search.new.seen }
+    ensures spread { IsNone result → IsSpread residual.now prices.now balance.now.surplus.items balance.now.lack.items levels.new search.new.level search.new.now search.new.seen }
     ensures passed { IsNone result → AreLayers levels.new layers.new search.new.level }
     ensures all_passed { IsNone result → AreWholeLayers levels.new layers.new search.new.level }
 {

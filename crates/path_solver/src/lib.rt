@@ -10,6 +10,7 @@
 //! certificate.
 #![tactic(auto)]
 
+mod balance;
 mod direct;
 mod entries;
 mod groups;

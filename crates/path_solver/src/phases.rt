@@ -1,13 +1,13 @@
 //! Phases, until nothing is left to send.
 
-ghost use Rattle.std.specs.Prelude.{◌≡◌, ℕ, ◌+◌, ◌*◌, ◌<◌, ◌≤◌, length, slice_index, true};
-ghost use Rattle.member_set.specs.Members.{has};
+ghost use Rattle.std.specs.Prelude.{◌≡◌, ℕ, ◌+◌, ◌*◌, ◌<◌, ◌≤◌, length};
 ghost use Rattle.path_solver.specs.Groups.{AreGroups};
 ghost use Rattle.path_solver.specs.Neighbours.{AreNeighbours};
 ghost use Rattle.path_solver.specs.Rests.{IsFeasible, HaveSome};
 ghost use Rattle.path_solver.specs.Phases.{IsPhase, IsSettled};
 ghost use Rattle.path_solver.specs.Counts.{phase_steps};
 
+use crate::balance::Balance;
 use crate::layers::layer;
 use crate::neighbours::Neighbours;
 use crate::prices::next_phase;
@@ -17,38 +17,6 @@ use member_set::MemberSet;
 use residual_graph::{Residual, Steps};
 use std::sync::ledger::Ledger;
 
-/// The members with an amount.
-pub fn those_with(amounts: &[u64]) -> MemberSet
-    requires { length amounts.now ≤ 256 }
-    ensures { HaveSome amounts.now result }
-{
-    let mut some = MemberSet::new();
-    for member in 0..amounts.len() {
-        if amounts[member] > 0 {
-            some.put(member as u16);
-        }
-    }
-    some
-}
-
-/// The members of the set that still have an amount.
-fn still_with(amounts: &[u64], members: MemberSet) -> MemberSet
-    requires small { (v : ℕ) → has members v ≡ true → v < length amounts.now }
-    requires all { (v : ℕ) → 0 < slice_index amounts.now v → has members v ≡ true }
-    ensures { HaveSome amounts.now result }
-{
-    let mut some = members;
-    for place in 0..4u16 {
-        let mut left = members.part(place);
-        while let Some(member) = left.take_lowest() {
-            if amounts[member as usize] == 0 {
-                some.drop_member(member);
-            }
-        }
-    }
-    some
-}
-
 /// Sends along paths what is left to send in the first phase, and in those behind it. The prices become those of the last.
 pub fn settle_phases<L: Ledger>(
     residual: &mut Residual,
@@ -56,8 +24,7 @@ pub fn settle_phases<L: Ledger>(
     groups: &mut [MemberSet],
     prices: &mut [u16],
     levels: &mut [u16],
-    surplus: &mut [u64],
-    lack: &mut [u64],
+    balance: &mut Balance,
     layers: &mut [MemberSet],
     path: &mut [u32],
     steps: &mut Steps<L>,
@@ -67,18 +34,18 @@ pub fn settle_phases<L: Ledger>(
     requires sorted { AreGroups prices.old groups.old }
     requires prices { residual.old.members ≡ length prices.old }
     requires levels { residual.old.members ≡ length levels.old }
-    requires surplus { residual.old.members ≡ length surplus.old }
-    requires lack { residual.old.members ≡ length lack.old }
+    requires surplus { residual.old.members ≡ length balance.old.surplus.items }
+    requires lack { residual.old.members ≡ length balance.old.lack.items }
     requires layers { residual.old.members + 1 ≡ length layers.old }
     requires path { residual.old.members ≡ length path.old }
-    requires phase { IsPhase residual.old residual.old surplus.old lack.old surplus.old lack.old prices.old 1 }
-    requires feasible { IsFeasible residual.old.flows surplus.old lack.old }
-    ensures settled { IsSettled residual.old residual.new surplus.old lack.old prices.new }
+    requires phase { IsPhase residual.old residual.old balance.old.surplus.items balance.old.lack.items balance.old.surplus.items balance.old.lack.items prices.old 1 }
+    requires feasible { IsFeasible residual.old.flows balance.old.surplus.items balance.old.lack.items }
+    ensures settled { IsSettled residual.old residual.new balance.old.surplus.items balance.old.lack.items prices.new }
     ensures counted { steps.new ≤ steps.old + (residual.old.members + 1) * phase_steps residual.old }
 {
     let _members = residual.members();
-    let mut senders = those_with(surplus);
-    let mut receivers = those_with(lack);
+    let mut senders = balance.senders();
+    let mut receivers = balance.receivers();
     let mut search = start(levels, &receivers);
     let mut phase = 1u16;
     'phases: while !senders.is_empty() {
@@ -86,8 +53,7 @@ pub fn settle_phases<L: Ledger>(
             residual,
             &neighbours.entries,
             prices,
-            surplus,
-            lack,
+            balance,
             groups,
             &senders,
             levels,
@@ -101,8 +67,7 @@ pub fn settle_phases<L: Ledger>(
                     groups,
                     prices,
                     levels,
-                    surplus,
-                    lack,
+                    balance,
                     layers,
                     &mut search,
                     phase,
@@ -110,11 +75,11 @@ pub fn settle_phases<L: Ledger>(
             }
             Some(source) => {
                 send_phase(
-                    residual, neighbours, groups, prices, levels, surplus, lack, layers, path,
-                    source, steps,
+                    residual, neighbours, groups, prices, levels, balance, layers, path, source,
+                    steps,
                 );
-                senders = still_with(surplus, senders);
-                receivers = still_with(lack, receivers);
+                senders = balance.senders_among(senders);
+                receivers = balance.receivers_among(receivers);
                 search = start(levels, &receivers);
             }
         }

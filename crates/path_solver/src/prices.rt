@@ -9,6 +9,7 @@ ghost use Rattle.path_solver.specs.Phases.{IsPhase, raised_price};
 ghost use Rattle.path_solver.specs.Rests.{IsFeasible};
 ghost use Rattle.path_solver.specs.Searches.{IsSpread};
 
+use crate::balance::Balance;
 use crate::groups::move_up;
 use crate::neighbours::Neighbours;
 use crate::outside::{around, entered_from};
@@ -47,8 +48,7 @@ pub fn next_phase(
     groups: &mut [MemberSet],
     prices: &mut [u16],
     levels: &mut [u16],
-    surplus: &[u64],
-    lack: &[u64],
+    balance: &Balance,
     layers: &[MemberSet],
     search: &mut Search,
     phase: u16,
@@ -57,19 +57,19 @@ pub fn next_phase(
     requires groups { length groups.old ≡ residual.now.members + 3 }
     requires sorted { AreGroups prices.old groups.old }
     requires prices { residual.now.members ≡ length prices.old }
-    requires surplus { residual.now.members ≡ length surplus.now }
+    requires surplus { residual.now.members ≡ length balance.now.surplus.items }
     requires layers { residual.now.members < length layers.now }
-    requires phase { IsPhase residual.now residual.now surplus.now lack.now surplus.now lack.now prices.old phase }
-    requires feasible { IsFeasible residual.now.flows surplus.now lack.now }
-    requires sends { (v : ℕ) × (0 < slice_index surplus.now v) }
-    requires cut { AreCut residual.now.flows prices.old surplus.now lack.now levels.old }
-    requires spread { IsSpread residual.now prices.old surplus.now lack.now levels.old search.old.level search.old.now search.old.seen }
+    requires phase { IsPhase residual.now residual.now balance.now.surplus.items balance.now.lack.items balance.now.surplus.items balance.now.lack.items prices.old phase }
+    requires feasible { IsFeasible residual.now.flows balance.now.surplus.items balance.now.lack.items }
+    requires sends { (v : ℕ) × (0 < slice_index balance.now.surplus.items v) }
+    requires cut { AreCut residual.now.flows prices.old balance.now.surplus.items balance.now.lack.items levels.old }
+    requires spread { IsSpread residual.now prices.old balance.now.surplus.items balance.now.lack.items levels.old search.old.level search.old.now search.old.seen }
     requires passed { AreLayers levels.old layers.now search.old.level }
     requires whole { AreWholeLayers levels.old layers.now search.old.level }
     ensures later { phase < result }
-    ensures phase { IsPhase residual.now residual.now surplus.now lack.now surplus.now lack.now prices.new result }
+    ensures phase { IsPhase residual.now residual.now balance.now.surplus.items balance.now.lack.items balance.now.surplus.items balance.now.lack.items prices.new result }
     ensures sorted { AreGroups prices.new groups.new }
-    ensures spread { IsSpread residual.now prices.new surplus.now lack.now levels.new search.new.level search.new.now search.new.seen }
+    ensures spread { IsSpread residual.now prices.new balance.now.surplus.items balance.now.lack.items levels.new search.new.level search.new.now search.new.seen }
     ensures passed { AreLayers levels.new layers.now search.new.level }
     ensures whole { AreWholeLayers levels.new layers.now search.new.level }
 {

@@ -7,10 +7,11 @@ ghost use Rattle.path_solver.specs.Levels.{layer_at, AreLevels, AreShortest, Are
 ghost use Rattle.path_solver.specs.Paths.{NoneIsShorter};
 ghost use Rattle.path_solver.specs.Rests.{AreApart, IsSentAlong};
 ghost use Rattle.path_solver.specs.Pruned.{ArePruned, AreFewer};
-ghost use Rattle.path_solver.specs.Counts.{left_to_do};
+ghost use Rattle.path_solver.specs.Counts.{still_to_do};
 ghost use Rattle.path_solver.specs.Trails.{IsBegun};
 ghost use Rattle.member_set.specs.Members.{has};
 
+use crate::balance::Balance;
 use crate::neighbours::Neighbours;
 use crate::paths::{bottleneck_of, push_noting};
 use crate::stand::Stand;
@@ -27,8 +28,7 @@ pub fn send_phase<L: Ledger>(
     groups: &[MemberSet],
     prices: &[u16],
     levels: &[u16],
-    surplus: &mut [u64],
-    lack: &mut [u64],
+    balance: &mut Balance,
     layers: &mut [MemberSet],
     path: &mut [u32],
     source: u16,
@@ -40,22 +40,22 @@ pub fn send_phase<L: Ledger>(
     requires low { (v : ℕ) → slice_index prices.now v ≤ residual.old.members }
     requires prices { residual.old.members ≡ length prices.now }
     requires levels { residual.old.members ≡ length levels.now }
-    requires surplus { residual.old.members ≡ length surplus.old }
-    requires lack { residual.old.members ≡ length lack.old }
+    requires surplus { residual.old.members ≡ length balance.old.surplus.items }
+    requires lack { residual.old.members ≡ length balance.old.lack.items }
     requires layers { AreLayers levels.now layers.old (slice_index levels.now source + 1) }
     requires whole { AreWholeLayers levels.now layers.old (slice_index levels.now source + 1) }
     requires top { slice_index levels.now source ≤ residual.old.members }
     requires room { residual.old.members < length layers.old }
     requires path { residual.old.members ≤ length path.old }
-    requires source { IsSource surplus.old levels.now source }
-    requires shortest { AreShortest residual.old.flows prices.now surplus.old lack.old levels.now (slice_index levels.now source) }
-    requires apart { AreApart surplus.old lack.old }
-    requires down { AreLevels residual.old.flows prices.now lack.old levels.now }
+    requires source { IsSource balance.old.surplus.items levels.now source }
+    requires shortest { AreShortest residual.old.flows prices.now balance.old.surplus.items balance.old.lack.items levels.now (slice_index levels.now source) }
+    requires apart { AreApart balance.old.surplus.items balance.old.lack.items }
+    requires down { AreLevels residual.old.flows prices.now balance.old.lack.items levels.now }
     ensures neighbours { AreNeighbours residual.new neighbours.new }
-    ensures along { IsSentAlong prices.now residual.old residual.new surplus.old lack.old surplus.new lack.new }
-    ensures sent { sum surplus.new < sum surplus.old }
-    ensures few { steps.new + left_to_do levels.now residual.new.flows surplus.new lack.new ≤ steps.old + left_to_do levels.now residual.old.flows surplus.old lack.old }
-    ensures deeper { NoneIsShorter residual.new.flows prices.now surplus.new lack.new (slice_index levels.now source + 1) }
+    ensures along { IsSentAlong prices.now residual.old residual.new balance.old.surplus.items balance.old.lack.items balance.new.surplus.items balance.new.lack.items }
+    ensures sent { sum balance.new.surplus.items < sum balance.old.surplus.items }
+    ensures few { steps.new + still_to_do levels.now residual.new.flows balance.new ≤ steps.old + still_to_do levels.now residual.old.flows balance.old }
+    ensures deeper { NoneIsShorter residual.new.flows prices.now balance.new.surplus.items balance.new.lack.items (slice_index levels.now source + 1) }
 {
     let _members = residual.members();
     let mut left = layers[levels[source as usize] as usize];
@@ -64,13 +64,11 @@ pub fn send_phase<L: Ledger>(
         here: source,
     };
     send_once(
-        residual, neighbours, groups, prices, levels, surplus, lack, layers, path, source, first,
-        steps,
+        residual, neighbours, groups, prices, levels, balance, layers, path, source, first, steps,
     );
     'senders: while let Some(member) = left.take_lowest() {
         send_all(
-            residual, neighbours, groups, prices, levels, surplus, lack, layers, path, member,
-            steps,
+            residual, neighbours, groups, prices, levels, balance, layers, path, member, steps,
         );
     }
 }
@@ -83,8 +81,7 @@ fn send_once<L: Ledger>(
     groups: &[MemberSet],
     prices: &[u16],
     levels: &[u16],
-    surplus: &mut [u64],
-    lack: &mut [u64],
+    balance: &mut Balance,
     layers: &mut [MemberSet],
     path: &mut [u32],
     from: u16,
@@ -97,44 +94,44 @@ fn send_once<L: Ledger>(
     requires low { (v : ℕ) → slice_index prices.now v ≤ residual.old.members }
     requires prices { residual.old.members ≡ length prices.now }
     requires levels { residual.old.members ≡ length levels.now }
-    requires surplus { residual.old.members ≡ length surplus.old }
-    requires lack { residual.old.members ≡ length lack.old }
+    requires surplus { residual.old.members ≡ length balance.old.surplus.items }
+    requires lack { residual.old.members ≡ length balance.old.lack.items }
     requires layers { AreLayers levels.now layers.old (slice_index levels.now from + 1) }
     requires top { slice_index levels.now from ≤ residual.old.members }
     requires room { residual.old.members < length layers.old }
     requires path { residual.old.members ≤ length path.old }
-    requires shortest { AreShortest residual.old.flows prices.now surplus.old lack.old levels.now (slice_index levels.now from) }
+    requires shortest { AreShortest residual.old.flows prices.now balance.old.surplus.items balance.old.lack.items levels.now (slice_index levels.now from) }
     requires from { from < residual.old.members }
-    requires pruned { ArePruned residual.old.flows prices.now lack.old levels.now layers.old (slice_index levels.now from + 1) }
+    requires pruned { ArePruned residual.old.flows prices.now balance.old.lack.items levels.now layers.old (slice_index levels.now from + 1) }
     requires begun { IsBegun residual.old prices.now levels.now layers.old path.old from stand }
     ensures neighbours { AreNeighbours residual.new neighbours.new }
     ensures layers { AreLayers levels.now layers.new (slice_index levels.now from + 1) }
     ensures begun { IfSome result (λ s. IsBegun residual.new prices.now levels.now layers.new path.new from s) }
-    ensures pruned { ArePruned residual.new.flows prices.now lack.new levels.now layers.new (slice_index levels.now from + 1) }
+    ensures pruned { ArePruned residual.new.flows prices.now balance.new.lack.items levels.now layers.new (slice_index levels.now from + 1) }
     ensures fewer { AreFewer layers.old layers.new }
-    ensures kept { AreShortest residual.new.flows prices.now surplus.new lack.new levels.now (slice_index levels.now from) }
-    ensures along { IsSentAlong prices.now residual.old residual.new surplus.old lack.old surplus.new lack.new }
-    ensures few { steps.new + left_to_do levels.now residual.new.flows surplus.new lack.new ≤ steps.old + left_to_do levels.now residual.old.flows surplus.old lack.old }
-    ensures done { IsNone result → has (layer_at layers.new (slice_index levels.now from)) from ≡ true → slice_index surplus.new from ≡ 0 }
-    ensures sent { IsSome result → sum surplus.new < sum surplus.old }
-    ensures shortest { IsSome result → NoneIsShorter residual.old.flows prices.now surplus.old lack.old (slice_index levels.now from) }
-    ensures fresh { AreLevels residual.old.flows prices.now lack.old levels.now → AreWholeLayers levels.now layers.old (slice_index levels.now from + 1) → 0 < slice_index surplus.old from → IsSome result }
+    ensures kept { AreShortest residual.new.flows prices.now balance.new.surplus.items balance.new.lack.items levels.now (slice_index levels.now from) }
+    ensures along { IsSentAlong prices.now residual.old residual.new balance.old.surplus.items balance.old.lack.items balance.new.surplus.items balance.new.lack.items }
+    ensures few { steps.new + still_to_do levels.now residual.new.flows balance.new ≤ steps.old + still_to_do levels.now residual.old.flows balance.old }
+    ensures done { IsNone result → has (layer_at layers.new (slice_index levels.now from)) from ≡ true → slice_index balance.new.surplus.items from ≡ 0 }
+    ensures sent { IsSome result → sum balance.new.surplus.items < sum balance.old.surplus.items }
+    ensures shortest { IsSome result → NoneIsShorter residual.old.flows prices.now balance.old.surplus.items balance.old.lack.items (slice_index levels.now from) }
+    ensures fresh { AreLevels residual.old.flows prices.now balance.old.lack.items levels.now → AreWholeLayers levels.now layers.old (slice_index levels.now from + 1)
+        → 0 < slice_index balance.old.surplus.items from → IsSome result }
 {
     let _members = residual.members();
-    if surplus[from as usize] == 0 {
+    if balance.surplus_of(from) == 0 {
         return None;
     }
     let Some(end) = walk(
-        residual, neighbours, groups, prices, levels, lack, layers, path, from, stand,
+        residual, neighbours, groups, prices, levels, balance, layers, path, from, stand,
     ) else {
         return None;
     };
     let arcs = &path[..levels[from as usize] as usize];
-    let most = surplus[from as usize].min(lack[end as usize]);
+    let most = balance.between(from, end);
     let found = bottleneck_of(residual, arcs, most);
     let filled = push_noting(residual, neighbours, arcs, found, steps);
-    surplus[from as usize] -= found.amount;
-    lack[end as usize] -= found.amount;
+    balance.take_off(from, end, found.amount);
     Some(Stand::behind(residual, arcs, filled, end))
 }
 
@@ -145,8 +142,7 @@ fn send_all<L: Ledger>(
     groups: &[MemberSet],
     prices: &[u16],
     levels: &[u16],
-    surplus: &mut [u64],
-    lack: &mut [u64],
+    balance: &mut Balance,
     layers: &mut [MemberSet],
     path: &mut [u32],
     from: u16,
@@ -158,31 +154,30 @@ fn send_all<L: Ledger>(
     requires low { (v : ℕ) → slice_index prices.now v ≤ residual.old.members }
     requires prices { residual.old.members ≡ length prices.now }
     requires levels { residual.old.members ≡ length levels.now }
-    requires surplus { residual.old.members ≡ length surplus.old }
-    requires lack { residual.old.members ≡ length lack.old }
+    requires surplus { residual.old.members ≡ length balance.old.surplus.items }
+    requires lack { residual.old.members ≡ length balance.old.lack.items }
     requires layers { AreLayers levels.now layers.old (slice_index levels.now from + 1) }
     requires top { slice_index levels.now from ≤ residual.old.members }
     requires room { residual.old.members < length layers.old }
     requires path { residual.old.members ≤ length path.old }
-    requires shortest { AreShortest residual.old.flows prices.now surplus.old lack.old levels.now (slice_index levels.now from) }
+    requires shortest { AreShortest residual.old.flows prices.now balance.old.surplus.items balance.old.lack.items levels.now (slice_index levels.now from) }
     requires from { from < residual.old.members }
-    requires pruned { ArePruned residual.old.flows prices.now lack.old levels.now layers.old (slice_index levels.now from + 1) }
+    requires pruned { ArePruned residual.old.flows prices.now balance.old.lack.items levels.now layers.old (slice_index levels.now from + 1) }
     ensures neighbours { AreNeighbours residual.new neighbours.new }
     ensures layers { AreLayers levels.now layers.new (slice_index levels.now from + 1) }
-    ensures pruned { ArePruned residual.new.flows prices.now lack.new levels.now layers.new (slice_index levels.now from + 1) }
+    ensures pruned { ArePruned residual.new.flows prices.now balance.new.lack.items levels.now layers.new (slice_index levels.now from + 1) }
     ensures fewer { AreFewer layers.old layers.new }
-    ensures kept { AreShortest residual.new.flows prices.now surplus.new lack.new levels.now (slice_index levels.now from) }
-    ensures along { IsSentAlong prices.now residual.old residual.new surplus.old lack.old surplus.new lack.new }
-    ensures few { steps.new + left_to_do levels.now residual.new.flows surplus.new lack.new ≤ steps.old + left_to_do levels.now residual.old.flows surplus.old lack.old }
-    ensures done { has (layer_at layers.new (slice_index levels.now from)) from ≡ true → slice_index surplus.new from ≡ 0 }
+    ensures kept { AreShortest residual.new.flows prices.now balance.new.surplus.items balance.new.lack.items levels.now (slice_index levels.now from) }
+    ensures along { IsSentAlong prices.now residual.old residual.new balance.old.surplus.items balance.old.lack.items balance.new.surplus.items balance.new.lack.items }
+    ensures few { steps.new + still_to_do levels.now residual.new.flows balance.new ≤ steps.old + still_to_do levels.now residual.old.flows balance.old }
+    ensures done { has (layer_at layers.new (slice_index levels.now from)) from ≡ true → slice_index balance.new.surplus.items from ≡ 0 }
 {
     let mut stand = Stand {
         done: 0,
         here: from,
     };
     'paths: while let Some(behind) = send_once(
-        residual, neighbours, groups, prices, levels, surplus, lack, layers, path, from, stand,
-        steps,
+        residual, neighbours, groups, prices, levels, balance, layers, path, from, stand, steps,
     ) {
         stand = behind;
     }

@@ -5,10 +5,11 @@ ghost use Rattle.path_solver.specs.Rests.{IsFeasible, AreApart};
 ghost use Rattle.path_solver.specs.Phases.{IsPhase, IsSettled};
 ghost use Rattle.path_solver.specs.Counts.{phase_steps};
 
+use crate::balance::Balance;
 use crate::direct::{first_prices, send_direct};
 use crate::groups::sort_by_price;
 use crate::neighbours::Neighbours;
-use crate::phases::{settle_phases, those_with};
+use crate::phases::settle_phases;
 use crate::search::UNREACHED;
 use member_set::MemberSet;
 use residual_graph::{Residual, Steps};
@@ -30,24 +31,23 @@ pub fn all_of<T: Copy>(alloc: Global, members: u16, value: T) -> Result<Vec<T>, 
 pub fn settle<L: Ledger>(
     alloc: Global,
     residual: &mut Residual,
-    surplus: &mut [u64],
-    lack: &mut [u64],
+    balance: &mut Balance,
     steps: &mut Steps<L>,
 ) -> Result<Vec<u16>, AllocError>
-    requires surplus { residual.old.members ≡ length surplus.old }
-    requires lack { residual.old.members ≡ length lack.old }
+    requires surplus { residual.old.members ≡ length balance.old.surplus.items }
+    requires lack { residual.old.members ≡ length balance.old.lack.items }
     requires lowest { All (λ f. f.back ≡ 0) residual.old.flows }
-    requires apart { AreApart surplus.old lack.old }
-    requires feasible { IsFeasible residual.old.flows surplus.old lack.old }
-    ensures settled { IfOk result (λ prices. IsSettled residual.old residual.new surplus.old lack.old prices.items) }
+    requires apart { AreApart balance.old.surplus.items balance.old.lack.items }
+    requires feasible { IsFeasible residual.old.flows balance.old.surplus.items balance.old.lack.items }
+    ensures settled { IfOk result (λ prices. IsSettled residual.old residual.new balance.old.surplus.items balance.old.lack.items prices.items) }
     ensures counted { steps.new ≤ steps.old + length residual.old.flows + (residual.old.members + 1) * phase_steps residual.old }
 {
     let members = residual.members();
-    if those_with(surplus).is_empty() {
+    if balance.senders().is_empty() {
         let prices = all_of(alloc, members, 0u16)?;
         return Ok(prices);
     }
-    let prices = settle_first(alloc, residual, surplus, lack, steps)?;
+    let prices = settle_first(alloc, residual, balance, steps)?;
     Ok(prices)
 }
 
@@ -55,25 +55,24 @@ pub fn settle<L: Ledger>(
 fn settle_first<L: Ledger>(
     alloc: Global,
     residual: &mut Residual,
-    surplus: &mut [u64],
-    lack: &mut [u64],
+    balance: &mut Balance,
     steps: &mut Steps<L>,
 ) -> Result<Vec<u16>, AllocError>
-    requires surplus { residual.old.members ≡ length surplus.old }
-    requires lack { residual.old.members ≡ length lack.old }
+    requires surplus { residual.old.members ≡ length balance.old.surplus.items }
+    requires lack { residual.old.members ≡ length balance.old.lack.items }
     requires lowest { All (λ f. f.back ≡ 0) residual.old.flows }
-    requires apart { AreApart surplus.old lack.old }
-    requires feasible { IsFeasible residual.old.flows surplus.old lack.old }
-    ensures settled { IfOk result (λ prices. IsSettled residual.old residual.new surplus.old lack.old prices.items) }
+    requires apart { AreApart balance.old.surplus.items balance.old.lack.items }
+    requires feasible { IsFeasible residual.old.flows balance.old.surplus.items balance.old.lack.items }
+    ensures settled { IfOk result (λ prices. IsSettled residual.old residual.new balance.old.surplus.items balance.old.lack.items prices.items) }
     ensures counted { steps.new ≤ steps.old + length residual.old.flows + (residual.old.members + 1) * phase_steps residual.old }
 {
     let _members = residual.members();
-    let prices = first_prices(alloc, lack)?;
-    send_direct(residual, &prices, surplus, lack, steps);
-    if those_with(surplus).is_empty() {
+    let prices = first_prices(alloc, &balance.lack)?;
+    send_direct(residual, &prices, balance, steps);
+    if balance.senders().is_empty() {
         return Ok(prices);
     }
-    let prices = settle_rest(alloc, residual, surplus, lack, prices, steps)?;
+    let prices = settle_rest(alloc, residual, balance, prices, steps)?;
     Ok(prices)
 }
 
@@ -81,17 +80,16 @@ fn settle_first<L: Ledger>(
 fn settle_rest<L: Ledger>(
     alloc: Global,
     residual: &mut Residual,
-    surplus: &mut [u64],
-    lack: &mut [u64],
+    balance: &mut Balance,
     first: Vec<u16>,
     steps: &mut Steps<L>,
 ) -> Result<Vec<u16>, AllocError>
-    requires surplus { residual.old.members ≡ length surplus.old }
-    requires lack { residual.old.members ≡ length lack.old }
+    requires surplus { residual.old.members ≡ length balance.old.surplus.items }
+    requires lack { residual.old.members ≡ length balance.old.lack.items }
     requires prices { residual.old.members ≡ length first.items }
-    requires phase { IsPhase residual.old residual.old surplus.old lack.old surplus.old lack.old first.items 1 }
-    requires feasible { IsFeasible residual.old.flows surplus.old lack.old }
-    ensures settled { IfOk result (λ prices. IsSettled residual.old residual.new surplus.old lack.old prices.items) }
+    requires phase { IsPhase residual.old residual.old balance.old.surplus.items balance.old.lack.items balance.old.surplus.items balance.old.lack.items first.items 1 }
+    requires feasible { IsFeasible residual.old.flows balance.old.surplus.items balance.old.lack.items }
+    ensures settled { IfOk result (λ prices. IsSettled residual.old residual.new balance.old.surplus.items balance.old.lack.items prices.items) }
     ensures counted { steps.new ≤ steps.old + (residual.old.members + 1) * phase_steps residual.old }
 {
     let members = residual.members();
@@ -108,8 +106,7 @@ fn settle_rest<L: Ledger>(
         &mut groups,
         &mut prices,
         &mut levels,
-        surplus,
-        lack,
+        balance,
         &mut layers,
         &mut path,
         steps,

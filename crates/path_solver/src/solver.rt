@@ -10,8 +10,9 @@ ghost use Rattle.path_solver.specs.Phases.{IsPricedAnew};
 ghost use Rattle.path_solver.specs.Counts.{most_steps, phase_steps};
 ghost use Rattle.units_core.specs.declared.limits.TheConstants.{MOST_GROSS};
 
+use crate::balance::Balance;
 use crate::lowest::lower_all;
-use crate::settle::{all_of, settle};
+use crate::settle::settle;
 use net_positions::gross;
 use network_laws::{Limits, Network, Solution, Solver};
 use residual_graph::{Residual, Steps};
@@ -111,11 +112,9 @@ fn find_prices<L: Ledger>(
     ensures priced { IfOk result (λ prices. IsPricedAnew residual.old residual.new prices.items) }
     ensures counted { steps.new ≤ steps.old + (residual.old.members + 2) * phase_steps residual.old }
 {
-    let members = residual.members();
-    let mut surplus = all_of(alloc, members, 0u64)?;
-    let mut lack = all_of(alloc, members, 0u64)?;
-    lower_all(residual, &mut surplus, &mut lack, steps);
-    let prices = settle(alloc, residual, &mut surplus, &mut lack, steps)?;
+    let mut balance = Balance::even(alloc, residual.members())?;
+    lower_all(residual, &mut balance, steps);
+    let prices = settle(alloc, residual, &mut balance, steps)?;
     Ok(prices)
 }
 

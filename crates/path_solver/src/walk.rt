@@ -9,6 +9,7 @@ ghost use Rattle.path_solver.specs.Pruned.{ArePruned, AreFewer};
 ghost use Rattle.path_solver.specs.Trails.{IsTrail, IsBegun};
 ghost use Rattle.member_set.specs.Members.{has};
 
+use crate::balance::Balance;
 use crate::neighbours::Neighbours;
 use crate::stand::Stand;
 use member_set::MemberSet;
@@ -24,7 +25,7 @@ pub fn walk(
     groups: &[MemberSet],
     prices: &[u16],
     levels: &[u16],
-    lack: &[u64],
+    balance: &Balance,
     layers: &mut [MemberSet],
     path: &mut [u32],
     from: u16,
@@ -36,21 +37,21 @@ pub fn walk(
     requires low { (v : ℕ) → slice_index prices.now v ≤ residual.now.members }
     requires prices { residual.now.members ≡ length prices.now }
     requires levels { residual.now.members ≡ length levels.now }
-    requires lack { residual.now.members ≡ length lack.now }
+    requires lack { residual.now.members ≡ length balance.now.lack.items }
     requires layers { AreLayers levels.now layers.old (slice_index levels.now from + 1) }
     requires top { slice_index levels.now from ≤ residual.now.members }
     requires room { residual.now.members < length layers.old }
     requires path { residual.now.members ≤ length path.old }
     requires from { from < residual.now.members }
-    requires pruned { ArePruned residual.now.flows prices.now lack.now levels.now layers.old (slice_index levels.now from + 1) }
+    requires pruned { ArePruned residual.now.flows prices.now balance.now.lack.items levels.now layers.old (slice_index levels.now from + 1) }
     requires begun { IsBegun residual.now prices.now levels.now layers.old path.old from stand }
-    ensures path { IfSome result (λ end. IsPathDown residual.now.flows prices.now levels.now lack.now from end (take (slice_index levels.now from) path.new)) }
+    ensures path { IfSome result (λ end. IsPathDown residual.now.flows prices.now levels.now balance.now.lack.items from end (take (slice_index levels.now from) path.new)) }
     ensures trail { IfSome result (λ end. IsTrail residual.now prices.now levels.now layers.new path.new 0 (slice_index levels.now from) end from) }
     ensures layers { AreLayers levels.now layers.new (slice_index levels.now from + 1) }
-    ensures pruned { ArePruned residual.now.flows prices.now lack.now levels.now layers.new (slice_index levels.now from + 1) }
+    ensures pruned { ArePruned residual.now.flows prices.now balance.now.lack.items levels.now layers.new (slice_index levels.now from + 1) }
     ensures fewer { AreFewer layers.old layers.new }
     ensures gone { IsNone result → has (layer_at layers.new (slice_index levels.now from)) from ≡ false }
-    ensures fresh { AreLevels residual.now.flows prices.now lack.now levels.now → AreWholeLayers levels.now layers.old (slice_index levels.now from + 1) → IsSome result }
+    ensures fresh { AreLevels residual.now.flows prices.now balance.now.lack.items levels.now → AreWholeLayers levels.now layers.old (slice_index levels.now from + 1) → IsSome result }
 {
     let _members = residual.members();
     let top = levels[from as usize] as usize;
@@ -58,7 +59,7 @@ pub fn walk(
     let mut here = stand.here;
     'steps: loop {
         if level == 0 {
-            if lack[here as usize] > 0 {
+            if balance.lack_of(here) > 0 {
                 return Some(here);
             }
         } else if let Some(exit) = neighbours.way_into(

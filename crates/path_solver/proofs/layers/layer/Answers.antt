@@ -16,13 +16,13 @@ pub returns-in-Some-clause-layered : goal.returns-in-Some-clause-layered
 returns-in-Some-clause-layered c =
     let met = c.in-Some.ensures.member in
     let both = and_parts (has c.loop-now.now c.in-Some.source) (has c.args.senders.now c.in-Some.source) (sym (c.and-met.ensures c.in-Some.source) ∙ met) in
-    spread_found c.args.residual.now c.args.prices.now c.args.surplus.now c.args.lack.now c.loop-now.levels c.mark.new.levels c.loop-now.level c.loop-now.now c.loop-now.seen c.members-members.ensures.residual c.loop-now.invariant.spread
+    spread_found c.args.residual.now c.args.prices.now c.args.balance.now.surplus.items c.args.balance.now.lack.items c.loop-now.levels c.mark.new.levels c.loop-now.level c.loop-now.now c.loop-now.seen c.members-members.ensures.residual c.loop-now.invariant.spread
     c.and-met.result (λ v on. (and_parts (has c.loop-now.now v) (has c.args.senders.now v) (sym (c.and-met.ensures v) ∙ on)).0)
     c.mark.auto.levels c.mark.ensures.marked c.mark.ensures.others c.in-Some.source met ((c.requires.senders c.in-Some.source).0 both.1)
 
 pub returns-in-Some-clause-shortest : goal.returns-in-Some-clause-shortest
 returns-in-Some-clause-shortest c =
-    shortest_found c.args.residual.now c.args.prices.now c.args.surplus.now c.args.lack.now c.loop-now.levels c.mark.new.levels c.loop-now.level c.loop-now.now c.loop-now.seen c.members-members.ensures.residual c.loop-now.invariant.spread
+    shortest_found c.args.residual.now c.args.prices.now c.args.balance.now.surplus.items c.args.balance.now.lack.items c.loop-now.levels c.mark.new.levels c.loop-now.level c.loop-now.now c.loop-now.seen c.members-members.ensures.residual c.loop-now.invariant.spread
     c.and-met.result (λ v on. (and_parts (has c.loop-now.now v) (has c.args.senders.now v) (sym (c.and-met.ensures v) ∙ on)).0)
     c.mark.auto.levels c.mark.ensures.marked c.mark.ensures.others
     (λ v on sends. c.and-met.ensures v ∙ and_from (has c.loop-now.now v) (has c.args.senders.now v) on ((c.requires.senders v).1 sends))
@@ -30,34 +30,34 @@ returns-in-Some-clause-shortest c =
 
 pub overflow_add-level : goal.overflow_add-level
 overflow_add-level c =
-    let few = few_levels c.args.residual.now c.args.prices.now c.args.surplus.now c.args.lack.now c.loop-now.levels c.loop-now.levels c.loop-now.level c.loop-now.now c.loop-now.seen c.members-members.ensures.residual c.loop-now.invariant.spread in
+    let few = few_levels c.args.residual.now c.args.prices.now c.args.balance.now.surplus.items c.args.balance.now.lack.items c.loop-now.levels c.loop-now.levels c.loop-now.level c.loop-now.now c.loop-now.seen c.members-members.ensures.residual c.loop-now.invariant.spread in
     omega (arith, few, c.members-members.ensures.residual.few)
 
 pub loop-now-smaller : goal.loop-now-smaller
 loop-now-smaller c =
-    let few = few_levels c.args.residual.now c.args.prices.now c.args.surplus.now c.args.lack.now c.loop-now.levels c.loop-now.levels c.loop-now.level c.loop-now.now c.loop-now.seen c.members-members.ensures.residual c.loop-now.invariant.spread in
+    let few = few_levels c.args.residual.now c.args.prices.now c.args.balance.now.surplus.items c.args.balance.now.lack.items c.loop-now.levels c.loop-now.levels c.loop-now.level c.loop-now.now c.loop-now.seen c.members-members.ensures.residual c.loop-now.invariant.spread in
     omega (arith, few)
 
 pub loop-now-preserved : goal.loop-now-preserved
 loop-now-preserved c =
     let inv = c.loop-now.invariant.spread in
     let one = c.is_empty.ensures.some c.loop-now-test.true in
-    let spread = spread_more c.args.residual.now c.args.prices.now c.args.surplus.now c.args.lack.now c.loop-now.levels c.visit-near.new.levels c.loop-now.level c.loop-now.now c.loop-now.seen c.members-members.ensures.residual inv
+    let spread = spread_more c.args.residual.now c.args.prices.now c.args.balance.now.surplus.items c.args.balance.now.lack.items c.loop-now.levels c.visit-near.new.levels c.loop-now.level c.loop-now.now c.loop-now.seen c.members-members.ensures.residual inv
     c.args.entries.now c.args.groups.now c.visit-near.result c.without-now.result c.or-seen.result c.requires.entries c.requires.sorted c.requires.prices
     (λ v. omega (arith, c.requires.low v, c.requires.groups)) c.visit-near.auto.levels c.visit-near.ensures.marked c.visit-near.ensures.others one.0 one.1
     (λ v on sends. true≢false (sym (c.and-met.ensures v ∙ and_from (has c.loop-now.now v) (has c.args.senders.now v) on ((c.requires.senders v).1 sends)) ∙ c.is_empty-in-loop-now.ensures.none.0 c.if-not-is_empty.false v))
     c.visit-near.ensures.near c.visit-near.ensures.all c.or-seen.ensures c.without-now.ensures in
     record {
       spread = spread;
-      layers = layers_more c.args.residual.now c.args.prices.now c.args.surplus.now c.args.lack.now c.loop-now.levels c.visit-near.new.levels c.loop-now.level c.loop-now.now c.loop-now.seen c.members-members.ensures.residual inv
-          c.loop-now.now (λ v on. on) c.visit-near.auto.levels c.visit-near.ensures.marked c.visit-near.ensures.others c.loop-now.layers (omega (arith, few_levels c.args.residual.now c.args.prices.now c.args.surplus.now c.args.lack.now c.loop-now.levels c.loop-now.levels c.loop-now.level c.loop-now.now c.loop-now.seen c.members-members.ensures.residual inv, c.requires.layers, c.loop-now.auto.layers)) c.loop-now.invariant.layers;
-      whole = whole_more c.args.residual.now c.args.prices.now c.args.surplus.now c.args.lack.now c.loop-now.levels c.visit-near.new.levels c.loop-now.level c.loop-now.now c.loop-now.seen c.members-members.ensures.residual inv
-          c.loop-now.now (λ v on. on) c.visit-near.auto.levels c.visit-near.ensures.marked c.visit-near.ensures.others c.loop-now.layers (omega (arith, few_levels c.args.residual.now c.args.prices.now c.args.surplus.now c.args.lack.now c.loop-now.levels c.loop-now.levels c.loop-now.level c.loop-now.now c.loop-now.seen c.members-members.ensures.residual inv, c.requires.layers, c.loop-now.auto.layers)) c.loop-now.invariant.whole;
+      layers = layers_more c.args.residual.now c.args.prices.now c.args.balance.now.surplus.items c.args.balance.now.lack.items c.loop-now.levels c.visit-near.new.levels c.loop-now.level c.loop-now.now c.loop-now.seen c.members-members.ensures.residual inv
+          c.loop-now.now (λ v on. on) c.visit-near.auto.levels c.visit-near.ensures.marked c.visit-near.ensures.others c.loop-now.layers (omega (arith, few_levels c.args.residual.now c.args.prices.now c.args.balance.now.surplus.items c.args.balance.now.lack.items c.loop-now.levels c.loop-now.levels c.loop-now.level c.loop-now.now c.loop-now.seen c.members-members.ensures.residual inv, c.requires.layers, c.loop-now.auto.layers)) c.loop-now.invariant.layers;
+      whole = whole_more c.args.residual.now c.args.prices.now c.args.balance.now.surplus.items c.args.balance.now.lack.items c.loop-now.levels c.visit-near.new.levels c.loop-now.level c.loop-now.now c.loop-now.seen c.members-members.ensures.residual inv
+          c.loop-now.now (λ v on. on) c.visit-near.auto.levels c.visit-near.ensures.marked c.visit-near.ensures.others c.loop-now.layers (omega (arith, few_levels c.args.residual.now c.args.prices.now c.args.balance.now.surplus.items c.args.balance.now.lack.items c.loop-now.levels c.loop-now.levels c.loop-now.level c.loop-now.now c.loop-now.seen c.members-members.ensures.residual inv, c.requires.layers, c.loop-now.auto.layers)) c.loop-now.invariant.whole;
     }
 
 pub returns-clause-layered : goal.returns-clause-layered
 returns-clause-layered c =
-    spread_cut c.args.residual.now c.args.prices.now c.args.surplus.now c.args.lack.now c.loop-now.levels c.loop-now.levels c.loop-now.level c.loop-now.now c.loop-now.seen c.members-members.ensures.residual c.loop-now.invariant.spread
+    spread_cut c.args.residual.now c.args.prices.now c.args.balance.now.surplus.items c.args.balance.now.lack.items c.loop-now.levels c.loop-now.levels c.loop-now.level c.loop-now.now c.loop-now.seen c.members-members.ensures.residual c.loop-now.invariant.spread
     (sym c.requires.lack) (c.is_empty.ensures.none.0 c.loop-now-test.false)
 
 pub returns-clause-reached : goal.returns-clause-reached
@@ -75,32 +75,32 @@ returns-clause-all_passed c none = c.loop-now.invariant.whole
 pub returns-in-Some-clause-layers : goal.returns-in-Some-clause-layers
 returns-in-Some-clause-layers c =
     let at : get_or c.mark.new.levels c.in-Some.source 0 ≡ c.loop-now.level = c.mark.ensures.marked c.in-Some.source c.in-Some.ensures.member in
-    let few = few_levels c.args.residual.now c.args.prices.now c.args.surplus.now c.args.lack.now c.loop-now.levels c.mark.new.levels c.loop-now.level c.loop-now.now c.loop-now.seen c.members-members.ensures.residual c.loop-now.invariant.spread in
+    let few = few_levels c.args.residual.now c.args.prices.now c.args.balance.now.surplus.items c.args.balance.now.lack.items c.loop-now.levels c.mark.new.levels c.loop-now.level c.loop-now.now c.loop-now.seen c.members-members.ensures.residual c.loop-now.invariant.spread in
     subst (λ n. AreLayers c.mark.new.levels (set c.loop-now.layers c.loop-now.level c.and-met.result) (n + 1)) (sym at)
-    (layers_more c.args.residual.now c.args.prices.now c.args.surplus.now c.args.lack.now c.loop-now.levels c.mark.new.levels c.loop-now.level c.loop-now.now c.loop-now.seen c.members-members.ensures.residual c.loop-now.invariant.spread
+    (layers_more c.args.residual.now c.args.prices.now c.args.balance.now.surplus.items c.args.balance.now.lack.items c.loop-now.levels c.mark.new.levels c.loop-now.level c.loop-now.now c.loop-now.seen c.members-members.ensures.residual c.loop-now.invariant.spread
     c.and-met.result (λ v on. (and_parts (has c.loop-now.now v) (has c.args.senders.now v) (sym (c.and-met.ensures v) ∙ on)).0)
     c.mark.auto.levels c.mark.ensures.marked c.mark.ensures.others c.loop-now.layers (omega (arith, few, c.requires.layers, c.loop-now.auto.layers)) c.loop-now.invariant.layers)
 
 pub returns-in-Some-clause-whole : goal.returns-in-Some-clause-whole
 returns-in-Some-clause-whole c =
     let at : get_or c.mark.new.levels c.in-Some.source 0 ≡ c.loop-now.level = c.mark.ensures.marked c.in-Some.source c.in-Some.ensures.member in
-    let few = few_levels c.args.residual.now c.args.prices.now c.args.surplus.now c.args.lack.now c.loop-now.levels c.mark.new.levels c.loop-now.level c.loop-now.now c.loop-now.seen c.members-members.ensures.residual c.loop-now.invariant.spread in
+    let few = few_levels c.args.residual.now c.args.prices.now c.args.balance.now.surplus.items c.args.balance.now.lack.items c.loop-now.levels c.mark.new.levels c.loop-now.level c.loop-now.now c.loop-now.seen c.members-members.ensures.residual c.loop-now.invariant.spread in
     subst (λ n. AreWholeLayers c.mark.new.levels (set c.loop-now.layers c.loop-now.level c.and-met.result) (n + 1)) (sym at)
-    (whole_more c.args.residual.now c.args.prices.now c.args.surplus.now c.args.lack.now c.loop-now.levels c.mark.new.levels c.loop-now.level c.loop-now.now c.loop-now.seen c.members-members.ensures.residual c.loop-now.invariant.spread
+    (whole_more c.args.residual.now c.args.prices.now c.args.balance.now.surplus.items c.args.balance.now.lack.items c.loop-now.levels c.mark.new.levels c.loop-now.level c.loop-now.now c.loop-now.seen c.members-members.ensures.residual c.loop-now.invariant.spread
     c.and-met.result (λ v on. (and_parts (has c.loop-now.now v) (has c.args.senders.now v) (sym (c.and-met.ensures v) ∙ on)).0)
     c.mark.auto.levels c.mark.ensures.marked c.mark.ensures.others c.loop-now.layers (omega (arith, few, c.requires.layers, c.loop-now.auto.layers)) c.loop-now.invariant.whole)
 
 pub returns-in-Some-clause-low : goal.returns-in-Some-clause-low
 returns-in-Some-clause-low c =
-    let few = few_levels c.args.residual.now c.args.prices.now c.args.surplus.now c.args.lack.now c.loop-now.levels c.mark.new.levels c.loop-now.level c.loop-now.now c.loop-now.seen c.members-members.ensures.residual c.loop-now.invariant.spread in
+    let few = few_levels c.args.residual.now c.args.prices.now c.args.balance.now.surplus.items c.args.balance.now.lack.items c.loop-now.levels c.mark.new.levels c.loop-now.level c.loop-now.now c.loop-now.seen c.members-members.ensures.residual c.loop-now.invariant.spread in
     omega (arith, few, c.mark.ensures.marked c.in-Some.source c.in-Some.ensures.member)
 
 pub bounds-layers-level : goal.bounds-layers-level
 bounds-layers-level c =
-    let few = few_levels c.args.residual.now c.args.prices.now c.args.surplus.now c.args.lack.now c.loop-now.levels c.loop-now.levels c.loop-now.level c.loop-now.now c.loop-now.seen c.members-members.ensures.residual c.loop-now.invariant.spread in
+    let few = few_levels c.args.residual.now c.args.prices.now c.args.balance.now.surplus.items c.args.balance.now.lack.items c.loop-now.levels c.loop-now.levels c.loop-now.level c.loop-now.now c.loop-now.seen c.members-members.ensures.residual c.loop-now.invariant.spread in
     omega (arith, few, c.requires.layers, c.loop-now.auto.layers)
 
 pub bounds-layers-level-in-loop-now : goal.bounds-layers-level-in-loop-now
 bounds-layers-level-in-loop-now c =
-    let few = few_levels c.args.residual.now c.args.prices.now c.args.surplus.now c.args.lack.now c.loop-now.levels c.loop-now.levels c.loop-now.level c.loop-now.now c.loop-now.seen c.members-members.ensures.residual c.loop-now.invariant.spread in
+    let few = few_levels c.args.residual.now c.args.prices.now c.args.balance.now.surplus.items c.args.balance.now.lack.items c.loop-now.levels c.loop-now.levels c.loop-now.level c.loop-now.now c.loop-now.seen c.members-members.ensures.residual c.loop-now.invariant.spread in
     omega (arith, few, c.requires.layers, c.loop-now.auto.layers)

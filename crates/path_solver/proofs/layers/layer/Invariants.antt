@@ -5,7 +5,7 @@ use Rattle.path_solver.proofs.layers.layer.Given as goal
 
 abbrev pub invariant-loop-now : goal.invariant-loop-now
 invariant-loop-now l = record {
-  spread : IsSpread l.residual l.prices l.surplus l.lack l.levels l.level l.now l.seen;
+  spread : IsSpread l.residual l.prices l.balance.surplus.items l.balance.lack.items l.levels l.level l.now l.seen;
   layers : AreLayers l.levels l.layers l.level;
   whole : AreWholeLayers l.levels l.layers l.level;
 }

@@ -32,38 +32,40 @@ send_phase-requires-clause-shortest g c = rw c.in-Some.is at c.layer.ensures.sho
 
 pub send_phase-requires-clause-down : goal.send_phase-requires-clause-down
 send_phase-requires-clause-down g c =
-    let found : IsSource c.phases.surplus c.layer.new.levels c.in-Some.source × AreLevels c.phases.residual.flows c.phases.prices c.phases.lack c.layer.new.levels = rw c.in-Some.is at c.layer.ensures.layered in
+    let found : IsSource c.phases.balance.surplus.items c.layer.new.levels c.in-Some.source × AreLevels c.phases.residual.flows c.phases.prices c.phases.balance.lack.items c.layer.new.levels = rw c.in-Some.is at c.layer.ensures.layered in
     found.1
 
-pub still_with-senders-requires-clause-small : goal.still_with-senders-requires-clause-small
-still_with-senders-requires-clause-small g c v on =
-    amount_in c.phases.surplus v ((c.phases.invariant.senders v).0 on) (length c.send_phase.new.surplus) (sym c.send_phase.auto.surplus)
+pub senders_among-senders-requires-clause-small : goal.senders_among-senders-requires-clause-small
+senders_among-senders-requires-clause-small g c v on =
+    amount_in c.phases.balance.surplus.items v ((c.phases.invariant.senders v).0 on) (length c.send_phase.new.balance.surplus.items) (sym c.send_phase.ensures.along.surplus_each)
 
-pub still_with-senders-requires-clause-all : goal.still_with-senders-requires-clause-all
-still_with-senders-requires-clause-all g c v some = (c.phases.invariant.senders v).1 (c.send_phase.ensures.along.senders v some)
+pub senders_among-senders-requires-clause-all : goal.senders_among-senders-requires-clause-all
+senders_among-senders-requires-clause-all g c v some = (c.phases.invariant.senders v).1 (c.send_phase.ensures.along.senders v some)
 
-pub still_with-receivers-requires-clause-small : goal.still_with-receivers-requires-clause-small
-still_with-receivers-requires-clause-small g c v on =
-    amount_in c.phases.lack v ((c.phases.invariant.receivers v).0 on) (length c.send_phase.new.lack) (sym c.send_phase.auto.lack)
+pub receivers_among-receivers-requires-clause-small : goal.receivers_among-receivers-requires-clause-small
+receivers_among-receivers-requires-clause-small g c v on =
+    amount_in c.phases.balance.lack.items v ((c.phases.invariant.receivers v).0 on) (length c.send_phase.new.balance.lack.items) (sym c.send_phase.ensures.along.lack_each)
 
-pub still_with-receivers-requires-clause-all : goal.still_with-receivers-requires-clause-all
-still_with-receivers-requires-clause-all g c v some = (c.phases.invariant.receivers v).1 (c.send_phase.ensures.along.receivers v some)
+pub receivers_among-receivers-requires-clause-all : goal.receivers_among-receivers-requires-clause-all
+receivers_among-receivers-requires-clause-all g c v some = (c.phases.invariant.receivers v).1 (c.send_phase.ensures.along.receivers v some)
 
 pub next_phase-phase-requires-clause-feasible : goal.next_phase-phase-requires-clause-feasible
-next_phase-phase-requires-clause-feasible g c = feasible_kept c.args.residual.now.flows c.phases.residual.flows c.args.surplus.now c.args.lack.now c.phases.surplus c.phases.lack c.phases.invariant.phase.pairs c.phases.invariant.phase.owed c.requires.feasible
+next_phase-phase-requires-clause-feasible g c = feasible_kept c.args.residual.now.flows c.phases.residual.flows c.args.balance.now.surplus.items c.args.balance.now.lack.items c.phases.balance.surplus.items c.phases.balance.lack.items c.phases.invariant.phase.pairs c.phases.invariant.phase.owed c.requires.feasible
 
 pub phases-init : goal.phases-init
 phases-init g c =
     let residual = c.members-members.ensures.residual in
     record {
       phase = c.requires.phase;
-      counted = counted_none c.args.steps.now c.args.residual.now c.args.residual.now c.args.prices.now c.args.surplus.now c.args.lack.now 1;
+      surplus = c.requires.surplus;
+      lack = c.requires.lack;
+      counted = counted_none c.args.steps.now c.args.residual.now c.args.residual.now c.args.prices.now c.args.balance.now.surplus.items c.args.balance.now.lack.items 1;
       neighbours = c.requires.neighbours;
       sorted = c.requires.sorted;
-      senders = c.those_with-senders.ensures;
-      receivers = c.those_with-receivers.ensures;
-      spread = spread_start c.args.residual.now c.args.prices.now c.args.surplus.now c.args.lack.now c.start-search.new.levels c.start-search.result.level c.start-search.result.now c.those_with-receivers.result c.start-search.result.seen c.start-search.ensures.level c.start-search.ensures.now (c.start-search.auto.levels ∙ sym c.requires.levels) (sym c.requires.lack)
-          (λ v l. c.start-search.ensures.forgotten v (omega (arith, l, c.start-search.auto.levels))) c.those_with-receivers.ensures c.start-search.ensures.seen residual;
+      senders = c.senders-senders.ensures;
+      receivers = c.receivers-receivers.ensures;
+      spread = spread_start c.args.residual.now c.args.prices.now c.args.balance.now.surplus.items c.args.balance.now.lack.items c.start-search.new.levels c.start-search.result.level c.start-search.result.now c.receivers-receivers.result c.start-search.result.seen c.start-search.ensures.level c.start-search.ensures.now (c.start-search.auto.levels ∙ sym c.requires.levels) (sym c.requires.lack)
+          (λ v l. c.start-search.ensures.forgotten v (omega (arith, l, c.start-search.auto.levels))) c.receivers-receivers.ensures c.start-search.ensures.seen residual;
       passed = λ k v l. absurd (omega (arith, l, c.start-search.ensures.level));
       whole = λ k v l. absurd (omega (arith, l, c.start-search.ensures.level));
     }
@@ -71,23 +73,26 @@ phases-init g c =
 pub phases-preserved : goal.phases-preserved
 phases-preserved g c =
     let inv = c.phases.invariant in
+    let sent = c.send_phase.ensures.along in
     let old = c.args.residual.now in
-    let found : IsSource c.phases.surplus c.layer.new.levels c.in-Some.source × AreLevels c.phases.residual.flows c.phases.prices c.phases.lack c.layer.new.levels = rw c.in-Some.is at c.layer.ensures.layered in
+    let found : IsSource c.phases.balance.surplus.items c.layer.new.levels c.in-Some.source × AreLevels c.phases.residual.flows c.phases.prices c.phases.balance.lack.items c.layer.new.levels = rw c.in-Some.is at c.layer.ensures.layered in
     let low : get_or c.layer.new.levels c.in-Some.source 0 ≤ c.phases.residual.members = rw c.in-Some.is at c.layer.ensures.low in
     let residual : IsResidual c.phases.residual = residual_kept old c.phases.residual inv.phase.members inv.phase.pairs c.members-members.ensures.residual in
     let one_each : c.phases.residual.members ≡ length c.layer.new.levels = inv.phase.members ∙ c.requires.levels ∙ sym (c.layer.auto.levels ∙ c.phases.auto.levels ∙ c.start-search.auto.levels) in
-    let phase = phase_sent old c.phases.residual c.send_phase.new.residual c.args.surplus.now c.args.lack.now c.phases.surplus c.phases.lack c.send_phase.new.surplus c.send_phase.new.lack c.phases.prices c.phases.phase inv.phase c.send_phase.ensures.along in
+    let phase = phase_sent old c.phases.residual c.send_phase.new.residual c.args.balance.now.surplus.items c.args.balance.now.lack.items c.phases.balance.surplus.items c.phases.balance.lack.items c.send_phase.new.balance.surplus.items c.send_phase.new.balance.lack.items c.phases.prices c.phases.phase inv.phase c.send_phase.ensures.along in
     record {
       phase = phase;
-      counted = counted_round c.args.steps.now c.phases.steps c.send_phase.new.steps old c.phases.residual c.send_phase.new.residual c.phases.prices c.phases.surplus c.phases.lack c.send_phase.new.surplus c.send_phase.new.lack c.layer.new.levels c.phases.phase c.in-Some.source inv.counted
-          residual inv.phase.members inv.phase.pairs.same_length one_each (c.phases.auto.surplus ∙ sym c.requires.surplus) (c.phases.auto.lack ∙ sym c.requires.lack)
+      surplus = omega (arith, sent.surplus_each, inv.surplus, sent.members);
+      lack = omega (arith, sent.lack_each, inv.lack, sent.members);
+      counted = counted_round c.args.steps.now c.phases.steps c.send_phase.new.steps old c.phases.residual c.send_phase.new.residual c.phases.prices c.phases.balance.surplus.items c.phases.balance.lack.items c.send_phase.new.balance.surplus.items c.send_phase.new.balance.lack.items c.layer.new.levels c.phases.phase c.in-Some.source inv.counted
+          residual inv.phase.members inv.phase.pairs.same_length one_each (sym inv.surplus ∙ inv.phase.members) (sym inv.lack ∙ inv.phase.members)
           found.1 (omega (arith, found.0.member, one_each)) found.0.sends low c.send_phase.ensures.few c.send_phase.ensures.deeper;
       neighbours = c.send_phase.ensures.neighbours;
       sorted = inv.sorted;
-      senders = c.still_with-senders.ensures;
-      receivers = c.still_with-receivers.ensures;
-      spread = spread_start c.send_phase.new.residual c.phases.prices c.send_phase.new.surplus c.send_phase.new.lack c.start-search-in-Some.new.levels c.start-search-in-Some.result.level c.start-search-in-Some.result.now c.still_with-receivers.result c.start-search-in-Some.result.seen c.start-search-in-Some.ensures.level c.start-search-in-Some.ensures.now (omega (arith, c.start-search-in-Some.auto.levels, one_each, phase.members, inv.phase.members))
-          (omega (arith, c.send_phase.auto.lack, c.phases.auto.lack, c.requires.lack, phase.members)) (λ v l. c.start-search-in-Some.ensures.forgotten v (omega (arith, l, c.start-search-in-Some.auto.levels))) c.still_with-receivers.ensures c.start-search-in-Some.ensures.seen
+      senders = c.senders_among-senders.ensures;
+      receivers = c.receivers_among-receivers.ensures;
+      spread = spread_start c.send_phase.new.residual c.phases.prices c.send_phase.new.balance.surplus.items c.send_phase.new.balance.lack.items c.start-search-in-Some.new.levels c.start-search-in-Some.result.level c.start-search-in-Some.result.now c.receivers_among-receivers.result c.start-search-in-Some.result.seen c.start-search-in-Some.ensures.level c.start-search-in-Some.ensures.now (omega (arith, c.start-search-in-Some.auto.levels, one_each, phase.members, inv.phase.members))
+          (omega (arith, sent.lack_each, inv.lack, sent.members)) (λ v l. c.start-search-in-Some.ensures.forgotten v (omega (arith, l, c.start-search-in-Some.auto.levels))) c.receivers_among-receivers.ensures c.start-search-in-Some.ensures.seen
           (residual_kept old c.send_phase.new.residual phase.members phase.pairs c.members-members.ensures.residual);
       passed = λ k v l. absurd (omega (arith, l, c.start-search-in-Some.ensures.level));
       whole = λ k v l. absurd (omega (arith, l, c.start-search-in-Some.ensures.level));
@@ -97,8 +102,10 @@ pub phases-preserved-in-None : goal.phases-preserved-in-None
 phases-preserved-in-None g c =
     let inv = c.phases.invariant in
     record {
-      phase = phase_later c.args.residual.now c.phases.residual c.args.surplus.now c.args.lack.now c.phases.surplus c.phases.lack c.phases.prices c.next_phase-phase.new.prices c.phases.phase c.next_phase-phase.result inv.phase c.next_phase-phase.ensures.phase;
-      counted = counted_phase c.args.steps.now c.phases.steps c.args.residual.now c.phases.residual c.phases.prices c.next_phase-phase.new.prices c.phases.surplus c.phases.lack c.phases.phase c.next_phase-phase.result inv.counted (omega (arith, c.next_phase-phase.ensures.later));
+      phase = phase_later c.args.residual.now c.phases.residual c.args.balance.now.surplus.items c.args.balance.now.lack.items c.phases.balance.surplus.items c.phases.balance.lack.items c.phases.prices c.next_phase-phase.new.prices c.phases.phase c.next_phase-phase.result inv.phase c.next_phase-phase.ensures.phase;
+      surplus = inv.surplus;
+      lack = inv.lack;
+      counted = counted_phase c.args.steps.now c.phases.steps c.args.residual.now c.phases.residual c.phases.prices c.next_phase-phase.new.prices c.phases.balance.surplus.items c.phases.balance.lack.items c.phases.phase c.next_phase-phase.result inv.counted (omega (arith, c.next_phase-phase.ensures.later));
       neighbours = inv.neighbours;
       sorted = c.next_phase-phase.ensures.sorted;
       senders = inv.senders;
@@ -114,7 +121,7 @@ phases-smaller-in-None g c =
 
 pub returns-clause-settled : goal.returns-clause-settled
 returns-clause-settled g c =
-    settled c.args.residual.now c.phases.residual c.args.surplus.now c.args.lack.now c.phases.surplus c.phases.lack c.phases.prices c.phases.phase c.members-members.ensures.residual c.requires.feasible (c.phases.auto.prices ∙ sym c.requires.prices) (none_left c.phases.surplus c.phases.senders c.phases.invariant.senders (c.is_empty.ensures.none.0 c.phases-test.false)) c.phases.invariant.phase
+    settled c.args.residual.now c.phases.residual c.args.balance.now.surplus.items c.args.balance.now.lack.items c.phases.balance.surplus.items c.phases.balance.lack.items c.phases.prices c.phases.phase c.members-members.ensures.residual c.requires.feasible (c.phases.auto.prices ∙ sym c.requires.prices) (none_left c.phases.balance.surplus.items c.phases.senders c.phases.invariant.senders (c.is_empty.ensures.none.0 c.phases-test.false)) c.phases.invariant.phase
 
 pub returns-clause-counted : goal.returns-clause-counted
-returns-clause-counted g c = counted_all c.args.steps.now c.phases.steps c.args.residual.now c.phases.residual c.phases.prices c.phases.surplus c.phases.lack c.phases.phase c.phases.invariant.counted c.phases.invariant.phase.few
+returns-clause-counted g c = counted_all c.args.steps.now c.phases.steps c.args.residual.now c.phases.residual c.phases.prices c.phases.balance.surplus.items c.phases.balance.lack.items c.phases.phase c.phases.invariant.counted c.phases.invariant.phase.few

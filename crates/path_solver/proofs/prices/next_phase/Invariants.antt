@@ -8,7 +8,7 @@ use Rattle.path_solver.proofs.prices.next_phase.Given as goal
 
 abbrev pub invariant-raises : goal.invariant-raises
 invariant-raises l = record {
-  phase : IsPhase l.residual l.residual l.surplus l.lack l.surplus l.lack l.prices l.top;
+  phase : IsPhase l.residual l.residual l.balance.surplus.items l.balance.lack.items l.balance.surplus.items l.balance.lack.items l.prices l.top;
   entered : AreEntered l.residual.flows l.prices l.levels l.entered;
   inside : (v : ℕ) → has l.entered v ≡ true → has l.search.seen v ≡ true;
   later : (v : ℕ) → has l.entered v ≡ true → l.fn.phase < l.top;

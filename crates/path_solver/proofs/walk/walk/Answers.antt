@@ -7,16 +7,16 @@ use Rattle.path_solver.proofs.Trails.{trail_down, trail_up, trail_path, layers_l
 use Rattle.path_solver.proofs.Ways.{way_leads, no_way_in, some_way}
 use Rattle.path_solver.proofs.Pruned.{IsStuck, pruned_taken, pruned_emptied, out_above, layers_fewer, fewer_taken, fewer_more, out_now}
 use Rattle.path_solver.proofs.walk.walk.Goals as goal
-use Rattle.path_solver.proofs.walk.walk.Goals.{then-level-eq0+else-lack-here-gt0, else-level-eq0+in_default}
+use Rattle.path_solver.proofs.walk.walk.Goals.{then-level-eq0+else-lack_of-gt0, else-level-eq0+in_default}
 
-pub returns-then-lack-here-gt0-clause-path : goal.returns-then-lack-here-gt0-clause-path
-returns-then-lack-here-gt0-clause-path c =
-    trail_path c.args.residual.now c.args.prices.now c.args.levels.now c.args.lack.now c.steps.layers c.steps.path (get_or c.args.levels.now c.args.from 0) c.steps.here c.args.from
+pub returns-then-lack_of-gt0-clause-path : goal.returns-then-lack_of-gt0-clause-path
+returns-then-lack_of-gt0-clause-path c =
+    trail_path c.args.residual.now c.args.prices.now c.args.levels.now c.args.balance.now.lack.items c.steps.layers c.steps.path (get_or c.args.levels.now c.args.from 0) c.steps.here c.args.from
     (subst (λ n. IsTrail c.args.residual.now c.args.prices.now c.args.levels.now c.steps.layers c.steps.path n (get_or c.args.levels.now c.args.from 0) c.steps.here c.args.from) c.if-level-eq0.true c.steps.invariant.trail)
-    (omega (arith, c.requires.top, c.requires.path, c.steps.auto.path)) refl c.requires.levels c.if-lack-here-gt0.true
+    (omega (arith, c.requires.top, c.requires.path, c.steps.auto.path)) refl c.requires.levels (omega (arith, c.if-lack_of-gt0.true, c.lack_of.ensures))
 
-pub returns-then-lack-here-gt0-clause-trail : goal.returns-then-lack-here-gt0-clause-trail
-returns-then-lack-here-gt0-clause-trail c =
+pub returns-then-lack_of-gt0-clause-trail : goal.returns-then-lack_of-gt0-clause-trail
+returns-then-lack_of-gt0-clause-trail c =
     subst (λ n. IsTrail c.args.residual.now c.args.prices.now c.args.levels.now c.steps.layers c.steps.path n (get_or c.args.levels.now c.args.from 0) c.steps.here c.args.from) c.if-level-eq0.true c.steps.invariant.trail
 
 pub way_into-requires-clause-few : goal.way_into-requires-clause-few
@@ -52,11 +52,11 @@ pub returns-then-level-top-clause-fresh : goal.returns-then-level-top-clause-fre
 returns-then-level-top-clause-fresh c levels whole =
     let stuck : ⊥ =
     elim c.if-level-eq0.branch [
-      | then-level-eq0+else-lack-here-gt0 w ↦
-          omega (arith, levels.lowest c.steps.here (omega (arith, c.steps.invariant.trail.member, c.requires.levels)) (c.steps.invariant.trail.level ∙ w.if-level-eq0.true), w.if-lack-here-gt0.false)
+      | then-level-eq0+else-lack_of-gt0 w ↦
+          omega (arith, levels.lowest c.steps.here (omega (arith, c.steps.invariant.trail.member, c.requires.levels)) (c.steps.invariant.trail.level ∙ w.if-level-eq0.true), w.if-lack_of-gt0.false, w.lack_of.ensures)
       | else-level-eq0+in_default w ↦
           some_way c.args.residual.now c.args.prices.now c.args.neighbours.now c.args.groups.now c.steps.here c.members-members.ensures.residual c.requires.neighbours c.requires.sorted c.steps.invariant.trail.member c.requires.prices (omega (arith, c.requires.low c.steps.here, c.requires.groups))
-          c.args.lack.now c.args.levels.now c.steps.layers c.steps.level (get_or c.args.levels.now c.args.from 0 + 1) levels (subst (λ (xs : List MemberSet). AreWholeLayers c.args.levels.now xs (get_or c.args.levels.now c.args.from 0 + 1)) (sym (c.steps.invariant.whole levels whole)) whole)
+          c.args.balance.now.lack.items c.args.levels.now c.steps.layers c.steps.level (get_or c.args.levels.now c.args.from 0 + 1) levels (subst (λ (xs : List MemberSet). AreWholeLayers c.args.levels.now xs (get_or c.args.levels.now c.args.from 0 + 1)) (sym (c.steps.invariant.whole levels whole)) whole)
           c.requires.levels c.steps.invariant.trail.level (omega (arith, w.if-level-eq0.false)) (omega (arith, c.steps.invariant.trail.within, c.requires.top, c.members-members.ensures.residual.few)) (omega (arith, c.steps.invariant.trail.within))
           (w.in_default.ensures.none refl)
     ] in
@@ -84,9 +84,9 @@ tail-here-requires c =
 
 pub returns-then-level-top-clause-pruned : goal.returns-then-level-top-clause-pruned
 returns-then-level-top-clause-pruned c =
-    let stuck_here : IsStuck c.args.residual.now.flows c.args.prices.now c.args.lack.now c.steps.layers c.steps.level c.steps.here =
+    let stuck_here : IsStuck c.args.residual.now.flows c.args.prices.now c.args.balance.now.lack.items c.steps.layers c.steps.level c.steps.here =
     elim c.if-level-eq0.branch [
-      | then-level-eq0+else-lack-here-gt0 w ↦ (λ _. omega (arith, w.if-lack-here-gt0.false), λ k a e. absurd (omega (arith, e, w.if-level-eq0.true)))
+      | then-level-eq0+else-lack_of-gt0 w ↦ (λ _. omega (arith, w.if-lack_of-gt0.false, w.lack_of.ensures), λ k a e. absurd (omega (arith, e, w.if-level-eq0.true)))
       | else-level-eq0+in_default w ↦ (
         λ e. absurd (w.if-level-eq0.false e),
         λ k a e l is_open starts. no_way_in c.args.residual.now c.args.prices.now c.args.neighbours.now c.args.groups.now c.steps.here c.members-members.ensures.residual c.requires.neighbours c.requires.sorted c.steps.invariant.trail.member c.requires.prices (omega (arith, c.requires.low c.steps.here, c.requires.groups))
@@ -94,7 +94,7 @@ returns-then-level-top-clause-pruned c =
       )
     ] in
     let inside : c.steps.level < length c.steps.layers = omega (arith, c.steps.invariant.trail.within, c.requires.top, c.requires.room, c.steps.auto.layers) in
-    pruned_taken c.steps.layers c.steps.level c.steps.here c.drop_member.new.self inside c.drop_member.ensures c.args.residual.now.flows c.args.prices.now c.args.lack.now c.args.levels.now (get_or c.args.levels.now c.args.from 0 + 1) c.steps.invariant.pruned stuck_here
+    pruned_taken c.steps.layers c.steps.level c.steps.here c.drop_member.new.self inside c.drop_member.ensures c.args.residual.now.flows c.args.prices.now c.args.balance.now.lack.items c.args.levels.now (get_or c.args.levels.now c.args.from 0 + 1) c.steps.invariant.pruned stuck_here
 
 pub returns-then-level-top-clause-fewer : goal.returns-then-level-top-clause-fewer
 returns-then-level-top-clause-fewer c =
@@ -116,9 +116,9 @@ returns-then-is_empty-clause-layers c =
 
 pub returns-then-is_empty-clause-pruned : goal.returns-then-is_empty-clause-pruned
 returns-then-is_empty-clause-pruned c =
-    let stuck_here : IsStuck c.args.residual.now.flows c.args.prices.now c.args.lack.now c.steps.layers c.steps.level c.steps.here =
+    let stuck_here : IsStuck c.args.residual.now.flows c.args.prices.now c.args.balance.now.lack.items c.steps.layers c.steps.level c.steps.here =
     elim c.if-level-eq0.branch [
-      | then-level-eq0+else-lack-here-gt0 w ↦ (λ _. omega (arith, w.if-lack-here-gt0.false), λ k a e. absurd (omega (arith, e, w.if-level-eq0.true)))
+      | then-level-eq0+else-lack_of-gt0 w ↦ (λ _. omega (arith, w.if-lack_of-gt0.false, w.lack_of.ensures), λ k a e. absurd (omega (arith, e, w.if-level-eq0.true)))
       | else-level-eq0+in_default w ↦ (
         λ e. absurd (w.if-level-eq0.false e),
         λ k a e l is_open starts. no_way_in c.args.residual.now c.args.prices.now c.args.neighbours.now c.args.groups.now c.steps.here c.members-members.ensures.residual c.requires.neighbours c.requires.sorted c.steps.invariant.trail.member c.requires.prices (omega (arith, c.requires.low c.steps.here, c.requires.groups))
@@ -127,8 +127,8 @@ returns-then-is_empty-clause-pruned c =
     ] in
     let inside : c.steps.level < length c.steps.layers = omega (arith, c.steps.invariant.trail.within, c.requires.top, c.requires.room, c.steps.auto.layers) in
     pruned_emptied (set c.steps.layers c.steps.level c.drop_member.new.self) c.empty_above.new.layers c.steps.level (get_or c.args.levels.now c.args.from 0) c.steps.invariant.trail.within (c.is_empty.ensures.none.0 c.if-is_empty.true) c.empty_above.ensures.above c.empty_above.ensures.below
-    c.args.residual.now.flows c.args.prices.now c.args.lack.now c.args.levels.now
-    (pruned_taken c.steps.layers c.steps.level c.steps.here c.drop_member.new.self inside c.drop_member.ensures c.args.residual.now.flows c.args.prices.now c.args.lack.now c.args.levels.now (get_or c.args.levels.now c.args.from 0 + 1) c.steps.invariant.pruned stuck_here)
+    c.args.residual.now.flows c.args.prices.now c.args.balance.now.lack.items c.args.levels.now
+    (pruned_taken c.steps.layers c.steps.level c.steps.here c.drop_member.new.self inside c.drop_member.ensures c.args.residual.now.flows c.args.prices.now c.args.balance.now.lack.items c.args.levels.now (get_or c.args.levels.now c.args.from 0 + 1) c.steps.invariant.pruned stuck_here)
 
 pub returns-then-is_empty-clause-fewer : goal.returns-then-is_empty-clause-fewer
 returns-then-is_empty-clause-fewer c =
@@ -145,11 +145,11 @@ pub returns-then-is_empty-clause-fresh : goal.returns-then-is_empty-clause-fresh
 returns-then-is_empty-clause-fresh c levels whole =
     let stuck : ⊥ =
     elim c.if-level-eq0.branch [
-      | then-level-eq0+else-lack-here-gt0 w ↦
-          omega (arith, levels.lowest c.steps.here (omega (arith, c.steps.invariant.trail.member, c.requires.levels)) (c.steps.invariant.trail.level ∙ w.if-level-eq0.true), w.if-lack-here-gt0.false)
+      | then-level-eq0+else-lack_of-gt0 w ↦
+          omega (arith, levels.lowest c.steps.here (omega (arith, c.steps.invariant.trail.member, c.requires.levels)) (c.steps.invariant.trail.level ∙ w.if-level-eq0.true), w.if-lack_of-gt0.false, w.lack_of.ensures)
       | else-level-eq0+in_default w ↦
           some_way c.args.residual.now c.args.prices.now c.args.neighbours.now c.args.groups.now c.steps.here c.members-members.ensures.residual c.requires.neighbours c.requires.sorted c.steps.invariant.trail.member c.requires.prices (omega (arith, c.requires.low c.steps.here, c.requires.groups))
-          c.args.lack.now c.args.levels.now c.steps.layers c.steps.level (get_or c.args.levels.now c.args.from 0 + 1) levels (subst (λ (xs : List MemberSet). AreWholeLayers c.args.levels.now xs (get_or c.args.levels.now c.args.from 0 + 1)) (sym (c.steps.invariant.whole levels whole)) whole)
+          c.args.balance.now.lack.items c.args.levels.now c.steps.layers c.steps.level (get_or c.args.levels.now c.args.from 0 + 1) levels (subst (λ (xs : List MemberSet). AreWholeLayers c.args.levels.now xs (get_or c.args.levels.now c.args.from 0 + 1)) (sym (c.steps.invariant.whole levels whole)) whole)
           c.requires.levels c.steps.invariant.trail.level (omega (arith, w.if-level-eq0.false)) (omega (arith, c.steps.invariant.trail.within, c.requires.top, c.members-members.ensures.residual.few)) (omega (arith, c.steps.invariant.trail.within))
           (w.in_default.ensures.none refl)
     ] in
@@ -159,9 +159,9 @@ pub steps-preserved : goal.steps-preserved
 steps-preserved c =
     let inv = c.steps.invariant in
     let less : c.steps.level < get_or c.args.levels.now c.args.from 0 = omega (arith, c.if-level-top.false, inv.trail.within) in
-    let stuck_here : IsStuck c.args.residual.now.flows c.args.prices.now c.args.lack.now c.steps.layers c.steps.level c.steps.here =
+    let stuck_here : IsStuck c.args.residual.now.flows c.args.prices.now c.args.balance.now.lack.items c.steps.layers c.steps.level c.steps.here =
     elim c.if-level-eq0.branch [
-      | then-level-eq0+else-lack-here-gt0 w ↦ (λ _. omega (arith, w.if-lack-here-gt0.false), λ k a e. absurd (omega (arith, e, w.if-level-eq0.true)))
+      | then-level-eq0+else-lack_of-gt0 w ↦ (λ _. omega (arith, w.if-lack_of-gt0.false, w.lack_of.ensures), λ k a e. absurd (omega (arith, e, w.if-level-eq0.true)))
       | else-level-eq0+in_default w ↦ (
         λ e. absurd (w.if-level-eq0.false e),
         λ k a e l is_open starts. no_way_in c.args.residual.now c.args.prices.now c.args.neighbours.now c.args.groups.now c.steps.here c.members-members.ensures.residual c.requires.neighbours c.requires.sorted c.steps.invariant.trail.member c.requires.prices (omega (arith, c.requires.low c.steps.here, c.requires.groups))
@@ -173,16 +173,16 @@ steps-preserved c =
       trail = subst (λ v. IsTrail c.args.residual.now c.args.prices.now c.args.levels.now (set c.steps.layers c.steps.level c.drop_member.new.self) c.steps.path (c.steps.level + 1) (get_or c.args.levels.now c.args.from 0) v c.args.from) (sym c.tail-here.ensures.value)
           (trail_up c.args.residual.now c.args.prices.now c.args.levels.now c.steps.layers c.steps.path c.members-members.ensures.residual c.steps.level (get_or c.args.levels.now c.args.from 0) c.steps.here c.args.from c.drop_member.new.self inv.trail less);
       layers = layers_less c.args.levels.now c.steps.layers (get_or c.args.levels.now c.args.from 0 + 1) c.steps.level c.drop_member.new.self c.steps.here (omega (arith, less, c.requires.top, c.requires.room, c.steps.auto.layers)) c.drop_member.ensures inv.layers;
-      pruned = pruned_taken c.steps.layers c.steps.level c.steps.here c.drop_member.new.self inside c.drop_member.ensures c.args.residual.now.flows c.args.prices.now c.args.lack.now c.args.levels.now (get_or c.args.levels.now c.args.from 0 + 1) c.steps.invariant.pruned stuck_here;
+      pruned = pruned_taken c.steps.layers c.steps.level c.steps.here c.drop_member.new.self inside c.drop_member.ensures c.args.residual.now.flows c.args.prices.now c.args.balance.now.lack.items c.args.levels.now (get_or c.args.levels.now c.args.from 0 + 1) c.steps.invariant.pruned stuck_here;
       fewer = fewer_more c.args.layers.now c.steps.layers (set c.steps.layers c.steps.level c.drop_member.new.self) c.steps.invariant.fewer (fewer_taken c.steps.layers c.steps.level c.steps.here c.drop_member.new.self inside c.drop_member.ensures);
       whole = λ levels whole.
           let stuck : ⊥ =
           elim c.if-level-eq0.branch [
-            | then-level-eq0+else-lack-here-gt0 w ↦
-                omega (arith, levels.lowest c.steps.here (omega (arith, c.steps.invariant.trail.member, c.requires.levels)) (c.steps.invariant.trail.level ∙ w.if-level-eq0.true), w.if-lack-here-gt0.false)
+            | then-level-eq0+else-lack_of-gt0 w ↦
+                omega (arith, levels.lowest c.steps.here (omega (arith, c.steps.invariant.trail.member, c.requires.levels)) (c.steps.invariant.trail.level ∙ w.if-level-eq0.true), w.if-lack_of-gt0.false, w.lack_of.ensures)
             | else-level-eq0+in_default w ↦
                 some_way c.args.residual.now c.args.prices.now c.args.neighbours.now c.args.groups.now c.steps.here c.members-members.ensures.residual c.requires.neighbours c.requires.sorted c.steps.invariant.trail.member c.requires.prices (omega (arith, c.requires.low c.steps.here, c.requires.groups))
-                c.args.lack.now c.args.levels.now c.steps.layers c.steps.level (get_or c.args.levels.now c.args.from 0 + 1) levels (subst (λ (xs : List MemberSet). AreWholeLayers c.args.levels.now xs (get_or c.args.levels.now c.args.from 0 + 1)) (sym (c.steps.invariant.whole levels whole)) whole)
+                c.args.balance.now.lack.items c.args.levels.now c.steps.layers c.steps.level (get_or c.args.levels.now c.args.from 0 + 1) levels (subst (λ (xs : List MemberSet). AreWholeLayers c.args.levels.now xs (get_or c.args.levels.now c.args.from 0 + 1)) (sym (c.steps.invariant.whole levels whole)) whole)
                 c.requires.levels c.steps.invariant.trail.level (omega (arith, w.if-level-eq0.false)) (omega (arith, c.steps.invariant.trail.within, c.requires.top, c.members-members.ensures.residual.few)) (omega (arith, c.steps.invariant.trail.within))
                 (w.in_default.ensures.none refl)
           ] in
