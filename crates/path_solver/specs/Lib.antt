@@ -7,6 +7,7 @@ pub mod Phases
 pub mod Entries
 pub mod Groups
 pub mod Neighbours
+pub mod Works
 pub mod Counts
 pub mod Pruned
 pub mod Trails

@@ -2,62 +2,59 @@
 
 ghost use Rattle.std.specs.Prelude.{◌≡◌, ◌↔◌, ℕ, ◌+◌, ◌<◌, ◌≤◌, true, false, length, slice_index, IsNone, IfSome};
 ghost use Rattle.member_set.specs.Members.{has};
-ghost use Rattle.path_solver.specs.Entries.{AreEntries, IsOpenInto, is_open_to};
+ghost use Rattle.path_solver.specs.Entries.{IsOpenInto, is_open_to};
 ghost use Rattle.path_solver.specs.Groups.{AreGroups};
 ghost use Rattle.path_solver.specs.Rests.{AreApart, HaveSome};
 ghost use Rattle.path_solver.specs.Levels.{IsReached, IsLayered, AreShortest, AreLayers, AreWholeLayers};
 ghost use Rattle.path_solver.specs.Searches.{IsSpread};
+ghost use Rattle.path_solver.specs.Works.{IsWork};
 
-use crate::balance::Balance;
 use crate::entries::Entry;
 use crate::search::{Search, mark};
+use crate::work::Work;
 use member_set::MemberSet;
-use residual_graph::Residual;
 
 /// Goes on with a search until it finds a member that has to send, on the first level that has one. The last level then
 /// has those alone, and other members on it or behind it stay unreached. It is not inlined, so that its sets
 /// stay in registers.
 #[inline(never)]
 pub fn layer(
-    residual: &Residual,
-    entries: &[Entry],
+    work: &Work,
     prices: &[u16],
-    balance: &Balance,
     groups: &[MemberSet],
     senders: &MemberSet,
     levels: &mut [u16],
     layers: &mut [MemberSet],
     search: &mut Search,
 ) -> Option<u16>
-    requires entries { AreEntries residual.now entries.now }
-    requires senders { HaveSome balance.now.surplus.items senders.now }
-    requires low { (v : ℕ) → slice_index prices.now v ≤ residual.now.members }
-    requires groups { length groups.now ≡ residual.now.members + 3 }
+    requires work { IsWork work.now }
+    requires senders { HaveSome work.now.balance.surplus.items senders.now }
+    requires low { (v : ℕ) → slice_index prices.now v ≤ work.now.residual.members }
+    requires groups { length groups.now ≡ work.now.residual.members + 3 }
     requires sorted { AreGroups prices.now groups.now }
-    requires prices { residual.now.members ≡ length prices.now }
-    requires surplus { residual.now.members ≡ length balance.now.surplus.items }
-    requires lack { residual.now.members ≡ length balance.now.lack.items }
-    requires levels { residual.now.members ≡ length levels.old }
-    requires layers { residual.now.members + 1 ≤ length layers.old }
-    requires apart { AreApart balance.now.surplus.items balance.now.lack.items }
-    requires spread { IsSpread residual.now prices.now balance.now.surplus.items balance.now.lack.items levels.old search.old.level search.old.now search.old.seen }
+    requires prices { work.now.residual.members ≡ length prices.now }
+    requires levels { work.now.residual.members ≡ length levels.old }
+    requires layers { work.now.residual.members + 1 ≤ length layers.old }
+    requires apart { AreApart work.now.balance.surplus.items work.now.balance.lack.items }
+    requires spread { IsSpread work.now.residual prices.now work.now.balance.surplus.items work.now.balance.lack.items levels.old search.old.level search.old.now search.old.seen }
     requires layered { AreLayers levels.old layers.old search.old.level }
     requires whole { AreWholeLayers levels.old layers.old search.old.level }
-    ensures layered { IsLayered residual.now.flows prices.now balance.now.surplus.items balance.now.lack.items levels.new result }
-    ensures shortest { IfSome result (λ s. AreShortest residual.now.flows prices.now balance.now.surplus.items balance.now.lack.items levels.new (slice_index levels.new s)) }
+    ensures layered { IsLayered work.now.residual.flows prices.now work.now.balance.surplus.items work.now.balance.lack.items levels.new result }
+    ensures shortest { IfSome result (λ s. AreShortest work.now.residual.flows prices.now work.now.balance.surplus.items work.now.balance.lack.items levels.new (slice_index levels.new s)) }
     ensures layers { IfSome result (λ s. AreLayers levels.new layers.new (slice_index levels.new s + 1)) }
     ensures whole { IfSome result (λ s. AreWholeLayers levels.new layers.new (slice_index levels.new s + 1)) }
-    ensures low { IfSome result (λ s. slice_index levels.new s ≤ residual.now.members) }
-    ensures reached { IsNone result → (v : ℕ) → (has search.new.seen v ≡ true) ↔ ((v < residual.now.members) × IsReached levels.new v) }
-    ensures spread { IsNone result → IsSpread residual.now prices.now balance.now.surplus.items balance.now.lack.items levels.new search.new.level search.new.now search.new.seen }
+    ensures low { IfSome result (λ s. slice_index levels.new s ≤ work.now.residual.members) }
+    ensures reached { IsNone result → (v : ℕ) → (has search.new.seen v ≡ true) ↔ ((v < work.now.residual.members) × IsReached levels.new v) }
+    ensures spread { IsNone result → IsSpread work.now.residual prices.now work.now.balance.surplus.items work.now.balance.lack.items levels.new search.new.level search.new.now search.new.seen }
     ensures passed { IsNone result → AreLayers levels.new layers.new search.new.level }
     ensures all_passed { IsNone result → AreWholeLayers levels.new layers.new search.new.level }
 {
-    let _members = residual.members();
+    let _members = work.residual.members();
+    let entries: &[Entry] = &work.neighbours.entries;
     let mut seen = search.seen;
     let mut now = search.now;
     let mut level = search.level;
-    while !now.is_empty() {
+    'spreads: while !now.is_empty() {
         let met = now.and(senders);
         if !met.is_empty() {
             layers[level as usize] = met;

@@ -27,5 +27,6 @@ mod settle;
 mod solver;
 mod stand;
 mod walk;
+mod work;
 
 pub use solver::PathSolver;

@@ -12,7 +12,7 @@ ghost use Rattle.units_core.specs.declared.limits.TheConstants.{MOST_GROSS};
 
 use crate::balance::Balance;
 use crate::lowest::lower_all;
-use crate::settle::settle;
+use crate::settle::{Settled, settle};
 use net_positions::gross;
 use network_laws::{Limits, Network, Solution, Solver};
 use residual_graph::{Residual, Steps};
@@ -91,10 +91,10 @@ fn solution_of<L: Ledger>(
 {
     let _members = network.members();
     let before = gross(network);
-    let mut residual = Residual::of(alloc, limits, network, before + 1)?;
-    let prices = find_prices(alloc, &mut residual, steps)?;
-    let found = residual.network()?;
-    let potentials = potentials_of(alloc, &prices)?;
+    let residual = Residual::of(alloc, limits, network, before + 1)?;
+    let settled = find_prices(alloc, residual, steps)?;
+    let found = settled.residual.network()?;
+    let potentials = potentials_of(alloc, &settled.prices)?;
     if gross(&found) < before {
         Ok(Solution::new(found, potentials))
     } else {
@@ -105,17 +105,18 @@ fn solution_of<L: Ledger>(
 /// Moves amounts until prices fit them, from the lower bounds on, and answers the prices.
 fn find_prices<L: Ledger>(
     alloc: Global,
-    residual: &mut Residual,
+    residual: Residual,
     steps: &mut Steps<L>,
-) -> Result<Vec<u16>, AllocError>
-    requires { total (flow_rows residual.old.flows) ≤ MOST_GROSS }
-    ensures priced { IfOk result (λ prices. IsPricedAnew residual.old residual.new prices.items) }
-    ensures counted { steps.new ≤ steps.old + (residual.old.members + 2) * phase_steps residual.old }
+) -> Result<Settled, AllocError>
+    requires { total (flow_rows residual.flows) ≤ MOST_GROSS }
+    ensures priced { IfOk result (λ settled. IsPricedAnew residual settled.residual settled.prices.items) }
+    ensures counted { steps.new ≤ steps.old + (residual.members + 2) * phase_steps residual }
 {
+    let mut residual = residual;
     let mut balance = Balance::even(alloc, residual.members())?;
-    lower_all(residual, &mut balance, steps);
-    let prices = settle(alloc, residual, &mut balance, steps)?;
-    Ok(prices)
+    lower_all(&mut residual, &mut balance, steps);
+    let settled = settle(alloc, residual, balance, steps)?;
+    Ok(settled)
 }
 
 /// The prices as potentials.

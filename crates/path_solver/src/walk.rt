@@ -2,72 +2,65 @@
 
 ghost use Rattle.std.specs.Prelude.{◌≡◌, ◌+◌, ℕ, ◌<◌, ◌≤◌, length, false, slice_index, take, IfSome, IsNone, IsSome};
 ghost use Rattle.path_solver.specs.Groups.{AreGroups};
-ghost use Rattle.path_solver.specs.Neighbours.{AreNeighbours};
+ghost use Rattle.path_solver.specs.Works.{IsWork};
 ghost use Rattle.path_solver.specs.Levels.{layer_at, AreLevels, AreLayers, AreWholeLayers};
 ghost use Rattle.path_solver.specs.Paths.{IsPathDown};
 ghost use Rattle.path_solver.specs.Pruned.{ArePruned, AreFewer};
 ghost use Rattle.path_solver.specs.Trails.{IsTrail, IsBegun};
 ghost use Rattle.member_set.specs.Members.{has};
 
-use crate::balance::Balance;
-use crate::neighbours::Neighbours;
 use crate::stand::Stand;
+use crate::work::Work;
 use member_set::MemberSet;
-use residual_graph::Residual;
 
 /// From a member down the levels along open arcs to one that has to receive, on from where a walk stands. The path has
 /// as many arcs as the member's level tells. A member from which there is no way on is taken out of its layer: no later
 /// walk comes there again. Where nobody is left in a layer there is no way from those above it, which are emptied then.
 /// The first walk over new levels always finds a way.
 pub fn walk(
-    residual: &Residual,
-    neighbours: &Neighbours,
+    work: &Work,
     groups: &[MemberSet],
     prices: &[u16],
     levels: &[u16],
-    balance: &Balance,
     layers: &mut [MemberSet],
     path: &mut [u32],
     from: u16,
     stand: Stand,
 ) -> Option<u16>
-    requires neighbours { AreNeighbours residual.now neighbours.now }
-    requires groups { length groups.now ≡ residual.now.members + 3 }
+    requires work { IsWork work.now }
+    requires groups { length groups.now ≡ work.now.residual.members + 3 }
     requires sorted { AreGroups prices.now groups.now }
-    requires low { (v : ℕ) → slice_index prices.now v ≤ residual.now.members }
-    requires prices { residual.now.members ≡ length prices.now }
-    requires levels { residual.now.members ≡ length levels.now }
-    requires lack { residual.now.members ≡ length balance.now.lack.items }
+    requires low { (v : ℕ) → slice_index prices.now v ≤ work.now.residual.members }
+    requires prices { work.now.residual.members ≡ length prices.now }
+    requires levels { work.now.residual.members ≡ length levels.now }
     requires layers { AreLayers levels.now layers.old (slice_index levels.now from + 1) }
-    requires top { slice_index levels.now from ≤ residual.now.members }
-    requires room { residual.now.members < length layers.old }
-    requires path { residual.now.members ≤ length path.old }
-    requires from { from < residual.now.members }
-    requires pruned { ArePruned residual.now.flows prices.now balance.now.lack.items levels.now layers.old (slice_index levels.now from + 1) }
-    requires begun { IsBegun residual.now prices.now levels.now layers.old path.old from stand }
-    ensures path { IfSome result (λ end. IsPathDown residual.now.flows prices.now levels.now balance.now.lack.items from end (take (slice_index levels.now from) path.new)) }
-    ensures trail { IfSome result (λ end. IsTrail residual.now prices.now levels.now layers.new path.new 0 (slice_index levels.now from) end from) }
+    requires top { slice_index levels.now from ≤ work.now.residual.members }
+    requires room { work.now.residual.members < length layers.old }
+    requires path { work.now.residual.members ≤ length path.old }
+    requires from { from < work.now.residual.members }
+    requires pruned { ArePruned work.now.residual.flows prices.now work.now.balance.lack.items levels.now layers.old (slice_index levels.now from + 1) }
+    requires begun { IsBegun work.now.residual prices.now levels.now layers.old path.old from stand }
+    ensures path { IfSome result (λ end. IsPathDown work.now.residual.flows prices.now levels.now work.now.balance.lack.items from end (take (slice_index levels.now from) path.new)) }
+    ensures trail { IfSome result (λ end. IsTrail work.now.residual prices.now levels.now layers.new path.new 0 (slice_index levels.now from) end from) }
     ensures layers { AreLayers levels.now layers.new (slice_index levels.now from + 1) }
-    ensures pruned { ArePruned residual.now.flows prices.now balance.now.lack.items levels.now layers.new (slice_index levels.now from + 1) }
+    ensures pruned { ArePruned work.now.residual.flows prices.now work.now.balance.lack.items levels.now layers.new (slice_index levels.now from + 1) }
     ensures fewer { AreFewer layers.old layers.new }
     ensures gone { IsNone result → has (layer_at layers.new (slice_index levels.now from)) from ≡ false }
-    ensures fresh { AreLevels residual.now.flows prices.now balance.now.lack.items levels.now → AreWholeLayers levels.now layers.old (slice_index levels.now from + 1) → IsSome result }
+    ensures fresh { AreLevels work.now.residual.flows prices.now work.now.balance.lack.items levels.now → AreWholeLayers levels.now layers.old (slice_index levels.now from + 1) → IsSome result }
 {
-    let _members = residual.members();
+    let _members = work.residual.members();
     let top = levels[from as usize] as usize;
     let mut level = top - stand.done;
     let mut here = stand.here;
     'steps: loop {
         if level == 0 {
-            if balance.lack_of(here) > 0 {
+            if work.balance.lack_of(here) > 0 {
                 return Some(here);
             }
-        } else if let Some(exit) = neighbours.way_into(
-            groups,
-            prices[here as usize],
-            here,
-            &layers[level - 1],
-        ) {
+        } else if let Some(exit) = work
+            .neighbours
+            .way_into(groups, prices[here as usize], here, &layers[level - 1])
+        {
             path[top - level] = exit.arc;
             level -= 1;
             here = exit.head;
@@ -82,7 +75,7 @@ pub fn walk(
             return None;
         }
         level += 1;
-        here = residual.tail(path[top - level]);
+        here = work.residual.tail(path[top - level]);
     }
 }
 

@@ -30,9 +30,9 @@ settle_phases-requires-clause-path g c =
 
 pub settle_phases-requires-clause-phase : goal.settle_phases-requires-clause-phase
 settle_phases-requires-clause-phase g c =
-    subst (λ (xs : List ℕ). IsPhase c.args.residual.now c.args.residual.now c.args.balance.now.surplus.items c.args.balance.now.lack.items c.args.balance.now.surplus.items c.args.balance.now.lack.items xs 1) (sym c.deref_mut-3.ensures.value) c.requires.phase
+    subst (λ (xs : List ℕ). IsPhase c.args.residual c.args.residual c.args.balance.surplus.items c.args.balance.lack.items c.args.balance.surplus.items c.args.balance.lack.items xs 1) (sym c.deref_mut-3.ensures.value) c.requires.phase
 
 pub returns-clause-settled : goal.returns-clause-settled
 returns-clause-settled g c =
     let prices = with_items_is c.args.first c.settle_phases.new.prices (c.settle_phases.auto.prices ∙ c.deref_mut-3.ensures.len) in
-    subst (IsSettled c.args.residual.now c.settle_phases.new.residual c.args.balance.now.surplus.items c.args.balance.now.lack.items) (sym prices) c.settle_phases.ensures.settled
+    subst (IsSettled c.args.residual c.settle_phases.new.work.residual c.args.balance.surplus.items c.args.balance.lack.items) (sym prices) c.settle_phases.ensures.settled

@@ -7,7 +7,7 @@ use Rattle.path_solver.proofs.solver.find_prices.Goals as goal
 
 pub settle-requires-clause-feasible : goal.settle-requires-clause-feasible
 settle-requires-clause-feasible g c =
-    (c.args.residual.now.flows, same_sym c.args.residual.now.flows c.lower_all.new.residual.flows c.lower_all.ensures.pairs, λ i. sym (c.lower_all.ensures.owed i))
+    (c.args.residual.flows, same_sym c.args.residual.flows c.lower_all.new.residual.flows c.lower_all.ensures.pairs, λ i. sym (c.lower_all.ensures.owed i))
 
 anew : (old mid new : ResidualData) (s l p : List ℕ) → IsResidual old → mid.members ≡ old.members → AreSamePairs old.flows mid.flows → ((i : ℕ) → owed mid.flows s l i ≡ net_of old.flows i) → IsSettled mid new s l p → IsPricedAnew old new p
 anew old mid new s l p residual members pairs nets h = record {
@@ -22,6 +22,6 @@ anew old mid new s l p residual members pairs nets h = record {
 
 pub returns-clause-priced : goal.returns-clause-priced
 returns-clause-priced g c =
-    anew c.args.residual.now c.lower_all.new.residual c.settle.new.residual c.lower_all.new.balance.surplus.items c.lower_all.new.balance.lack.items c.in_ok-prices.prices.items c.members.ensures.residual c.lower_all.ensures.members c.lower_all.ensures.pairs
+    anew c.args.residual c.lower_all.new.residual c.in_ok-settled.settled.residual c.lower_all.new.balance.surplus.items c.lower_all.new.balance.lack.items c.in_ok-settled.settled.prices.items c.members.ensures.residual c.lower_all.ensures.members c.lower_all.ensures.pairs
     c.lower_all.ensures.owed
-    c.in_ok-prices.ensures.settled
+    c.in_ok-settled.ensures.settled

@@ -1,0 +1,16 @@
+-- What changes as amounts are sent.
+use Rattle.std.specs.Prelude.{◌≡◌, ℕ, List, length}
+use Rattle.path_solver.specs.declared.work.Work.{Work}
+use Rattle.path_solver.specs.Neighbours.{AreNeighbours}
+use Rattle.path_solver.specs.Phases.{IsPhase}
+
+-- the neighbours are those of the graph, and each member has something or nothing to send, and to receive
+pub record IsWork (w : Work) : Type 0 where
+  pub neighbours : AreNeighbours w.residual w.neighbours
+  pub surplus : w.residual.members ≡ length w.balance.surplus.items
+  pub lack : w.residual.members ≡ length w.balance.lack.items
+
+-- the prices are those of a phase in which nothing was sent yet
+abbrev pub ArePhased : Work → List ℕ → ℕ → Type 0
+ArePhased w p phase =
+    IsPhase w.residual w.residual w.balance.surplus.items w.balance.lack.items w.balance.surplus.items w.balance.lack.items p phase
