@@ -14,6 +14,7 @@ mod balance;
 mod direct;
 mod entries;
 mod groups;
+mod labels;
 mod layers;
 mod lowest;
 mod neighbours;

@@ -7,6 +7,7 @@ ghost use Rattle.path_solver.specs.Phases.{IsSettled};
 ghost use Rattle.path_solver.specs.Works.{IsWork, ArePhased};
 ghost use Rattle.path_solver.specs.Counts.{phase_steps};
 
+use crate::labels::Labels;
 use crate::layers::layer;
 use crate::prices::next_phase;
 use crate::search::start;
@@ -49,7 +50,12 @@ pub fn settle_phases<L: Ledger>(
                 phase = next_phase(work, groups, prices, levels, layers, &mut search, phase);
             }
             Some(source) => {
-                send_phase(work, groups, prices, levels, layers, path, source, steps);
+                let labels = Labels {
+                    groups,
+                    prices,
+                    levels,
+                };
+                send_phase(work, &labels, layers, path, source, steps);
                 senders = work.balance.senders_among(senders);
                 receivers = work.balance.receivers_among(receivers);
                 search = start(levels, &receivers);

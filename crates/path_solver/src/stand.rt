@@ -12,6 +12,13 @@ pub struct Stand {
     pub here: u16,
 }
 
+/// A walk from a member, and where it stands.
+#[derive(Clone, Copy)]
+pub struct Trip {
+    pub from: u16,
+    pub stand: Stand,
+}
+
 impl Stand {
     /// Behind so many arcs of a path that leads to `end`.
     pub fn behind(residual: &Residual, path: &[u32], done: usize, end: u16) -> Stand

@@ -1,15 +1,15 @@
 //! Down the levels of a search, back where there is no way on.
 
 ghost use Rattle.std.specs.Prelude.{◌≡◌, ◌+◌, ℕ, ◌<◌, ◌≤◌, length, false, slice_index, take, IfSome, IsNone, IsSome};
-ghost use Rattle.path_solver.specs.Groups.{AreGroups};
 ghost use Rattle.path_solver.specs.Works.{IsWork};
-ghost use Rattle.path_solver.specs.Levels.{layer_at, AreLevels, AreLayers, AreWholeLayers};
-ghost use Rattle.path_solver.specs.Paths.{IsPathDown};
-ghost use Rattle.path_solver.specs.Pruned.{ArePruned, AreFewer};
+ghost use Rattle.path_solver.specs.Labels.{AreLabels, level_of, AreLevelsIn, ArePrunedIn, IsPathDownIn};
+ghost use Rattle.path_solver.specs.Levels.{layer_at, AreLayers, AreWholeLayers};
+ghost use Rattle.path_solver.specs.Pruned.{AreFewer};
 ghost use Rattle.path_solver.specs.Trails.{IsTrail, IsBegun};
 ghost use Rattle.member_set.specs.Members.{has};
 
-use crate::stand::Stand;
+use crate::labels::Labels;
+use crate::stand::Trip;
 use crate::work::Work;
 use member_set::MemberSet;
 
@@ -19,48 +19,43 @@ use member_set::MemberSet;
 /// The first walk over new levels always finds a way.
 pub fn walk(
     work: &Work,
-    groups: &[MemberSet],
-    prices: &[u16],
-    levels: &[u16],
+    labels: &Labels<'_>,
     layers: &mut [MemberSet],
     path: &mut [u32],
-    from: u16,
-    stand: Stand,
+    trip: Trip,
 ) -> Option<u16>
     requires work { IsWork work.now }
-    requires groups { length groups.now ≡ work.now.residual.members + 3 }
-    requires sorted { AreGroups prices.now groups.now }
-    requires low { (v : ℕ) → slice_index prices.now v ≤ work.now.residual.members }
-    requires prices { work.now.residual.members ≡ length prices.now }
-    requires levels { work.now.residual.members ≡ length levels.now }
-    requires layers { AreLayers levels.now layers.old (slice_index levels.now from + 1) }
-    requires top { slice_index levels.now from ≤ work.now.residual.members }
+    requires labels { AreLabels work.now.residual.members labels.now }
+    requires layers { AreLayers labels.now.levels.now layers.old (level_of labels.now trip.from + 1) }
+    requires top { level_of labels.now trip.from ≤ work.now.residual.members }
     requires room { work.now.residual.members < length layers.old }
     requires path { work.now.residual.members ≤ length path.old }
-    requires from { from < work.now.residual.members }
-    requires pruned { ArePruned work.now.residual.flows prices.now work.now.balance.lack.items levels.now layers.old (slice_index levels.now from + 1) }
-    requires begun { IsBegun work.now.residual prices.now levels.now layers.old path.old from stand }
-    ensures path { IfSome result (λ end. IsPathDown work.now.residual.flows prices.now levels.now work.now.balance.lack.items from end (take (slice_index levels.now from) path.new)) }
-    ensures trail { IfSome result (λ end. IsTrail work.now.residual prices.now levels.now layers.new path.new 0 (slice_index levels.now from) end from) }
-    ensures layers { AreLayers levels.now layers.new (slice_index levels.now from + 1) }
-    ensures pruned { ArePruned work.now.residual.flows prices.now work.now.balance.lack.items levels.now layers.new (slice_index levels.now from + 1) }
+    requires from { trip.from < work.now.residual.members }
+    requires pruned { ArePrunedIn work.now labels.now layers.old (level_of labels.now trip.from + 1) }
+    requires begun { IsBegun work.now.residual labels.now.prices.now labels.now.levels.now layers.old path.old trip.from trip.stand }
+    ensures path { IfSome result (λ end. IsPathDownIn work.now labels.now trip.from end (take (level_of labels.now trip.from) path.new)) }
+    ensures trail { IfSome result (λ end. IsTrail work.now.residual labels.now.prices.now labels.now.levels.now layers.new path.new 0 (level_of labels.now trip.from) end trip.from) }
+    ensures layers { AreLayers labels.now.levels.now layers.new (level_of labels.now trip.from + 1) }
+    ensures pruned { ArePrunedIn work.now labels.now layers.new (level_of labels.now trip.from + 1) }
     ensures fewer { AreFewer layers.old layers.new }
-    ensures gone { IsNone result → has (layer_at layers.new (slice_index levels.now from)) from ≡ false }
-    ensures fresh { AreLevels work.now.residual.flows prices.now work.now.balance.lack.items levels.now → AreWholeLayers levels.now layers.old (slice_index levels.now from + 1) → IsSome result }
+    ensures gone { IsNone result → has (layer_at layers.new (level_of labels.now trip.from)) trip.from ≡ false }
+    ensures fresh { AreLevelsIn work.now labels.now → AreWholeLayers labels.now.levels.now layers.old (level_of labels.now trip.from + 1) → IsSome result }
 {
     let _members = work.residual.members();
-    let top = levels[from as usize] as usize;
-    let mut level = top - stand.done;
-    let mut here = stand.here;
+    let top = labels.levels[trip.from as usize] as usize;
+    let mut level = top - trip.stand.done;
+    let mut here = trip.stand.here;
     'steps: loop {
         if level == 0 {
             if work.balance.lack_of(here) > 0 {
                 return Some(here);
             }
-        } else if let Some(exit) = work
-            .neighbours
-            .way_into(groups, prices[here as usize], here, &layers[level - 1])
-        {
+        } else if let Some(exit) = work.neighbours.way_into(
+            labels.groups,
+            labels.prices[here as usize],
+            here,
+            &layers[level - 1],
+        ) {
             path[top - level] = exit.arc;
             level -= 1;
             here = exit.head;

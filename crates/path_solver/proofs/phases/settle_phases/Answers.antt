@@ -12,10 +12,16 @@ layer-requires-clause-low g c v =
     let inv = c.phases.invariant in
     omega (arith, inv.phase.rated.most v, inv.phase.few, inv.phase.members)
 
-pub send_phase-requires-clause-low : goal.send_phase-requires-clause-low
-send_phase-requires-clause-low g c v =
+pub send_phase-requires-clause-labels : goal.send_phase-requires-clause-labels
+send_phase-requires-clause-labels g c =
     let inv = c.phases.invariant in
-    omega (arith, inv.phase.rated.most v, inv.phase.few, inv.phase.members)
+    record {
+      groups = omega (arith, c.phases.auto.groups, c.requires.groups, inv.phase.members);
+      sorted = inv.sorted;
+      low = λ v. omega (arith, inv.phase.rated.most v, inv.phase.few, inv.phase.members);
+      prices = omega (arith, c.phases.auto.prices, c.requires.prices, inv.phase.members);
+      levels = inv.phase.members ∙ c.requires.levels ∙ sym (c.layer.auto.levels ∙ c.phases.auto.levels ∙ c.start-search.auto.levels);
+    }
 
 pub send_phase-requires-clause-layers : goal.send_phase-requires-clause-layers
 send_phase-requires-clause-layers g c = rw c.in-Some.is at c.layer.ensures.layers

@@ -10,13 +10,13 @@ use Rattle.path_solver.proofs.sending.send_all.Given as goal
 abbrev pub invariant-paths : goal.invariant-paths
 invariant-paths g l = record {
   work : IsWork l.work;
-  layers : AreLayers l.levels l.layers (get_or l.levels l.from 0 + 1);
-  shortest : AreShortest l.work.residual.flows l.prices l.work.balance.surplus.items l.work.balance.lack.items l.levels (get_or l.levels l.from 0);
-  pruned : ArePruned l.work.residual.flows l.prices l.work.balance.lack.items l.levels l.layers (get_or l.levels l.from 0 + 1);
+  layers : AreLayers l.labels.levels.now l.layers (get_or l.labels.levels.now l.from 0 + 1);
+  shortest : AreShortest l.work.residual.flows l.labels.prices.now l.work.balance.surplus.items l.work.balance.lack.items l.labels.levels.now (get_or l.labels.levels.now l.from 0);
+  pruned : ArePruned l.work.residual.flows l.labels.prices.now l.work.balance.lack.items l.labels.levels.now l.layers (get_or l.labels.levels.now l.from 0 + 1);
   fewer : AreFewer l.initial.layers l.layers;
-  few : l.steps + still_to_do l.levels l.work.residual.flows l.work.balance ≤ l.initial.steps + still_to_do l.levels l.initial.work.residual.flows l.initial.work.balance;
-  begun : IsBegun l.work.residual l.prices l.levels l.layers l.path l.from l.stand;
-  along : IsSentAlong l.prices l.initial.work.residual l.work.residual l.initial.work.balance.surplus.items l.initial.work.balance.lack.items l.work.balance.surplus.items l.work.balance.lack.items;
+  few : l.steps + still_to_do l.labels.levels.now l.work.residual.flows l.work.balance ≤ l.initial.steps + still_to_do l.labels.levels.now l.initial.work.residual.flows l.initial.work.balance;
+  begun : IsBegun l.work.residual l.labels.prices.now l.labels.levels.now l.layers l.path l.from l.stand;
+  along : IsSentAlong l.labels.prices.now l.initial.work.residual l.work.residual l.initial.work.balance.surplus.items l.initial.work.balance.lack.items l.work.balance.surplus.items l.work.balance.lack.items;
 }
 
 abbrev pub decreases-paths : goal.decreases-paths
