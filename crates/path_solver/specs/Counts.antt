@@ -3,7 +3,6 @@ use Rattle.std.specs.Prelude.{ℕ, ◌+◌, ◌*◌, ◌==◌, ◌&&◌, if◌th
 use Rattle.network_laws.specs.Limits.{LimitsData}
 use Rattle.residual_graph.specs.declared.flow.Flow.{Flow}
 use Rattle.residual_graph.specs.Residual.{ResidualData}
-use Rattle.path_solver.specs.declared.balance.Balance.{Balance}
 
 -- at most so many in all: of V members, a source and a sink among them, and E arcs at most V * V * E
 abbrev pub most_steps : LimitsData → ℕ
@@ -28,7 +27,3 @@ downs levels f =
 abbrev pub left_to_do : List ℕ → List Flow → List ℕ → List ℕ → ℕ
 left_to_do levels flows surplus lack =
     sum_by (downs levels) flows + count_by (nat_lt 0) surplus + count_by (nat_lt 0) lack
-
--- the same of a balance
-abbrev pub still_to_do : List ℕ → List Flow → Balance → ℕ
-still_to_do levels flows b = left_to_do levels flows b.surplus.items b.lack.items

@@ -1,13 +1,17 @@
--- Work beside prices and levels.
+-- Work beside prices and levels, and walks from a member.
 use Rattle.std.specs.Prelude.{◌≡◌, ℕ, ◌+◌, ◌≤◌, List, length, slice_index}
 use Rattle.member_set.specs.declared.set.MemberSet.{MemberSet}
 use Rattle.path_solver.specs.declared.labels.Labels.{Labels}
+use Rattle.path_solver.specs.declared.stand.Stand.{Stand}
+use Rattle.path_solver.specs.declared.stand.Trip.{Trip}
 use Rattle.path_solver.specs.declared.work.Work.{Work}
+use Rattle.path_solver.specs.Counts.{left_to_do}
 use Rattle.path_solver.specs.Groups.{AreGroups}
-use Rattle.path_solver.specs.Levels.{AreLevels, AreShortest}
+use Rattle.path_solver.specs.Levels.{AreLevels, AreShortest, AreLayers, AreWholeLayers}
 use Rattle.path_solver.specs.Paths.{IsPathDown, NoneIsShorter}
 use Rattle.path_solver.specs.Pruned.{ArePruned}
 use Rattle.path_solver.specs.Rests.{IsSentAlong}
+use Rattle.path_solver.specs.Trails.{IsBegun}
 
 -- prices and levels of so many members, and the groups by these prices
 pub record AreLabels (members : ℕ) (l : Labels) : Type 0 where
@@ -17,31 +21,46 @@ pub record AreLabels (members : ℕ) (l : Labels) : Type 0 where
   pub prices : members ≡ length l.prices.now
   pub levels : members ≡ length l.levels.now
 
-abbrev pub level_of : Labels → ℕ → ℕ
-level_of l v = slice_index l.levels.now v
+abbrev pub AreLevelsIn : Work → Labels → Type 0
+AreLevelsIn w l = AreLevels w.residual.flows l.prices.now w.balance.lack.items l.levels.now
+
+abbrev pub IsSentIn : Labels → Work → Work → Type 0
+IsSentIn l old new =
+    IsSentAlong l.prices.now old.residual new.residual old.balance.surplus.items old.balance.lack.items new.balance.surplus.items new.balance.lack.items
+
+abbrev pub still_to_do : Labels → Work → ℕ
+still_to_do l w =
+    left_to_do l.levels.now w.residual.flows w.balance.surplus.items w.balance.lack.items
 
 abbrev pub surplus_in : Work → ℕ → ℕ
 surplus_in w v = slice_index w.balance.surplus.items v
 
-abbrev pub AreLevelsIn : Work → Labels → Type 0
-AreLevelsIn w l = AreLevels w.residual.flows l.prices.now w.balance.lack.items l.levels.now
+-- the level of the member from which a walk starts
+abbrev pub top_of : Trip → ℕ
+top_of t = slice_index t.labels.now.levels.now t.from
 
-abbrev pub AreShortestIn : Work → Labels → ℕ → Type 0
-AreShortestIn w l last =
-    AreShortest w.residual.flows l.prices.now w.balance.surplus.items w.balance.lack.items l.levels.now last
+abbrev pub AreLayersFrom : Trip → List MemberSet → Type 0
+AreLayersFrom t layers = AreLayers t.labels.now.levels.now layers (top_of t + 1)
 
-abbrev pub ArePrunedIn : Work → Labels → List MemberSet → ℕ → Type 0
-ArePrunedIn w l layers n =
-    ArePruned w.residual.flows l.prices.now w.balance.lack.items l.levels.now layers n
+abbrev pub AreWholeFrom : Trip → List MemberSet → Type 0
+AreWholeFrom t layers = AreWholeLayers t.labels.now.levels.now layers (top_of t + 1)
 
-abbrev pub IsPathDownIn : Work → Labels → ℕ → ℕ → List ℕ → Type 0
-IsPathDownIn w l from end path =
-    IsPathDown w.residual.flows l.prices.now l.levels.now w.balance.lack.items from end path
+abbrev pub ArePrunedFrom : Work → Trip → List MemberSet → Type 0
+ArePrunedFrom w t layers =
+    ArePruned w.residual.flows t.labels.now.prices.now w.balance.lack.items t.labels.now.levels.now layers (top_of t + 1)
+
+abbrev pub AreShortestFrom : Work → Trip → Type 0
+AreShortestFrom w t =
+    AreShortest w.residual.flows t.labels.now.prices.now w.balance.surplus.items w.balance.lack.items t.labels.now.levels.now (top_of t)
+
+abbrev pub IsPathDownFrom : Work → Trip → ℕ → List ℕ → Type 0
+IsPathDownFrom w t end path =
+    IsPathDown w.residual.flows t.labels.now.prices.now t.labels.now.levels.now w.balance.lack.items t.from end path
 
 abbrev pub NoneIsShorterIn : Work → Labels → ℕ → Type 0
 NoneIsShorterIn w l n =
     NoneIsShorter w.residual.flows l.prices.now w.balance.surplus.items w.balance.lack.items n
 
-abbrev pub IsSentIn : Labels → Work → Work → Type 0
-IsSentIn l old new =
-    IsSentAlong l.prices.now old.residual new.residual old.balance.surplus.items old.balance.lack.items new.balance.surplus.items new.balance.lack.items
+abbrev pub IsBegunFrom : Work → Trip → List MemberSet → List ℕ → Stand → Type 0
+IsBegunFrom w t layers path s =
+    IsBegun w.residual t.labels.now.prices.now t.labels.now.levels.now layers path t.from s

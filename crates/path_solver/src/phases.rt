@@ -12,6 +12,7 @@ use crate::layers::layer;
 use crate::prices::next_phase;
 use crate::search::start;
 use crate::sending::send_phase;
+use crate::stand::{Stand, Trip};
 use crate::work::Work;
 use member_set::MemberSet;
 use residual_graph::Steps;
@@ -55,7 +56,12 @@ pub fn settle_phases<L: Ledger>(
                     prices,
                     levels,
                 };
-                send_phase(work, &labels, layers, path, source, steps);
+                let trip = Trip {
+                    labels: &labels,
+                    from: source,
+                    stand: Stand::at(source),
+                };
+                send_phase(work, layers, path, &trip, steps);
                 senders = work.balance.senders_among(senders);
                 receivers = work.balance.receivers_among(receivers);
                 search = start(levels, &receivers);

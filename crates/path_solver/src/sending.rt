@@ -2,15 +2,12 @@
 
 ghost use Rattle.std.specs.Prelude.{◌≡◌, ◌+◌, ℕ, true, false, ◌<◌, ◌≤◌, length, slice_index, sum, IsNone, IsSome, IfSome};
 ghost use Rattle.path_solver.specs.Works.{IsWork};
-ghost use Rattle.path_solver.specs.Labels.{AreLabels, level_of, surplus_in, AreLevelsIn, AreShortestIn, ArePrunedIn, NoneIsShorterIn, IsSentIn};
-ghost use Rattle.path_solver.specs.Levels.{layer_at, AreLayers, AreWholeLayers, IsSource};
+ghost use Rattle.path_solver.specs.Labels.{AreLabels, AreLevelsIn, IsSentIn, still_to_do, surplus_in, top_of, AreLayersFrom, AreWholeFrom, ArePrunedFrom, AreShortestFrom, NoneIsShorterIn, IsBegunFrom};
+ghost use Rattle.path_solver.specs.Levels.{layer_at, IsSource};
 ghost use Rattle.path_solver.specs.Rests.{AreApart};
 ghost use Rattle.path_solver.specs.Pruned.{AreFewer};
-ghost use Rattle.path_solver.specs.Counts.{still_to_do};
-ghost use Rattle.path_solver.specs.Trails.{IsBegun};
 ghost use Rattle.member_set.specs.Members.{has};
 
-use crate::labels::Labels;
 use crate::paths::{bottleneck_of, push_noting};
 use crate::stand::{Stand, Trip};
 use crate::walk::walk;
@@ -23,41 +20,39 @@ use std::sync::ledger::Ledger;
 /// arcs from one that has to send to one that has to receive has more.
 pub fn send_phase<L: Ledger>(
     work: &mut Work,
-    labels: &Labels<'_>,
     layers: &mut [MemberSet],
     path: &mut [u32],
-    source: u16,
+    trip: &Trip<'_>,
     steps: &mut Steps<L>,
 )
     requires work { IsWork work.old }
-    requires labels { AreLabels work.old.residual.members labels.now }
-    requires layers { AreLayers labels.now.levels.now layers.old (level_of labels.now source + 1) }
-    requires whole { AreWholeLayers labels.now.levels.now layers.old (level_of labels.now source + 1) }
-    requires top { level_of labels.now source ≤ work.old.residual.members }
+    requires labels { AreLabels work.old.residual.members trip.now.labels.now }
+    requires layers { AreLayersFrom trip.now layers.old }
+    requires whole { AreWholeFrom trip.now layers.old }
+    requires top { top_of trip.now ≤ work.old.residual.members }
     requires room { work.old.residual.members < length layers.old }
     requires path { work.old.residual.members ≤ length path.old }
-    requires source { IsSource work.old.balance.surplus.items labels.now.levels.now source }
-    requires shortest { AreShortestIn work.old labels.now (level_of labels.now source) }
+    requires source { IsSource work.old.balance.surplus.items trip.now.labels.now.levels.now trip.now.from }
+    requires shortest { AreShortestFrom work.old trip.now }
     requires apart { AreApart work.old.balance.surplus.items work.old.balance.lack.items }
-    requires down { AreLevelsIn work.old labels.now }
+    requires down { AreLevelsIn work.old trip.now.labels.now }
+    requires begun { IsBegunFrom work.old trip.now layers.old path.old trip.now.stand }
     ensures work { IsWork work.new }
-    ensures along { IsSentIn labels.now work.old work.new }
+    ensures along { IsSentIn trip.now.labels.now work.old work.new }
     ensures sent { sum work.new.balance.surplus.items < sum work.old.balance.surplus.items }
-    ensures few { steps.new + still_to_do labels.now.levels.now work.new.residual.flows work.new.balance ≤ steps.old + still_to_do labels.now.levels.now work.old.residual.flows work.old.balance }
-    ensures deeper { NoneIsShorterIn work.new labels.now (level_of labels.now source + 1) }
+    ensures few { steps.new + still_to_do trip.now.labels.now work.new ≤ steps.old + still_to_do trip.now.labels.now work.old }
+    ensures deeper { NoneIsShorterIn work.new trip.now.labels.now (top_of trip.now + 1) }
 {
     let _members = work.residual.members();
-    let mut left = layers[labels.levels[source as usize] as usize];
-    let first = Trip {
-        from: source,
-        stand: Stand {
-            done: 0,
-            here: source,
-        },
-    };
-    send_once(work, labels, layers, path, first, steps);
+    let mut left = layers[trip.labels.levels[trip.from as usize] as usize];
+    send_once(work, layers, path, trip, steps);
     'senders: while let Some(member) = left.take_lowest() {
-        send_all(work, labels, layers, path, member, steps);
+        let next = Trip {
+            from: member,
+            stand: Stand::at(member),
+            ..*trip
+        };
+        send_all(work, layers, path, &next, steps);
     }
 }
 
@@ -65,44 +60,43 @@ pub fn send_phase<L: Ledger>(
 /// there was one. No path of open arcs from one that has to send to one that has to receive has fewer.
 fn send_once<L: Ledger>(
     work: &mut Work,
-    labels: &Labels<'_>,
     layers: &mut [MemberSet],
     path: &mut [u32],
-    trip: Trip,
+    trip: &Trip<'_>,
     steps: &mut Steps<L>,
 ) -> Option<Stand>
     requires work { IsWork work.old }
-    requires labels { AreLabels work.old.residual.members labels.now }
-    requires layers { AreLayers labels.now.levels.now layers.old (level_of labels.now trip.from + 1) }
-    requires top { level_of labels.now trip.from ≤ work.old.residual.members }
+    requires labels { AreLabels work.old.residual.members trip.now.labels.now }
+    requires layers { AreLayersFrom trip.now layers.old }
+    requires top { top_of trip.now ≤ work.old.residual.members }
     requires room { work.old.residual.members < length layers.old }
     requires path { work.old.residual.members ≤ length path.old }
-    requires shortest { AreShortestIn work.old labels.now (level_of labels.now trip.from) }
-    requires from { trip.from < work.old.residual.members }
-    requires pruned { ArePrunedIn work.old labels.now layers.old (level_of labels.now trip.from + 1) }
-    requires begun { IsBegun work.old.residual labels.now.prices.now labels.now.levels.now layers.old path.old trip.from trip.stand }
+    requires shortest { AreShortestFrom work.old trip.now }
+    requires from { trip.now.from < work.old.residual.members }
+    requires pruned { ArePrunedFrom work.old trip.now layers.old }
+    requires begun { IsBegunFrom work.old trip.now layers.old path.old trip.now.stand }
     ensures work { IsWork work.new }
-    ensures layers { AreLayers labels.now.levels.now layers.new (level_of labels.now trip.from + 1) }
-    ensures begun { IfSome result (λ s. IsBegun work.new.residual labels.now.prices.now labels.now.levels.now layers.new path.new trip.from s) }
-    ensures pruned { ArePrunedIn work.new labels.now layers.new (level_of labels.now trip.from + 1) }
+    ensures layers { AreLayersFrom trip.now layers.new }
+    ensures begun { IfSome result (λ s. IsBegunFrom work.new trip.now layers.new path.new s) }
+    ensures pruned { ArePrunedFrom work.new trip.now layers.new }
     ensures fewer { AreFewer layers.old layers.new }
-    ensures kept { AreShortestIn work.new labels.now (level_of labels.now trip.from) }
-    ensures along { IsSentIn labels.now work.old work.new }
-    ensures few { steps.new + still_to_do labels.now.levels.now work.new.residual.flows work.new.balance ≤ steps.old + still_to_do labels.now.levels.now work.old.residual.flows work.old.balance }
-    ensures done { IsNone result → has (layer_at layers.new (level_of labels.now trip.from)) trip.from ≡ true → surplus_in work.new trip.from ≡ 0 }
+    ensures kept { AreShortestFrom work.new trip.now }
+    ensures along { IsSentIn trip.now.labels.now work.old work.new }
+    ensures few { steps.new + still_to_do trip.now.labels.now work.new ≤ steps.old + still_to_do trip.now.labels.now work.old }
+    ensures done { IsNone result → has (layer_at layers.new (top_of trip.now)) trip.now.from ≡ true → surplus_in work.new trip.now.from ≡ 0 }
     ensures sent { IsSome result → sum work.new.balance.surplus.items < sum work.old.balance.surplus.items }
-    ensures shortest { IsSome result → NoneIsShorterIn work.old labels.now (level_of labels.now trip.from) }
-    ensures fresh { AreLevelsIn work.old labels.now → AreWholeLayers labels.now.levels.now layers.old (level_of labels.now trip.from + 1) → 0 < surplus_in work.old trip.from → IsSome result }
+    ensures shortest { IsSome result → NoneIsShorterIn work.old trip.now.labels.now (top_of trip.now) }
+    ensures fresh { AreLevelsIn work.old trip.now.labels.now → AreWholeFrom trip.now layers.old → 0 < surplus_in work.old trip.now.from → IsSome result }
 {
     let _members = work.residual.members();
     let from = trip.from;
     if work.balance.surplus_of(from) == 0 {
         return None;
     }
-    let Some(end) = walk(work, labels, layers, path, trip) else {
+    let Some(end) = walk(work, layers, path, trip) else {
         return None;
     };
-    let arcs = &path[..labels.levels[from as usize] as usize];
+    let arcs = &path[..trip.labels.levels[from as usize] as usize];
     let most = work.balance.between(from, end);
     let found = bottleneck_of(&work.residual, arcs, most);
     let filled = push_noting(&mut work.residual, &mut work.neighbours, arcs, found, steps);
@@ -113,40 +107,36 @@ fn send_once<L: Ledger>(
 /// Sends from a member along paths until there is none, or nothing is left.
 fn send_all<L: Ledger>(
     work: &mut Work,
-    labels: &Labels<'_>,
     layers: &mut [MemberSet],
     path: &mut [u32],
-    from: u16,
+    trip: &Trip<'_>,
     steps: &mut Steps<L>,
 )
     requires work { IsWork work.old }
-    requires labels { AreLabels work.old.residual.members labels.now }
-    requires layers { AreLayers labels.now.levels.now layers.old (level_of labels.now from + 1) }
-    requires top { level_of labels.now from ≤ work.old.residual.members }
+    requires labels { AreLabels work.old.residual.members trip.now.labels.now }
+    requires layers { AreLayersFrom trip.now layers.old }
+    requires top { top_of trip.now ≤ work.old.residual.members }
     requires room { work.old.residual.members < length layers.old }
     requires path { work.old.residual.members ≤ length path.old }
-    requires shortest { AreShortestIn work.old labels.now (level_of labels.now from) }
-    requires from { from < work.old.residual.members }
-    requires pruned { ArePrunedIn work.old labels.now layers.old (level_of labels.now from + 1) }
+    requires shortest { AreShortestFrom work.old trip.now }
+    requires from { trip.now.from < work.old.residual.members }
+    requires pruned { ArePrunedFrom work.old trip.now layers.old }
+    requires begun { IsBegunFrom work.old trip.now layers.old path.old trip.now.stand }
     ensures work { IsWork work.new }
-    ensures layers { AreLayers labels.now.levels.now layers.new (level_of labels.now from + 1) }
-    ensures pruned { ArePrunedIn work.new labels.now layers.new (level_of labels.now from + 1) }
+    ensures layers { AreLayersFrom trip.now layers.new }
+    ensures pruned { ArePrunedFrom work.new trip.now layers.new }
     ensures fewer { AreFewer layers.old layers.new }
-    ensures kept { AreShortestIn work.new labels.now (level_of labels.now from) }
-    ensures along { IsSentIn labels.now work.old work.new }
-    ensures few { steps.new + still_to_do labels.now.levels.now work.new.residual.flows work.new.balance ≤ steps.old + still_to_do labels.now.levels.now work.old.residual.flows work.old.balance }
-    ensures done { has (layer_at layers.new (level_of labels.now from)) from ≡ true → surplus_in work.new from ≡ 0 }
+    ensures kept { AreShortestFrom work.new trip.now }
+    ensures along { IsSentIn trip.now.labels.now work.old work.new }
+    ensures few { steps.new + still_to_do trip.now.labels.now work.new ≤ steps.old + still_to_do trip.now.labels.now work.old }
+    ensures done { has (layer_at layers.new (top_of trip.now)) trip.now.from ≡ true → surplus_in work.new trip.now.from ≡ 0 }
 {
-    let mut stand = Stand {
-        done: 0,
-        here: from,
-    };
+    let mut stand = trip.stand;
     'paths: while let Some(behind) = send_once(
         work,
-        labels,
         layers,
         path,
-        Trip { from, stand },
+        &Trip { stand, ..*trip },
         steps,
     ) {
         stand = behind;

@@ -2,13 +2,12 @@
 
 ghost use Rattle.std.specs.Prelude.{◌≡◌, ◌+◌, ℕ, ◌<◌, ◌≤◌, length, false, slice_index, take, IfSome, IsNone, IsSome};
 ghost use Rattle.path_solver.specs.Works.{IsWork};
-ghost use Rattle.path_solver.specs.Labels.{AreLabels, level_of, AreLevelsIn, ArePrunedIn, IsPathDownIn};
-ghost use Rattle.path_solver.specs.Levels.{layer_at, AreLayers, AreWholeLayers};
+ghost use Rattle.path_solver.specs.Labels.{AreLabels, AreLevelsIn, top_of, AreLayersFrom, AreWholeFrom, ArePrunedFrom, IsPathDownFrom, IsBegunFrom};
+ghost use Rattle.path_solver.specs.Levels.{layer_at};
 ghost use Rattle.path_solver.specs.Pruned.{AreFewer};
-ghost use Rattle.path_solver.specs.Trails.{IsTrail, IsBegun};
+ghost use Rattle.path_solver.specs.Trails.{IsTrail};
 ghost use Rattle.member_set.specs.Members.{has};
 
-use crate::labels::Labels;
 use crate::stand::Trip;
 use crate::work::Work;
 use member_set::MemberSet;
@@ -17,32 +16,26 @@ use member_set::MemberSet;
 /// as many arcs as the member's level tells. A member from which there is no way on is taken out of its layer: no later
 /// walk comes there again. Where nobody is left in a layer there is no way from those above it, which are emptied then.
 /// The first walk over new levels always finds a way.
-pub fn walk(
-    work: &Work,
-    labels: &Labels<'_>,
-    layers: &mut [MemberSet],
-    path: &mut [u32],
-    trip: Trip,
-) -> Option<u16>
+pub fn walk(work: &Work, layers: &mut [MemberSet], path: &mut [u32], trip: &Trip<'_>) -> Option<u16>
     requires work { IsWork work.now }
-    requires labels { AreLabels work.now.residual.members labels.now }
-    requires layers { AreLayers labels.now.levels.now layers.old (level_of labels.now trip.from + 1) }
-    requires top { level_of labels.now trip.from ≤ work.now.residual.members }
+    requires labels { AreLabels work.now.residual.members trip.now.labels.now }
+    requires layers { AreLayersFrom trip.now layers.old }
+    requires top { top_of trip.now ≤ work.now.residual.members }
     requires room { work.now.residual.members < length layers.old }
     requires path { work.now.residual.members ≤ length path.old }
-    requires from { trip.from < work.now.residual.members }
-    requires pruned { ArePrunedIn work.now labels.now layers.old (level_of labels.now trip.from + 1) }
-    requires begun { IsBegun work.now.residual labels.now.prices.now labels.now.levels.now layers.old path.old trip.from trip.stand }
-    ensures path { IfSome result (λ end. IsPathDownIn work.now labels.now trip.from end (take (level_of labels.now trip.from) path.new)) }
-    ensures trail { IfSome result (λ end. IsTrail work.now.residual labels.now.prices.now labels.now.levels.now layers.new path.new 0 (level_of labels.now trip.from) end trip.from) }
-    ensures layers { AreLayers labels.now.levels.now layers.new (level_of labels.now trip.from + 1) }
-    ensures pruned { ArePrunedIn work.now labels.now layers.new (level_of labels.now trip.from + 1) }
+    requires from { trip.now.from < work.now.residual.members }
+    requires pruned { ArePrunedFrom work.now trip.now layers.old }
+    requires begun { IsBegunFrom work.now trip.now layers.old path.old trip.now.stand }
+    ensures path { IfSome result (λ end. IsPathDownFrom work.now trip.now end (take (top_of trip.now) path.new)) }
+    ensures trail { IfSome result (λ end. IsTrail work.now.residual trip.now.labels.now.prices.now trip.now.labels.now.levels.now layers.new path.new 0 (top_of trip.now) end trip.now.from) }
+    ensures layers { AreLayersFrom trip.now layers.new }
+    ensures pruned { ArePrunedFrom work.now trip.now layers.new }
     ensures fewer { AreFewer layers.old layers.new }
-    ensures gone { IsNone result → has (layer_at layers.new (level_of labels.now trip.from)) trip.from ≡ false }
-    ensures fresh { AreLevelsIn work.now labels.now → AreWholeLayers labels.now.levels.now layers.old (level_of labels.now trip.from + 1) → IsSome result }
+    ensures gone { IsNone result → has (layer_at layers.new (top_of trip.now)) trip.now.from ≡ false }
+    ensures fresh { AreLevelsIn work.now trip.now.labels.now → AreWholeFrom trip.now layers.old → IsSome result }
 {
     let _members = work.residual.members();
-    let top = labels.levels[trip.from as usize] as usize;
+    let top = trip.labels.levels[trip.from as usize] as usize;
     let mut level = top - trip.stand.done;
     let mut here = trip.stand.here;
     'steps: loop {
@@ -51,8 +44,8 @@ pub fn walk(
                 return Some(here);
             }
         } else if let Some(exit) = work.neighbours.way_into(
-            labels.groups,
-            labels.prices[here as usize],
+            trip.labels.groups,
+            trip.labels.prices[here as usize],
             here,
             &layers[level - 1],
         ) {

@@ -4,6 +4,7 @@ use Rattle.path_solver.specs.Levels.{IsSource, AreLevels}
 use Rattle.path_solver.proofs.Spreads.{amount_in}
 use Rattle.path_solver.proofs.Phased.{residual_kept, feasible_kept, none_left, settled, phase_later, phase_sent}
 use Rattle.path_solver.proofs.Counted.{counted_none, counted_round, counted_phase, counted_all}
+use Rattle.path_solver.proofs.Trails.{begun_none}
 use Rattle.path_solver.proofs.WentBack.{spread_start}
 use Rattle.path_solver.proofs.phases.settle_phases.Goals as goal
 
@@ -22,6 +23,12 @@ send_phase-requires-clause-labels g c =
       prices = omega (arith, c.phases.auto.prices, c.requires.prices, inv.phase.members);
       levels = inv.phase.members ∙ c.requires.levels ∙ sym (c.layer.auto.levels ∙ c.phases.auto.levels ∙ c.start-search.auto.levels);
     }
+
+pub send_phase-requires-clause-begun : goal.send_phase-requires-clause-begun
+send_phase-requires-clause-begun g c =
+    let inv = c.phases.invariant in
+    let found : IsSource c.phases.work.balance.surplus.items c.layer.new.levels c.in-Some.source × AreLevels c.phases.work.residual.flows c.phases.prices c.phases.work.balance.lack.items c.layer.new.levels = rw c.in-Some.is at c.layer.ensures.layered in
+    begun_none c.phases.work.residual c.phases.prices c.layer.new.levels c.layer.new.layers c.phases.path c.in-Some.source (omega (arith, found.0.member, c.layer.auto.levels, c.phases.auto.levels, c.start-search.auto.levels, c.requires.levels, inv.phase.members)) c.at.result c.at.ensures.done c.at.ensures.here
 
 pub send_phase-requires-clause-layers : goal.send_phase-requires-clause-layers
 send_phase-requires-clause-layers g c = rw c.in-Some.is at c.layer.ensures.layers

@@ -11,55 +11,54 @@ use Rattle.path_solver.proofs.Trails.{begun_none}
 use Rattle.path_solver.proofs.sending.send_phase.Goals as goal
 
 pub send_once-requires-clause-pruned : goal.send_once-requires-clause-pruned
-send_once-requires-clause-pruned g c = pruned_whole c.args.work.now.residual c.args.labels.now.prices.now c.args.work.now.balance.lack.items c.args.labels.now.levels.now c.args.layers.now (get_or c.args.labels.now.levels.now c.args.source 0 + 1) c.members-members.ensures.residual c.requires.labels.levels c.requires.whole
+send_once-requires-clause-pruned g c = pruned_whole c.args.work.now.residual c.args.trip.now.labels.now.prices.now c.args.work.now.balance.lack.items c.args.trip.now.labels.now.levels.now c.args.layers.now (get_or c.args.trip.now.labels.now.levels.now c.args.trip.now.from 0 + 1) c.members-members.ensures.residual c.requires.labels.levels c.requires.whole
 
 pub senders-preserved : goal.senders-preserved
 senders-preserved g c =
     let inv = c.senders.invariant in
-    let at : get_or c.args.labels.now.levels.now c.in-Some.member 0 ≡ get_or c.args.labels.now.levels.now c.args.source 0 = (inv.left c.in-Some.member c.in-Some.ensures.member).1 in
+    let at : get_or c.args.trip.now.labels.now.levels.now c.in-Some.member 0 ≡ get_or c.args.trip.now.labels.now.levels.now c.args.trip.now.from 0 = (inv.left c.in-Some.member c.in-Some.ensures.member).1 in
     record {
       work = c.send_all.ensures.work;
-      layers = subst (λ n. AreLayers c.args.labels.now.levels.now c.send_all.new.layers (n + 1)) at c.send_all.ensures.layers;
+      layers = subst (λ n. AreLayers c.args.trip.now.labels.now.levels.now c.send_all.new.layers (n + 1)) at c.send_all.ensures.layers;
       left = λ v on. inv.left v (and_parts (not (eqb v c.in-Some.member)) (has c.senders.left v) (sym (c.in-Some.ensures.others v) ∙ on)).1;
-      shortest = subst (AreShortest c.send_all.new.work.residual.flows c.args.labels.now.prices.now c.send_all.new.work.balance.surplus.items c.send_all.new.work.balance.lack.items c.args.labels.now.levels.now) at c.send_all.ensures.kept;
-      pruned = subst (λ n. ArePruned c.send_all.new.work.residual.flows c.args.labels.now.prices.now c.send_all.new.work.balance.lack.items c.args.labels.now.levels.now c.send_all.new.layers (n + 1)) at c.send_all.ensures.pruned;
+      shortest = subst (AreShortest c.send_all.new.work.residual.flows c.args.trip.now.labels.now.prices.now c.send_all.new.work.balance.surplus.items c.send_all.new.work.balance.lack.items c.args.trip.now.labels.now.levels.now) at c.send_all.ensures.kept;
+      pruned = subst (λ n. ArePruned c.send_all.new.work.residual.flows c.args.trip.now.labels.now.prices.now c.send_all.new.work.balance.lack.items c.args.trip.now.labels.now.levels.now c.send_all.new.layers (n + 1)) at c.send_all.ensures.pruned;
       spent = λ v off on.
           elim (cases_eq v c.in-Some.member) [
             | inl e ↦
                 ap (λ u. get_or c.send_all.new.work.balance.surplus.items u 0) e
-                ∙ c.send_all.ensures.done (subst (λ n. has (layer_at c.send_all.new.layers n) c.in-Some.member ≡ true) (sym at) (subst (λ u. has (layer_at c.send_all.new.layers (get_or c.args.labels.now.levels.now c.args.source 0)) u ≡ true) e on))
+                ∙ c.send_all.ensures.done (subst (λ n. has (layer_at c.send_all.new.layers n) c.in-Some.member ≡ true) (sym at) (subst (λ u. has (layer_at c.send_all.new.layers (get_or c.args.trip.now.labels.now.levels.now c.args.trip.now.from 0)) u ≡ true) e on))
             | inr ne ↦
                 let off_left : has c.senders.left v ≡ false =
                 false_from_ne_true (has c.senders.left v)
                 (λ on_left. true≢false (sym (and_from (not (eqb v c.in-Some.member)) (has c.senders.left v) (ap not (ne_eqb v c.in-Some.member ne)) on_left) ∙ sym (c.in-Some.ensures.others v) ∙ off)) in
-                let none = inv.spent v off_left (c.send_all.ensures.fewer (get_or c.args.labels.now.levels.now c.args.source 0) v on) in
+                let none = inv.spent v off_left (c.send_all.ensures.fewer (get_or c.args.trip.now.labels.now.levels.now c.args.trip.now.from 0) v on) in
                 nothing_more (get_or c.senders.work.balance.surplus.items v 0) (get_or c.send_all.new.work.balance.surplus.items v 0) (c.send_all.ensures.along.senders v) none
           ];
       few = omega (arith, inv.few, c.send_all.ensures.few);
-      along = sent_more c.args.labels.now.prices.now c.args.work.now.residual c.senders.work.residual c.send_all.new.work.residual c.args.work.now.balance.surplus.items c.args.work.now.balance.lack.items c.senders.work.balance.surplus.items c.senders.work.balance.lack.items c.send_all.new.work.balance.surplus.items c.send_all.new.work.balance.lack.items inv.along c.send_all.ensures.along;
+      along = sent_more c.args.trip.now.labels.now.prices.now c.args.work.now.residual c.senders.work.residual c.send_all.new.work.residual c.args.work.now.balance.surplus.items c.args.work.now.balance.lack.items c.senders.work.balance.surplus.items c.senders.work.balance.lack.items c.send_all.new.work.balance.surplus.items c.send_all.new.work.balance.lack.items inv.along c.send_all.ensures.along;
       sent = omega (arith, c.send_all.ensures.along.less, inv.sent);
     }
 
 pub send_all-requires-clause-shortest : goal.send_all-requires-clause-shortest
 send_all-requires-clause-shortest g c =
-    let at : get_or c.args.labels.now.levels.now c.in-Some.member 0 ≡ get_or c.args.labels.now.levels.now c.args.source 0 = (c.senders.invariant.left c.in-Some.member c.in-Some.ensures.member).1 in
-    subst (AreShortest c.senders.work.residual.flows c.args.labels.now.prices.now c.senders.work.balance.surplus.items c.senders.work.balance.lack.items c.args.labels.now.levels.now) (sym at) c.senders.invariant.shortest
+    let at : get_or c.args.trip.now.labels.now.levels.now c.in-Some.member 0 ≡ get_or c.args.trip.now.labels.now.levels.now c.args.trip.now.from 0 = (c.senders.invariant.left c.in-Some.member c.in-Some.ensures.member).1 in
+    subst (AreShortest c.senders.work.residual.flows c.args.trip.now.labels.now.prices.now c.senders.work.balance.surplus.items c.senders.work.balance.lack.items c.args.trip.now.labels.now.levels.now) (sym at) c.senders.invariant.shortest
 
 pub send_all-requires-clause-pruned : goal.send_all-requires-clause-pruned
 send_all-requires-clause-pruned g c =
-    let at : get_or c.args.labels.now.levels.now c.in-Some.member 0 ≡ get_or c.args.labels.now.levels.now c.args.source 0 = (c.senders.invariant.left c.in-Some.member c.in-Some.ensures.member).1 in
-    subst (λ n. ArePruned c.senders.work.residual.flows c.args.labels.now.prices.now c.senders.work.balance.lack.items c.args.labels.now.levels.now c.senders.layers (n + 1)) (sym at) c.senders.invariant.pruned
+    let at : get_or c.args.trip.now.labels.now.levels.now c.in-Some.member 0 ≡ get_or c.args.trip.now.labels.now.levels.now c.args.trip.now.from 0 = (c.senders.invariant.left c.in-Some.member c.in-Some.ensures.member).1 in
+    subst (λ n. ArePruned c.senders.work.residual.flows c.args.trip.now.labels.now.prices.now c.senders.work.balance.lack.items c.args.trip.now.labels.now.levels.now c.senders.layers (n + 1)) (sym at) c.senders.invariant.pruned
 
 pub returns-clause-deeper : goal.returns-clause-deeper
 returns-clause-deeper g c =
     let inv = c.senders.invariant in
-    let len : length c.senders.work.balance.lack.items ≡ length c.args.labels.now.levels.now = omega (arith, inv.along.lack_each, c.requires.work.lack, c.requires.labels.levels) in
-    none_at_last c.senders.work.residual c.args.labels.now.prices.now c.senders.work.balance.surplus.items c.senders.work.balance.lack.items c.args.labels.now.levels.now c.senders.layers (get_or c.args.labels.now.levels.now c.args.source 0) inv.shortest inv.pruned
+    let len : length c.senders.work.balance.lack.items ≡ length c.args.trip.now.labels.now.levels.now = omega (arith, inv.along.lack_each, c.requires.work.lack, c.requires.labels.levels) in
+    none_at_last c.senders.work.residual c.args.trip.now.labels.now.prices.now c.senders.work.balance.surplus.items c.senders.work.balance.lack.items c.args.trip.now.labels.now.levels.now c.senders.layers (get_or c.args.trip.now.labels.now.levels.now c.args.trip.now.from 0) inv.shortest inv.pruned
     (λ v receives. nothing_more (get_or c.args.work.now.balance.surplus.items v 0) (get_or c.senders.work.balance.surplus.items v 0) (inv.along.senders v) (c.requires.apart v (inv.along.receivers v receives)))
-    (λ w receives. amount_in c.senders.work.balance.lack.items w receives (length c.args.labels.now.levels.now) len)
+    (λ w receives. amount_in c.senders.work.balance.lack.items w receives (length c.args.trip.now.labels.now.levels.now) len)
     (λ v on. inv.spent v (c.in_default.ensures.none refl v) on)
 
-pub send_once-requires-clause-begun : goal.send_once-requires-clause-begun
-send_once-requires-clause-begun g c =
-    let source = c.requires.source in
-    begun_none c.args.work.now.residual c.args.labels.now.prices.now c.args.labels.now.levels.now c.args.layers.now c.args.path.now c.args.source (omega (arith, source.member, c.requires.labels.levels)) (record { done = 0; here = c.args.source }) refl refl
+pub send_all-requires-clause-begun : goal.send_all-requires-clause-begun
+send_all-requires-clause-begun g c =
+    begun_none c.senders.work.residual c.args.trip.now.labels.now.prices.now c.args.trip.now.labels.now.levels.now c.senders.layers c.senders.path c.in-Some.member (omega (arith, (c.senders.invariant.left c.in-Some.member c.in-Some.ensures.member).0, c.requires.labels.levels, c.senders.invariant.along.members)) c.at.result c.at.ensures.done c.at.ensures.here
