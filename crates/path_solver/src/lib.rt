@@ -22,6 +22,7 @@ mod outside;
 mod paths;
 mod phases;
 mod prices;
+mod room;
 mod search;
 mod sending;
 mod settle;

@@ -10,6 +10,7 @@ ghost use Rattle.path_solver.specs.Counts.{phase_steps};
 use crate::labels::Labels;
 use crate::layers::layer;
 use crate::prices::next_phase;
+use crate::room::Room;
 use crate::search::start;
 use crate::sending::send_phase;
 use crate::stand::{Stand, Trip};
@@ -23,24 +24,25 @@ pub fn settle_phases<L: Ledger>(
     work: &mut Work,
     groups: &mut [MemberSet],
     prices: &mut [u16],
-    levels: &mut [u16],
-    layers: &mut [MemberSet],
-    path: &mut [u32],
+    room: &mut Room,
     steps: &mut Steps<L>,
 )
     requires work { IsWork work.old }
     requires groups { length groups.old ≡ work.old.residual.members + 3 }
     requires sorted { AreGroups prices.old groups.old }
     requires prices { work.old.residual.members ≡ length prices.old }
-    requires levels { work.old.residual.members ≡ length levels.old }
-    requires layers { work.old.residual.members + 1 ≡ length layers.old }
-    requires path { work.old.residual.members ≡ length path.old }
+    requires levels { work.old.residual.members ≡ length room.old.levels.items }
+    requires layers { work.old.residual.members + 1 ≡ length room.old.layers.items }
+    requires path { work.old.residual.members ≡ length room.old.path.items }
     requires phase { ArePhased work.old prices.old 1 }
     requires feasible { IsFeasible work.old.residual.flows work.old.balance.surplus.items work.old.balance.lack.items }
     ensures settled { IsSettled work.old.residual work.new.residual work.old.balance.surplus.items work.old.balance.lack.items prices.new }
     ensures counted { steps.new ≤ steps.old + (work.old.residual.members + 1) * phase_steps work.old.residual }
 {
     let _members = work.residual.members();
+    let levels: &mut [u16] = &mut room.levels;
+    let layers: &mut [MemberSet] = &mut room.layers;
+    let path: &mut [u32] = &mut room.path;
     let mut senders = work.balance.senders();
     let mut receivers = work.balance.receivers();
     let mut search = start(levels, &receivers);

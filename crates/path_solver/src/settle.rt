@@ -10,7 +10,7 @@ use crate::direct::{first_prices, send_direct};
 use crate::groups::sort_by_price;
 use crate::neighbours::Neighbours;
 use crate::phases::settle_phases;
-use crate::search::UNREACHED;
+use crate::room::Room;
 use crate::work::Work;
 use member_set::MemberSet;
 use residual_graph::{Residual, Steps};
@@ -107,23 +107,13 @@ fn settle_rest<L: Ledger>(
     let neighbours = Neighbours::of(alloc, &residual)?;
     let mut groups = all_of(alloc, members + 3, MemberSet::new())?;
     sort_by_price(&prices, &mut groups);
-    let mut levels = all_of(alloc, members, UNREACHED)?;
-    let mut layers = all_of(alloc, members + 1, MemberSet::new())?;
-    let mut path = all_of(alloc, members, 0u32)?;
+    let mut room = Room::of(alloc, members)?;
     let mut work = Work {
         residual,
         neighbours,
         balance,
     };
-    settle_phases(
-        &mut work,
-        &mut groups,
-        &mut prices,
-        &mut levels,
-        &mut layers,
-        &mut path,
-        steps,
-    );
+    settle_phases(&mut work, &mut groups, &mut prices, &mut room, steps);
     let Work { residual, .. } = work;
     Ok(Settled { residual, prices })
 }

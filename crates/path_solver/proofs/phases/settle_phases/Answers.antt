@@ -1,4 +1,4 @@
-use Rattle.std.proofs.Common.{◌≡◌, ◌≤◌, length, get_or, sym, ◌∙◌, arith}
+use Rattle.std.proofs.Common.{◌≡◌, ◌≤◌, length, get_or, sym, ◌∙◌, arith, ap}
 use Rattle.residual_graph.specs.Residual.{IsResidual}
 use Rattle.path_solver.specs.Levels.{IsSource, AreLevels}
 use Rattle.path_solver.proofs.Spreads.{amount_in}
@@ -21,14 +21,14 @@ send_phase-requires-clause-labels g c =
       sorted = inv.sorted;
       low = λ v. omega (arith, inv.phase.rated.most v, inv.phase.few, inv.phase.members);
       prices = omega (arith, c.phases.auto.prices, c.requires.prices, inv.phase.members);
-      levels = inv.phase.members ∙ c.requires.levels ∙ sym (c.layer.auto.levels ∙ c.phases.auto.levels ∙ c.start-search.auto.levels);
+      levels = inv.phase.members ∙ (c.requires.levels ∙ sym (ap length c.deref_mut-levels.ensures.value)) ∙ sym (c.layer.auto.levels ∙ c.phases.auto.levels ∙ c.start-search.auto.levels);
     }
 
 pub send_phase-requires-clause-begun : goal.send_phase-requires-clause-begun
 send_phase-requires-clause-begun g c =
     let inv = c.phases.invariant in
     let found : IsSource c.phases.work.balance.surplus.items c.layer.new.levels c.in-Some.source × AreLevels c.phases.work.residual.flows c.phases.prices c.phases.work.balance.lack.items c.layer.new.levels = rw c.in-Some.is at c.layer.ensures.layered in
-    begun_none c.phases.work.residual c.phases.prices c.layer.new.levels c.layer.new.layers c.phases.path c.in-Some.source (omega (arith, found.0.member, c.layer.auto.levels, c.phases.auto.levels, c.start-search.auto.levels, c.requires.levels, inv.phase.members)) c.at.result c.at.ensures.done c.at.ensures.here
+    begun_none c.phases.work.residual c.phases.prices c.layer.new.levels c.layer.new.layers c.phases.path c.in-Some.source (omega (arith, found.0.member, c.layer.auto.levels, c.phases.auto.levels, c.start-search.auto.levels, (c.requires.levels ∙ sym (ap length c.deref_mut-levels.ensures.value)), inv.phase.members)) c.at.result c.at.ensures.done c.at.ensures.here
 
 pub send_phase-requires-clause-layers : goal.send_phase-requires-clause-layers
 send_phase-requires-clause-layers g c = rw c.in-Some.is at c.layer.ensures.layers
@@ -71,7 +71,7 @@ phases-init g c =
       sorted = c.requires.sorted;
       senders = c.senders-senders.ensures;
       receivers = c.receivers-receivers.ensures;
-      spread = spread_start c.args.work.now.residual c.args.prices.now c.args.work.now.balance.surplus.items c.args.work.now.balance.lack.items c.start-search.new.levels c.start-search.result.level c.start-search.result.now c.receivers-receivers.result c.start-search.result.seen c.start-search.ensures.level c.start-search.ensures.now (c.start-search.auto.levels ∙ sym c.requires.levels) (sym c.requires.work.lack)
+      spread = spread_start c.args.work.now.residual c.args.prices.now c.args.work.now.balance.surplus.items c.args.work.now.balance.lack.items c.start-search.new.levels c.start-search.result.level c.start-search.result.now c.receivers-receivers.result c.start-search.result.seen c.start-search.ensures.level c.start-search.ensures.now (c.start-search.auto.levels ∙ sym (c.requires.levels ∙ sym (ap length c.deref_mut-levels.ensures.value))) (sym c.requires.work.lack)
           (λ v l. c.start-search.ensures.forgotten v (omega (arith, l, c.start-search.auto.levels))) c.receivers-receivers.ensures c.start-search.ensures.seen residual;
       passed = λ k v l. absurd (omega (arith, l, c.start-search.ensures.level));
       whole = λ k v l. absurd (omega (arith, l, c.start-search.ensures.level));
@@ -85,7 +85,7 @@ phases-preserved g c =
     let found : IsSource c.phases.work.balance.surplus.items c.layer.new.levels c.in-Some.source × AreLevels c.phases.work.residual.flows c.phases.prices c.phases.work.balance.lack.items c.layer.new.levels = rw c.in-Some.is at c.layer.ensures.layered in
     let low : get_or c.layer.new.levels c.in-Some.source 0 ≤ c.phases.work.residual.members = rw c.in-Some.is at c.layer.ensures.low in
     let residual : IsResidual c.phases.work.residual = residual_kept old c.phases.work.residual inv.phase.members inv.phase.pairs c.members-members.ensures.residual in
-    let one_each : c.phases.work.residual.members ≡ length c.layer.new.levels = inv.phase.members ∙ c.requires.levels ∙ sym (c.layer.auto.levels ∙ c.phases.auto.levels ∙ c.start-search.auto.levels) in
+    let one_each : c.phases.work.residual.members ≡ length c.layer.new.levels = inv.phase.members ∙ (c.requires.levels ∙ sym (ap length c.deref_mut-levels.ensures.value)) ∙ sym (c.layer.auto.levels ∙ c.phases.auto.levels ∙ c.start-search.auto.levels) in
     let phase = phase_sent old c.phases.work.residual c.send_phase.new.work.residual c.args.work.now.balance.surplus.items c.args.work.now.balance.lack.items c.phases.work.balance.surplus.items c.phases.work.balance.lack.items c.send_phase.new.work.balance.surplus.items c.send_phase.new.work.balance.lack.items c.phases.prices c.phases.phase inv.phase c.send_phase.ensures.along in
     record {
       phase = phase;
