@@ -1,8 +1,10 @@
 -- What changes as amounts are sent.
 use Rattle.std.specs.Prelude.{◌≡◌, ℕ, List, length}
+use Rattle.path_solver.specs.declared.search.Search.{Search}
 use Rattle.path_solver.specs.declared.work.Work.{Work}
 use Rattle.path_solver.specs.Neighbours.{AreNeighbours}
 use Rattle.path_solver.specs.Phases.{IsPhase}
+use Rattle.path_solver.specs.Searches.{IsSpread}
 
 -- the neighbours are those of the graph, and each member has something or nothing to send, and to receive
 pub record IsWork (w : Work) : Type 0 where
@@ -14,3 +16,8 @@ pub record IsWork (w : Work) : Type 0 where
 abbrev pub ArePhased : Work → List ℕ → ℕ → Type 0
 ArePhased w p phase =
     IsPhase w.residual w.residual w.balance.surplus.items w.balance.lack.items w.balance.surplus.items w.balance.lack.items p phase
+
+-- how far a search has come over these prices
+abbrev pub IsSpreadIn : Work → List ℕ → List ℕ → Search → Type 0
+IsSpreadIn w p levels s =
+    IsSpread w.residual p w.balance.surplus.items w.balance.lack.items levels s.level s.now s.seen

@@ -8,7 +8,7 @@ ghost use Rattle.path_solver.specs.Works.{IsWork, ArePhased};
 ghost use Rattle.path_solver.specs.Counts.{phase_steps};
 
 use crate::labels::Labels;
-use crate::layers::layer;
+use crate::layers::{Aim, layer};
 use crate::prices::next_phase;
 use crate::room::Room;
 use crate::search::start;
@@ -48,7 +48,12 @@ pub fn settle_phases<L: Ledger>(
     let mut search = start(levels, &receivers);
     let mut phase = 1u16;
     'phases: while !senders.is_empty() {
-        match layer(work, prices, groups, &senders, levels, layers, &mut search) {
+        let aim = Aim {
+            groups,
+            prices,
+            senders: &senders,
+        };
+        match layer(work, &aim, levels, layers, &mut search) {
             None => {
                 phase = next_phase(work, groups, prices, levels, layers, &mut search, phase);
             }

@@ -6,8 +6,7 @@ ghost use Rattle.path_solver.specs.Groups.{AreGroups};
 ghost use Rattle.path_solver.specs.Levels.{IsReached, AreCut, AreLayers, AreWholeLayers};
 ghost use Rattle.path_solver.specs.Phases.{raised_price};
 ghost use Rattle.path_solver.specs.Rests.{IsFeasible};
-ghost use Rattle.path_solver.specs.Searches.{IsSpread};
-ghost use Rattle.path_solver.specs.Works.{IsWork, ArePhased};
+ghost use Rattle.path_solver.specs.Works.{IsWork, IsSpreadIn, ArePhased};
 
 use crate::groups::move_up;
 use crate::outside::{around, entered_from};
@@ -58,13 +57,13 @@ pub fn next_phase(
     requires feasible { IsFeasible work.now.residual.flows work.now.balance.surplus.items work.now.balance.lack.items }
     requires sends { (v : ℕ) × (0 < slice_index work.now.balance.surplus.items v) }
     requires cut { AreCut work.now.residual.flows prices.old work.now.balance.surplus.items work.now.balance.lack.items levels.old }
-    requires spread { IsSpread work.now.residual prices.old work.now.balance.surplus.items work.now.balance.lack.items levels.old search.old.level search.old.now search.old.seen }
+    requires spread { IsSpreadIn work.now prices.old levels.old search.old }
     requires passed { AreLayers levels.old layers.now search.old.level }
     requires whole { AreWholeLayers levels.old layers.now search.old.level }
     ensures later { phase < result }
     ensures phase { ArePhased work.now prices.new result }
     ensures sorted { AreGroups prices.new groups.new }
-    ensures spread { IsSpread work.now.residual prices.new work.now.balance.surplus.items work.now.balance.lack.items levels.new search.new.level search.new.now search.new.seen }
+    ensures spread { IsSpreadIn work.now prices.new levels.new search.new }
     ensures passed { AreLayers levels.new layers.now search.new.level }
     ensures whole { AreWholeLayers levels.new layers.now search.new.level }
 {

@@ -5,7 +5,7 @@ use Rattle.path_solver.proofs.layers.layer.Given as goal
 
 abbrev pub invariant-spreads : goal.invariant-spreads
 invariant-spreads l = record {
-  spread : IsSpread l.work.residual l.prices l.work.balance.surplus.items l.work.balance.lack.items l.levels l.level l.now l.seen;
+  spread : IsSpread l.work.residual l.aim.prices.now l.work.balance.surplus.items l.work.balance.lack.items l.levels l.level l.now l.seen;
   layers : AreLayers l.levels l.layers l.level;
   whole : AreWholeLayers l.levels l.layers l.level;
 }
