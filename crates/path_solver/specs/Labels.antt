@@ -1,5 +1,5 @@
 -- Work beside prices and levels, and walks from a member.
-use Rattle.std.specs.Prelude.{◌≡◌, ℕ, ◌+◌, ◌≤◌, List, length, slice_index}
+use Rattle.std.specs.Prelude.{◌≡◌, ℕ, ◌+◌, ◌<◌, ◌≤◌, List, length, slice_index}
 use Rattle.member_set.specs.declared.set.MemberSet.{MemberSet}
 use Rattle.path_solver.specs.declared.labels.Labels.{Labels}
 use Rattle.path_solver.specs.declared.stand.Stand.{Stand}
@@ -12,6 +12,7 @@ use Rattle.path_solver.specs.Paths.{IsPathDown, NoneIsShorter}
 use Rattle.path_solver.specs.Pruned.{ArePruned}
 use Rattle.path_solver.specs.Rests.{IsSentAlong}
 use Rattle.path_solver.specs.Trails.{IsBegun}
+use Rattle.path_solver.specs.Works.{IsWork}
 
 -- prices and levels of so many members, and the groups by these prices
 pub record AreLabels (members : ℕ) (l : Labels) : Type 0 where
@@ -64,3 +65,15 @@ NoneIsShorterIn w l n =
 abbrev pub IsBegunFrom : Work → Trip → List MemberSet → List ℕ → Stand → Type 0
 IsBegunFrom w t layers path s =
     IsBegun w.residual t.labels.now.prices.now t.labels.now.levels.now layers path t.from s
+
+-- a walk can go on from where it stands
+pub record CanGo (w : Work) (t : Trip) (sets : List MemberSet) (arcs : List ℕ) : Type 0 where
+  pub work : IsWork w
+  pub labels : AreLabels w.residual.members t.labels.now
+  pub layers : AreLayersFrom t sets
+  pub top : top_of t ≤ w.residual.members
+  pub room : w.residual.members < length sets
+  pub path : w.residual.members ≤ length arcs
+  pub from : t.from < w.residual.members
+  pub pruned : ArePrunedFrom w t sets
+  pub begun : IsBegunFrom w t sets arcs t.stand

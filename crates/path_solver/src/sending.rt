@@ -2,7 +2,7 @@
 
 ghost use Rattle.std.specs.Prelude.{◌≡◌, ◌+◌, ℕ, true, false, ◌<◌, ◌≤◌, length, slice_index, sum, IsNone, IsSome, IfSome};
 ghost use Rattle.path_solver.specs.Works.{IsWork};
-ghost use Rattle.path_solver.specs.Labels.{AreLabels, AreLevelsIn, IsSentIn, still_to_do, surplus_in, top_of, AreLayersFrom, AreWholeFrom, ArePrunedFrom, AreShortestFrom, NoneIsShorterIn, IsBegunFrom};
+ghost use Rattle.path_solver.specs.Labels.{CanGo, AreLabels, AreLevelsIn, IsSentIn, still_to_do, surplus_in, top_of, AreLayersFrom, AreWholeFrom, ArePrunedFrom, AreShortestFrom, NoneIsShorterIn, IsBegunFrom};
 ghost use Rattle.path_solver.specs.Levels.{layer_at, IsSource};
 ghost use Rattle.path_solver.specs.Rests.{AreApart};
 ghost use Rattle.path_solver.specs.Pruned.{AreFewer};
@@ -65,16 +65,8 @@ fn send_once<L: Ledger>(
     trip: &Trip<'_>,
     steps: &mut Steps<L>,
 ) -> Option<Stand>
-    requires work { IsWork work.old }
-    requires labels { AreLabels work.old.residual.members trip.now.labels.now }
-    requires layers { AreLayersFrom trip.now layers.old }
-    requires top { top_of trip.now ≤ work.old.residual.members }
-    requires room { work.old.residual.members < length layers.old }
-    requires path { work.old.residual.members ≤ length path.old }
+    requires trip { CanGo work.old trip.now layers.old path.old }
     requires shortest { AreShortestFrom work.old trip.now }
-    requires from { trip.now.from < work.old.residual.members }
-    requires pruned { ArePrunedFrom work.old trip.now layers.old }
-    requires begun { IsBegunFrom work.old trip.now layers.old path.old trip.now.stand }
     ensures work { IsWork work.new }
     ensures layers { AreLayersFrom trip.now layers.new }
     ensures begun { IfSome result (λ s. IsBegunFrom work.new trip.now layers.new path.new s) }
@@ -112,16 +104,8 @@ fn send_all<L: Ledger>(
     trip: &Trip<'_>,
     steps: &mut Steps<L>,
 )
-    requires work { IsWork work.old }
-    requires labels { AreLabels work.old.residual.members trip.now.labels.now }
-    requires layers { AreLayersFrom trip.now layers.old }
-    requires top { top_of trip.now ≤ work.old.residual.members }
-    requires room { work.old.residual.members < length layers.old }
-    requires path { work.old.residual.members ≤ length path.old }
+    requires trip { CanGo work.old trip.now layers.old path.old }
     requires shortest { AreShortestFrom work.old trip.now }
-    requires from { trip.now.from < work.old.residual.members }
-    requires pruned { ArePrunedFrom work.old trip.now layers.old }
-    requires begun { IsBegunFrom work.old trip.now layers.old path.old trip.now.stand }
     ensures work { IsWork work.new }
     ensures layers { AreLayersFrom trip.now layers.new }
     ensures pruned { ArePrunedFrom work.new trip.now layers.new }

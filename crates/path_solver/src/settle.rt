@@ -1,8 +1,9 @@
 //! Sends everything that is to be sent, straight where it can go so and else along paths.
 
-ghost use Rattle.std.specs.Prelude.{◌≡◌, ◌+◌, ◌*◌, ◌≤◌, length, replicate, IfOk, All};
-ghost use Rattle.path_solver.specs.Rests.{IsFeasible, AreApart};
+ghost use Rattle.std.specs.Prelude.{◌≡◌, ◌+◌, ◌*◌, ◌≤◌, length, replicate, IfOk};
+ghost use Rattle.path_solver.specs.Rests.{IsFeasible};
 ghost use Rattle.path_solver.specs.Phases.{IsPhase, IsSettled};
+ghost use Rattle.path_solver.specs.Works.{IsLowered};
 ghost use Rattle.path_solver.specs.Counts.{phase_steps};
 
 use crate::balance::Balance;
@@ -42,11 +43,7 @@ pub fn settle<L: Ledger>(
     balance: Balance,
     steps: &mut Steps<L>,
 ) -> Result<Settled, AllocError>
-    requires surplus { residual.members ≡ length balance.surplus.items }
-    requires lack { residual.members ≡ length balance.lack.items }
-    requires lowest { All (λ f. f.back ≡ 0) residual.flows }
-    requires apart { AreApart balance.surplus.items balance.lack.items }
-    requires feasible { IsFeasible residual.flows balance.surplus.items balance.lack.items }
+    requires { IsLowered residual balance }
     ensures settled { IfOk result (λ settled. IsSettled residual settled.residual balance.surplus.items balance.lack.items settled.prices.items) }
     ensures counted { steps.new ≤ steps.old + length residual.flows + (residual.members + 1) * phase_steps residual }
 {
@@ -66,11 +63,7 @@ fn settle_first<L: Ledger>(
     balance: Balance,
     steps: &mut Steps<L>,
 ) -> Result<Settled, AllocError>
-    requires surplus { residual.members ≡ length balance.surplus.items }
-    requires lack { residual.members ≡ length balance.lack.items }
-    requires lowest { All (λ f. f.back ≡ 0) residual.flows }
-    requires apart { AreApart balance.surplus.items balance.lack.items }
-    requires feasible { IsFeasible residual.flows balance.surplus.items balance.lack.items }
+    requires { IsLowered residual balance }
     ensures settled { IfOk result (λ settled. IsSettled residual settled.residual balance.surplus.items balance.lack.items settled.prices.items) }
     ensures counted { steps.new ≤ steps.old + length residual.flows + (residual.members + 1) * phase_steps residual }
 {

@@ -1,8 +1,7 @@
 //! Down the levels of a search, back where there is no way on.
 
 ghost use Rattle.std.specs.Prelude.{◌≡◌, ◌+◌, ℕ, ◌<◌, ◌≤◌, length, false, slice_index, take, IfSome, IsNone, IsSome};
-ghost use Rattle.path_solver.specs.Works.{IsWork};
-ghost use Rattle.path_solver.specs.Labels.{AreLabels, AreLevelsIn, top_of, AreLayersFrom, AreWholeFrom, ArePrunedFrom, IsPathDownFrom, IsBegunFrom};
+ghost use Rattle.path_solver.specs.Labels.{CanGo, AreLevelsIn, top_of, AreLayersFrom, AreWholeFrom, ArePrunedFrom, IsPathDownFrom};
 ghost use Rattle.path_solver.specs.Levels.{layer_at};
 ghost use Rattle.path_solver.specs.Pruned.{AreFewer};
 ghost use Rattle.path_solver.specs.Trails.{IsTrail};
@@ -17,15 +16,7 @@ use member_set::MemberSet;
 /// walk comes there again. Where nobody is left in a layer there is no way from those above it, which are emptied then.
 /// The first walk over new levels always finds a way.
 pub fn walk(work: &Work, layers: &mut [MemberSet], path: &mut [u32], trip: &Trip<'_>) -> Option<u16>
-    requires work { IsWork work.now }
-    requires labels { AreLabels work.now.residual.members trip.now.labels.now }
-    requires layers { AreLayersFrom trip.now layers.old }
-    requires top { top_of trip.now ≤ work.now.residual.members }
-    requires room { work.now.residual.members < length layers.old }
-    requires path { work.now.residual.members ≤ length path.old }
-    requires from { trip.now.from < work.now.residual.members }
-    requires pruned { ArePrunedFrom work.now trip.now layers.old }
-    requires begun { IsBegunFrom work.now trip.now layers.old path.old trip.now.stand }
+    requires trip { CanGo work.now trip.now layers.old path.old }
     ensures path { IfSome result (λ end. IsPathDownFrom work.now trip.now end (take (top_of trip.now) path.new)) }
     ensures trail { IfSome result (λ end. IsTrail work.now.residual trip.now.labels.now.prices.now trip.now.labels.now.levels.now layers.new path.new 0 (top_of trip.now) end trip.now.from) }
     ensures layers { AreLayersFrom trip.now layers.new }

@@ -22,7 +22,7 @@ use Rattle.path_solver.proofs.sending.send_once.Goals as goal
 pub bottleneck_of-found-requires-clause-few : goal.bottleneck_of-found-requires-clause-few
 bottleneck_of-found-requires-clause-few g c =
     let walked : IsPathDown c.args.work.now.residual.flows c.args.trip.now.labels.now.prices.now c.args.trip.now.labels.now.levels.now c.args.work.now.balance.lack.items c.args.trip.now.from c.in-Some.end (take (get_or c.args.trip.now.labels.now.levels.now c.args.trip.now.from 0) c.walk.new.path) = c.in-Some.ensures.path in
-    omega (arith, walked.long, c.requires.top, c.members-members.ensures.residual.few)
+    omega (arith, walked.long, c.requires.trip.top, c.members-members.ensures.residual.few)
 
 pub bottleneck_of-found-requires-clause-some : goal.bottleneck_of-found-requires-clause-some
 bottleneck_of-found-requires-clause-some g c =
@@ -43,8 +43,8 @@ returns-clause-along g c =
     let roomy : All (λ a. c.bottleneck_of-found.result.amount ≤ room c.args.work.now.residual.flows a) (take (get_or c.args.trip.now.labels.now.levels.now c.args.trip.now.from 0) c.walk.new.path) = c.bottleneck_of-found.ensures.all in
     rw (c.take_off.ensures.surplus, c.take_off.ensures.lack)
     (sent c.args.trip.now.labels.now.prices.now c.args.trip.now.labels.now.levels.now c.args.work.now.residual c.push_noting-filled.new.residual c.args.work.now.balance.surplus.items c.args.work.now.balance.lack.items c.args.trip.now.from c.in-Some.end x path walked roomy
-    (omega (arith, c.requires.from, c.requires.work.surplus))
-    (omega (arith, walked.member, c.requires.labels.levels, c.requires.work.lack))
+    (omega (arith, c.requires.trip.from, c.requires.trip.work.surplus))
+    (omega (arith, walked.member, c.requires.trip.labels.levels, c.requires.trip.work.lack))
     (omega (arith, c.bottleneck_of-found.ensures.most, c.between-most.ensures))
     (omega (arith, c.bottleneck_of-found.ensures.most, c.between-most.ensures))
     (ap (λ (r : ResidualData). r.members) c.push_noting-filled.ensures.pushed) (ap (λ (r : ResidualData). r.flows) c.push_noting-filled.ensures.pushed))
@@ -103,8 +103,8 @@ returns-clause-few g c =
     ] in
     let less = less_to_do levels x flows surplus lack c.args.trip.now.from c.in-Some.end path plain (λ k d l. walked.steps k d l)
     c.bottleneck_of-found.ensures.some
-    (omega (arith, c.requires.from, c.requires.work.surplus))
-    (omega (arith, walked.member, c.requires.labels.levels, c.requires.work.lack))
+    (omega (arith, c.requires.trip.from, c.requires.trip.work.surplus))
+    (omega (arith, walked.member, c.requires.trip.labels.levels, c.requires.trip.work.lack))
     (omega (arith, c.bottleneck_of-found.ensures.most, c.between-most.ensures))
     (omega (arith, c.bottleneck_of-found.ensures.most, c.between-most.ensures)) fills in
     let now = ap (λ (r : ResidualData). left_to_do levels r.flows (set surplus c.args.trip.now.from (get_or surplus c.args.trip.now.from 0 - x)) (set lack c.in-Some.end (get_or lack c.in-Some.end 0 - x))) c.push_noting-filled.ensures.pushed in

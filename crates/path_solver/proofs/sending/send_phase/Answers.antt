@@ -1,8 +1,9 @@
-use Rattle.std.proofs.Common.{◌≡◌, ◌+◌, true, false, not, eqb, length, get_or, refl, sym, ap, ◌∙◌, subst, inl, inr, arith, true≢false}
+use Rattle.std.proofs.Common.{◌≡◌, ◌+◌, true, false, not, eqb, length, get_or, refl, sym, ap, ◌∙◌, subst, inl, inr, arith, true≢false, ◌<◌}
 use Rattle.std.proofs.lemmas.Bool.{cases_eq, and_parts, and_from, ne_eqb, false_from_ne_true}
 use Rattle.member_set.specs.Members.{has}
 use Rattle.path_solver.specs.Levels.{layer_at, AreShortest, AreLayers}
 use Rattle.path_solver.specs.Pruned.{ArePruned}
+use Rattle.path_solver.specs.Labels.{AreLabels}
 use Rattle.path_solver.proofs.SentAlong.{sent_more}
 use Rattle.path_solver.proofs.Pruned.{pruned_whole, nothing_more}
 use Rattle.path_solver.proofs.Spreads.{amount_in}
@@ -10,8 +11,18 @@ use Rattle.path_solver.proofs.Blocked.{none_at_last}
 use Rattle.path_solver.proofs.Trails.{begun_none}
 use Rattle.path_solver.proofs.sending.send_phase.Goals as goal
 
-pub send_once-requires-clause-pruned : goal.send_once-requires-clause-pruned
-send_once-requires-clause-pruned g c = pruned_whole c.args.work.now.residual c.args.trip.now.labels.now.prices.now c.args.work.now.balance.lack.items c.args.trip.now.labels.now.levels.now c.args.layers.now (get_or c.args.trip.now.labels.now.levels.now c.args.trip.now.from 0 + 1) c.members-members.ensures.residual c.requires.labels.levels c.requires.whole
+pub send_once-requires-clause-trip : goal.send_once-requires-clause-trip
+send_once-requires-clause-trip g c = record {
+  work = c.requires.work;
+  labels = c.requires.labels;
+  layers = c.requires.layers;
+  top = c.requires.top;
+  room = c.requires.room;
+  path = c.requires.path;
+  from = omega (arith, c.requires.source.member, c.requires.labels.levels);
+  pruned = pruned_whole c.args.work.now.residual c.args.trip.now.labels.now.prices.now c.args.work.now.balance.lack.items c.args.trip.now.labels.now.levels.now c.args.layers.now (get_or c.args.trip.now.labels.now.levels.now c.args.trip.now.from 0 + 1) c.members-members.ensures.residual c.requires.labels.levels c.requires.whole;
+  begun = c.requires.begun;
+}
 
 pub senders-preserved : goal.senders-preserved
 senders-preserved g c =
@@ -45,11 +56,6 @@ send_all-requires-clause-shortest g c =
     let at : get_or c.args.trip.now.labels.now.levels.now c.in-Some.member 0 ≡ get_or c.args.trip.now.labels.now.levels.now c.args.trip.now.from 0 = (c.senders.invariant.left c.in-Some.member c.in-Some.ensures.member).1 in
     subst (AreShortest c.senders.work.residual.flows c.args.trip.now.labels.now.prices.now c.senders.work.balance.surplus.items c.senders.work.balance.lack.items c.args.trip.now.labels.now.levels.now) (sym at) c.senders.invariant.shortest
 
-pub send_all-requires-clause-pruned : goal.send_all-requires-clause-pruned
-send_all-requires-clause-pruned g c =
-    let at : get_or c.args.trip.now.labels.now.levels.now c.in-Some.member 0 ≡ get_or c.args.trip.now.labels.now.levels.now c.args.trip.now.from 0 = (c.senders.invariant.left c.in-Some.member c.in-Some.ensures.member).1 in
-    subst (λ n. ArePruned c.senders.work.residual.flows c.args.trip.now.labels.now.prices.now c.senders.work.balance.lack.items c.args.trip.now.labels.now.levels.now c.senders.layers (n + 1)) (sym at) c.senders.invariant.pruned
-
 pub returns-clause-deeper : goal.returns-clause-deeper
 returns-clause-deeper g c =
     let inv = c.senders.invariant in
@@ -59,6 +65,20 @@ returns-clause-deeper g c =
     (λ w receives. amount_in c.senders.work.balance.lack.items w receives (length c.args.trip.now.labels.now.levels.now) len)
     (λ v on. inv.spent v (c.in_default.ensures.none refl v) on)
 
-pub send_all-requires-clause-begun : goal.send_all-requires-clause-begun
-send_all-requires-clause-begun g c =
-    begun_none c.senders.work.residual c.args.trip.now.labels.now.prices.now c.args.trip.now.labels.now.levels.now c.senders.layers c.senders.path c.in-Some.member (omega (arith, (c.senders.invariant.left c.in-Some.member c.in-Some.ensures.member).0, c.requires.labels.levels, c.senders.invariant.along.members)) c.at.result c.at.ensures.done c.at.ensures.here
+pub send_all-requires-clause-trip : goal.send_all-requires-clause-trip
+send_all-requires-clause-trip g c =
+    let inv = c.senders.invariant in
+    let member = inv.left c.in-Some.member c.in-Some.ensures.member in
+    let at : get_or c.args.trip.now.labels.now.levels.now c.in-Some.member 0 ≡ get_or c.args.trip.now.labels.now.levels.now c.args.trip.now.from 0 = member.1 in
+    let from : c.in-Some.member < c.senders.work.residual.members = omega (arith, member.0, c.requires.labels.levels, inv.along.members) in
+    record {
+      work = inv.work;
+      labels = subst (λ n. AreLabels n c.args.trip.now.labels.now) (sym inv.along.members) c.requires.labels;
+      layers = subst (λ n. AreLayers c.args.trip.now.labels.now.levels.now c.senders.layers (n + 1)) (sym at) inv.layers;
+      top = omega (arith, at, c.requires.top, inv.along.members);
+      room = omega (arith, c.requires.room, inv.along.members, c.senders.auto.layers);
+      path = omega (arith, c.requires.path, inv.along.members, c.senders.auto.path);
+      from = from;
+      pruned = subst (λ n. ArePruned c.senders.work.residual.flows c.args.trip.now.labels.now.prices.now c.senders.work.balance.lack.items c.args.trip.now.labels.now.levels.now c.senders.layers (n + 1)) (sym at) inv.pruned;
+      begun = begun_none c.senders.work.residual c.args.trip.now.labels.now.prices.now c.args.trip.now.labels.now.levels.now c.senders.layers c.senders.path c.in-Some.member from c.at.result c.at.ensures.done c.at.ensures.here;
+    }

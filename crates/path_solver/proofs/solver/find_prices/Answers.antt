@@ -5,9 +5,14 @@ use Rattle.path_solver.specs.Phases.{IsSettled, IsPricedAnew}
 use Rattle.path_solver.proofs.Same.{same_sym, same_trans}
 use Rattle.path_solver.proofs.solver.find_prices.Goals as goal
 
-pub settle-requires-clause-feasible : goal.settle-requires-clause-feasible
-settle-requires-clause-feasible g c =
-    (c.args.residual.flows, same_sym c.args.residual.flows c.lower_all.new.residual.flows c.lower_all.ensures.pairs, λ i. sym (c.lower_all.ensures.owed i))
+pub settle-requires : goal.settle-requires
+settle-requires g c = record {
+  surplus = c.lower_all.ensures.members ∙ c.lower_all.ensures.surplus;
+  lack = c.lower_all.ensures.members ∙ c.lower_all.ensures.lack;
+  lowest = c.lower_all.ensures.lowest;
+  apart = c.lower_all.ensures.apart;
+  feasible = (c.args.residual.flows, same_sym c.args.residual.flows c.lower_all.new.residual.flows c.lower_all.ensures.pairs, λ i. sym (c.lower_all.ensures.owed i));
+}
 
 anew : (old mid new : ResidualData) (s l p : List ℕ) → IsResidual old → mid.members ≡ old.members → AreSamePairs old.flows mid.flows → ((i : ℕ) → owed mid.flows s l i ≡ net_of old.flows i) → IsSettled mid new s l p → IsPricedAnew old new p
 anew old mid new s l p residual members pairs nets h = record {
