@@ -36,7 +36,7 @@ pub fn all_of<T: Copy>(alloc: Global, members: u16, value: T) -> Result<Vec<T>, 
     Ok(values)
 }
 
-/// Sends everything that is to be sent, and answers the prices, which are 0 where nothing is.
+/// Sends everything that is to be sent. The prices are 0 where nothing is.
 pub fn settle<L: Ledger>(
     alloc: Global,
     residual: Residual,
@@ -56,7 +56,7 @@ pub fn settle<L: Ledger>(
     Ok(settled)
 }
 
-/// Sends straight what can go so, and the rest along paths, and answers the prices.
+/// Sends straight what can go so, and the rest along paths.
 fn settle_first<L: Ledger>(
     alloc: Global,
     residual: Residual,
@@ -79,7 +79,7 @@ fn settle_first<L: Ledger>(
     Ok(settled)
 }
 
-/// Sends along paths what is left to send in the first phase, and in those behind it, and answers the prices.
+/// Sends along paths what is left to send in the first phase, and in those behind it.
 fn settle_rest<L: Ledger>(
     alloc: Global,
     residual: Residual,

@@ -102,7 +102,7 @@ fn solution_of<L: Ledger>(
     }
 }
 
-/// Moves amounts until prices fit them, from the lower bounds on, and answers the prices.
+/// Moves amounts until prices fit them, from the lower bounds on.
 fn find_prices<L: Ledger>(
     alloc: Global,
     residual: Residual,
