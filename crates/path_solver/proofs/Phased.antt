@@ -230,14 +230,14 @@ straight_phase old mid s0 l0 s l p is len_s len_l lowest apart sent =
     phase_sent old old mid s0 l0 s0 l0 s l p top.0 (first_phase old s0 l0 p top.0 is len_s len_l top.1 top.2 lowest apart) sent
 
 -- what is settled from later amounts on is settled from earlier ones on
-pub settled_more : (old mid new : ResidualData) (s0 l0 s l p p' : List ℕ) (top : ℕ) → IsPhase old mid s0 l0 s l p top → IsSettled mid new s l p' → IsSettled old new s0 l0 p'
-settled_more old mid new s0 l0 s l p p' top h x = record {
-  members = x.members ∙ h.members;
-  pairs = same_trans old.flows mid.flows new.flows h.pairs x.pairs;
-  nets = λ i in_i. x.nets i (omega (arith, in_i, h.members)) ∙ h.owed i;
-  priced = x.priced;
-  one_each = x.one_each ∙ h.members;
-  most = λ v. omega (arith, x.most v, h.members);
+pub settled_more : (old mid new : ResidualData) (s0 l0 s l p : List ℕ) → mid.members ≡ old.members → AreSamePairs old.flows mid.flows → ((i : ℕ) → owed mid.flows s l i ≡ owed old.flows s0 l0 i) → IsSettled mid new s l p → IsSettled old new s0 l0 p
+settled_more old mid new s0 l0 s l p members pairs nets h = record {
+  members = h.members ∙ members;
+  pairs = same_trans old.flows mid.flows new.flows pairs h.pairs;
+  nets = λ i in_i. h.nets i (omega (arith, in_i, members)) ∙ nets i;
+  priced = h.priced;
+  one_each = h.one_each ∙ members;
+  most = λ v. omega (arith, h.most v, members);
 }
 
 -- a phase from its own amounts on

@@ -3,6 +3,7 @@ use Rattle.std.proofs.Common.{◌≡◌, ◌≢◌, ℕ, ◌+◌, ◌-◌, ◌<�
 use Rattle.std.specs.Prelude.{All}
 use Rattle.std.proofs.lemmas.Bool.{cases_eq, eq-eqb, ne_eqb}
 use Rattle.std.proofs.lemmas.Int.{ints}
+use Rattle.std.proofs.lemmas.List.{length-set}
 use Rattle.std.proofs.lemmas.List.Sums.{sum_by-set}
 use Rattle.residual_graph.specs.declared.flow.Flow.{Flow}
 use Rattle.residual_graph.specs.Residual.{ResidualData}
@@ -26,6 +27,8 @@ sent_none p r surplus lack = record {
   senders = λ v h. h;
   receivers = λ v h. h;
   less = omega arith;
+  surplus_each = refl;
+  lack_each = refl;
 }
 
 pub sent_more : (p : List ℕ) (a b c : ResidualData) (s l s' l' s'' l'' : List ℕ) → IsSentAlong p a b s l s' l' → IsSentAlong p b c s' l' s'' l'' → IsSentAlong p a c s l s'' l''
@@ -37,6 +40,8 @@ sent_more p a b c s l s' l' s'' l'' x y = record {
   senders = λ v h. x.senders v (y.senders v h);
   receivers = λ v h. x.receivers v (y.receivers v h);
   less = omega (arith, x.less, y.less);
+  surplus_each = y.surplus_each ∙ x.surplus_each;
+  lack_each = y.lack_each ∙ x.lack_each;
 }
 
 -- an amount that falls by x
@@ -87,6 +92,8 @@ sent p levels old new surplus lack from end x path h roomy in_s in_l le_s le_l m
       senders = λ v pos_v. omega (arith, pos_v, amount_less surplus from x v in_s le_s);
       receivers = λ v pos_v. omega (arith, pos_v, amount_less lack end x v in_l le_l);
       less = omega (arith, sum_less surplus from x in_s le_s);
+      surplus_each = length-set surplus from (get_or surplus from 0 - x);
+      lack_each = length-set lack end (get_or lack end 0 - x);
     }
 
 pub sent_less : (surplus : List ℕ) (from x : ℕ) → from < length surplus → 0 < x → x ≤ get_or surplus from 0 → sum (set surplus from (get_or surplus from 0 - x)) < sum surplus

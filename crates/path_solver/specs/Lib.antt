@@ -7,6 +7,8 @@ pub mod Phases
 pub mod Entries
 pub mod Groups
 pub mod Neighbours
+pub mod Works
+pub mod Labels
 pub mod Counts
 pub mod Pruned
 pub mod Trails

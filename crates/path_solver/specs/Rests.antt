@@ -45,6 +45,8 @@ pub record IsSentAlong (p : List ℕ) (old new : ResidualData) (surplus lack mor
   pub senders : (v : ℕ) → 0 < slice_index more_surplus v → 0 < slice_index surplus v
   pub receivers : (v : ℕ) → 0 < slice_index more_lack v → 0 < slice_index lack v
   pub less : sum more_surplus ≤ sum surplus
+  pub surplus_each : length more_surplus ≡ length surplus
+  pub lack_each : length more_lack ≡ length lack
 
 -- the members of the set are those with an amount
 abbrev pub HaveSome : List ℕ → MemberSet → Type 0

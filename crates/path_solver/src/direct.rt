@@ -4,6 +4,7 @@ ghost use Rattle.std.specs.Prelude.{◌≡◌, ℕ, ◌+◌, ◌<◌, ◌≤◌,
 ghost use Rattle.path_solver.specs.Prices.{first_price};
 ghost use Rattle.path_solver.specs.Rests.{IsSentAlong};
 
+use crate::balance::Balance;
 use residual_graph::{Flow, Residual, Steps};
 use std::alloc::{AllocError, Global};
 use std::sync::ledger::Ledger;
@@ -24,28 +25,26 @@ pub fn first_prices(alloc: Global, lack: &[u64]) -> Result<Vec<u16>, AllocError>
 fn send_over<L: Ledger>(
     residual: &mut Residual,
     prices: &[u16],
-    surplus: &mut [u64],
-    lack: &mut [u64],
+    balance: &mut Balance,
     pair: usize,
     steps: &mut Steps<L>,
 )
     requires prices { residual.old.members ≡ length prices.now }
-    requires surplus { residual.old.members ≡ length surplus.old }
-    requires lack { residual.old.members ≡ length lack.old }
-    requires senders { (v : ℕ) → 0 < slice_index surplus.old v → slice_index prices.now v ≡ 1 }
-    requires receivers { (v : ℕ) → 0 < slice_index lack.old v → slice_index prices.now v ≡ 0 }
+    requires surplus { residual.old.members ≡ length balance.old.surplus.items }
+    requires lack { residual.old.members ≡ length balance.old.lack.items }
+    requires senders { (v : ℕ) → 0 < slice_index balance.old.surplus.items v → slice_index prices.now v ≡ 1 }
+    requires receivers { (v : ℕ) → 0 < slice_index balance.old.lack.items v → slice_index prices.now v ≡ 0 }
     requires pair { pair < length residual.old.flows }
-    ensures along { IsSentAlong prices.now residual.old residual.new surplus.old lack.old surplus.new lack.new }
+    ensures along { IsSentAlong prices.now residual.old residual.new balance.old.surplus.items balance.old.lack.items balance.new.surplus.items balance.new.lack.items }
     ensures few { steps.new ≤ steps.old + 1 }
 {
     let flow = residual.flows()[pair];
-    let both = surplus[flow.seller as usize].min(lack[flow.buyer as usize]);
+    let both = balance.between(flow.seller, flow.buyer);
     let amount = both.min(flow.room);
     if amount > 0 {
         let arc = [2 * pair as u32];
         residual.push_path(&arc, amount, steps);
-        surplus[flow.seller as usize] -= amount;
-        lack[flow.buyer as usize] -= amount;
+        balance.take_off(flow.seller, flow.buyer, amount);
     }
 }
 
@@ -65,23 +64,22 @@ fn behind_seller(flows: &[Flow], pair: usize) -> usize
 pub fn send_direct<L: Ledger>(
     residual: &mut Residual,
     prices: &[u16],
-    surplus: &mut [u64],
-    lack: &mut [u64],
+    balance: &mut Balance,
     steps: &mut Steps<L>,
 )
     requires prices { residual.old.members ≡ length prices.now }
-    requires surplus { residual.old.members ≡ length surplus.old }
-    requires lack { residual.old.members ≡ length lack.old }
-    requires senders { (v : ℕ) → 0 < slice_index surplus.old v → slice_index prices.now v ≡ 1 }
-    requires receivers { (v : ℕ) → 0 < slice_index lack.old v → slice_index prices.now v ≡ 0 }
-    ensures along { IsSentAlong prices.now residual.old residual.new surplus.old lack.old surplus.new lack.new }
+    requires surplus { residual.old.members ≡ length balance.old.surplus.items }
+    requires lack { residual.old.members ≡ length balance.old.lack.items }
+    requires senders { (v : ℕ) → 0 < slice_index balance.old.surplus.items v → slice_index prices.now v ≡ 1 }
+    requires receivers { (v : ℕ) → 0 < slice_index balance.old.lack.items v → slice_index prices.now v ≡ 0 }
+    ensures along { IsSentAlong prices.now residual.old residual.new balance.old.surplus.items balance.old.lack.items balance.new.surplus.items balance.new.lack.items }
     ensures few { steps.new ≤ steps.old + length residual.old.flows }
 {
     let mut pair = 0;
     while pair < residual.flows().len() {
         let seller = residual.flows()[pair].seller;
-        if surplus[seller as usize] > 0 {
-            send_over(residual, prices, surplus, lack, pair, steps);
+        if balance.surplus_of(seller) > 0 {
+            send_over(residual, prices, balance, pair, steps);
             pair += 1;
         } else {
             pair = behind_seller(residual.flows(), pair);

@@ -2,63 +2,65 @@
 
 ghost use Rattle.std.specs.Prelude.{◌≡◌, ◌↔◌, ℕ, ◌+◌, ◌<◌, ◌≤◌, true, false, length, slice_index, IsNone, IfSome};
 ghost use Rattle.member_set.specs.Members.{has};
-ghost use Rattle.path_solver.specs.Entries.{AreEntries, IsOpenInto, is_open_to};
+ghost use Rattle.path_solver.specs.Entries.{IsOpenInto, is_open_to};
 ghost use Rattle.path_solver.specs.Groups.{AreGroups};
 ghost use Rattle.path_solver.specs.Rests.{AreApart, HaveSome};
 ghost use Rattle.path_solver.specs.Levels.{IsReached, IsLayered, AreShortest, AreLayers, AreWholeLayers};
-ghost use Rattle.path_solver.specs.Searches.{IsSpread};
+ghost use Rattle.path_solver.specs.Works.{IsWork, IsSpreadIn};
 
 use crate::entries::Entry;
 use crate::search::{Search, mark};
+use crate::work::Work;
 use member_set::MemberSet;
-use residual_graph::Residual;
+
+/// What a search goes by: the members by their prices, the price of each, and those that it looks for.
+#[derive(Clone, Copy)]
+pub struct Aim<'a> {
+    pub groups: &'a [MemberSet],
+    pub prices: &'a [u16],
+    pub senders: &'a MemberSet,
+}
 
 /// Goes on with a search until it finds a member that has to send, on the first level that has one. The last level then
 /// has those alone, and other members on it or behind it stay unreached. It is not inlined, so that its sets
 /// stay in registers.
 #[inline(never)]
 pub fn layer(
-    residual: &Residual,
-    entries: &[Entry],
-    prices: &[u16],
-    surplus: &[u64],
-    lack: &[u64],
-    groups: &[MemberSet],
-    senders: &MemberSet,
+    work: &Work,
+    aim: &Aim<'_>,
     levels: &mut [u16],
     layers: &mut [MemberSet],
     search: &mut Search,
 ) -> Option<u16>
-    requires entries { AreEntries residual.now entries.now }
-    requires senders { HaveSome surplus.now senders.now }
-    requires low { (v : ℕ) → slice_index prices.now v ≤ residual.now.members }
-    requires groups { length groups.now ≡ residual.now.members + 3 }
-    requires sorted { AreGroups prices.now groups.now }
-    requires prices { residual.now.members ≡ length prices.now }
-    requires surplus { residual.now.members ≡ length surplus.now }
-    requires lack { residual.now.members ≡ length lack.now }
-    requires levels { residual.now.members ≡ length levels.old }
-    requires layers { residual.now.members + 1 ≤ length layers.old }
-    requires apart { AreApart surplus.now lack.now }
-    requires spread { IsSpread residual.now prices.now surplus.now lack.now levels.old search.old.level search.old.now search.old.seen }
+    requires work { IsWork work.now }
+    requires senders { HaveSome work.now.balance.surplus.items aim.now.senders.now }
+    requires low { (v : ℕ) → slice_index aim.now.prices.now v ≤ work.now.residual.members }
+    requires groups { length aim.now.groups.now ≡ work.now.residual.members + 3 }
+    requires sorted { AreGroups aim.now.prices.now aim.now.groups.now }
+    requires prices { work.now.residual.members ≡ length aim.now.prices.now }
+    requires levels { work.now.residual.members ≡ length levels.old }
+    requires layers { work.now.residual.members + 1 ≤ length layers.old }
+    requires apart { AreApart work.now.balance.surplus.items work.now.balance.lack.items }
+    requires spread { IsSpreadIn work.now aim.now.prices.now levels.old search.old }
     requires layered { AreLayers levels.old layers.old search.old.level }
     requires whole { AreWholeLayers levels.old layers.old search.old.level }
-    ensures layered { IsLayered residual.now.flows prices.now surplus.now lack.now levels.new result }
-    ensures shortest { IfSome result (λ s. AreShortest residual.now.flows prices.now surplus.now lack.now levels.new (slice_index levels.new s)) }
+    ensures layered { IsLayered work.now.residual.flows aim.now.prices.now work.now.balance.surplus.items work.now.balance.lack.items levels.new result }
+    ensures shortest { IfSome result (λ s. AreShortest work.now.residual.flows aim.now.prices.now work.now.balance.surplus.items work.now.balance.lack.items levels.new (slice_index levels.new s)) }
     ensures layers { IfSome result (λ s. AreLayers levels.new layers.new (slice_index levels.new s + 1)) }
     ensures whole { IfSome result (λ s. AreWholeLayers levels.new layers.new (slice_index levels.new s + 1)) }
-    ensures low { IfSome result (λ s. slice_index levels.new s ≤ residual.now.members) }
-    ensures reached { IsNone result → (v : ℕ) → (has search.new.seen v ≡ true) ↔ ((v < residual.now.members) × IsReached levels.new v) }
-    ensures spread { IsNone result → IsSpread residual.now prices.now surplus.now lack.now levels.new search.new.level search.new.now search.new.seen }
+    ensures low { IfSome result (λ s. slice_index levels.new s ≤ work.now.residual.members) }
+    ensures reached { IsNone result → (v : ℕ) → (has search.new.seen v ≡ true) ↔ ((v < work.now.residual.members) × IsReached levels.new v) }
+    ensures spread { IsNone result → IsSpreadIn work.now aim.now.prices.now levels.new search.new }
     ensures passed { IsNone result → AreLayers levels.new layers.new search.new.level }
     ensures all_passed { IsNone result → AreWholeLayers levels.new layers.new search.new.level }
 {
-    let _members = residual.members();
+    let _members = work.residual.members();
+    let entries: &[Entry] = &work.neighbours.entries;
     let mut seen = search.seen;
     let mut now = search.now;
     let mut level = search.level;
-    while !now.is_empty() {
-        let met = now.and(senders);
+    'spreads: while !now.is_empty() {
+        let met = now.and(aim.senders);
         if !met.is_empty() {
             layers[level as usize] = met;
             mark(met, level, levels);
@@ -69,7 +71,7 @@ pub fn layer(
         }
         layers[level as usize] = now;
         seen = seen.or(&now);
-        let near = visit(entries, groups, prices, now, level, levels);
+        let near = visit(entries, aim, now, level, levels);
         now = near.without(&seen);
         level += 1;
     }
@@ -80,27 +82,26 @@ pub fn layer(
 /// Puts members on a level, and tells from which members open arcs lead to one of them.
 fn visit(
     entries: &[Entry],
-    groups: &[MemberSet],
-    prices: &[u16],
+    aim: &Aim<'_>,
     members: MemberSet,
     level: u16,
     levels: &mut [u16],
 ) -> MemberSet
     requires levels { (v : ℕ) → has members v ≡ true → v < length levels.old }
     requires entries { length entries.now ≡ length levels.old }
-    requires prices { length prices.now ≡ length levels.old }
-    requires low { (v : ℕ) → slice_index prices.now v + 3 ≤ length groups.now }
+    requires prices { length aim.now.prices.now ≡ length levels.old }
+    requires low { (v : ℕ) → slice_index aim.now.prices.now v + 3 ≤ length aim.now.groups.now }
     ensures marked { (v : ℕ) → has members v ≡ true → slice_index levels.new v ≡ level }
     ensures others { (v : ℕ) → has members v ≡ false → slice_index levels.new v ≡ slice_index levels.old v }
-    ensures near { (u : ℕ) → has result u ≡ true → IsOpenInto entries.now groups.now prices.now members u }
-    ensures all { (h u : ℕ) → has members h ≡ true → is_open_to entries.now groups.now (slice_index prices.now h) h u ≡ true → has result u ≡ true }
+    ensures near { (u : ℕ) → has result u ≡ true → IsOpenInto entries.now aim.now.groups.now aim.now.prices.now members u }
+    ensures all { (h u : ℕ) → has members h ≡ true → is_open_to entries.now aim.now.groups.now (slice_index aim.now.prices.now h) h u ≡ true → has result u ≡ true }
 {
     let mut near = MemberSet::new();
     for place in 0..4u16 {
         let mut left = members.part(place);
         while let Some(here) = left.take_lowest() {
             levels[here as usize] = level;
-            near = near.or(&open_to(entries, groups, prices[here as usize], here));
+            near = near.or(&open_to(entries, aim.groups, aim.prices[here as usize], here));
         }
     }
     near

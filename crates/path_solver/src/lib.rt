@@ -10,9 +10,11 @@
 //! certificate.
 #![tactic(auto)]
 
+mod balance;
 mod direct;
 mod entries;
 mod groups;
+mod labels;
 mod layers;
 mod lowest;
 mod neighbours;
@@ -20,11 +22,13 @@ mod outside;
 mod paths;
 mod phases;
 mod prices;
+mod room;
 mod search;
 mod sending;
 mod settle;
 mod solver;
 mod stand;
 mod walk;
+mod work;
 
 pub use solver::PathSolver;

@@ -6,46 +6,41 @@ ghost use Rattle.residual_graph.specs.Residual.{flow_rows};
 ghost use Rattle.path_solver.specs.Rests.{AreSamePairs, AreApart, net_of, owed};
 ghost use Rattle.units_core.specs.declared.limits.TheConstants.{MOST_GROSS};
 
+use crate::balance::Balance;
 use residual_graph::{Residual, Steps};
 use std::sync::ledger::Ledger;
 
 /// Takes each pair back to its lower bound, and tells what each member then has to send or to receive to
 /// have its net position again.
-pub fn lower_all<L: Ledger>(
-    residual: &mut Residual,
-    surplus: &mut [u64],
-    lack: &mut [u64],
-    steps: &mut Steps<L>,
-)
-    requires surplus { surplus.old ≡ replicate residual.old.members 0 }
-    requires lack { lack.old ≡ replicate residual.old.members 0 }
+pub fn lower_all<L: Ledger>(residual: &mut Residual, balance: &mut Balance, steps: &mut Steps<L>)
+    requires surplus { balance.old.surplus.items ≡ replicate residual.old.members 0 }
+    requires lack { balance.old.lack.items ≡ replicate residual.old.members 0 }
     requires gross { total (flow_rows residual.old.flows) ≤ MOST_GROSS }
     ensures members { residual.new.members ≡ residual.old.members }
     ensures pairs { AreSamePairs residual.old.flows residual.new.flows }
     ensures lowest { All (λ f. f.back ≡ 0) residual.new.flows }
-    ensures apart { AreApart surplus.new lack.new }
-    ensures owed { (i : ℕ) → owed residual.new.flows surplus.new lack.new i ≡ net_of residual.old.flows i }
+    ensures apart { AreApart balance.new.surplus.items balance.new.lack.items }
+    ensures owed { (i : ℕ) → owed residual.new.flows balance.new.surplus.items balance.new.lack.items i ≡ net_of residual.old.flows i }
+    ensures surplus { residual.old.members ≡ length balance.new.surplus.items }
+    ensures lack { residual.old.members ≡ length balance.new.lack.items }
     ensures few { steps.new ≤ steps.old + length residual.old.flows }
 {
-    take_back(residual, surplus, lack, steps);
-    net_out(surplus, lack);
+    take_back(residual, balance, steps);
+    net_out(balance);
 }
 
 /// Takes each pair back to its lower bound. The seller then has to send what it sold above that, and the
 /// buyer to receive it.
-fn take_back<L: Ledger>(
-    residual: &mut Residual,
-    surplus: &mut [u64],
-    lack: &mut [u64],
-    steps: &mut Steps<L>,
-)
-    requires surplus { surplus.old ≡ replicate residual.old.members 0 }
-    requires lack { lack.old ≡ replicate residual.old.members 0 }
+fn take_back<L: Ledger>(residual: &mut Residual, balance: &mut Balance, steps: &mut Steps<L>)
+    requires surplus { balance.old.surplus.items ≡ replicate residual.old.members 0 }
+    requires lack { balance.old.lack.items ≡ replicate residual.old.members 0 }
     requires gross { total (flow_rows residual.old.flows) ≤ MOST_GROSS }
     ensures members { residual.new.members ≡ residual.old.members }
     ensures pairs { AreSamePairs residual.old.flows residual.new.flows }
     ensures lowest { All (λ f. f.back ≡ 0) residual.new.flows }
-    ensures owed { (i : ℕ) → owed residual.new.flows surplus.new lack.new i ≡ net_of residual.old.flows i }
+    ensures owed { (i : ℕ) → owed residual.new.flows balance.new.surplus.items balance.new.lack.items i ≡ net_of residual.old.flows i }
+    ensures surplus { residual.old.members ≡ length balance.new.surplus.items }
+    ensures lack { residual.old.members ≡ length balance.new.lack.items }
     ensures few { steps.new ≤ steps.old + length residual.old.flows }
 {
     for pair in 0..residual.flows().len() {
@@ -53,21 +48,22 @@ fn take_back<L: Ledger>(
         if flow.back > 0 {
             let arc = [2 * pair as u32 + 1];
             residual.push_path(&arc, flow.back, steps);
-            surplus[flow.seller as usize] += flow.back;
-            lack[flow.buyer as usize] += flow.back;
+            balance.add(flow.seller, flow.buyer, flow.back);
         }
     }
 }
 
 /// What a member has to send and to receive cancels.
-fn net_out(surplus: &mut [u64], lack: &mut [u64])
-    requires { length surplus.old ≡ length lack.old }
-    ensures apart { AreApart surplus.new lack.new }
-    ensures same { (i : ℕ) → slice_index surplus.new i + slice_index lack.old i ≡ slice_index surplus.old i + slice_index lack.new i }
+fn net_out(balance: &mut Balance)
+    requires { length balance.old.surplus.items ≡ length balance.old.lack.items }
+    ensures surplus { length balance.new.surplus.items ≡ length balance.old.surplus.items }
+    ensures lack { length balance.new.lack.items ≡ length balance.old.lack.items }
+    ensures apart { AreApart balance.new.surplus.items balance.new.lack.items }
+    ensures same { (i : ℕ) → slice_index balance.new.surplus.items i + slice_index balance.old.lack.items i ≡ slice_index balance.old.surplus.items i + slice_index balance.new.lack.items i }
 {
-    for member in 0..surplus.len() {
-        let both = surplus[member].min(lack[member]);
-        surplus[member] -= both;
-        lack[member] -= both;
+    for member in 0..balance.surplus.len() {
+        let both = balance.surplus[member].min(balance.lack[member]);
+        balance.surplus[member] -= both;
+        balance.lack[member] -= both;
     }
 }

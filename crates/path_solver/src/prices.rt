@@ -4,17 +4,15 @@ ghost use Rattle.std.specs.Prelude.{◌≡◌, ◌↔◌, ℕ, ◌+◌, ◌<◌,
 ghost use Rattle.member_set.specs.Members.{has};
 ghost use Rattle.path_solver.specs.Groups.{AreGroups};
 ghost use Rattle.path_solver.specs.Levels.{IsReached, AreCut, AreLayers, AreWholeLayers};
-ghost use Rattle.path_solver.specs.Neighbours.{AreNeighbours};
-ghost use Rattle.path_solver.specs.Phases.{IsPhase, raised_price};
+ghost use Rattle.path_solver.specs.Phases.{raised_price};
 ghost use Rattle.path_solver.specs.Rests.{IsFeasible};
-ghost use Rattle.path_solver.specs.Searches.{IsSpread};
+ghost use Rattle.path_solver.specs.Works.{IsWork, IsSpreadIn, ArePhased};
 
 use crate::groups::move_up;
-use crate::neighbours::Neighbours;
 use crate::outside::{around, entered_from};
 use crate::search::{Search, UNREACHED, go_back};
+use crate::work::Work;
 use member_set::MemberSet;
-use residual_graph::Residual;
 
 /// Raises by 1 the prices of the members that are not reached, each of which moves to the next group.
 fn raise(
@@ -42,45 +40,41 @@ fn raise(
 /// Raises the prices of the members that are not reached until an open arc leads from one of them to a reached one. The
 /// search goes back to the lowest level that such an arc enters. Answers the highest price.
 pub fn next_phase(
-    residual: &Residual,
-    neighbours: &Neighbours,
+    work: &Work,
     groups: &mut [MemberSet],
     prices: &mut [u16],
     levels: &mut [u16],
-    surplus: &[u64],
-    lack: &[u64],
     layers: &[MemberSet],
     search: &mut Search,
     phase: u16,
 ) -> u16
-    requires neighbours { AreNeighbours residual.now neighbours.now }
-    requires groups { length groups.old ≡ residual.now.members + 3 }
+    requires work { IsWork work.now }
+    requires groups { length groups.old ≡ work.now.residual.members + 3 }
     requires sorted { AreGroups prices.old groups.old }
-    requires prices { residual.now.members ≡ length prices.old }
-    requires surplus { residual.now.members ≡ length surplus.now }
-    requires layers { residual.now.members < length layers.now }
-    requires phase { IsPhase residual.now residual.now surplus.now lack.now surplus.now lack.now prices.old phase }
-    requires feasible { IsFeasible residual.now.flows surplus.now lack.now }
-    requires sends { (v : ℕ) × (0 < slice_index surplus.now v) }
-    requires cut { AreCut residual.now.flows prices.old surplus.now lack.now levels.old }
-    requires spread { IsSpread residual.now prices.old surplus.now lack.now levels.old search.old.level search.old.now search.old.seen }
+    requires prices { work.now.residual.members ≡ length prices.old }
+    requires layers { work.now.residual.members < length layers.now }
+    requires phase { ArePhased work.now prices.old phase }
+    requires feasible { IsFeasible work.now.residual.flows work.now.balance.surplus.items work.now.balance.lack.items }
+    requires sends { (v : ℕ) × (0 < slice_index work.now.balance.surplus.items v) }
+    requires cut { AreCut work.now.residual.flows prices.old work.now.balance.surplus.items work.now.balance.lack.items levels.old }
+    requires spread { IsSpreadIn work.now prices.old levels.old search.old }
     requires passed { AreLayers levels.old layers.now search.old.level }
     requires whole { AreWholeLayers levels.old layers.now search.old.level }
     ensures later { phase < result }
-    ensures phase { IsPhase residual.now residual.now surplus.now lack.now surplus.now lack.now prices.new result }
+    ensures phase { ArePhased work.now prices.new result }
     ensures sorted { AreGroups prices.new groups.new }
-    ensures spread { IsSpread residual.now prices.new surplus.now lack.now levels.new search.new.level search.new.now search.new.seen }
+    ensures spread { IsSpreadIn work.now prices.new levels.new search.new }
     ensures passed { AreLayers levels.new layers.now search.new.level }
     ensures whole { AreWholeLayers levels.new layers.now search.new.level }
 {
-    let _members = residual.members();
-    let others = around(&neighbours.entries, &search.seen).without(&search.seen);
+    let _members = work.residual.members();
+    let others = around(&work.neighbours.entries, &search.seen).without(&search.seen);
     let mut top = phase;
     let mut entered = MemberSet::new();
     'raises: while entered.is_empty() {
         raise(prices, groups, levels, &search.seen, top);
         top += 1;
-        entered = entered_from(&neighbours.exits, groups, prices, others, &search.seen);
+        entered = entered_from(&work.neighbours.exits, groups, prices, others, &search.seen);
     }
     go_back(search, levels, layers, &entered);
     top

@@ -1,187 +1,126 @@
 //! Sending what members have to send.
 
 ghost use Rattle.std.specs.Prelude.{◌≡◌, ◌+◌, ℕ, true, false, ◌<◌, ◌≤◌, length, slice_index, sum, IsNone, IsSome, IfSome};
-ghost use Rattle.path_solver.specs.Groups.{AreGroups};
-ghost use Rattle.path_solver.specs.Neighbours.{AreNeighbours};
-ghost use Rattle.path_solver.specs.Levels.{layer_at, AreLevels, AreShortest, AreLayers, AreWholeLayers, IsSource};
-ghost use Rattle.path_solver.specs.Paths.{NoneIsShorter};
-ghost use Rattle.path_solver.specs.Rests.{AreApart, IsSentAlong};
-ghost use Rattle.path_solver.specs.Pruned.{ArePruned, AreFewer};
-ghost use Rattle.path_solver.specs.Counts.{left_to_do};
-ghost use Rattle.path_solver.specs.Trails.{IsBegun};
+ghost use Rattle.path_solver.specs.Works.{IsWork};
+ghost use Rattle.path_solver.specs.Labels.{CanGo, AreLabels, AreLevelsIn, IsSentIn, still_to_do, surplus_in, top_of, AreLayersFrom, AreWholeFrom, ArePrunedFrom, AreShortestFrom, NoneIsShorterIn, IsBegunFrom};
+ghost use Rattle.path_solver.specs.Levels.{layer_at, IsSource};
+ghost use Rattle.path_solver.specs.Rests.{AreApart};
+ghost use Rattle.path_solver.specs.Pruned.{AreFewer};
 ghost use Rattle.member_set.specs.Members.{has};
 
-use crate::neighbours::Neighbours;
 use crate::paths::{bottleneck_of, push_noting};
-use crate::stand::Stand;
+use crate::stand::{Stand, Trip};
 use crate::walk::walk;
+use crate::work::Work;
 use member_set::MemberSet;
-use residual_graph::{Residual, Steps};
+use residual_graph::Steps;
 use std::sync::ledger::Ledger;
 
 /// Sends from the members at the level of the one that was reached first, that one first. Afterwards each path of open
 /// arcs from one that has to send to one that has to receive has more.
 pub fn send_phase<L: Ledger>(
-    residual: &mut Residual,
-    neighbours: &mut Neighbours,
-    groups: &[MemberSet],
-    prices: &[u16],
-    levels: &[u16],
-    surplus: &mut [u64],
-    lack: &mut [u64],
+    work: &mut Work,
     layers: &mut [MemberSet],
     path: &mut [u32],
-    source: u16,
+    trip: &Trip<'_>,
     steps: &mut Steps<L>,
 )
-    requires neighbours { AreNeighbours residual.old neighbours.old }
-    requires groups { length groups.now ≡ residual.old.members + 3 }
-    requires sorted { AreGroups prices.now groups.now }
-    requires low { (v : ℕ) → slice_index prices.now v ≤ residual.old.members }
-    requires prices { residual.old.members ≡ length prices.now }
-    requires levels { residual.old.members ≡ length levels.now }
-    requires surplus { residual.old.members ≡ length surplus.old }
-    requires lack { residual.old.members ≡ length lack.old }
-    requires layers { AreLayers levels.now layers.old (slice_index levels.now source + 1) }
-    requires whole { AreWholeLayers levels.now layers.old (slice_index levels.now source + 1) }
-    requires top { slice_index levels.now source ≤ residual.old.members }
-    requires room { residual.old.members < length layers.old }
-    requires path { residual.old.members ≤ length path.old }
-    requires source { IsSource surplus.old levels.now source }
-    requires shortest { AreShortest residual.old.flows prices.now surplus.old lack.old levels.now (slice_index levels.now source) }
-    requires apart { AreApart surplus.old lack.old }
-    requires down { AreLevels residual.old.flows prices.now lack.old levels.now }
-    ensures neighbours { AreNeighbours residual.new neighbours.new }
-    ensures along { IsSentAlong prices.now residual.old residual.new surplus.old lack.old surplus.new lack.new }
-    ensures sent { sum surplus.new < sum surplus.old }
-    ensures few { steps.new + left_to_do levels.now residual.new.flows surplus.new lack.new ≤ steps.old + left_to_do levels.now residual.old.flows surplus.old lack.old }
-    ensures deeper { NoneIsShorter residual.new.flows prices.now surplus.new lack.new (slice_index levels.now source + 1) }
+    requires work { IsWork work.old }
+    requires labels { AreLabels work.old.residual.members trip.now.labels.now }
+    requires layers { AreLayersFrom trip.now layers.old }
+    requires whole { AreWholeFrom trip.now layers.old }
+    requires top { top_of trip.now ≤ work.old.residual.members }
+    requires room { work.old.residual.members < length layers.old }
+    requires path { work.old.residual.members ≤ length path.old }
+    requires source { IsSource work.old.balance.surplus.items trip.now.labels.now.levels.now trip.now.from }
+    requires shortest { AreShortestFrom work.old trip.now }
+    requires apart { AreApart work.old.balance.surplus.items work.old.balance.lack.items }
+    requires down { AreLevelsIn work.old trip.now.labels.now }
+    requires begun { IsBegunFrom work.old trip.now layers.old path.old trip.now.stand }
+    ensures work { IsWork work.new }
+    ensures along { IsSentIn trip.now.labels.now work.old work.new }
+    ensures sent { sum work.new.balance.surplus.items < sum work.old.balance.surplus.items }
+    ensures few { steps.new + still_to_do trip.now.labels.now work.new ≤ steps.old + still_to_do trip.now.labels.now work.old }
+    ensures deeper { NoneIsShorterIn work.new trip.now.labels.now (top_of trip.now + 1) }
 {
-    let _members = residual.members();
-    let mut left = layers[levels[source as usize] as usize];
-    let first = Stand {
-        done: 0,
-        here: source,
-    };
-    send_once(
-        residual, neighbours, groups, prices, levels, surplus, lack, layers, path, source, first,
-        steps,
-    );
+    let _members = work.residual.members();
+    let mut left = layers[trip.labels.levels[trip.from as usize] as usize];
+    send_once(work, layers, path, trip, steps);
     'senders: while let Some(member) = left.take_lowest() {
-        send_all(
-            residual, neighbours, groups, prices, levels, surplus, lack, layers, path, member,
-            steps,
-        );
+        let next = Trip {
+            from: member,
+            stand: Stand::at(member),
+            ..*trip
+        };
+        send_all(work, layers, path, &next, steps);
     }
 }
 
 /// Sends from a member along one path as much as the path can take, and tells where the next walk can go on if
 /// there was one. No path of open arcs from one that has to send to one that has to receive has fewer.
 fn send_once<L: Ledger>(
-    residual: &mut Residual,
-    neighbours: &mut Neighbours,
-    groups: &[MemberSet],
-    prices: &[u16],
-    levels: &[u16],
-    surplus: &mut [u64],
-    lack: &mut [u64],
+    work: &mut Work,
     layers: &mut [MemberSet],
     path: &mut [u32],
-    from: u16,
-    stand: Stand,
+    trip: &Trip<'_>,
     steps: &mut Steps<L>,
 ) -> Option<Stand>
-    requires neighbours { AreNeighbours residual.old neighbours.old }
-    requires groups { length groups.now ≡ residual.old.members + 3 }
-    requires sorted { AreGroups prices.now groups.now }
-    requires low { (v : ℕ) → slice_index prices.now v ≤ residual.old.members }
-    requires prices { residual.old.members ≡ length prices.now }
-    requires levels { residual.old.members ≡ length levels.now }
-    requires surplus { residual.old.members ≡ length surplus.old }
-    requires lack { residual.old.members ≡ length lack.old }
-    requires layers { AreLayers levels.now layers.old (slice_index levels.now from + 1) }
-    requires top { slice_index levels.now from ≤ residual.old.members }
-    requires room { residual.old.members < length layers.old }
-    requires path { residual.old.members ≤ length path.old }
-    requires shortest { AreShortest residual.old.flows prices.now surplus.old lack.old levels.now (slice_index levels.now from) }
-    requires from { from < residual.old.members }
-    requires pruned { ArePruned residual.old.flows prices.now lack.old levels.now layers.old (slice_index levels.now from + 1) }
-    requires begun { IsBegun residual.old prices.now levels.now layers.old path.old from stand }
-    ensures neighbours { AreNeighbours residual.new neighbours.new }
-    ensures layers { AreLayers levels.now layers.new (slice_index levels.now from + 1) }
-    ensures begun { IfSome result (λ s. IsBegun residual.new prices.now levels.now layers.new path.new from s) }
-    ensures pruned { ArePruned residual.new.flows prices.now lack.new levels.now layers.new (slice_index levels.now from + 1) }
+    requires trip { CanGo work.old trip.now layers.old path.old }
+    requires shortest { AreShortestFrom work.old trip.now }
+    ensures work { IsWork work.new }
+    ensures layers { AreLayersFrom trip.now layers.new }
+    ensures begun { IfSome result (λ s. IsBegunFrom work.new trip.now layers.new path.new s) }
+    ensures pruned { ArePrunedFrom work.new trip.now layers.new }
     ensures fewer { AreFewer layers.old layers.new }
-    ensures kept { AreShortest residual.new.flows prices.now surplus.new lack.new levels.now (slice_index levels.now from) }
-    ensures along { IsSentAlong prices.now residual.old residual.new surplus.old lack.old surplus.new lack.new }
-    ensures few { steps.new + left_to_do levels.now residual.new.flows surplus.new lack.new ≤ steps.old + left_to_do levels.now residual.old.flows surplus.old lack.old }
-    ensures done { IsNone result → has (layer_at layers.new (slice_index levels.now from)) from ≡ true → slice_index surplus.new from ≡ 0 }
-    ensures sent { IsSome result → sum surplus.new < sum surplus.old }
-    ensures shortest { IsSome result → NoneIsShorter residual.old.flows prices.now surplus.old lack.old (slice_index levels.now from) }
-    ensures fresh { AreLevels residual.old.flows prices.now lack.old levels.now → AreWholeLayers levels.now layers.old (slice_index levels.now from + 1) → 0 < slice_index surplus.old from → IsSome result }
+    ensures kept { AreShortestFrom work.new trip.now }
+    ensures along { IsSentIn trip.now.labels.now work.old work.new }
+    ensures few { steps.new + still_to_do trip.now.labels.now work.new ≤ steps.old + still_to_do trip.now.labels.now work.old }
+    ensures done { IsNone result → has (layer_at layers.new (top_of trip.now)) trip.now.from ≡ true → surplus_in work.new trip.now.from ≡ 0 }
+    ensures sent { IsSome result → sum work.new.balance.surplus.items < sum work.old.balance.surplus.items }
+    ensures shortest { IsSome result → NoneIsShorterIn work.old trip.now.labels.now (top_of trip.now) }
+    ensures fresh { AreLevelsIn work.old trip.now.labels.now → AreWholeFrom trip.now layers.old → 0 < surplus_in work.old trip.now.from → IsSome result }
 {
-    let _members = residual.members();
-    if surplus[from as usize] == 0 {
+    let _members = work.residual.members();
+    let from = trip.from;
+    if work.balance.surplus_of(from) == 0 {
         return None;
     }
-    let Some(end) = walk(
-        residual, neighbours, groups, prices, levels, lack, layers, path, from, stand,
-    ) else {
+    let Some(end) = walk(work, layers, path, trip) else {
         return None;
     };
-    let arcs = &path[..levels[from as usize] as usize];
-    let most = surplus[from as usize].min(lack[end as usize]);
-    let found = bottleneck_of(residual, arcs, most);
-    let filled = push_noting(residual, neighbours, arcs, found, steps);
-    surplus[from as usize] -= found.amount;
-    lack[end as usize] -= found.amount;
-    Some(Stand::behind(residual, arcs, filled, end))
+    let arcs = &path[..trip.labels.levels[from as usize] as usize];
+    let most = work.balance.between(from, end);
+    let found = bottleneck_of(&work.residual, arcs, most);
+    let filled = push_noting(&mut work.residual, &mut work.neighbours, arcs, found, steps);
+    work.balance.take_off(from, end, found.amount);
+    Some(Stand::behind(&work.residual, arcs, filled, end))
 }
 
 /// Sends from a member along paths until there is none, or nothing is left.
 fn send_all<L: Ledger>(
-    residual: &mut Residual,
-    neighbours: &mut Neighbours,
-    groups: &[MemberSet],
-    prices: &[u16],
-    levels: &[u16],
-    surplus: &mut [u64],
-    lack: &mut [u64],
+    work: &mut Work,
     layers: &mut [MemberSet],
     path: &mut [u32],
-    from: u16,
+    trip: &Trip<'_>,
     steps: &mut Steps<L>,
 )
-    requires neighbours { AreNeighbours residual.old neighbours.old }
-    requires groups { length groups.now ≡ residual.old.members + 3 }
-    requires sorted { AreGroups prices.now groups.now }
-    requires low { (v : ℕ) → slice_index prices.now v ≤ residual.old.members }
-    requires prices { residual.old.members ≡ length prices.now }
-    requires levels { residual.old.members ≡ length levels.now }
-    requires surplus { residual.old.members ≡ length surplus.old }
-    requires lack { residual.old.members ≡ length lack.old }
-    requires layers { AreLayers levels.now layers.old (slice_index levels.now from + 1) }
-    requires top { slice_index levels.now from ≤ residual.old.members }
-    requires room { residual.old.members < length layers.old }
-    requires path { residual.old.members ≤ length path.old }
-    requires shortest { AreShortest residual.old.flows prices.now surplus.old lack.old levels.now (slice_index levels.now from) }
-    requires from { from < residual.old.members }
-    requires pruned { ArePruned residual.old.flows prices.now lack.old levels.now layers.old (slice_index levels.now from + 1) }
-    ensures neighbours { AreNeighbours residual.new neighbours.new }
-    ensures layers { AreLayers levels.now layers.new (slice_index levels.now from + 1) }
-    ensures pruned { ArePruned residual.new.flows prices.now lack.new levels.now layers.new (slice_index levels.now from + 1) }
+    requires trip { CanGo work.old trip.now layers.old path.old }
+    requires shortest { AreShortestFrom work.old trip.now }
+    ensures work { IsWork work.new }
+    ensures layers { AreLayersFrom trip.now layers.new }
+    ensures pruned { ArePrunedFrom work.new trip.now layers.new }
     ensures fewer { AreFewer layers.old layers.new }
-    ensures kept { AreShortest residual.new.flows prices.now surplus.new lack.new levels.now (slice_index levels.now from) }
-    ensures along { IsSentAlong prices.now residual.old residual.new surplus.old lack.old surplus.new lack.new }
-    ensures few { steps.new + left_to_do levels.now residual.new.flows surplus.new lack.new ≤ steps.old + left_to_do levels.now residual.old.flows surplus.old lack.old }
-    ensures done { has (layer_at layers.new (slice_index levels.now from)) from ≡ true → slice_index surplus.new from ≡ 0 }
+    ensures kept { AreShortestFrom work.new trip.now }
+    ensures along { IsSentIn trip.now.labels.now work.old work.new }
+    ensures few { steps.new + still_to_do trip.now.labels.now work.new ≤ steps.old + still_to_do trip.now.labels.now work.old }
+    ensures done { has (layer_at layers.new (top_of trip.now)) trip.now.from ≡ true → surplus_in work.new trip.now.from ≡ 0 }
 {
-    let mut stand = Stand {
-        done: 0,
-        here: from,
-    };
+    let mut stand = trip.stand;
     'paths: while let Some(behind) = send_once(
-        residual, neighbours, groups, prices, levels, surplus, lack, layers, path, from, stand,
+        work,
+        layers,
+        path,
+        &Trip { stand, ..*trip },
         steps,
     ) {
         stand = behind;

@@ -10,8 +10,9 @@ ghost use Rattle.path_solver.specs.Phases.{IsPricedAnew};
 ghost use Rattle.path_solver.specs.Counts.{most_steps, phase_steps};
 ghost use Rattle.units_core.specs.declared.limits.TheConstants.{MOST_GROSS};
 
+use crate::balance::Balance;
 use crate::lowest::lower_all;
-use crate::settle::{all_of, settle};
+use crate::settle::{Settled, settle};
 use net_positions::gross;
 use network_laws::{Limits, Network, Solution, Solver};
 use residual_graph::{Residual, Steps};
@@ -90,10 +91,10 @@ fn solution_of<L: Ledger>(
 {
     let _members = network.members();
     let before = gross(network);
-    let mut residual = Residual::of(alloc, limits, network, before + 1)?;
-    let prices = find_prices(alloc, &mut residual, steps)?;
-    let found = residual.network()?;
-    let potentials = potentials_of(alloc, &prices)?;
+    let residual = Residual::of(alloc, limits, network, before + 1)?;
+    let settled = find_prices(alloc, residual, steps)?;
+    let found = settled.residual.network()?;
+    let potentials = potentials_of(alloc, &settled.prices)?;
     if gross(&found) < before {
         Ok(Solution::new(found, potentials))
     } else {
@@ -101,22 +102,21 @@ fn solution_of<L: Ledger>(
     }
 }
 
-/// Moves amounts until prices fit them, from the lower bounds on, and answers the prices.
+/// Moves amounts until prices fit them, from the lower bounds on.
 fn find_prices<L: Ledger>(
     alloc: Global,
-    residual: &mut Residual,
+    residual: Residual,
     steps: &mut Steps<L>,
-) -> Result<Vec<u16>, AllocError>
-    requires { total (flow_rows residual.old.flows) ≤ MOST_GROSS }
-    ensures priced { IfOk result (λ prices. IsPricedAnew residual.old residual.new prices.items) }
-    ensures counted { steps.new ≤ steps.old + (residual.old.members + 2) * phase_steps residual.old }
+) -> Result<Settled, AllocError>
+    requires { total (flow_rows residual.flows) ≤ MOST_GROSS }
+    ensures priced { IfOk result (λ settled. IsPricedAnew residual settled.residual settled.prices.items) }
+    ensures counted { steps.new ≤ steps.old + (residual.members + 2) * phase_steps residual }
 {
-    let members = residual.members();
-    let mut surplus = all_of(alloc, members, 0u64)?;
-    let mut lack = all_of(alloc, members, 0u64)?;
-    lower_all(residual, &mut surplus, &mut lack, steps);
-    let prices = settle(alloc, residual, &mut surplus, &mut lack, steps)?;
-    Ok(prices)
+    let mut residual = residual;
+    let mut balance = Balance::even(alloc, residual.members())?;
+    lower_all(&mut residual, &mut balance, steps);
+    let settled = settle(alloc, residual, balance, steps)?;
+    Ok(settled)
 }
 
 /// The prices as potentials.

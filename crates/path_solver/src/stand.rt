@@ -3,6 +3,7 @@
 ghost use Rattle.std.specs.Prelude.{◌≡◌, ◌<◌, nat_lt, if◌then◌else◌, All, slice_index, length};
 ghost use Rattle.residual_graph.specs.Arcs.{arc_count, tail};
 
+use crate::labels::Labels;
 use residual_graph::Residual;
 
 /// How many arcs of its path a walk has behind it, and the member to which they lead.
@@ -12,7 +13,26 @@ pub struct Stand {
     pub here: u16,
 }
 
+/// A walk from a member, over which prices and levels it goes, and where it stands.
+#[derive(Clone, Copy)]
+pub struct Trip<'a> {
+    pub labels: &'a Labels<'a>,
+    pub from: u16,
+    pub stand: Stand,
+}
+
 impl Stand {
+    /// At the start of a walk.
+    pub fn at(start: u16) -> Stand
+        ensures done { result.done ≡ 0 }
+        ensures here { result.here ≡ start }
+    {
+        Stand {
+            done: 0,
+            here: start,
+        }
+    }
+
     /// Behind so many arcs of a path that leads to `end`.
     pub fn behind(residual: &Residual, path: &[u32], done: usize, end: u16) -> Stand
         requires { All (λ a. a < arc_count residual.now.flows) path.now }

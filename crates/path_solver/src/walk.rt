@@ -1,69 +1,42 @@
 //! Down the levels of a search, back where there is no way on.
 
 ghost use Rattle.std.specs.Prelude.{◌≡◌, ◌+◌, ℕ, ◌<◌, ◌≤◌, length, false, slice_index, take, IfSome, IsNone, IsSome};
-ghost use Rattle.path_solver.specs.Groups.{AreGroups};
-ghost use Rattle.path_solver.specs.Neighbours.{AreNeighbours};
-ghost use Rattle.path_solver.specs.Levels.{layer_at, AreLevels, AreLayers, AreWholeLayers};
-ghost use Rattle.path_solver.specs.Paths.{IsPathDown};
-ghost use Rattle.path_solver.specs.Pruned.{ArePruned, AreFewer};
-ghost use Rattle.path_solver.specs.Trails.{IsTrail, IsBegun};
+ghost use Rattle.path_solver.specs.Labels.{CanGo, AreLevelsIn, top_of, AreLayersFrom, AreWholeFrom, ArePrunedFrom, IsPathDownFrom};
+ghost use Rattle.path_solver.specs.Levels.{layer_at};
+ghost use Rattle.path_solver.specs.Pruned.{AreFewer};
+ghost use Rattle.path_solver.specs.Trails.{IsTrail};
 ghost use Rattle.member_set.specs.Members.{has};
 
-use crate::neighbours::Neighbours;
-use crate::stand::Stand;
+use crate::stand::Trip;
+use crate::work::Work;
 use member_set::MemberSet;
-use residual_graph::Residual;
 
 /// From a member down the levels along open arcs to one that has to receive, on from where a walk stands. The path has
 /// as many arcs as the member's level tells. A member from which there is no way on is taken out of its layer: no later
 /// walk comes there again. Where nobody is left in a layer there is no way from those above it, which are emptied then.
 /// The first walk over new levels always finds a way.
-pub fn walk(
-    residual: &Residual,
-    neighbours: &Neighbours,
-    groups: &[MemberSet],
-    prices: &[u16],
-    levels: &[u16],
-    lack: &[u64],
-    layers: &mut [MemberSet],
-    path: &mut [u32],
-    from: u16,
-    stand: Stand,
-) -> Option<u16>
-    requires neighbours { AreNeighbours residual.now neighbours.now }
-    requires groups { length groups.now ≡ residual.now.members + 3 }
-    requires sorted { AreGroups prices.now groups.now }
-    requires low { (v : ℕ) → slice_index prices.now v ≤ residual.now.members }
-    requires prices { residual.now.members ≡ length prices.now }
-    requires levels { residual.now.members ≡ length levels.now }
-    requires lack { residual.now.members ≡ length lack.now }
-    requires layers { AreLayers levels.now layers.old (slice_index levels.now from + 1) }
-    requires top { slice_index levels.now from ≤ residual.now.members }
-    requires room { residual.now.members < length layers.old }
-    requires path { residual.now.members ≤ length path.old }
-    requires from { from < residual.now.members }
-    requires pruned { ArePruned residual.now.flows prices.now lack.now levels.now layers.old (slice_index levels.now from + 1) }
-    requires begun { IsBegun residual.now prices.now levels.now layers.old path.old from stand }
-    ensures path { IfSome result (λ end. IsPathDown residual.now.flows prices.now levels.now lack.now from end (take (slice_index levels.now from) path.new)) }
-    ensures trail { IfSome result (λ end. IsTrail residual.now prices.now levels.now layers.new path.new 0 (slice_index levels.now from) end from) }
-    ensures layers { AreLayers levels.now layers.new (slice_index levels.now from + 1) }
-    ensures pruned { ArePruned residual.now.flows prices.now lack.now levels.now layers.new (slice_index levels.now from + 1) }
+pub fn walk(work: &Work, layers: &mut [MemberSet], path: &mut [u32], trip: &Trip<'_>) -> Option<u16>
+    requires trip { CanGo work.now trip.now layers.old path.old }
+    ensures path { IfSome result (λ end. IsPathDownFrom work.now trip.now end (take (top_of trip.now) path.new)) }
+    ensures trail { IfSome result (λ end. IsTrail work.now.residual trip.now.labels.now.prices.now trip.now.labels.now.levels.now layers.new path.new 0 (top_of trip.now) end trip.now.from) }
+    ensures layers { AreLayersFrom trip.now layers.new }
+    ensures pruned { ArePrunedFrom work.now trip.now layers.new }
     ensures fewer { AreFewer layers.old layers.new }
-    ensures gone { IsNone result → has (layer_at layers.new (slice_index levels.now from)) from ≡ false }
-    ensures fresh { AreLevels residual.now.flows prices.now lack.now levels.now → AreWholeLayers levels.now layers.old (slice_index levels.now from + 1) → IsSome result }
+    ensures gone { IsNone result → has (layer_at layers.new (top_of trip.now)) trip.now.from ≡ false }
+    ensures fresh { AreLevelsIn work.now trip.now.labels.now → AreWholeFrom trip.now layers.old → IsSome result }
 {
-    let _members = residual.members();
-    let top = levels[from as usize] as usize;
-    let mut level = top - stand.done;
-    let mut here = stand.here;
+    let _members = work.residual.members();
+    let top = trip.labels.levels[trip.from as usize] as usize;
+    let mut level = top - trip.stand.done;
+    let mut here = trip.stand.here;
     'steps: loop {
         if level == 0 {
-            if lack[here as usize] > 0 {
+            if work.balance.lack_of(here) > 0 {
                 return Some(here);
             }
-        } else if let Some(exit) = neighbours.way_into(
-            groups,
-            prices[here as usize],
+        } else if let Some(exit) = work.neighbours.way_into(
+            trip.labels.groups,
+            trip.labels.prices[here as usize],
             here,
             &layers[level - 1],
         ) {
@@ -81,7 +54,7 @@ pub fn walk(
             return None;
         }
         level += 1;
-        here = residual.tail(path[top - level]);
+        here = work.residual.tail(path[top - level]);
     }
 }
 

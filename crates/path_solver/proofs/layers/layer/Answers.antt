@@ -1,12 +1,13 @@
 use Rattle.std.proofs.Common.{◌≡◌, ◌+◌, get_or, set, sym, ◌∙◌, subst, arith, true≢false}
+use Rattle.path_solver.specs.Entries.{AreEntries}
 use Rattle.path_solver.specs.Levels.{AreLayers, AreWholeLayers}
 use Rattle.std.proofs.lemmas.Bool.{and_from, and_parts}
 use Rattle.member_set.specs.Members.{has}
 use Rattle.path_solver.proofs.Spreads.{few_levels, spread_found, shortest_found, spread_more, spread_cut, layers_more, whole_more}
 use Rattle.path_solver.proofs.layers.layer.Goals as goal
 
-pub loop-now-init : goal.loop-now-init
-loop-now-init c = record {
+pub spreads-init : goal.spreads-init
+spreads-init c = record {
   spread = c.requires.spread;
   layers = c.requires.layered;
   whole = c.requires.whole;
@@ -15,92 +16,92 @@ loop-now-init c = record {
 pub returns-in-Some-clause-layered : goal.returns-in-Some-clause-layered
 returns-in-Some-clause-layered c =
     let met = c.in-Some.ensures.member in
-    let both = and_parts (has c.loop-now.now c.in-Some.source) (has c.args.senders.now c.in-Some.source) (sym (c.and-met.ensures c.in-Some.source) ∙ met) in
-    spread_found c.args.residual.now c.args.prices.now c.args.surplus.now c.args.lack.now c.loop-now.levels c.mark.new.levels c.loop-now.level c.loop-now.now c.loop-now.seen c.members-members.ensures.residual c.loop-now.invariant.spread
-    c.and-met.result (λ v on. (and_parts (has c.loop-now.now v) (has c.args.senders.now v) (sym (c.and-met.ensures v) ∙ on)).0)
+    let both = and_parts (has c.spreads.now c.in-Some.source) (has c.args.aim.now.senders.now c.in-Some.source) (sym (c.and-met.ensures c.in-Some.source) ∙ met) in
+    spread_found c.args.work.now.residual c.args.aim.now.prices.now c.args.work.now.balance.surplus.items c.args.work.now.balance.lack.items c.spreads.levels c.mark.new.levels c.spreads.level c.spreads.now c.spreads.seen c.members-members.ensures.residual c.spreads.invariant.spread
+    c.and-met.result (λ v on. (and_parts (has c.spreads.now v) (has c.args.aim.now.senders.now v) (sym (c.and-met.ensures v) ∙ on)).0)
     c.mark.auto.levels c.mark.ensures.marked c.mark.ensures.others c.in-Some.source met ((c.requires.senders c.in-Some.source).0 both.1)
 
 pub returns-in-Some-clause-shortest : goal.returns-in-Some-clause-shortest
 returns-in-Some-clause-shortest c =
-    shortest_found c.args.residual.now c.args.prices.now c.args.surplus.now c.args.lack.now c.loop-now.levels c.mark.new.levels c.loop-now.level c.loop-now.now c.loop-now.seen c.members-members.ensures.residual c.loop-now.invariant.spread
-    c.and-met.result (λ v on. (and_parts (has c.loop-now.now v) (has c.args.senders.now v) (sym (c.and-met.ensures v) ∙ on)).0)
+    shortest_found c.args.work.now.residual c.args.aim.now.prices.now c.args.work.now.balance.surplus.items c.args.work.now.balance.lack.items c.spreads.levels c.mark.new.levels c.spreads.level c.spreads.now c.spreads.seen c.members-members.ensures.residual c.spreads.invariant.spread
+    c.and-met.result (λ v on. (and_parts (has c.spreads.now v) (has c.args.aim.now.senders.now v) (sym (c.and-met.ensures v) ∙ on)).0)
     c.mark.auto.levels c.mark.ensures.marked c.mark.ensures.others
-    (λ v on sends. c.and-met.ensures v ∙ and_from (has c.loop-now.now v) (has c.args.senders.now v) on ((c.requires.senders v).1 sends))
-    c.in-Some.source c.in-Some.ensures.member (sym c.requires.surplus) (sym c.requires.lack)
+    (λ v on sends. c.and-met.ensures v ∙ and_from (has c.spreads.now v) (has c.args.aim.now.senders.now v) on ((c.requires.senders v).1 sends))
+    c.in-Some.source c.in-Some.ensures.member (sym c.requires.work.surplus) (sym c.requires.work.lack)
 
 pub overflow_add-level : goal.overflow_add-level
 overflow_add-level c =
-    let few = few_levels c.args.residual.now c.args.prices.now c.args.surplus.now c.args.lack.now c.loop-now.levels c.loop-now.levels c.loop-now.level c.loop-now.now c.loop-now.seen c.members-members.ensures.residual c.loop-now.invariant.spread in
+    let few = few_levels c.args.work.now.residual c.args.aim.now.prices.now c.args.work.now.balance.surplus.items c.args.work.now.balance.lack.items c.spreads.levels c.spreads.levels c.spreads.level c.spreads.now c.spreads.seen c.members-members.ensures.residual c.spreads.invariant.spread in
     omega (arith, few, c.members-members.ensures.residual.few)
 
-pub loop-now-smaller : goal.loop-now-smaller
-loop-now-smaller c =
-    let few = few_levels c.args.residual.now c.args.prices.now c.args.surplus.now c.args.lack.now c.loop-now.levels c.loop-now.levels c.loop-now.level c.loop-now.now c.loop-now.seen c.members-members.ensures.residual c.loop-now.invariant.spread in
+pub spreads-smaller : goal.spreads-smaller
+spreads-smaller c =
+    let few = few_levels c.args.work.now.residual c.args.aim.now.prices.now c.args.work.now.balance.surplus.items c.args.work.now.balance.lack.items c.spreads.levels c.spreads.levels c.spreads.level c.spreads.now c.spreads.seen c.members-members.ensures.residual c.spreads.invariant.spread in
     omega (arith, few)
 
-pub loop-now-preserved : goal.loop-now-preserved
-loop-now-preserved c =
-    let inv = c.loop-now.invariant.spread in
-    let one = c.is_empty.ensures.some c.loop-now-test.true in
-    let spread = spread_more c.args.residual.now c.args.prices.now c.args.surplus.now c.args.lack.now c.loop-now.levels c.visit-near.new.levels c.loop-now.level c.loop-now.now c.loop-now.seen c.members-members.ensures.residual inv
-    c.args.entries.now c.args.groups.now c.visit-near.result c.without-now.result c.or-seen.result c.requires.entries c.requires.sorted c.requires.prices
+pub spreads-preserved : goal.spreads-preserved
+spreads-preserved c =
+    let inv = c.spreads.invariant.spread in
+    let one = c.is_empty.ensures.some c.spreads-test.true in
+    let spread = spread_more c.args.work.now.residual c.args.aim.now.prices.now c.args.work.now.balance.surplus.items c.args.work.now.balance.lack.items c.spreads.levels c.visit-near.new.levels c.spreads.level c.spreads.now c.spreads.seen c.members-members.ensures.residual inv
+    c.deref-entries.result.now c.args.aim.now.groups.now c.visit-near.result c.without-now.result c.or-seen.result (subst (AreEntries c.args.work.now.residual) (sym c.deref-entries.ensures.value) c.requires.work.neighbours.entries) c.requires.sorted c.requires.prices
     (λ v. omega (arith, c.requires.low v, c.requires.groups)) c.visit-near.auto.levels c.visit-near.ensures.marked c.visit-near.ensures.others one.0 one.1
-    (λ v on sends. true≢false (sym (c.and-met.ensures v ∙ and_from (has c.loop-now.now v) (has c.args.senders.now v) on ((c.requires.senders v).1 sends)) ∙ c.is_empty-in-loop-now.ensures.none.0 c.if-not-is_empty.false v))
+    (λ v on sends. true≢false (sym (c.and-met.ensures v ∙ and_from (has c.spreads.now v) (has c.args.aim.now.senders.now v) on ((c.requires.senders v).1 sends)) ∙ c.is_empty-in-spreads.ensures.none.0 c.if-not-is_empty.false v))
     c.visit-near.ensures.near c.visit-near.ensures.all c.or-seen.ensures c.without-now.ensures in
     record {
       spread = spread;
-      layers = layers_more c.args.residual.now c.args.prices.now c.args.surplus.now c.args.lack.now c.loop-now.levels c.visit-near.new.levels c.loop-now.level c.loop-now.now c.loop-now.seen c.members-members.ensures.residual inv
-          c.loop-now.now (λ v on. on) c.visit-near.auto.levels c.visit-near.ensures.marked c.visit-near.ensures.others c.loop-now.layers (omega (arith, few_levels c.args.residual.now c.args.prices.now c.args.surplus.now c.args.lack.now c.loop-now.levels c.loop-now.levels c.loop-now.level c.loop-now.now c.loop-now.seen c.members-members.ensures.residual inv, c.requires.layers, c.loop-now.auto.layers)) c.loop-now.invariant.layers;
-      whole = whole_more c.args.residual.now c.args.prices.now c.args.surplus.now c.args.lack.now c.loop-now.levels c.visit-near.new.levels c.loop-now.level c.loop-now.now c.loop-now.seen c.members-members.ensures.residual inv
-          c.loop-now.now (λ v on. on) c.visit-near.auto.levels c.visit-near.ensures.marked c.visit-near.ensures.others c.loop-now.layers (omega (arith, few_levels c.args.residual.now c.args.prices.now c.args.surplus.now c.args.lack.now c.loop-now.levels c.loop-now.levels c.loop-now.level c.loop-now.now c.loop-now.seen c.members-members.ensures.residual inv, c.requires.layers, c.loop-now.auto.layers)) c.loop-now.invariant.whole;
+      layers = layers_more c.args.work.now.residual c.args.aim.now.prices.now c.args.work.now.balance.surplus.items c.args.work.now.balance.lack.items c.spreads.levels c.visit-near.new.levels c.spreads.level c.spreads.now c.spreads.seen c.members-members.ensures.residual inv
+          c.spreads.now (λ v on. on) c.visit-near.auto.levels c.visit-near.ensures.marked c.visit-near.ensures.others c.spreads.layers (omega (arith, few_levels c.args.work.now.residual c.args.aim.now.prices.now c.args.work.now.balance.surplus.items c.args.work.now.balance.lack.items c.spreads.levels c.spreads.levels c.spreads.level c.spreads.now c.spreads.seen c.members-members.ensures.residual inv, c.requires.layers, c.spreads.auto.layers)) c.spreads.invariant.layers;
+      whole = whole_more c.args.work.now.residual c.args.aim.now.prices.now c.args.work.now.balance.surplus.items c.args.work.now.balance.lack.items c.spreads.levels c.visit-near.new.levels c.spreads.level c.spreads.now c.spreads.seen c.members-members.ensures.residual inv
+          c.spreads.now (λ v on. on) c.visit-near.auto.levels c.visit-near.ensures.marked c.visit-near.ensures.others c.spreads.layers (omega (arith, few_levels c.args.work.now.residual c.args.aim.now.prices.now c.args.work.now.balance.surplus.items c.args.work.now.balance.lack.items c.spreads.levels c.spreads.levels c.spreads.level c.spreads.now c.spreads.seen c.members-members.ensures.residual inv, c.requires.layers, c.spreads.auto.layers)) c.spreads.invariant.whole;
     }
 
 pub returns-clause-layered : goal.returns-clause-layered
 returns-clause-layered c =
-    spread_cut c.args.residual.now c.args.prices.now c.args.surplus.now c.args.lack.now c.loop-now.levels c.loop-now.levels c.loop-now.level c.loop-now.now c.loop-now.seen c.members-members.ensures.residual c.loop-now.invariant.spread
-    (sym c.requires.lack) (c.is_empty.ensures.none.0 c.loop-now-test.false)
+    spread_cut c.args.work.now.residual c.args.aim.now.prices.now c.args.work.now.balance.surplus.items c.args.work.now.balance.lack.items c.spreads.levels c.spreads.levels c.spreads.level c.spreads.now c.spreads.seen c.members-members.ensures.residual c.spreads.invariant.spread
+    (sym c.requires.work.lack) (c.is_empty.ensures.none.0 c.spreads-test.false)
 
 pub returns-clause-reached : goal.returns-clause-reached
-returns-clause-reached c none = c.loop-now.invariant.spread.known
+returns-clause-reached c none = c.spreads.invariant.spread.known
 
 pub returns-clause-spread : goal.returns-clause-spread
-returns-clause-spread c none = c.loop-now.invariant.spread
+returns-clause-spread c none = c.spreads.invariant.spread
 
 pub returns-clause-passed : goal.returns-clause-passed
-returns-clause-passed c none = c.loop-now.invariant.layers
+returns-clause-passed c none = c.spreads.invariant.layers
 
 pub returns-clause-all_passed : goal.returns-clause-all_passed
-returns-clause-all_passed c none = c.loop-now.invariant.whole
+returns-clause-all_passed c none = c.spreads.invariant.whole
 
 pub returns-in-Some-clause-layers : goal.returns-in-Some-clause-layers
 returns-in-Some-clause-layers c =
-    let at : get_or c.mark.new.levels c.in-Some.source 0 ≡ c.loop-now.level = c.mark.ensures.marked c.in-Some.source c.in-Some.ensures.member in
-    let few = few_levels c.args.residual.now c.args.prices.now c.args.surplus.now c.args.lack.now c.loop-now.levels c.mark.new.levels c.loop-now.level c.loop-now.now c.loop-now.seen c.members-members.ensures.residual c.loop-now.invariant.spread in
-    subst (λ n. AreLayers c.mark.new.levels (set c.loop-now.layers c.loop-now.level c.and-met.result) (n + 1)) (sym at)
-    (layers_more c.args.residual.now c.args.prices.now c.args.surplus.now c.args.lack.now c.loop-now.levels c.mark.new.levels c.loop-now.level c.loop-now.now c.loop-now.seen c.members-members.ensures.residual c.loop-now.invariant.spread
-    c.and-met.result (λ v on. (and_parts (has c.loop-now.now v) (has c.args.senders.now v) (sym (c.and-met.ensures v) ∙ on)).0)
-    c.mark.auto.levels c.mark.ensures.marked c.mark.ensures.others c.loop-now.layers (omega (arith, few, c.requires.layers, c.loop-now.auto.layers)) c.loop-now.invariant.layers)
+    let at : get_or c.mark.new.levels c.in-Some.source 0 ≡ c.spreads.level = c.mark.ensures.marked c.in-Some.source c.in-Some.ensures.member in
+    let few = few_levels c.args.work.now.residual c.args.aim.now.prices.now c.args.work.now.balance.surplus.items c.args.work.now.balance.lack.items c.spreads.levels c.mark.new.levels c.spreads.level c.spreads.now c.spreads.seen c.members-members.ensures.residual c.spreads.invariant.spread in
+    subst (λ n. AreLayers c.mark.new.levels (set c.spreads.layers c.spreads.level c.and-met.result) (n + 1)) (sym at)
+    (layers_more c.args.work.now.residual c.args.aim.now.prices.now c.args.work.now.balance.surplus.items c.args.work.now.balance.lack.items c.spreads.levels c.mark.new.levels c.spreads.level c.spreads.now c.spreads.seen c.members-members.ensures.residual c.spreads.invariant.spread
+    c.and-met.result (λ v on. (and_parts (has c.spreads.now v) (has c.args.aim.now.senders.now v) (sym (c.and-met.ensures v) ∙ on)).0)
+    c.mark.auto.levels c.mark.ensures.marked c.mark.ensures.others c.spreads.layers (omega (arith, few, c.requires.layers, c.spreads.auto.layers)) c.spreads.invariant.layers)
 
 pub returns-in-Some-clause-whole : goal.returns-in-Some-clause-whole
 returns-in-Some-clause-whole c =
-    let at : get_or c.mark.new.levels c.in-Some.source 0 ≡ c.loop-now.level = c.mark.ensures.marked c.in-Some.source c.in-Some.ensures.member in
-    let few = few_levels c.args.residual.now c.args.prices.now c.args.surplus.now c.args.lack.now c.loop-now.levels c.mark.new.levels c.loop-now.level c.loop-now.now c.loop-now.seen c.members-members.ensures.residual c.loop-now.invariant.spread in
-    subst (λ n. AreWholeLayers c.mark.new.levels (set c.loop-now.layers c.loop-now.level c.and-met.result) (n + 1)) (sym at)
-    (whole_more c.args.residual.now c.args.prices.now c.args.surplus.now c.args.lack.now c.loop-now.levels c.mark.new.levels c.loop-now.level c.loop-now.now c.loop-now.seen c.members-members.ensures.residual c.loop-now.invariant.spread
-    c.and-met.result (λ v on. (and_parts (has c.loop-now.now v) (has c.args.senders.now v) (sym (c.and-met.ensures v) ∙ on)).0)
-    c.mark.auto.levels c.mark.ensures.marked c.mark.ensures.others c.loop-now.layers (omega (arith, few, c.requires.layers, c.loop-now.auto.layers)) c.loop-now.invariant.whole)
+    let at : get_or c.mark.new.levels c.in-Some.source 0 ≡ c.spreads.level = c.mark.ensures.marked c.in-Some.source c.in-Some.ensures.member in
+    let few = few_levels c.args.work.now.residual c.args.aim.now.prices.now c.args.work.now.balance.surplus.items c.args.work.now.balance.lack.items c.spreads.levels c.mark.new.levels c.spreads.level c.spreads.now c.spreads.seen c.members-members.ensures.residual c.spreads.invariant.spread in
+    subst (λ n. AreWholeLayers c.mark.new.levels (set c.spreads.layers c.spreads.level c.and-met.result) (n + 1)) (sym at)
+    (whole_more c.args.work.now.residual c.args.aim.now.prices.now c.args.work.now.balance.surplus.items c.args.work.now.balance.lack.items c.spreads.levels c.mark.new.levels c.spreads.level c.spreads.now c.spreads.seen c.members-members.ensures.residual c.spreads.invariant.spread
+    c.and-met.result (λ v on. (and_parts (has c.spreads.now v) (has c.args.aim.now.senders.now v) (sym (c.and-met.ensures v) ∙ on)).0)
+    c.mark.auto.levels c.mark.ensures.marked c.mark.ensures.others c.spreads.layers (omega (arith, few, c.requires.layers, c.spreads.auto.layers)) c.spreads.invariant.whole)
 
 pub returns-in-Some-clause-low : goal.returns-in-Some-clause-low
 returns-in-Some-clause-low c =
-    let few = few_levels c.args.residual.now c.args.prices.now c.args.surplus.now c.args.lack.now c.loop-now.levels c.mark.new.levels c.loop-now.level c.loop-now.now c.loop-now.seen c.members-members.ensures.residual c.loop-now.invariant.spread in
+    let few = few_levels c.args.work.now.residual c.args.aim.now.prices.now c.args.work.now.balance.surplus.items c.args.work.now.balance.lack.items c.spreads.levels c.mark.new.levels c.spreads.level c.spreads.now c.spreads.seen c.members-members.ensures.residual c.spreads.invariant.spread in
     omega (arith, few, c.mark.ensures.marked c.in-Some.source c.in-Some.ensures.member)
 
 pub bounds-layers-level : goal.bounds-layers-level
 bounds-layers-level c =
-    let few = few_levels c.args.residual.now c.args.prices.now c.args.surplus.now c.args.lack.now c.loop-now.levels c.loop-now.levels c.loop-now.level c.loop-now.now c.loop-now.seen c.members-members.ensures.residual c.loop-now.invariant.spread in
-    omega (arith, few, c.requires.layers, c.loop-now.auto.layers)
+    let few = few_levels c.args.work.now.residual c.args.aim.now.prices.now c.args.work.now.balance.surplus.items c.args.work.now.balance.lack.items c.spreads.levels c.spreads.levels c.spreads.level c.spreads.now c.spreads.seen c.members-members.ensures.residual c.spreads.invariant.spread in
+    omega (arith, few, c.requires.layers, c.spreads.auto.layers)
 
-pub bounds-layers-level-in-loop-now : goal.bounds-layers-level-in-loop-now
-bounds-layers-level-in-loop-now c =
-    let few = few_levels c.args.residual.now c.args.prices.now c.args.surplus.now c.args.lack.now c.loop-now.levels c.loop-now.levels c.loop-now.level c.loop-now.now c.loop-now.seen c.members-members.ensures.residual c.loop-now.invariant.spread in
-    omega (arith, few, c.requires.layers, c.loop-now.auto.layers)
+pub bounds-layers-level-in-spreads : goal.bounds-layers-level-in-spreads
+bounds-layers-level-in-spreads c =
+    let few = few_levels c.args.work.now.residual c.args.aim.now.prices.now c.args.work.now.balance.surplus.items c.args.work.now.balance.lack.items c.spreads.levels c.spreads.levels c.spreads.level c.spreads.now c.spreads.seen c.members-members.ensures.residual c.spreads.invariant.spread in
+    omega (arith, few, c.requires.layers, c.spreads.auto.layers)

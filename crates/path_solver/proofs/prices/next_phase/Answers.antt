@@ -23,19 +23,19 @@ around-requires c v on =
 
 pub entered_from-entered-requires-clause-exits : goal.entered_from-entered-requires-clause-exits
 entered_from-entered-requires-clause-exits c v on =
-    let r = c.args.residual.now in
+    let r = c.args.work.now.residual in
     let both = and_parts (has c.around.result v) (not (has c.args.search.now.seen v)) (sym (c.without-others.ensures v) ∙ on) in
     let near = c.around.ensures.near v both.0 in
     let entry = ap (λ (es : List Entry). is_entry es near.0 v) (sym c.deref.ensures.value) ∙ near.2 in
-    let l = entry_in r c.args.neighbours.now.entries.items near.0 v c.members-members.ensures.residual c.requires.neighbours.entries ((c.requires.spread.known near.0).0 near.1).0 entry in
-    omega (arith, l, ap length c.deref-in-raises.ensures.value, c.requires.neighbours.exits.one_each)
+    let l = entry_in r c.args.work.now.neighbours.entries.items near.0 v c.members-members.ensures.residual c.requires.work.neighbours.entries ((c.requires.spread.known near.0).0 near.1).0 entry in
+    omega (arith, l, ap length c.deref-in-raises.ensures.value, c.requires.work.neighbours.exits.one_each)
 
 pub entered_from-entered-requires-clause-low : goal.entered_from-entered-requires-clause-low
 entered_from-entered-requires-clause-low c v =
-    let r = c.args.residual.now in
+    let r = c.args.work.now.residual in
     let rising = c.raises.invariant in
-    let cut = cut_raised r.flows c.args.prices.now c.raises.prices c.args.surplus.now c.args.lack.now c.args.levels.now c.raises.entered c.requires.cut rising.entered (c.is_empty.ensures.none.0 c.raises-test.true) in
-    let all = raised_phase r r c.args.surplus.now c.args.lack.now c.args.surplus.now c.args.lack.now c.raises.prices c.raise.new.prices c.args.levels.now c.raises.top c.requires.sends.0 c.members-members.ensures.residual c.requires.feasible (c.raises.auto.prices ∙ sym c.requires.prices) c.raise.auto.prices c.requires.spread.one_each (sym c.requires.surplus) c.requires.sends.1 rising.phase cut c.raise.ensures.raised in
+    let cut = cut_raised r.flows c.args.prices.now c.raises.prices c.args.work.now.balance.surplus.items c.args.work.now.balance.lack.items c.args.levels.now c.raises.entered c.requires.cut rising.entered (c.is_empty.ensures.none.0 c.raises-test.true) in
+    let all = raised_phase r r c.args.work.now.balance.surplus.items c.args.work.now.balance.lack.items c.args.work.now.balance.surplus.items c.args.work.now.balance.lack.items c.raises.prices c.raise.new.prices c.args.levels.now c.raises.top c.requires.sends.0 c.members-members.ensures.residual c.requires.feasible (c.raises.auto.prices ∙ sym c.requires.prices) c.raise.auto.prices c.requires.spread.one_each (sym c.requires.work.surplus) c.requires.sends.1 rising.phase cut c.raise.ensures.raised in
     omega (arith, all.1.rated.most v, all.1.few, c.raise.auto.groups, c.raises.auto.groups, c.requires.groups)
 
 pub raises-init : goal.raises-init
@@ -51,12 +51,12 @@ raises-init c = record {
 
 pub raises-preserved : goal.raises-preserved
 raises-preserved c =
-    let r = c.args.residual.now in
+    let r = c.args.work.now.residual in
     let rising = c.raises.invariant in
-    let len : length c.raises.prices ≡ c.args.residual.now.members = c.raises.auto.prices ∙ sym c.requires.prices in
-    let cut = cut_raised r.flows c.args.prices.now c.raises.prices c.args.surplus.now c.args.lack.now c.args.levels.now c.raises.entered c.requires.cut rising.entered (c.is_empty.ensures.none.0 c.raises-test.true) in
-    let all = raised_phase r r c.args.surplus.now c.args.lack.now c.args.surplus.now c.args.lack.now c.raises.prices c.raise.new.prices c.args.levels.now c.raises.top c.requires.sends.0 c.members-members.ensures.residual c.requires.feasible len c.raise.auto.prices c.requires.spread.one_each (sym c.requires.surplus) c.requires.sends.1 rising.phase cut c.raise.ensures.raised in
-    let entered = all_entered r c.raise.new.prices c.args.levels.now c.args.neighbours.now c.raise.new.groups c.args.search.now.seen c.around.result c.without-others.result c.entered_from-entered.result c.members-members.ensures.residual c.requires.neighbours c.raise.ensures.sorted (sym (c.raise.auto.prices ∙ len))
+    let len : length c.raises.prices ≡ c.args.work.now.residual.members = c.raises.auto.prices ∙ sym c.requires.prices in
+    let cut = cut_raised r.flows c.args.prices.now c.raises.prices c.args.work.now.balance.surplus.items c.args.work.now.balance.lack.items c.args.levels.now c.raises.entered c.requires.cut rising.entered (c.is_empty.ensures.none.0 c.raises-test.true) in
+    let all = raised_phase r r c.args.work.now.balance.surplus.items c.args.work.now.balance.lack.items c.args.work.now.balance.surplus.items c.args.work.now.balance.lack.items c.raises.prices c.raise.new.prices c.args.levels.now c.raises.top c.requires.sends.0 c.members-members.ensures.residual c.requires.feasible len c.raise.auto.prices c.requires.spread.one_each (sym c.requires.work.surplus) c.requires.sends.1 rising.phase cut c.raise.ensures.raised in
+    let entered = all_entered r c.raise.new.prices c.args.levels.now c.args.work.now.neighbours c.raise.new.groups c.args.search.now.seen c.around.result c.without-others.result c.entered_from-entered.result c.members-members.ensures.residual c.requires.work.neighbours c.raise.ensures.sorted (sym (c.raise.auto.prices ∙ len))
     (λ v. omega (arith, all.1.rated.most v, all.1.few, c.raise.auto.groups, c.raises.auto.groups, c.requires.groups))
     c.requires.spread.known
     (λ h u on e. c.around.ensures.all h u on (ap (λ (es : List Entry). is_entry es h u) c.deref.ensures.value ∙ e))
@@ -85,7 +85,7 @@ go_back-requires-clause-below c v l is =
 
 pub go_back-requires-clause-room : goal.go_back-requires-clause-room
 go_back-requires-clause-room c =
-    let few = few_levels c.args.residual.now c.args.prices.now c.args.surplus.now c.args.lack.now c.args.levels.now c.args.levels.now c.args.search.now.level c.args.search.now.now c.args.search.now.seen c.members-members.ensures.residual c.requires.spread in
+    let few = few_levels c.args.work.now.residual c.args.prices.now c.args.work.now.balance.surplus.items c.args.work.now.balance.lack.items c.args.levels.now c.args.levels.now c.args.search.now.level c.args.search.now.now c.args.search.now.seen c.members-members.ensures.residual c.requires.spread in
     omega (arith, few, c.requires.layers)
 
 pub go_back-requires-clause-some : goal.go_back-requires-clause-some
@@ -98,9 +98,9 @@ returns-clause-later c =
 
 pub returns-clause-spread : goal.returns-clause-spread
 returns-clause-spread c =
-    let r = c.args.residual.now in
+    let r = c.args.work.now.residual in
     let rising = c.raises.invariant in
-    spread_back r c.args.prices.now c.raises.prices c.args.surplus.now c.args.lack.now c.args.levels.now c.go_back.new.levels c.args.search.now.level c.go_back.new.search.level c.args.search.now.now c.args.search.now.seen c.go_back.new.search.now c.go_back.new.search.seen c.args.layers.now c.members-members.ensures.residual c.requires.spread
+    spread_back r c.args.prices.now c.raises.prices c.args.work.now.balance.surplus.items c.args.work.now.balance.lack.items c.args.levels.now c.go_back.new.levels c.args.search.now.level c.go_back.new.search.level c.args.search.now.now c.args.search.now.seen c.go_back.new.search.now c.go_back.new.search.seen c.args.layers.now c.members-members.ensures.residual c.requires.spread
     rising.kept c.go_back.auto.levels c.go_back.ensures.cut_off c.go_back.ensures.lower c.requires.passed c.requires.whole c.go_back.ensures.now c.go_back.ensures.seen
     (λ a l is_open was e. c.go_back.ensures.entered (head r.flows a) (rising.entered a l is_open was e))
 
@@ -110,5 +110,5 @@ returns-clause-passed c =
 
 pub returns-clause-whole : goal.returns-clause-whole
 returns-clause-whole c =
-    let few = few_levels c.args.residual.now c.args.prices.now c.args.surplus.now c.args.lack.now c.args.levels.now c.args.levels.now c.args.search.now.level c.args.search.now.now c.args.search.now.seen c.members-members.ensures.residual c.requires.spread in
+    let few = few_levels c.args.work.now.residual c.args.prices.now c.args.work.now.balance.surplus.items c.args.work.now.balance.lack.items c.args.levels.now c.args.levels.now c.args.search.now.level c.args.search.now.now c.args.search.now.seen c.members-members.ensures.residual c.requires.spread in
     whole_back c.args.levels.now c.go_back.new.levels c.args.layers.now c.args.search.now.level c.go_back.new.search.level (omega (arith, few, c.members-members.ensures.residual.few, c.go_back.ensures.lower)) c.go_back.auto.levels c.go_back.ensures.cut_off c.go_back.ensures.lower c.requires.whole

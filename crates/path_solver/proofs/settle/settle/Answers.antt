@@ -5,12 +5,12 @@ use Rattle.path_solver.proofs.settle.settle.Goals as goal
 
 pub returns-then-is_empty-clause-settled : goal.returns-then-is_empty-clause-settled
 returns-then-is_empty-clause-settled g c =
-    let r = c.args.residual.now in
-    let s = c.args.surplus.now in
-    let l = c.args.lack.now in
+    let r = c.args.residual in
+    let s = c.args.balance.surplus.items in
+    let l = c.args.balance.lack.items in
     let p = c.in_ok-prices.prices.items in
-    let is : c.in_ok-prices.prices.items ≡ replicate c.args.residual.now.members 0 = c.in_ok-prices.ensures ∙ ap (λ n. replicate {A = ℕ} n 0) c.members-members.ensures.value in
+    let is : c.in_ok-prices.prices.items ≡ replicate c.args.residual.members 0 = c.in_ok-prices.ensures ∙ ap (λ n. replicate {A = ℕ} n 0) c.members-members.ensures.value in
     settled r r s l s l p 0 c.members-members.ensures.residual c.requires.feasible
-    (ap length is ∙ length-replicate {A = ℕ} c.args.residual.now.members 0)
-    (none_left s c.those_with.result c.those_with.ensures (c.is_empty.ensures.none.0 c.if-is_empty.true))
+    (ap length is ∙ length-replicate {A = ℕ} c.args.residual.members 0)
+    (none_left s c.senders.result c.senders.ensures (c.is_empty.ensures.none.0 c.if-is_empty.true))
     (phase_none r s l p is c.requires.lowest c.requires.apart)

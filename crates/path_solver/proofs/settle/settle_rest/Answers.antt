@@ -1,4 +1,4 @@
-use Rattle.std.proofs.Common.{◌+◌, ℕ, List, length, sym, ap, ◌∙◌, subst}
+use Rattle.std.proofs.Common.{arith, ◌+◌, ℕ, List, length, sym, ap, ◌∙◌, subst}
 use Rattle.std.proofs.lemmas.List.{with_items_is, length-replicate}
 use Rattle.member_set.specs.declared.set.MemberSet.{MemberSet}
 use Rattle.path_solver.specs.Groups.{AreGroups}
@@ -17,22 +17,19 @@ settle_phases-requires-clause-sorted g c =
     (subst (λ (xs : List ℕ). AreGroups xs c.sort_by_price.new.groups) (c.deref.ensures.value ∙ sym c.deref_mut-3.ensures.value) c.sort_by_price.ensures)
 
 pub settle_phases-requires-clause-levels : goal.settle_phases-requires-clause-levels
-settle_phases-requires-clause-levels g c =
-    sym (ap length c.deref_mut-4.ensures.value ∙ ap length c.in_ok-levels.ensures ∙ length-replicate {A = ℕ} c.members-members.result 65535 ∙ c.members-members.ensures.value)
+settle_phases-requires-clause-levels g c = omega (arith, c.in_ok-room.ensures.levels, c.members-members.ensures.value)
 
 pub settle_phases-requires-clause-layers : goal.settle_phases-requires-clause-layers
-settle_phases-requires-clause-layers g c =
-    sym (ap length c.deref_mut-5.ensures.value ∙ ap length c.in_ok-layers.ensures ∙ length-replicate {A = MemberSet} (c.members-members.result + 1) c.new-2.result ∙ ap (λ m. m + 1) c.members-members.ensures.value)
+settle_phases-requires-clause-layers g c = omega (arith, c.in_ok-room.ensures.layers, c.members-members.ensures.value)
 
 pub settle_phases-requires-clause-path : goal.settle_phases-requires-clause-path
-settle_phases-requires-clause-path g c =
-    sym (ap length c.deref_mut-6.ensures.value ∙ ap length c.in_ok-path.ensures ∙ length-replicate {A = ℕ} c.members-members.result 0 ∙ c.members-members.ensures.value)
+settle_phases-requires-clause-path g c = omega (arith, c.in_ok-room.ensures.path, c.members-members.ensures.value)
 
 pub settle_phases-requires-clause-phase : goal.settle_phases-requires-clause-phase
 settle_phases-requires-clause-phase g c =
-    subst (λ (xs : List ℕ). IsPhase c.args.residual.now c.args.residual.now c.args.surplus.now c.args.lack.now c.args.surplus.now c.args.lack.now xs 1) (sym c.deref_mut-3.ensures.value) c.requires.phase
+    subst (λ (xs : List ℕ). IsPhase c.args.residual c.args.residual c.args.balance.surplus.items c.args.balance.lack.items c.args.balance.surplus.items c.args.balance.lack.items xs 1) (sym c.deref_mut-3.ensures.value) c.requires.phase
 
 pub returns-clause-settled : goal.returns-clause-settled
 returns-clause-settled g c =
     let prices = with_items_is c.args.first c.settle_phases.new.prices (c.settle_phases.auto.prices ∙ c.deref_mut-3.ensures.len) in
-    subst (IsSettled c.args.residual.now c.settle_phases.new.residual c.args.surplus.now c.args.lack.now) (sym prices) c.settle_phases.ensures.settled
+    subst (IsSettled c.args.residual c.settle_phases.new.work.residual c.args.balance.surplus.items c.args.balance.lack.items) (sym prices) c.settle_phases.ensures.settled

@@ -1,16 +1,18 @@
-use Rattle.std.proofs.Common.{◌≡◌, ℕ, List, sym, ap, ◌∙◌, arith}
-use Rattle.std.proofs.lemmas.List.{with_items_is}
+use Rattle.std.proofs.Common.{◌≡◌, ℕ, List, sym, ◌∙◌, arith}
 use Rattle.residual_graph.specs.Residual.{ResidualData, IsResidual}
 use Rattle.path_solver.specs.Rests.{AreSamePairs, net_of, owed}
 use Rattle.path_solver.specs.Phases.{IsSettled, IsPricedAnew}
 use Rattle.path_solver.proofs.Same.{same_sym, same_trans}
 use Rattle.path_solver.proofs.solver.find_prices.Goals as goal
 
-pub settle-requires-clause-feasible : goal.settle-requires-clause-feasible
-settle-requires-clause-feasible g c =
-    let surplus = c.deref_mut-3.ensures.value ∙ with_items_is c.in_ok-surplus.surplus c.lower_all.new.surplus (c.lower_all.auto.surplus ∙ c.deref_mut.ensures.len) in
-    let lack = c.deref_mut-4.ensures.value ∙ with_items_is c.in_ok-lack.lack c.lower_all.new.lack (c.lower_all.auto.lack ∙ c.deref_mut-2.ensures.len) in
-    (c.args.residual.now.flows, same_sym c.args.residual.now.flows c.lower_all.new.residual.flows c.lower_all.ensures.pairs, λ i. sym (c.lower_all.ensures.owed i) ∙ ap (λ s. owed c.lower_all.new.residual.flows s c.lower_all.new.lack i) (sym surplus) ∙ ap (λ l. owed c.lower_all.new.residual.flows c.deref_mut-3.result.now l i) (sym lack))
+pub settle-requires : goal.settle-requires
+settle-requires g c = record {
+  surplus = c.lower_all.ensures.members ∙ c.lower_all.ensures.surplus;
+  lack = c.lower_all.ensures.members ∙ c.lower_all.ensures.lack;
+  lowest = c.lower_all.ensures.lowest;
+  apart = c.lower_all.ensures.apart;
+  feasible = (c.args.residual.flows, same_sym c.args.residual.flows c.lower_all.new.residual.flows c.lower_all.ensures.pairs, λ i. sym (c.lower_all.ensures.owed i));
+}
 
 anew : (old mid new : ResidualData) (s l p : List ℕ) → IsResidual old → mid.members ≡ old.members → AreSamePairs old.flows mid.flows → ((i : ℕ) → owed mid.flows s l i ≡ net_of old.flows i) → IsSettled mid new s l p → IsPricedAnew old new p
 anew old mid new s l p residual members pairs nets h = record {
@@ -25,8 +27,6 @@ anew old mid new s l p residual members pairs nets h = record {
 
 pub returns-clause-priced : goal.returns-clause-priced
 returns-clause-priced g c =
-    let surplus = c.deref_mut-3.ensures.value ∙ with_items_is c.in_ok-surplus.surplus c.lower_all.new.surplus (c.lower_all.auto.surplus ∙ c.deref_mut.ensures.len) in
-    let lack = c.deref_mut-4.ensures.value ∙ with_items_is c.in_ok-lack.lack c.lower_all.new.lack (c.lower_all.auto.lack ∙ c.deref_mut-2.ensures.len) in
-    anew c.args.residual.now c.lower_all.new.residual c.settle.new.residual c.deref_mut-3.result.now c.deref_mut-4.result.now c.in_ok-prices.prices.items c.members-members.ensures.residual c.lower_all.ensures.members c.lower_all.ensures.pairs
-    (λ i. ap (λ s. owed c.lower_all.new.residual.flows s c.deref_mut-4.result.now i) surplus ∙ ap (λ l. owed c.lower_all.new.residual.flows c.lower_all.new.surplus l i) lack ∙ c.lower_all.ensures.owed i)
-    c.in_ok-prices.ensures.settled
+    anew c.args.residual c.lower_all.new.residual c.in_ok-settled.settled.residual c.lower_all.new.balance.surplus.items c.lower_all.new.balance.lack.items c.in_ok-settled.settled.prices.items c.members.ensures.residual c.lower_all.ensures.members c.lower_all.ensures.pairs
+    c.lower_all.ensures.owed
+    c.in_ok-settled.ensures.settled

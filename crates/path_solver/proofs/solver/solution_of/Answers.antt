@@ -28,8 +28,8 @@ found_anew before old start r new p e g h = subst (λ (x : ResidualData). IsPric
 
 pub network-requires : goal.network-requires
 network-requires g c =
-    let found = found_anew c.gross-before.result c.args.network.now (λ g. residual_of (g + 1) c.args.limits.now c.args.network.now) c.in_ok-residual.residual c.find_prices.new.residual c.in_ok-prices.prices.items c.in_ok-residual.ensures.value c.gross-before.ensures c.in_ok-prices.ensures.priced in
-    few_rows c.args.limits.now c.args.network.now c.find_prices.new.residual c.in_ok-prices.prices.items c.in_ok-residual.ensures.limits c.members-members.ensures.network c.requires.same_members c.requires.within found
+    let found = found_anew c.gross-before.result c.args.network.now (λ g. residual_of (g + 1) c.args.limits.now c.args.network.now) c.in_ok-residual.residual c.in_ok-settled.settled.residual c.in_ok-settled.settled.prices.items c.in_ok-residual.ensures.value c.gross-before.ensures c.in_ok-settled.ensures.priced in
+    few_rows c.args.limits.now c.args.network.now c.in_ok-settled.settled.residual c.in_ok-settled.settled.prices.items c.in_ok-residual.ensures.limits c.members-members.ensures.network c.requires.same_members c.requires.within found
 
 range_at : (n : ℕ) (xs : List ℤ) (ps qs : List ℕ) → n ≤ 256 → xs ≡ potentials qs → qs ≡ ps → ((v : ℕ) → get_or ps v 0 ≤ n) → All IsPotential xs
 range_at n xs ps qs few e f most = subst (λ (ys : List ℤ). All IsPotential ys) (sym (e ∙ ap potentials f)) (in_range n ps few most)
@@ -37,26 +37,26 @@ range_at n xs ps qs few e f most = subst (λ (ys : List ℤ). All IsPotential ys
 pub new-requires-clause-in_range : goal.new-requires-clause-in_range
 new-requires-clause-in_range g c =
     let members = ap (λ (r : ResidualData). r.members) c.in_ok-residual.ensures.value in
-    range_at c.in_ok-residual.residual.members c.in_ok-potentials.potentials.items c.in_ok-prices.prices.items c.deref.result.now (omega (arith, members, c.members-members.ensures.network.few)) c.in_ok-potentials.ensures c.deref.ensures.value c.in_ok-prices.ensures.priced.most
+    range_at c.in_ok-residual.residual.members c.in_ok-potentials.potentials.items c.in_ok-settled.settled.prices.items c.deref.result.now (omega (arith, members, c.members-members.ensures.network.few)) c.in_ok-potentials.ensures c.deref.ensures.value c.in_ok-settled.ensures.priced.most
 
 pub returns-then-gross-before-clause-solves : goal.returns-then-gross-before-clause-solves
 returns-then-gross-before-clause-solves g c =
-    let found = found_anew c.gross-before.result c.args.network.now (λ g. residual_of (g + 1) c.args.limits.now c.args.network.now) c.in_ok-residual.residual c.find_prices.new.residual c.in_ok-prices.prices.items c.in_ok-residual.ensures.value c.gross-before.ensures c.in_ok-prices.ensures.priced in
-    let p : c.in_ok-potentials.potentials.items ≡ potentials c.in_ok-prices.prices.items = c.in_ok-potentials.ensures ∙ ap potentials c.deref.ensures.value in
-    let y : c.in_ok-found.found ≡ network_of c.find_prices.new.residual = c.in_ok-found.ensures in
-    let less : gross (network_of c.find_prices.new.residual) < gross c.args.network.now = omega (arith, c.if-gross-before.true, c.gross.ensures, c.gross-before.ensures, ap gross y) in
-    subst (Solves c.args.limits.now c.args.network.now) (sym (c.new.ensures ∙ same_solution c.in_ok-found.found (network_of c.find_prices.new.residual) c.in_ok-potentials.potentials.items (potentials c.in_ok-prices.prices.items) y p))
-    (solves_new c.args.limits.now c.args.network.now c.find_prices.new.residual c.in_ok-prices.prices.items c.in_ok-residual.ensures.limits c.members-members.ensures.network c.requires.same_members c.requires.within found less)
+    let found = found_anew c.gross-before.result c.args.network.now (λ g. residual_of (g + 1) c.args.limits.now c.args.network.now) c.in_ok-residual.residual c.in_ok-settled.settled.residual c.in_ok-settled.settled.prices.items c.in_ok-residual.ensures.value c.gross-before.ensures c.in_ok-settled.ensures.priced in
+    let p : c.in_ok-potentials.potentials.items ≡ potentials c.in_ok-settled.settled.prices.items = c.in_ok-potentials.ensures ∙ ap potentials c.deref.ensures.value in
+    let y : c.in_ok-found.found ≡ network_of c.in_ok-settled.settled.residual = c.in_ok-found.ensures in
+    let less : gross (network_of c.in_ok-settled.settled.residual) < gross c.args.network.now = omega (arith, c.if-gross-before.true, c.gross.ensures, c.gross-before.ensures, ap gross y) in
+    subst (Solves c.args.limits.now c.args.network.now) (sym (c.new.ensures ∙ same_solution c.in_ok-found.found (network_of c.in_ok-settled.settled.residual) c.in_ok-potentials.potentials.items (potentials c.in_ok-settled.settled.prices.items) y p))
+    (solves_new c.args.limits.now c.args.network.now c.in_ok-settled.settled.residual c.in_ok-settled.settled.prices.items c.in_ok-residual.ensures.limits c.members-members.ensures.network c.requires.same_members c.requires.within found less)
 
 pub new-requires-else-gross-before-clause-in_range : goal.new-requires-else-gross-before-clause-in_range
 new-requires-else-gross-before-clause-in_range g c =
     let members = ap (λ (r : ResidualData). r.members) c.in_ok-residual.ensures.value in
-    range_at c.in_ok-residual.residual.members c.in_ok-potentials.potentials.items c.in_ok-prices.prices.items c.deref.result.now (omega (arith, members, c.members-members.ensures.network.few)) c.in_ok-potentials.ensures c.deref.ensures.value c.in_ok-prices.ensures.priced.most
+    range_at c.in_ok-residual.residual.members c.in_ok-potentials.potentials.items c.in_ok-settled.settled.prices.items c.deref.result.now (omega (arith, members, c.members-members.ensures.network.few)) c.in_ok-potentials.ensures c.deref.ensures.value c.in_ok-settled.ensures.priced.most
 
 pub returns-clause-solves : goal.returns-clause-solves
 returns-clause-solves g c =
-    let found = found_anew c.gross-before.result c.args.network.now (λ g. residual_of (g + 1) c.args.limits.now c.args.network.now) c.in_ok-residual.residual c.find_prices.new.residual c.in_ok-prices.prices.items c.in_ok-residual.ensures.value c.gross-before.ensures c.in_ok-prices.ensures.priced in
-    let p : c.in_ok-potentials.potentials.items ≡ potentials c.in_ok-prices.prices.items = c.in_ok-potentials.ensures ∙ ap potentials c.deref.ensures.value in
-    let least : gross c.args.network.now ≤ gross (network_of c.find_prices.new.residual) = omega (arith, c.if-gross-before.false, c.gross.ensures, c.gross-before.ensures, ap gross c.in_ok-found.ensures) in
-    subst (Solves c.args.limits.now c.args.network.now) (sym (c.new-else-gross-before.ensures ∙ same_solution c.in_ok-copy.field-0 c.args.network.now c.in_ok-potentials.potentials.items (potentials c.in_ok-prices.prices.items) c.in_ok-copy.ensures p))
-    (solves_old c.args.limits.now c.args.network.now c.find_prices.new.residual c.in_ok-prices.prices.items c.in_ok-residual.ensures.limits c.members-members.ensures.network c.requires.same_members c.requires.within found least)
+    let found = found_anew c.gross-before.result c.args.network.now (λ g. residual_of (g + 1) c.args.limits.now c.args.network.now) c.in_ok-residual.residual c.in_ok-settled.settled.residual c.in_ok-settled.settled.prices.items c.in_ok-residual.ensures.value c.gross-before.ensures c.in_ok-settled.ensures.priced in
+    let p : c.in_ok-potentials.potentials.items ≡ potentials c.in_ok-settled.settled.prices.items = c.in_ok-potentials.ensures ∙ ap potentials c.deref.ensures.value in
+    let least : gross c.args.network.now ≤ gross (network_of c.in_ok-settled.settled.residual) = omega (arith, c.if-gross-before.false, c.gross.ensures, c.gross-before.ensures, ap gross c.in_ok-found.ensures) in
+    subst (Solves c.args.limits.now c.args.network.now) (sym (c.new-else-gross-before.ensures ∙ same_solution c.in_ok-copy.field-0 c.args.network.now c.in_ok-potentials.potentials.items (potentials c.in_ok-settled.settled.prices.items) c.in_ok-copy.ensures p))
+    (solves_old c.args.limits.now c.args.network.now c.in_ok-settled.settled.residual c.in_ok-settled.settled.prices.items c.in_ok-residual.ensures.limits c.members-members.ensures.network c.requires.same_members c.requires.within found least)

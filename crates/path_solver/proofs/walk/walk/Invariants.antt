@@ -7,11 +7,11 @@ use Rattle.path_solver.proofs.walk.walk.Given as goal
 
 abbrev pub invariant-steps : goal.invariant-steps
 invariant-steps l = record {
-  trail : IsTrail l.residual l.prices l.levels l.layers l.path l.level l.top l.here l.from;
-  layers : AreLayers l.levels l.layers (get_or l.levels l.from 0 + 1);
-  pruned : ArePruned l.residual.flows l.prices l.lack l.levels l.layers (get_or l.levels l.from 0 + 1);
+  trail : IsTrail l.work.residual l.trip.labels.now.prices.now l.trip.labels.now.levels.now l.layers l.path l.level l.top l.here l.trip.from;
+  layers : AreLayers l.trip.labels.now.levels.now l.layers (get_or l.trip.labels.now.levels.now l.trip.from 0 + 1);
+  pruned : ArePruned l.work.residual.flows l.trip.labels.now.prices.now l.work.balance.lack.items l.trip.labels.now.levels.now l.layers (get_or l.trip.labels.now.levels.now l.trip.from 0 + 1);
   fewer : AreFewer l.initial.layers l.layers;
-  whole : AreLevels l.residual.flows l.prices l.lack l.levels → AreWholeLayers l.levels l.initial.layers (get_or l.levels l.from 0 + 1) → l.layers ≡ l.initial.layers;
+  whole : AreLevels l.work.residual.flows l.trip.labels.now.prices.now l.work.balance.lack.items l.trip.labels.now.levels.now → AreWholeLayers l.trip.labels.now.levels.now l.initial.layers (get_or l.trip.labels.now.levels.now l.trip.from 0 + 1) → l.layers ≡ l.initial.layers;
 }
 
 abbrev pub decreases-steps : goal.decreases-steps

@@ -1,6 +1,6 @@
 use Rattle.std.proofs.Common.{◌≡◌, ℕ, ◌<◌, ◌≤◌, ◌/◌, true, false, get_or}
 use Rattle.member_set.specs.Members.{has, has_in, size_in}
-use Rattle.path_solver.proofs.phases.still_with.Given as goal
+use Rattle.path_solver.proofs.balance.still_with.Given as goal
 
 abbrev pub invariant-loop-place : goal.invariant-loop-place
 invariant-loop-place l = record {

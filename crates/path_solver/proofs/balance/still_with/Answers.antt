@@ -1,6 +1,6 @@
 use Rattle.std.proofs.Common.{arith}
 use Rattle.member_set.proofs.Parts.{member_small}
-use Rattle.path_solver.proofs.phases.still_with.Goals as goal
+use Rattle.path_solver.proofs.balance.still_with.Goals as goal
 
 pub drop_member-requires : goal.drop_member-requires
 drop_member-requires c = member_small c.args.members c.in-Some.member (c.loop-member.invariant.left c.in-Some.member c.in-Some.ensures.member)

@@ -1,0 +1,35 @@
+//! Room for searches and walks.
+
+ghost use Rattle.std.specs.Prelude.{◌≡◌, ◌+◌, ◌≤◌, length, IfOk};
+
+use crate::search::UNREACHED;
+use crate::settle::all_of;
+use member_set::MemberSet;
+use std::alloc::{AllocError, Global};
+
+/// The level of each member, the members of each level, and as many arcs as a path has at the most.
+#[derive(Drop)]
+pub struct Room {
+    pub levels: Vec<u16>,
+    pub layers: Vec<MemberSet>,
+    pub path: Vec<u32>,
+}
+
+impl Room {
+    /// Room for so many members.
+    pub fn of(alloc: Global, members: u16) -> Result<Room, AllocError>
+        requires { members ≤ 256 }
+        ensures levels { IfOk result (λ room. members ≡ length room.levels.items) }
+        ensures layers { IfOk result (λ room. members + 1 ≡ length room.layers.items) }
+        ensures path { IfOk result (λ room. members ≡ length room.path.items) }
+    {
+        let levels = all_of(alloc, members, UNREACHED)?;
+        let layers = all_of(alloc, members + 1, MemberSet::new())?;
+        let path = all_of(alloc, members, 0u32)?;
+        Ok(Room {
+            levels,
+            layers,
+            path,
+        })
+    }
+}
