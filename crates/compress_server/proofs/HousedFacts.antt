@@ -150,20 +150,3 @@ module _ (rows : Rows) (disk left : DiskState) (v w : HouseView) (housed : IsHou
   journal_runs SinkFault stopped is ends = (v, w, housed, ends)
   journal_runs Limit stopped is ends = (v, w, housed, ends)
   journal_runs Memory stopped is (same, none_taken, still) = (same, none_taken, inr (v, w, housed, still))
-
--- the end that a session's end was
-pub source_end : (end : SessionEnd) (stopped : Bool) → script_end end stopped ≡ script.SourceFault → end ≡ SourceFault
-source_end Ended false e = absurd cc
-source_end Ended true e = absurd cc
-source_end SourceFault stopped e = refl
-source_end SinkFault stopped e = absurd cc
-source_end Limit stopped e = absurd cc
-source_end Memory stopped e = absurd cc
-
-pub sink_end : (end : SessionEnd) (stopped : Bool) → script_end end stopped ≡ script.SinkFault → end ≡ SinkFault
-sink_end Ended false e = absurd cc
-sink_end Ended true e = absurd cc
-sink_end SourceFault stopped e = absurd cc
-sink_end SinkFault stopped e = refl
-sink_end Limit stopped e = absurd cc
-sink_end Memory stopped e = absurd cc

@@ -70,9 +70,6 @@ seats_of visits most_visits lock v w n (place ∷ places) each = (
 
 -- ---- the line of the history's length, in three pieces
 
-pub line_cut_first : (before after : OutputState) (n : ℕ) → TakesFront before.taken after.taken (codes "history ") → Rose before.faults after.faults → IsWritten before after (history_line n) false
-line_cut_first before after n front rose = (front_more before.taken after.taken (codes "history ") (decimal n ++ codes "\n") front, rose)
-
 pub line_cut_second : (before mid after : OutputState) (n : ℕ) → Takes before.taken mid.taken (codes "history ") → TakesFront mid.taken after.taken (decimal n) → Rose before.faults after.faults → IsWritten before after (history_line n) false
 line_cut_second before mid after n first front rose =
     (takes_then_front before.taken mid.taken after.taken (codes "history ") (decimal n ++ codes "\n") first (front_more mid.taken after.taken (decimal n) (codes "\n") front), rose)

@@ -9,7 +9,7 @@ ghost use Rattle.compress_server.specs.Parting.{most_workers, most_seats, most_c
 
 use crate::count::Count;
 use arrayvec::ArrayVec;
-use units_core::{MOST_CONNECTIONS, MOST_WORKERS, read_number};
+use units_core::{MOST_CONNECTIONS, MOST_SEATS, MOST_WORKERS, read_number};
 
 /// An option that a form may have.
 #[derive(Clone, Copy)]
@@ -26,9 +26,6 @@ pub struct Options {
     pub seats: Option<Count>,
     pub connections: Option<u64>,
 }
-
-/// How many workers there may be, and how many seats: as many.
-const MOST: u64 = MOST_WORKERS as u64;
 
 /// How many plain words a form has at the most.
 const MOST_PLAIN: usize = 4;
@@ -53,14 +50,15 @@ pub fn count_of(most: u64, text: &[u8]) -> Option<u64>
     }
 }
 
-// The number of workers or of seats that a text writes, for an option that had the one before.
-fn count_once(before: Option<Count>, text: &[u8]) -> Option<Count>
-    ensures { option_map (λ count. count.value) result ≡ once (option_map (λ count. count.value) before) (count_of 64 text.now) }
+// The number of workers or of seats, of so many at the most, that a text writes, for an option that had the one before.
+fn count_once(before: Option<Count>, most: u32, text: &[u8]) -> Option<Count>
+    requires { most ≤ 64 }
+    ensures { option_map (λ count. count.value) result ≡ once (option_map (λ count. count.value) before) (count_of most text.now) }
 {
     if before.is_some() {
         return None;
     }
-    let value = count_of(MOST, text)?;
+    let value = count_of(u64::from(most), text)?;
     Some(Count {
         value: value as u32,
     })
@@ -73,11 +71,11 @@ impl Options {
     {
         match name {
             OptionName::Workers => {
-                let workers = Some(count_once(self.workers, value)?);
+                let workers = Some(count_once(self.workers, MOST_WORKERS, value)?);
                 Some(Options { workers, ..self })
             }
             OptionName::Seats => {
-                let seats = Some(count_once(self.seats, value)?);
+                let seats = Some(count_once(self.seats, MOST_SEATS, value)?);
                 Some(Options { seats, ..self })
             }
             OptionName::Connections => {
