@@ -15,21 +15,8 @@ use Rattle.residual_graph.specs.Paths.{IsPath, pushed_all}
 use Rattle.residual_graph.proofs.Walks.{path_can, nets_walk}
 use Rattle.path_solver.specs.Paths.{IsPathDown, IsPlainPath}
 use Rattle.path_solver.proofs.Ends.{same_pair}
-use Rattle.path_solver.proofs.Same.{same_refl, same_trans}
+use Rattle.path_solver.proofs.Same.{same_trans}
 use Rattle.path_solver.proofs.Walks.{all_same, prices_walk}
-
-pub sent_none : (p : List ℕ) (r : ResidualData) (surplus lack : List ℕ) → IsSentAlong p r r surplus lack surplus lack
-sent_none p r surplus lack = record {
-  members = refl;
-  pairs = same_refl r.flows;
-  owed = λ i. refl;
-  priced = λ h. h;
-  senders = λ v h. h;
-  receivers = λ v h. h;
-  less = omega arith;
-  surplus_each = refl;
-  lack_each = refl;
-}
 
 pub sent_more : (p : List ℕ) (a b c : ResidualData) (s l s' l' s'' l'' : List ℕ) → IsSentAlong p a b s l s' l' → IsSentAlong p b c s' l' s'' l'' → IsSentAlong p a c s l s'' l''
 sent_more p a b c s l s' l' s'' l'' x y = record {
@@ -95,6 +82,3 @@ sent p levels old new surplus lack from end x path h roomy in_s in_l le_s le_l m
       surplus_each = length-set surplus from (get_or surplus from 0 - x);
       lack_each = length-set lack end (get_or lack end 0 - x);
     }
-
-pub sent_less : (surplus : List ℕ) (from x : ℕ) → from < length surplus → 0 < x → x ≤ get_or surplus from 0 → sum (set surplus from (get_or surplus from 0 - x)) < sum surplus
-sent_less surplus from x l some le = omega (arith, sum_less surplus from x l le)
