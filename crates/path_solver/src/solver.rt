@@ -123,7 +123,7 @@ fn find_prices<L: Ledger>(
 fn potentials_of(alloc: Global, prices: &[u16]) -> Result<Vec<i32>, AllocError>
     ensures { IfOk result (λ found. found.items ≡ potentials prices.now) }
 {
-    let mut potentials = Vec::new(alloc);
+    let mut potentials = Vec::with_capacity(alloc, prices.len())?;
     for price in prices {
         potentials.push(*price as i32)?;
     }
