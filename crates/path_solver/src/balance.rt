@@ -4,7 +4,6 @@ ghost use Rattle.std.specs.Prelude.{◌≡◌, ℕ, ◌+◌, ◌-◌, ◌^◌, �
 ghost use Rattle.member_set.specs.Members.{has};
 ghost use Rattle.path_solver.specs.Rests.{HaveSome};
 
-use crate::settle::all_of;
 use member_set::MemberSet;
 use std::alloc::{AllocError, Global};
 
@@ -21,8 +20,8 @@ impl Balance {
         ensures surplus { IfOk result (λ balance. balance.surplus.items ≡ replicate members 0) }
         ensures lack { IfOk result (λ balance. balance.lack.items ≡ replicate members 0) }
     {
-        let surplus = all_of(alloc, members, 0u64)?;
-        let lack = all_of(alloc, members, 0u64)?;
+        let surplus = vec![in alloc; 0u64; members as usize]?;
+        let lack = vec![in alloc; 0u64; members as usize]?;
         Ok(Balance { surplus, lack })
     }
 

@@ -23,9 +23,9 @@ impl Room {
         ensures layers { IfOk result (λ room. members + 1 ≡ length room.layers.items) }
         ensures path { IfOk result (λ room. members ≡ length room.path.items) }
     {
-        let levels = all_of(alloc, members, UNREACHED)?;
+        let levels = vec![in alloc; UNREACHED; members as usize]?;
         let layers = all_of(alloc, members + 1, MemberSet::new())?;
-        let path = all_of(alloc, members, 0u32)?;
+        let path = vec![in alloc; 0u32; members as usize]?;
         Ok(Room {
             levels,
             layers,

@@ -29,8 +29,10 @@ pub struct Settled {
 pub fn all_of<T: Copy>(alloc: Global, members: u16, value: T) -> Result<Vec<T>, AllocError>
     ensures { IfOk result (λ values. values.items ≡ replicate members value) }
 {
-    let mut values = Vec::new(alloc);
-    values.resize(members as usize, value)?;
+    let mut values = Vec::with_capacity(alloc, members as usize)?;
+    for _member in 0..members {
+        values.push(value)?;
+    }
     Ok(values)
 }
 
