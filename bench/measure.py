@@ -13,7 +13,7 @@ import subprocess
 import sys
 import tempfile
 
-MARKETS = ["gen1", "uniform64", "core64", "lattice64", "groups64", "uniform1", "core1", "lattice1"]
+MARKETS = ["gen1", "uniform64", "core64", "lattice64", "groups64", "uniform1", "core1", "lattice1", "slow1"]
 
 
 def count(program, function, roster, trades, mode, words):
