@@ -44,7 +44,7 @@ const PAIR_BOUNDS: [Bound; 5] = [
 // One pair among five members, whose sale has to stay.
 const LINK: [Sale; 1] = [(1, 3, 5)];
 
-const LINK_BOUNDS: [Bound; 1] = [(1, 3, 5, Some(9))];
+const LINK_BOUNDS: [Bound; 1] = [(1, 3, 0, Some(9))];
 
 // A chain of pairs that are open in one direction alone, from its last member to its first.
 const CHAIN_BOUNDS: [Bound; 2] = [(1, 0, 0, None), (2, 1, 0, Some(3))];
