@@ -51,12 +51,14 @@ pub record IsRenewed (members products : ℕ) (rows after : List TradeRow) (new 
 -- the plan of new networks gives each pair the amount that its new network has
 abbrev pub PlanRealises : Type 0
 PlanRealises =
-    (members products : ℕ) (rows : List TradeRow) (new : List NetworkData) (day : DayParts) → IsRenewal members products rows new → IsRenewed members products rows (renewed members products rows new day) new (renewal_plan members products rows new day) day
+    (members products : ℕ) (rows : List TradeRow) (new : List NetworkData) (day : DayParts) → IsRenewal members products rows new →
+    IsRenewed members products rows (renewed members products rows new day) new (renewal_plan members products rows new day) day
 
 -- it ends and cuts free trades alone, each once
 abbrev pub PlanIsFree : Type 0
 PlanIsFree =
-    (members products : ℕ) (rows : List TradeRow) (new : List NetworkData) (day : DayParts) → IsRenewal members products rows new → IsFreePlan members products rows (renewal_plan members products rows new day)
+    (members products : ℕ) (rows : List TradeRow) (new : List NetworkData) (day : DayParts) → IsRenewal members products rows new →
+    IsFreePlan members products rows (renewal_plan members products rows new day)
 
 -- no product's gross is over the limit, and no new network's gross is above that of the frozen one
 pub record HasRoom (members : ℕ) (rows : List TradeRow) (new : List NetworkData) : Type 0 where
@@ -66,7 +68,8 @@ pub record HasRoom (members : ℕ) (rows : List TradeRow) (new : List NetworkDat
 -- where that is so, the plan can be executed
 abbrev pub PlanIsExecutable : Type 0
 PlanIsExecutable =
-    (members products : ℕ) (rows : List TradeRow) (new : List NetworkData) (day : DayParts) → IsRenewal members products rows new → HasRoom members rows new → IsExecutable members products rows (renewal_plan members products rows new day)
+    (members products : ℕ) (rows : List TradeRow) (new : List NetworkData) (day : DayParts) → IsRenewal members products rows new → HasRoom members rows new →
+    IsExecutable members products rows (renewal_plan members products rows new day)
 
 -- a member's position in a product: what it sold less what it bought, over the live trades
 abbrev pub position : ℕ → ℕ → List TradeRow → ℤ
@@ -79,13 +82,15 @@ HasSameNets members product rows network = (member : ℕ) → member < members �
 -- where a new network has the nets of the old one, no member's position in the product changes
 abbrev pub NetsStay : Type 0
 NetsStay =
-    (members products : ℕ) (rows : List TradeRow) (new : List NetworkData) (day : DayParts) → IsRenewal members products rows new → (product : ℕ) (network : NetworkData) → slice_get new product ≡ Some network → HasSameNets members product rows network → (member : ℕ) → member < members →
+    (members products : ℕ) (rows : List TradeRow) (new : List NetworkData) (day : DayParts) → IsRenewal members products rows new → (product : ℕ) (network : NetworkData) →
+    slice_get new product ≡ Some network → HasSameNets members product rows network → (member : ℕ) → member < members →
     position product member (renewed members products rows new day) ≡ position product member rows
 
 -- the gross of a product changes by what its network's does
 abbrev pub GrossFollows : Type 0
 GrossFollows =
-    (members products : ℕ) (rows : List TradeRow) (new : List NetworkData) (day : DayParts) → IsRenewal members products rows new → (product : ℕ) (network : NetworkData) → slice_get new product ≡ Some network →
+    (members products : ℕ) (rows : List TradeRow) (new : List NetworkData) (day : DayParts) → IsRenewal members products rows new → (product : ℕ) (network : NetworkData) →
+    slice_get new product ≡ Some network →
     gross_of product (renewed members products rows new day) + gross (frozen_network members product rows) ≡ gross_of product rows + gross network
 
 -- what a plan sees of a trade: all but its mark

@@ -102,41 +102,15 @@ step_below rows n most few (New product seller buyer amount day) below = (omega 
 pub plan_below : (rows : List TradeRow) (n most : ℕ) (plan : List PlanRow) → n ≤ most → IsPlanBelow rows n plan → IsPlanBelow rows most plan
 plan_below rows n most plan few below = All-weaker (IsStepBelow rows n) (IsStepBelow rows most) (step_below rows n most few) plan below
 
--- a posting that touches nobody is answered so, and any other as a proposal
-pub nothing_told : (s : State) (solutions : List SolutionData) (touched : List ℕ) → touched ≡ [] → Nothing s.cycle.number s.cycle.version ≡ proposed_answer s solutions touched
-nothing_told s solutions [] is = refl
-nothing_told s solutions (member ∷ members) is = cc
-
-pub proposed_told : (s : State) (solutions : List SolutionData) (touched : List ℕ) → (touched ≡ [] → ⊥) → Proposed s.cycle.number s.cycle.version (gross_of_all (old_networks s.cycle.begun)) (gross_of_all (new_networks solutions)) ≡ proposed_answer s solutions touched
-proposed_told s solutions [] is = absurd (is refl)
-proposed_told s solutions (member ∷ members) is = refl
-
 -- the first is executed at once, and the other is proposed
 pub done_after : (s : State) (solutions : List SolutionData) (plan : List PlanRow) (touched : List ℕ) → touched ≡ [] → after_execution s plan ≡ proposed_or_done s solutions plan touched
 done_after s solutions plan [] is = refl
 done_after s solutions plan (member ∷ members) is = cc
 
-pub proposed_after : (s : State) (solutions : List SolutionData) (plan : List PlanRow) (touched : List ℕ) → (touched ≡ [] → ⊥) → record s { cycle = proposed_with s.cycle solutions plan } ≡ proposed_or_done s solutions plan touched
-proposed_after s solutions plan [] is = absurd (is refl)
-proposed_after s solutions plan (member ∷ members) is = refl
-
--- the last vote is answered by what was executed, and any other by how many are left
-pub last_told : (cycle : Cycle) (left : List ℕ) (n : ℕ) → n ≡ length left → n ≡ 0 → executed_answer cycle ≡ vote_answer cycle left
-last_told cycle [] n is none = refl
-last_told cycle (voter ∷ voters) n is none = absurd (omega (arith, is, none))
-
-pub vote_told : (cycle : Cycle) (left : List ℕ) (n : ℕ) → n ≡ length left → (n ≡ 0 → ⊥) → Accepted cycle.number cycle.version n ≡ vote_answer cycle left
-vote_told cycle [] n is some = absurd (some is)
-vote_told cycle (voter ∷ voters) n is some = let e : n ≡ 1 + length voters = omega (arith, is) in ap (λ m. Accepted cycle.number cycle.version m) e
-
 -- the last vote executes the plan, and any other is counted
 pub last_after : (s : State) (member : ℕ) (left : List ℕ) (n : ℕ) → n ≡ length left → n ≡ 0 → after_execution s s.cycle.plan ≡ after_vote s member left
 last_after s member [] n is none = refl
 last_after s member (voter ∷ voters) n is none = absurd (omega (arith, is, none))
-
-pub counted_after : (s : State) (member : ℕ) (left : List ℕ) (n : ℕ) (votes : List ℕ) → n ≡ length left → (n ≡ 0 → ⊥) → votes ≡ s.cycle.votes ++ member ∷ [] → record s { cycle = record s.cycle { votes = votes } } ≡ after_vote s member left
-counted_after s member [] n votes is some same = absurd (some is)
-counted_after s member (voter ∷ voters) n votes is some same = ap (λ vs. record s { cycle = record s.cycle { votes = vs } }) same
 
 -- a posting that is answered by an execution touches nobody, and after a vote that is nobody's is left
 pub nobody_touched : (s : State) (solutions : List SolutionData) (touched : List ℕ) → IsTrue (is_execution (proposed_answer s solutions touched)) → touched ≡ []
@@ -146,30 +120,6 @@ nobody_touched s solutions (member ∷ members) told = absurd (false≢true told
 pub nobody_left : (cycle : Cycle) (left : List ℕ) → IsTrue (is_execution (vote_answer cycle left)) → left ≡ []
 nobody_left cycle [] told = refl
 nobody_left cycle (voter ∷ voters) told = absurd (false≢true told)
-
-done_with : (roster : Rows) (rows : List TradeRow) (settings : List ToleranceRow) (cycle : Cycle) (solutions : List SolutionData) (plan : List PlanRow) (touched : List ℕ) →
-    record (proposed_or_done (state_in roster rows cycle) solutions plan touched) { tolerances = settings } ≡ proposed_or_done (state_with roster rows settings cycle) solutions plan touched
-done_with roster rows settings cycle solutions plan [] = refl
-done_with roster rows settings cycle solutions plan (member ∷ members) = refl
-
--- a POST leaves the settings
-pub post_with : (roster : Rows) (rows after : List TradeRow) (settings : List ToleranceRow) (cycle next : Cycle) (solutions : List SolutionData) → state_in roster after next ≡ after_post (state_in roster rows cycle) solutions →
-    state_with roster after settings next ≡ after_post (state_with roster rows settings cycle) solutions
-post_with roster rows after settings cycle next solutions is =
-    ap (λ (s : State). record s { tolerances = settings }) is
-    ∙ done_with roster rows settings cycle solutions (posted_plan cycle rows solutions) (touched_in (state_in roster rows cycle) (posted_plan cycle rows solutions))
-
-vote_with : (roster : Rows) (rows : List TradeRow) (settings : List ToleranceRow) (cycle : Cycle) (member : ℕ) (left : List ℕ) →
-    record (after_vote (state_in roster rows cycle) member left) { tolerances = settings } ≡ after_vote (state_with roster rows settings cycle) member left
-vote_with roster rows settings cycle member [] = refl
-vote_with roster rows settings cycle member (voter ∷ voters) = refl
-
--- so does an ACCEPT
-pub accept_with : (roster : Rows) (rows after : List TradeRow) (settings : List ToleranceRow) (cycle next : Cycle) (member : ℕ) → state_in roster after next ≡ after_accept (state_in roster rows cycle) member →
-    state_with roster after settings next ≡ after_accept (state_with roster rows settings cycle) member
-accept_with roster rows after settings cycle next member is =
-    ap (λ (s : State). record s { tolerances = settings }) is
-    ∙ vote_with roster rows settings cycle member (left_after (state_in roster rows cycle) member)
 
 -- whose votes are left, whatever names the members, the trades, the plan and the votes have
 pub left_is : (roster : Rows) (rows : List TradeRow) (cycle : Cycle) (member n : ℕ) (trades : List TradeRow) (plan : List PlanRow) (votes : List ℕ) → n ≡ length roster.members → trades ≡ rows → plan ≡ cycle.plan → votes ≡ cycle.votes →

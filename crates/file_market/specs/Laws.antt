@@ -27,7 +27,8 @@ pub record IsPassed (rows : Rows) (mode : Mode) (product : ℕ) (network : Netwo
 abbrev pub NothingFailsWhereAllPass : Type 0
 NothingFailsWhereAllPass =
     (rows : Rows) (mode : Mode) (networks : List NetworkData) (parts : List ProposalPart) → length networks ≡ length rows.products → HaveMembers rows networks → AreParts rows parts →
-    (first_failing rows mode networks parts ≡ None) ↔ ((product : ℕ) (d : NetworkData) (e : ProposalPart) → product < length rows.products → IsPassed rows mode product (slice_index_or networks product d) (slice_index_or parts product e))
+    (first_failing rows mode networks parts ≡ None) ↔ ((product : ℕ) (d : NetworkData) (e : ProposalPart) → product < length rows.products →
+    IsPassed rows mode product (slice_index_or networks product d) (slice_index_or parts product e))
 
 -- the part of a product passes beside the network of the product's trades, and no network that the product's limits
 -- admit has less gross
@@ -53,7 +54,8 @@ pub record PassesAsRead (rows : Rows) (mode : Mode) (trades : List FileTrade) (t
 -- what is solved for a market passes, where its text is not too long to be read
 abbrev pub WhatIsSolvedPasses : Type 0
 WhatIsSolvedPasses =
-    (rows : Rows) (mode : Mode) (trades : List FileTrade) (text : List ℕ) → IsRoster rows → HasNames rows → IsSolvedText rows mode trades text → length text ≤ MOST_FILE → PassesAsRead rows mode trades text
+    (rows : Rows) (mode : Mode) (trades : List FileTrade) (text : List ℕ) → IsRoster rows → HasNames rows → IsSolvedText rows mode trades text → length text ≤ MOST_FILE →
+    PassesAsRead rows mode trades text
 
 -- a market has one summary, whoever solves it
 abbrev pub SummariesAreOne : Type 0

@@ -28,4 +28,5 @@ IsFault members rows (Zero at) =
 IsFault members rows (Order at) =
     IsFirstBad members rows at × ((d : Row) → IsGoodRow members (slice_index_or rows at d)) × (0 < at) × ((d : Row) → place (slice_index_or rows at d) ≤ place (slice_index_or rows (at - 1) d))
 IsFault members rows (Gross at) =
-    IsFirstBad members rows at × ((d : Row) → IsGoodRow members (slice_index_or rows at d)) × ((d : Row) → 0 < at → place (slice_index_or rows (at - 1) d) < place (slice_index_or rows at d)) × (MOST_GROSS < total (take (at + 1) rows))
+    IsFirstBad members rows at × ((d : Row) → IsGoodRow members (slice_index_or rows at d)) × ((d : Row) → 0 < at → place (slice_index_or rows (at - 1) d) < place (slice_index_or rows at d)) ×
+    (MOST_GROSS < total (take (at + 1) rows))

@@ -22,7 +22,8 @@ BoundIsBelow =
 -- another admissible network with the same gross is certified by the same potentials
 abbrev pub CertificateIsShared : Type 0
 CertificateIsShared =
-    (limits : LimitsData) (old new other : NetworkData) (p : List ℤ) → AreInRange new.members new.rows → AreInRange other.members other.rows → IsCertified limits old new p → IsAdmissible limits old other → gross other ≡ gross new → IsCertified limits old other p
+    (limits : LimitsData) (old new other : NetworkData) (p : List ℤ) → AreInRange new.members new.rows → AreInRange other.members other.rows → IsCertified limits old new p →
+    IsAdmissible limits old other → gross other ≡ gross new → IsCertified limits old other p
 
 -- every lower bound is 0
 abbrev pub HasNoFloor : LimitsData → Type 0

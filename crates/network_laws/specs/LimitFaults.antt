@@ -24,6 +24,9 @@ IsLimitFault members rows (Member at) =
 IsLimitFault members rows (Same at) =
     IsFirstBadLimit members rows at × ((d : LimitRow) → let row = slice_index_or rows at d in IsLimitMember members row × (row.seller ≡ row.buyer))
 IsLimitFault members rows (Order at) =
-    IsFirstBadLimit members rows at × ((d : LimitRow) → let row = slice_index_or rows at d in IsLimitMember members row × (row.seller ≡ row.buyer → ⊥)) × (0 < at) × ((d : LimitRow) → limit_place (slice_index_or rows at d) ≤ limit_place (slice_index_or rows (at - 1) d))
+    IsFirstBadLimit members rows at × ((d : LimitRow) → let row = slice_index_or rows at d in IsLimitMember members row × (row.seller ≡ row.buyer → ⊥)) × (0 < at) ×
+    ((d : LimitRow) → limit_place (slice_index_or rows at d) ≤ limit_place (slice_index_or rows (at - 1) d))
 IsLimitFault members rows (Crossed at) =
-    IsFirstBadLimit members rows at × ((d : LimitRow) → let row = slice_index_or rows at d in IsLimitMember members row × (row.seller ≡ row.buyer → ⊥)) × ((d : LimitRow) → 0 < at → limit_place (slice_index_or rows (at - 1) d) < limit_place (slice_index_or rows at d)) × ((d : LimitRow) → let row = slice_index_or rows at d in IsWithin row.lower row.upper → ⊥)
+    IsFirstBadLimit members rows at × ((d : LimitRow) → let row = slice_index_or rows at d in IsLimitMember members row × (row.seller ≡ row.buyer → ⊥)) ×
+    ((d : LimitRow) → 0 < at → limit_place (slice_index_or rows (at - 1) d) < limit_place (slice_index_or rows at d)) ×
+    ((d : LimitRow) → let row = slice_index_or rows at d in IsWithin row.lower row.upper → ⊥)

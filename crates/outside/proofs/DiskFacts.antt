@@ -91,7 +91,3 @@ kept_sync first steps written synced content kept =
       content_size = kept.content_size;
       synced_size = kept.content_size;
     }
-
--- a disk that begins with these bytes
-pub kept_at_first : (first : List ℕ) → IsKept first [] [] first first
-kept_at_first first = record { content = refl; synced = refl; written = refl; content_size = omega arith; synced_size = omega arith }

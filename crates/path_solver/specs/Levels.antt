@@ -27,12 +27,14 @@ pub record AreLevels (flows : List Flow) (p lack levels : List ℕ) : Type 0 whe
 -- starts at a reached member: a path of open arcs from the last level to one that has to receive has no fewer arcs
 pub record AreFewest (flows : List Flow) (p levels : List ℕ) (last : ℕ) : Type 0 where
   pub all : (a : ℕ) → a < arc_count flows → IsOpen flows p a → IsReached levels (head flows a) → slice_index levels (head flows a) + 1 < last → IsReached levels (tail flows a)
-  pub steps : (a : ℕ) → a < arc_count flows → IsOpen flows p a → IsReached levels (head flows a) → IsReached levels (tail flows a) → slice_index levels (tail flows a) ≤ slice_index levels (head flows a) + 1
+  pub steps : (a : ℕ) → a < arc_count flows → IsOpen flows p a → IsReached levels (head flows a) → IsReached levels (tail flows a) →
+      slice_index levels (tail flows a) ≤ slice_index levels (head flows a) + 1
 
 -- who has to send, and has an open arc to the level before `last`, is reached
 abbrev pub AreMet : List Flow → List ℕ → List ℕ → List ℕ → ℕ → Type 0
 AreMet flows p surplus levels last =
-    (a : ℕ) → a < arc_count flows → IsOpen flows p a → IsReached levels (head flows a) → slice_index levels (head flows a) + 1 ≡ last → 0 < slice_index surplus (tail flows a) → IsReached levels (tail flows a)
+    (a : ℕ) → a < arc_count flows → IsOpen flows p a → IsReached levels (head flows a) → slice_index levels (head flows a) + 1 ≡ last → 0 < slice_index surplus (tail flows a) →
+    IsReached levels (tail flows a)
 
 -- the levels tell how many arcs a path of least cost has at the least: `last`, the level of those that send
 pub record AreShortest (flows : List Flow) (p surplus lack levels : List ℕ) (last : ℕ) : Type 0 where

@@ -11,7 +11,8 @@ use Rattle.path_solver.specs.Levels.{layer_at}
 -- to the layer below
 pub record ArePruned (flows : List Flow) (p lack levels : List ℕ) (layers : List MemberSet) (n : ℕ) : Type 0 where
   pub lowest : (v : ℕ) → 0 < n → v < length levels → slice_index levels v ≡ 0 → has (layer_at layers 0) v ≡ false → slice_index lack v ≡ 0
-  pub others : (k a : ℕ) → k + 1 < n → a < arc_count flows → IsOpen flows p a → slice_index levels (tail flows a) ≡ k + 1 → has (layer_at layers (k + 1)) (tail flows a) ≡ false → has (layer_at layers k) (head flows a) ≡ false
+  pub others : (k a : ℕ) → k + 1 < n → a < arc_count flows → IsOpen flows p a → slice_index levels (tail flows a) ≡ k + 1 → has (layer_at layers (k + 1)) (tail flows a) ≡ false →
+      has (layer_at layers k) (head flows a) ≡ false
 
 -- each layer has no others than before
 abbrev pub AreFewer : List MemberSet → List MemberSet → Type 0

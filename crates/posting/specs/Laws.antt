@@ -53,7 +53,8 @@ pub record KeepsNets (roster : Rows) (before after : State) : Type 0 where
 -- each solution's network has the least gross that its problem allows
 abbrev pub AreLeast : List ProblemData → List SolutionData → Type 0
 AreLeast problems solutions =
-    (product : ℕ) (problem : ProblemData) (solution : SolutionData) → slice_get problems product ≡ Some problem → slice_get solutions product ≡ Some solution → IsLeast problem.limits problem.network solution.network
+    (product : ℕ) (problem : ProblemData) (solution : SolutionData) → slice_get problems product ≡ Some problem → slice_get solutions product ≡ Some solution →
+    IsLeast problem.limits problem.network solution.network
 
 abbrev pub PostingCanBeExecuted : Type 0
 PostingCanBeExecuted =

@@ -20,7 +20,8 @@ pub record Turn (figures : Figures) (h : History) (seat : ℕ) : Type 0 where
   pub answered : IsAnswered figures h seat from line text made to
 
 -- the lines of a talk, in their order
-abbrev pub turns : (figures : Figures) (h : History) (seat : ℕ) (from : Standing) (lines : List (List ℕ)) (text : List ℕ) (made : List Entry) (to : Standing) → IsTalk figures h seat from lines text made to → List (Turn figures h seat)
+abbrev pub turns : (figures : Figures) (h : History) (seat : ℕ) (from : Standing) (lines : List (List ℕ)) (text : List ℕ) (made : List Entry) (to : Standing) →
+    IsTalk figures h seat from lines text made to → List (Turn figures h seat)
 turns figures h seat from [] text made to talk = []
 turns figures h seat from (line ∷ lines) text made to (next, head, more, first, others, answered, is_text, is_made, talk) =
     record { from = from; line = line; text = head; made = first; to = next; answered = answered } ∷ turns figures h seat next lines more others to talk

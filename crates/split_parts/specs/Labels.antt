@@ -36,7 +36,8 @@ relabelled from to label = if label == from then to else label
 -- where the pair of the row is open, the higher label of its members gives way to the lower one
 pub record JoinsRow (row : LimitRow) (labels labels' : List ℕ) : Type 0 where
   pub closed : row.upper ≡ Some 0 → (m : ℕ) → slice_index labels' m ≡ slice_index labels m
-  pub joined : row.upper ≢ Some 0 → (m : ℕ) → m < length labels → slice_index labels' m ≡ relabelled (max (slice_index labels row.seller) (slice_index labels row.buyer)) (min (slice_index labels row.seller) (slice_index labels row.buyer)) (slice_index labels m)
+  pub joined : row.upper ≢ Some 0 → (m : ℕ) → m < length labels →
+      slice_index labels' m ≡ relabelled (max (slice_index labels row.seller) (slice_index labels row.buyer)) (min (slice_index labels row.seller) (slice_index labels row.buyer)) (slice_index labels m)
 
 -- whatever labels the parents lead to, they lead now to such as the row joins
 abbrev pub LeadsOn : LimitRow → List ℕ → List ℕ → Type 0
@@ -45,7 +46,8 @@ LeadsOn row parents parents' =
 
 -- the pairs of the first rows, where they are open, have the same label
 abbrev pub CoversTo : List LimitRow → ℕ → List ℕ → Type 0
-CoversTo rows n labels = (k : ℕ) (d : LimitRow) → k < n → k < length rows → (slice_index_or rows k d).upper ≢ Some 0 → slice_index labels (slice_index_or rows k d).seller ≡ slice_index labels (slice_index_or rows k d).buyer
+CoversTo rows n labels = (k : ℕ) (d : LimitRow) → k < n → k < length rows → (slice_index_or rows k d).upper ≢ Some 0 →
+    slice_index labels (slice_index_or rows k d).seller ≡ slice_index labels (slice_index_or rows k d).buyer
 
 -- n is the first member from a place on that has the label, or the number of members where none has it
 pub record IsFirstFrom (labels : List ℕ) (from label n : ℕ) : Type 0 where

@@ -46,7 +46,8 @@ pub record AreParts (members : ℕ) (parts : PartsData) : Type 0 where
 -- solutions of the parts of a problem, put together, are a solution of the problem
 abbrev pub MergedIsSolution : Type 0
 MergedIsSolution =
-    (limits : LimitsData) (network : NetworkData) (parts : PartsData) (solutions : List SolutionData) (merged : SolutionData) → IsProblem (record { limits = limits; network = network }) → ArePartsOf limits network parts → AreSolved parts.problems solutions →
+    (limits : LimitsData) (network : NetworkData) (parts : PartsData) (solutions : List SolutionData) (merged : SolutionData) → IsProblem (record { limits = limits; network = network }) →
+    ArePartsOf limits network parts → AreSolved parts.problems solutions →
     IsSolution merged → IsMerged parts.members network.members solutions merged → Solves limits network merged
 
 -- a part of so many members, and a solution of its size

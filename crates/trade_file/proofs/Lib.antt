@@ -9,6 +9,5 @@ pub mod GivenFacts
 pub mod TableFacts
 pub mod PileFacts
 pub mod NameFacts
-pub mod AmountFacts
 pub mod KeyFacts
 mod GeneratedFacts

@@ -1,5 +1,5 @@
 //! The rows of a trade file, each by itself.
-ghost use Rattle.std.specs.Prelude.{◌≡◌, ◌≢◌, ◌<◌, ◌∷◌, [], IfOk, IfSome, IfNone, length, Some, Ok};
+ghost use Rattle.std.specs.Prelude.{◌≡◌, ◌≢◌, ◌<◌, ◌∷◌, [], IfOk, IfSome, IfNone, length};
 ghost use Rattle.csv.specs.Records.{fields_of};
 ghost use Rattle.units_core.specs.Number.{amount_of};
 ghost use Rattle.trade_file.specs.TradeFile.{is_trade_header, member_of, product_of, with_amount, between, trade_of};
@@ -9,34 +9,7 @@ use crate::directory::Directory;
 use crate::file_trade::FileTrade;
 use command_types::FileFault;
 use csv::ByteRecord;
-use units_core::{Amount, MOST_TRADE_AMOUNT, MemberNo, NumberFault, ProductNo};
-
-// The amount that a text of up to 18 digits writes, read in one pass. Other texts are left to `Amount::read`.
-fn read_few_digits(text: &[u8]) -> Option<Amount>
-    ensures { IfSome result (λ amount. amount_of text.now ≡ Ok amount) }
-{
-    if text.is_empty() || text.len() > 18 || text[0] == b'0' {
-        return None;
-    }
-    let mut value = 0u64;
-    for byte in text {
-        if !byte.is_ascii_digit() {
-            return None;
-        }
-        value = value * 10 + u64::from(*byte - b'0');
-    }
-    Amount::new(value)
-}
-
-// The amount that a text writes, or the first fault of the text.
-fn amount_in(text: &[u8]) -> Result<Amount, NumberFault>
-    ensures { result ≡ amount_of text.now }
-{
-    match read_few_digits(text) {
-        Some(amount) => Ok(amount),
-        None => Amount::read(text),
-    }
-}
+use units_core::{Amount, MOST_TRADE_AMOUNT, MemberNo, ProductNo};
 
 fn read_amount(
     row: u64,
@@ -48,7 +21,7 @@ fn read_amount(
     ensures trade { result ≡ with_amount row seller buyer product (amount_of text.now) }
     ensures product { IfOk result (λ trade. trade.product ≡ product) }
 {
-    let Ok(amount) = amount_in(text) else {
+    let Ok(amount) = Amount::read(text) else {
         return Err(FileFault::BadAmount { row });
     };
     if amount.get() > MOST_TRADE_AMOUNT {

@@ -3,3 +3,4 @@ pub mod NumberFacts
 pub mod DayFacts
 pub mod DayOrder
 pub mod NameTests
+pub mod AmountFacts

@@ -1,5 +1,5 @@
 //! The notional amount of a trade.
-ghost use Rattle.std.specs.Prelude.{◌≡◌, ◌≤◌, ◌&&◌, nat_le, if◌then◌else◌, Some, None};
+ghost use Rattle.std.specs.Prelude.{◌≡◌, ◌≤◌, ◌&&◌, nat_le, if◌then◌else◌, IfSome, Some, None, Ok};
 ghost use Rattle.units_core.specs.Number.{is_amount, amount_of};
 ghost use Rattle.units_core.specs.declared.limits.TheConstants.{MOST_GROSS};
 
@@ -26,6 +26,23 @@ impl Model for Amount {
     ghost inverse = { λ n. record { value = n } };
 }
 
+// The amount that a text of up to 18 digits writes, read in one pass. Other texts are for `read_number`.
+fn read_few_digits(text: &[u8]) -> Option<Amount>
+    ensures { IfSome result (λ amount. amount_of text.now ≡ Ok amount) }
+{
+    if text.is_empty() || text.len() > 18 || text[0] == b'0' {
+        return None;
+    }
+    let mut value = 0u64;
+    for byte in text {
+        if !byte.is_ascii_digit() {
+            return None;
+        }
+        value = value * 10 + u64::from(*byte - b'0');
+    }
+    Amount::new(value)
+}
+
 impl Amount {
     /// The largest amount, 10^18.
     pub const MOST: u64 = MOST_GROSS;
@@ -45,6 +62,9 @@ impl Amount {
     pub fn read(text: &[u8]) -> Result<Amount, NumberFault>
         ensures { result ≡ amount_of text.now }
     {
+        if let Some(amount) = read_few_digits(text) {
+            return Ok(amount);
+        }
         match read_number(text, Amount::MOST) {
             Ok(value) => {
                 if value == 0 {

@@ -1,6 +1,6 @@
 use Rattle.std.proofs.Common.{arith, length}
-use Rattle.trade_file.proofs.AmountFacts.{room, amount_if}
-use Rattle.trade_file.proofs.trade_row.read_few_digits.Goals as goal
+use Rattle.units_core.proofs.AmountFacts.{room, amount_if}
+use Rattle.units_core.proofs.amount.read_few_digits.Goals as goal
 
 pub overflow_mul-value : goal.overflow_mul-value
 overflow_mul-value c = omega (arith, room c.loop-byte.value c.loop-byte.byte-index (length c.args.text.now) c.loop-byte-test.true c.if-text-gt18.false c.loop-byte.invariant.few)

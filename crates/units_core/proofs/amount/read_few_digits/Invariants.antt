@@ -1,6 +1,6 @@
 use Rattle.std.proofs.Common.{◌≡◌, ◌<◌, ◌^◌, ℕ, take, get_or, true}
 use Rattle.units_core.specs.Number.{is_digit, value_of}
-use Rattle.trade_file.proofs.trade_row.read_few_digits.Given as goal
+use Rattle.units_core.proofs.amount.read_few_digits.Given as goal
 
 abbrev pub invariant-loop-byte : goal.invariant-loop-byte
 invariant-loop-byte l = record {
