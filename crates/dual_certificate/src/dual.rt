@@ -1,8 +1,8 @@
 //! The dual bound.
 
-ghost use Rattle.std.specs.Prelude.{◌≡◌, ◌↔◌, ℕ, ◌+◌, ◌*◌, ◌^◌, ◌<◌, ◌≤◌, length, MatchOption, IsSome, IfSome, ℤ, pos, ◌*ℤ◌, ◌-ℤ◌};
+ghost use Rattle.std.specs.Prelude.{◌≡◌, ◌↔◌, ◌+◌, ◌*◌, ◌^◌, ◌<◌, ◌≤◌, length, MatchOption, IsSome, IfSome, ℤ, pos, ◌*ℤ◌, ◌-ℤ◌};
 ghost use Rattle.network_laws.specs.Limits.{HasBound, IsRisingLimits, bound_of, member_cost, int_sum_below};
-ghost use Rattle.dual_certificate.specs.Bounds.{IsOpenPriced, AreOpenPriced, IsBetween, rows_cost, seller_sum};
+ghost use Rattle.dual_certificate.specs.Bounds.{AreOpenPriced, HasUnpriced, IsBetween, IsPairCost, IsSellerCost};
 ghost use Rattle.units_core.specs.declared.limits.TheConstants.{MOST_GROSS, MOST_MEMBERS};
 
 use crate::cost::{cost_of, reduced_cost};
@@ -63,7 +63,7 @@ fn pair_costs(limits: &[LimitRow], potentials: &[i32], members: u16) -> Option<i
     requires limits { IsRisingLimits limits.now }
     requires few { members ≤ MOST_MEMBERS }
     requires potentials { length potentials.now ≡ members }
-    ensures { MatchOption result (AreOpenPriced limits.now potentials.now members → ⊥) (λ sum. AreOpenPriced limits.now potentials.now members × (sum ≡ int_sum_below members (seller_sum limits.now potentials.now members)) × IsBetween (2 ^ 114) sum) }
+    ensures { MatchOption result (AreOpenPriced limits.now potentials.now members → ⊥) (IsPairCost limits.now potentials.now members) }
 {
     let mut sum: i128 = 0;
     for seller in 0..members {
@@ -81,7 +81,7 @@ fn seller_cost(limits: &[LimitRow], potentials: &[i32], seller: u16, members: u1
     requires few { members ≤ MOST_MEMBERS }
     requires seller { seller < members }
     requires potentials { length potentials.now ≡ members }
-    ensures { MatchOption result ((j : ℕ) × (j < members) × (IsOpenPriced limits.now potentials.now seller j → ⊥)) (λ sum. ((j : ℕ) → j < members → IsOpenPriced limits.now potentials.now seller j) × (sum ≡ int_sum_below members (rows_cost limits.now potentials.now seller)) × IsBetween (2 ^ 106) sum) }
+    ensures { MatchOption result (HasUnpriced limits.now potentials.now members seller) (IsSellerCost limits.now potentials.now members seller) }
 {
     let mut limit_at = first_limit(limits, seller, 0);
     let mut sum: i128 = 0;

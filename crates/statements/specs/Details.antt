@@ -3,11 +3,30 @@ use Rattle.std.specs.Prelude.{ℕ, List, [], ◌++◌, map, codes, decimal}
 use Rattle.command_types.specs.declared.answer.Answer.{Answer}
 use Rattle.command_types.specs.declared.answer.Answer.TheVariants.{Statement, LimitRows, PlanRows}
 use Rattle.command_types.specs.Roster.{Rows}
-use Rattle.command_types.specs.Text.{member_name, numbers_text}
-use Rattle.command_types.specs.Details.{trade_line, limit_text, plan_text}
+use Rattle.units_core.specs.Day.{day_text}
+use Rattle.command_types.specs.declared.trade.TradeRow.{TradeRow}
+use Rattle.command_types.specs.Books.{is_held}
+use Rattle.command_types.specs.Text.{member_name, numbers_text, pair_text, product_name, state_text}
+use Rattle.command_types.specs.Details.{held_text, trade_line, limit_text, plan_text}
 use Rattle.statements.specs.declared.details.DetailRow.{DetailRow}
 use Rattle.statements.specs.declared.details.ExecutionLine.{ExecutionLine}
 use Rattle.statements.specs.declared.details.DetailRow.TheVariants.{Trade, Limit, Plan, Member, Execution}
+
+-- the front of a trade's line: its number, its parties and its product
+abbrev pub parties_text : Rows → TradeRow → List ℕ
+parties_text rows row =
+    codes "trade " ++ decimal row.number ++ pair_text rows row.seller row.buyer ++ codes " " ++ product_name rows row.product
+
+-- what comes behind: its amount, its day, its state, and whether a party holds it
+abbrev pub standing_text : TradeRow → List ℕ
+standing_text row =
+    codes " " ++ decimal row.amount ++ codes " " ++ day_text row.day ++ codes " " ++ state_text row.state
+    ++ codes " " ++ held_text (is_held row)
+
+-- a trade that a plan makes
+abbrev pub new_text : Rows → ℕ → ℕ → ℕ → ℕ → List ℕ
+new_text rows product seller buyer amount =
+    codes "new" ++ pair_text rows seller buyer ++ codes " " ++ product_name rows product ++ codes " " ++ decimal amount ++ codes "\n"
 
 -- a member, and how many trades it has a side in
 abbrev pub member_text : Rows → ℕ → ℕ → List ℕ

@@ -1,8 +1,9 @@
 //! The lines of a pair's limits and of a plan's steps.
 
 ghost use Rattle.std.specs.Prelude.{◌≡◌, ◌+◌, ◌≤◌, ◌++◌, length, take, codes, decimal};
-ghost use Rattle.command_types.specs.Text.{product_name, pair_text, numbers_text};
+ghost use Rattle.command_types.specs.Text.{numbers_text};
 ghost use Rattle.command_types.specs.Details.{upper_text, limit_text, plan_text};
+ghost use Rattle.statements.specs.Details.{new_text};
 
 use command_text::put::{put, put_number, put_numbers, put_pair, put_product, put_told};
 use command_types::{LimitLine, PlanRow, Roster};
@@ -46,7 +47,7 @@ fn put_new(
 ) -> usize
     requires { at + 76 ≤ length into.old }
     ensures end { result ≤ at + 76 }
-    ensures text { take result into.new ≡ take at into.old ++ (codes "new" ++ pair_text roster.now seller buyer ++ codes " " ++ product_name roster.now product ++ codes " " ++ decimal amount ++ codes "\n") }
+    ensures text { take result into.new ≡ take at into.old ++ new_text roster.now product seller buyer amount }
 {
     let end = put(into, at, b"new");
     let end = put_pair(into, end, roster, seller.0, buyer.0);

@@ -1,10 +1,9 @@
 //! The line of a trade.
 
-ghost use Rattle.std.specs.Prelude.{◌≡◌, ◌+◌, ◌≤◌, ◌++◌, length, take, codes, decimal};
-ghost use Rattle.units_core.specs.Day.{day_text};
-ghost use Rattle.command_types.specs.Text.{product_name, state_text, pair_text};
+ghost use Rattle.std.specs.Prelude.{◌≡◌, ◌+◌, ◌≤◌, ◌++◌, length, take};
 ghost use Rattle.command_types.specs.Books.{is_held};
 ghost use Rattle.command_types.specs.Details.{held_text, trade_line};
+ghost use Rattle.statements.specs.Details.{parties_text, standing_text};
 
 use command_text::put::{put, put_pair, put_product, put_state, put_told};
 use command_types::{Roster, TradeRow};
@@ -25,7 +24,7 @@ fn put_held(into: &mut [u8], at: usize, row: &TradeRow) -> usize
 fn put_parties(into: &mut [u8], at: usize, roster: &Roster, row: &TradeRow) -> usize
     requires { at + 77 ≤ length into.old }
     ensures end { result ≤ at + 77 }
-    ensures text { take result into.new ≡ take at into.old ++ codes "trade " ++ decimal row.now.number ++ pair_text roster.now row.now.seller row.now.buyer ++ codes " " ++ product_name roster.now row.now.product }
+    ensures text { take result into.new ≡ take at into.old ++ parties_text roster.now row.now }
 {
     let end = put_told(into, at, b"trade ", row.number);
     let end = put_pair(into, end, roster, row.seller.0, row.buyer.0);
@@ -37,7 +36,7 @@ fn put_parties(into: &mut [u8], at: usize, roster: &Roster, row: &TradeRow) -> u
 fn put_standing(into: &mut [u8], at: usize, row: &TradeRow) -> usize
     requires { at + 45 ≤ length into.old }
     ensures end { result ≤ at + 45 }
-    ensures text { take result into.new ≡ take at into.old ++ codes " " ++ decimal row.now.amount ++ codes " " ++ day_text row.now.day ++ codes " " ++ state_text row.now.state ++ codes " " ++ held_text (is_held row.now) }
+    ensures text { take result into.new ≡ take at into.old ++ standing_text row.now }
 {
     let end = put_told(into, at, b" ", row.amount.get());
     let end = put(into, end, b" ");

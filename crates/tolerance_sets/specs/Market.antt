@@ -1,9 +1,10 @@
 -- What the limits of a product follow from, as the walk over the pairs has it.
-use Rattle.std.specs.Prelude.{◌≡◌, ℕ, ◌+◌, ◌*◌, ◌<◌, ◌≤◌, true, false, List, [], length, slice_get}
+use Rattle.std.specs.Prelude.{◌≡◌, ℕ, ◌+◌, ◌*◌, ◌<◌, ◌≤◌, Bool, true, false, List, [], length, slice_get}
 use Rattle.network_laws.specs.declared.rows.LimitRow.{LimitRow}
 use Rattle.network_laws.specs.Networks.{IsRising, IsCursor, amount_in}
 use Rattle.command_types.specs.declared.roster.MemberRow.{MemberRow}
-use Rattle.command_types.specs.Tolerances.{is_dealer_row, may_grow, pair_limit}
+use Rattle.command_types.specs.declared.tolerance.ToleranceRow.{ToleranceRow}
+use Rattle.command_types.specs.Tolerances.{is_dealer_row, may_grow, pair_limit, limit_row, pair_lower, pair_floor, pair_upper, pair_ceiling}
 use Rattle.tolerance_sets.specs.declared.limits.Market.{Market}
 use Rattle.tolerance_sets.specs.declared.pair_cursor.PairCursor.{PairCursor}
 
@@ -17,6 +18,13 @@ pub record IsMarket (market : Market) : Type 0 where
   pub apart : (member : ℕ) → amount_in market.network.now member member ≡ 0
   pub held : IsRising market.held.now
   pub dealers : AreNoDealers market.members.now market.dealers_end
+
+-- the row of a pair with this amount, so much of it held, that may grow or not
+abbrev pub row_of_pair : List ToleranceRow → ℕ → ℕ → ℕ → ℕ → ℕ → Bool → List LimitRow
+row_of_pair settings product seller buyer amount held grows =
+    limit_row seller buyer
+    (pair_lower amount (pair_floor settings product seller buyer) held)
+    (pair_upper grows amount (pair_ceiling settings product seller buyer))
 
 -- the row of a pair, if it has one
 abbrev pub market_limit : Market → ℕ → ℕ → List LimitRow

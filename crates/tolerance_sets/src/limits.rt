@@ -4,8 +4,8 @@ ghost use Rattle.std.specs.Prelude.{◌≡◌, ◌<◌, ◌≤◌, ◌++◌, len
 ghost use Rattle.std.specs.Option.{option_to_list};
 ghost use Rattle.network_laws.specs.Networks.{IsRising};
 ghost use Rattle.command_types.specs.Books.{listed_below, listed_pairs};
-ghost use Rattle.command_types.specs.Tolerances.{smaller_of, pair_floor, pair_ceiling, is_dealer_row, is_open, may_grow, pair_upper, pair_lower, limit_row};
-ghost use Rattle.tolerance_sets.specs.Market.{IsMarket, AreNoDealers, IsAtPair, HaveNone, market_limit};
+ghost use Rattle.command_types.specs.Tolerances.{smaller_of, is_dealer_row, is_open, may_grow, pair_upper};
+ghost use Rattle.tolerance_sets.specs.Market.{IsMarket, AreNoDealers, IsAtPair, HaveNone, market_limit, row_of_pair};
 ghost use Rattle.units_core.specs.declared.limits.TheConstants.{MOST_MEMBERS};
 
 use crate::open_pairs::{is_unbounded, open_limits};
@@ -108,7 +108,7 @@ fn pair_limit(
     held: u64,
     grows: bool,
 ) -> Option<LimitRow>
-    ensures { option_to_list result ≡ limit_row seller buyer (pair_lower amount (pair_floor settings.now.settings product seller buyer) held) (pair_upper grows amount (pair_ceiling settings.now.settings product seller buyer)) }
+    ensures { option_to_list result ≡ row_of_pair settings.now.settings product seller buyer amount held grows }
 {
     if amount == 0 && !grows {
         return None;
