@@ -1,50 +1,78 @@
 //! The pieces of problems: the parts of each, and where a problem has just one part, the problem itself.
 
 use network_laws::Problem;
+use split_parts::Partition;
+use std::alloc::Global;
 use std::marker::Model;
+
+/// The part of a problem at a place among its parts.
+#[derive(Clone, Copy)]
+pub struct Piece<'a> {
+    problem: &'a Problem,
+    partition: &'a Partition,
+    at: usize,
+}
 
 /// Pieces of problems, in order. Contracts see the list of them.
 #[derive(Drop)]
 pub struct Pieces<'a> {
-    problems: Vec<&'a Problem>,
+    pieces: Vec<Piece<'a>>,
+    alloc: Global,
 }
 
 impl<'a> Model for Pieces<'a> {
-    ghost use Rattle.std.specs.Prelude.{List, map};
+    ghost use Rattle.std.specs.Prelude.{List, All, map};
     ghost use Rattle.network_laws.specs.Solutions.{ProblemData};
+    ghost use Rattle.parallel_solver.specs.Pieces.{piece_of, IsPiece};
 
     ghost Value = { List ProblemData };
 
-    ghost view = { λ pieces. map (λ piece. piece.now) pieces.problems.items };
+    ghost view = { λ pieces. map piece_of pieces.pieces.items };
+
+    ghost invariant = { λ pieces. All IsPiece pieces.pieces.items };
 }
 
-ghost use Rattle.std.specs.Prelude.{◌≡◌, ◌<◌, ◌+◌, ◌++◌, [], length, slice_get, Some, IfOk};
+ghost use Rattle.std.specs.Prelude.{◌≡◌, ◌<◌, ◌+◌, ◌++◌, [], length, IfOk};
+ghost use Rattle.split_parts.specs.Parts.{IsPartitionOf};
 ghost use Rattle.parallel_solver.specs.Cuts.{pieces_in, pieces_of, AreCuts};
+ghost use Rattle.network_laws.specs.Solved.{IsSolved};
+ghost use Rattle.parallel_solver.specs.Pieces.{piece_of, IsPiece};
+ghost use Rattle.parallel_solver.specs.Places.{SolvesAt};
 
-use split_parts::{Cut, split_unless_one};
-use std::alloc::{AllocError, Global};
+use network_laws::{Solution, Solver};
+use std::alloc::AllocError;
 
 /// The parts of each problem.
-pub fn cuts_of(alloc: Global, problems: &[Problem]) -> Result<Vec<Cut>, AllocError>
+pub fn cuts_of(alloc: Global, problems: &[Problem]) -> Result<Vec<Partition>, AllocError>
     ensures { IfOk result (λ cuts. AreCuts problems.now cuts.items) }
 {
     let mut cuts = Vec::with_capacity(alloc, problems.len())?;
     for problem in problems {
-        let cut = split_unless_one(alloc, problem.limits(), problem.network())?;
+        let cut = Partition::of(alloc, problem.limits())?;
         cuts.push(cut)?;
     }
     Ok(cuts)
 }
 
-/// The pieces of the problem at a place.
-pub fn pieces_in<'a>(problems: &'a [Problem], at: usize, cut: &'a Cut) -> &'a [Problem]
-    requires { at < length problems.now }
-    ensures { (problem : _) → slice_get problems.now at ≡ Some problem → result.now ≡ pieces_in problem cut.now }
+// Solves a piece: a problem as it stands, where it has just one part, and else the part's own problem.
+fn solve_piece<V: Solver>(
+    alloc: Global,
+    piece: Piece<'_>,
+    solver: &V,
+) -> Result<Solution, AllocError>
+    requires { IsPiece piece }
+    ensures { IfOk result (IsSolved (piece_of piece.entry)) }
 {
-    match cut {
-        Cut::One(_) => &problems[at..at + 1],
-        Cut::Parts(parts) => parts.problems(),
+    let (limits, network) = (piece.problem.limits(), piece.problem.network());
+    if piece.partition.parts().len() == 1 {
+        let solution = solver.solve(limits, network)?;
+        let _potentials = solution.potentials();
+        return Ok(solution);
     }
+    let own = piece.partition.problem(alloc, limits, network, piece.at)?;
+    let solution = solver.solve(own.limits(), own.network())?;
+    let _potentials = solution.potentials();
+    Ok(solution)
 }
 
 impl<'a> Pieces<'a> {
@@ -53,16 +81,22 @@ impl<'a> Pieces<'a> {
         ensures { result ≡ [] }
     {
         Pieces {
-            problems: Vec::new(alloc),
+            pieces: Vec::new(alloc),
+            alloc,
         }
     }
 
-    // Adds these.
-    fn add(&mut self, problems: &'a [Problem]) -> Result<(), AllocError>
-        ensures { IfOk result (λ _. self.new ≡ self.old ++ problems.now) }
+    // Adds the pieces of a problem.
+    fn add(&mut self, problem: &'a Problem, partition: &'a Partition) -> Result<(), AllocError>
+        requires { IsPartitionOf problem.now.limits partition.now }
+        ensures { IfOk result (λ _. self.new ≡ self.old ++ pieces_in problem.now partition.now) }
     {
-        for problem in problems {
-            self.problems.push(problem)?;
+        for at in 0..partition.parts().len() {
+            self.pieces.push(Piece {
+                problem,
+                partition,
+                at,
+            })?;
         }
         Ok(())
     }
@@ -71,14 +105,14 @@ impl<'a> Pieces<'a> {
     pub fn of(
         alloc: Global,
         problems: &'a [Problem],
-        cuts: &'a [Cut],
+        cuts: &'a [Partition],
     ) -> Result<Pieces<'a>, AllocError>
-        requires { length problems.now ≡ length cuts.now }
+        requires { AreCuts problems.now cuts.now }
         ensures { IfOk result (λ pieces. pieces ≡ pieces_of problems.now cuts.now) }
     {
         let mut pieces = Pieces::new(alloc);
         for at in 0..problems.len() {
-            pieces.add(pieces_in(problems, at, &cuts[at]))?;
+            pieces.add(&problems[at], &cuts[at])?;
         }
         Ok(pieces)
     }
@@ -87,14 +121,14 @@ impl<'a> Pieces<'a> {
     pub fn len(&self) -> usize
         ensures { result ≡ length self.now }
     {
-        self.problems.len()
+        self.pieces.len()
     }
 
-    /// The piece at a place.
-    pub fn at(&self, place: usize) -> &Problem
+    /// A solution of the piece at a place. The problem of a part is made here. The only error is want of memory.
+    pub fn solve<V: Solver>(&self, solver: &V, place: usize) -> Result<Solution, AllocError>
         requires { place < length self.now }
-        ensures { slice_get self.now place ≡ Some result.now }
+        ensures { IfOk result (SolvesAt self.now place) }
     {
-        self.problems[place]
+        solve_piece(self.alloc, self.pieces[place], solver)
     }
 }

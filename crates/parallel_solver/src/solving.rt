@@ -2,15 +2,15 @@
 
 ghost use Rattle.std.specs.Prelude.{◌≡◌, ◌≤◌, ◌++◌, length, IfOk};
 ghost use Rattle.network_laws.specs.Solved.{IsSolved, AreSolved};
-ghost use Rattle.split_parts.specs.Cut.{IsCut};
+ghost use Rattle.split_parts.specs.Parts.{IsPartitionOf};
 ghost use Rattle.parallel_solver.specs.Cuts.{pieces_in, pieces_of, AreCuts};
 ghost use Rattle.units_core.specs.declared.limits.TheConstants.{MOST_WORKERS};
 
-use crate::pieces::{Pieces, cuts_of, pieces_in};
+use crate::pieces::{Pieces, cuts_of};
 use crate::workers::solve_pieces;
 use network_laws::{Problem, Solution, Solver};
 use outside::Gate;
-use split_parts::{Cut, merge, settle_others};
+use split_parts::{Partition, merge_parts, settle_others};
 use std::alloc::{AllocError, Global};
 use std::thread::Threads;
 use std::vec::IntoIter;
@@ -39,35 +39,32 @@ fn taken(
 fn solution_of(
     alloc: Global,
     problem: &Problem,
-    cut: &Cut,
+    cut: &Partition,
     mut own: Vec<Solution>,
 ) -> Result<Solution, AllocError>
-    requires cut { IsCut problem.now.limits problem.now.network cut.now }
+    requires cut { IsPartitionOf problem.now.limits cut.now }
     requires solved { AreSolved (pieces_in problem.now cut.now) own.items }
     ensures { IfOk result (IsSolved problem.now) }
 {
-    match cut {
-        Cut::Parts(parts) => {
-            let solution = merge(alloc, parts, problem.network().members(), &own)?;
-            let _potentials = solution.potentials();
-            Ok(solution)
-        }
-        Cut::One(part) => {
-            let Some(whole) = own.pop() else {
-                unreachable!()
-            };
-            let solution = settle_others(part, whole);
-            let _potentials = solution.potentials();
-            Ok(solution)
-        }
+    let parts = cut.parts();
+    if parts.len() == 1 {
+        let Some(whole) = own.pop() else {
+            unreachable!()
+        };
+        let solution = settle_others(&parts[0], whole);
+        let _potentials = solution.potentials();
+        return Ok(solution);
     }
+    let solution = merge_parts(alloc, parts, problem.network().members(), &own)?;
+    let _potentials = solution.potentials();
+    Ok(solution)
 }
 
 // The solutions of problems, from those of their pieces.
 fn merged(
     alloc: Global,
     problems: &[Problem],
-    cuts: &[Cut],
+    cuts: &[Partition],
     solutions: Vec<Solution>,
 ) -> Result<Vec<Solution>, AllocError>
     requires cuts { AreCuts problems.now cuts.now }
@@ -77,10 +74,10 @@ fn merged(
     let mut solutions = solutions.into_iter();
     let mut merged = Vec::with_capacity(alloc, problems.len())?;
     for at in 0..problems.len() {
+        let problem = &problems[at];
         let cut = &cuts[at];
-        let count = pieces_in(problems, at, cut).len();
-        let own = taken(alloc, count, &mut solutions)?;
-        let solution = solution_of(alloc, &problems[at], cut, own)?;
+        let own = taken(alloc, cut.parts().len(), &mut solutions)?;
+        let solution = solution_of(alloc, problem, cut, own)?;
         merged.push(solution)?;
     }
     Ok(merged)

@@ -28,10 +28,7 @@ fn solve_one<V: Solver, G: Gate>(
     ensures { IfOk result (SolvesAt pieces.now place) }
 {
     gate.enter(place as u64);
-    let problem = pieces.at(place);
-    let solution = solver.solve(problem.limits(), problem.network())?;
-    let _potentials = solution.potentials();
-    Ok(solution)
+    pieces.solve(solver, place)
 }
 
 // A place for a solution of each piece.

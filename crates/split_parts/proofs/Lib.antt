@@ -5,8 +5,8 @@ pub mod Classes
 pub mod Partitions
 pub mod Numbers
 pub mod Placed
-pub mod Drafts
 pub mod Kept
+pub mod Sellers
 pub mod OwnFacts
 pub mod Summing
 pub mod Together

@@ -9,10 +9,10 @@ use Rattle.network_laws.specs.Limits.{LimitsData, AreLimits, IsGoodLimit, limit_
 use Rattle.network_laws.proofs.LimitOrder.{is_for-seller, is_for-buyer, is_for-yes}
 use Rattle.network_laws.proofs.RowSums.{pair_part-seller, pair_part-is}
 use Rattle.network_laws.proofs.RowOrder.{pair_part-other_buyer}
-use Rattle.split_parts.specs.Own.{number_in, numbered, numbered_bounds, own_row, own_bounds, own_limits, own_network, row_between, bounds_between}
+use Rattle.split_parts.specs.Own.{number_in, own_row, own_bounds, own_limits, own_network, row_between, bounds_between}
 use Rattle.split_parts.specs.Parts.{IsRisingPart}
 use Rattle.split_parts.proofs.Numbers.{option_cases, some_is, none_some, number_some, number_none, number_at, number_rises, part_short}
-use Rattle.split_parts.proofs.Kept.{kept_all, kept_pairs, kept_sum, kept_le, kept_yes, kept_no, kept_agree}
+use Rattle.split_parts.proofs.Kept.{kept_all, kept_pairs, kept_sum, kept_le, kept_yes, kept_no}
 
 pub record BecomesRow (o p : Option ℕ) (amount : ℕ) (y : Row) : Type 0 where
   pub seller : o ≡ Some y.seller
@@ -202,17 +202,9 @@ own_within limits y part h rising within = record {
       (subst (λ z. IsWithin z (upper limits (get_or part a 0) (get_or part b 0))) (sym (own_at y part rising a b la lb)) (h.below (get_or part a 0) (get_or part b 0) (within a 0 la) (within b 0 lb)));
 }
 
--- by a table of the own numbers
-pub own_by_table : (y : NetworkData) (part : List ℕ) (numbers : List (Option ℕ)) → IsNetwork y → ((m : ℕ) → m < y.members → get_or numbers m None ≡ number_in part m) → filter_map (numbered numbers) y.rows ≡ filter_map (own_row part) y.rows
-own_by_table y part numbers good same =
-    kept_agree (numbered numbers) (own_row part) y.rows (λ k d l.
-    let row = get_or y.rows k d in
-    let ok = good.rows.good k d l in
-    ap (λ o. row_between o (get_or numbers row.buyer None) row.amount) (same row.seller ok.seller) ∙ ap (λ o. row_between (number_in part row.seller) o row.amount) (same row.buyer ok.buyer))
+-- rows of sellers outside the part are left out
+pub row_outside : (part : List ℕ) (row : Row) → number_in part row.seller ≡ None → own_row part row ≡ None
+row_outside part row e = ap (λ o. row_between o (number_in part row.buyer) row.amount) e
 
-pub bounds_by_table : (limits : LimitsData) (part : List ℕ) (numbers : List (Option ℕ)) → AreLimits limits → ((m : ℕ) → m < limits.members → get_or numbers m None ≡ number_in part m) → filter_map (numbered_bounds numbers) limits.rows ≡ filter_map (own_bounds part) limits.rows
-bounds_by_table limits part numbers good same =
-    kept_agree (numbered_bounds numbers) (own_bounds part) limits.rows (λ k d l.
-    let row = get_or limits.rows k d in
-    let ok = good.rows.good k d l in
-    ap (λ o. bounds_between o (get_or numbers row.buyer None) row.lower row.upper) (same row.seller ok.seller) ∙ ap (λ o. bounds_between (number_in part row.seller) o row.lower row.upper) (same row.buyer ok.buyer))
+pub bounds_outside : (part : List ℕ) (row : LimitRow) → number_in part row.seller ≡ None → own_bounds part row ≡ None
+bounds_outside part row e = ap (λ o. bounds_between o (number_in part row.buyer) row.lower row.upper) e

@@ -1,5 +1,5 @@
 -- Members in no part have any potential.
-use Rattle.std.proofs.Common.{◌≡◌, ◌≢◌, ℕ, zero, suc, ◌<◌, ◌≤◌, ◌+◌, List, [], ◌∷◌, length, get_or, set, Some, None, ℤ, pos, ◌≤ℤ◌, ◌⊎◌, inl, inr, refl, sym, ap, ◌∙◌, subst, arith, ⊎_elim}
+use Rattle.std.proofs.Common.{◌≡◌, ◌≢◌, ℕ, zero, suc, ◌<◌, ◌≤◌, ◌+◌, List, [], ◌∷◌, length, get_or, set, Some, None, ℤ, pos, ◌≤ℤ◌, ◌⊎◌, inl, inr, sym, ap, ◌∙◌, subst, arith, ⊎_elim}
 use Rattle.std.specs.Prelude.{All, Contains}
 use Rattle.std.proofs.lemmas.Bool.{cases_eq, cases_lt}
 use Rattle.std.proofs.lemmas.Int.{ints}
@@ -8,7 +8,7 @@ use Rattle.std.proofs.lemmas.List.Elements.{All-set}
 use Rattle.network_laws.specs.Networks.{NetworkData, at, gross}
 use Rattle.network_laws.specs.Limits.{LimitsData, IsBelow, IsWithin, IsAdmissible, IsCertified, lower, upper, reduced, potential}
 use Rattle.network_laws.specs.Solutions.{IsPotential}
-use Rattle.split_parts.specs.Cut.{kept_or_zero, SettledIsSolution}
+use Rattle.split_parts.specs.Settled.{kept_or_zero, SettledIsSolution}
 use Rattle.split_parts.specs.Own.{number_in}
 use Rattle.split_parts.specs.Parts.{SharePart, IsPartition, IsRisingPart}
 use Rattle.split_parts.proofs.Joining.{joined_once}

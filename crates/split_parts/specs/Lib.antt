@@ -4,4 +4,4 @@ pub mod Parts
 pub mod Own
 pub mod Places
 pub mod Merged
-pub mod Cut
+pub mod Settled

@@ -3,7 +3,7 @@ use Rattle.std.specs.Prelude.{◌≡◌, ℕ, ◌<◌, List, [], ◌∷◌, ◌+
 use Rattle.network_laws.specs.declared.rows.Row.{Row}
 use Rattle.network_laws.specs.Networks.{NetworkData}
 use Rattle.network_laws.specs.Limits.{LimitsData, potential}
-use Rattle.network_laws.specs.Solutions.{IsProblem, SolutionData, IsSolution, Solves}
+use Rattle.network_laws.specs.Solutions.{IsProblem, ProblemData, SolutionData, IsSolution, Solves}
 use Rattle.network_laws.specs.Solved.{AreSolved}
 use Rattle.split_parts.specs.Own.{number_in}
 use Rattle.split_parts.specs.Parts.{PartsData, ArePartsOf, IsRisingPart}
@@ -42,6 +42,12 @@ pub record AreParts (members : ℕ) (parts : PartsData) : Type 0 where
   pub problem : IsProblem (record { limits = limits; network = network })
   pub count : network.members ≡ members
   pub are : ArePartsOf limits network parts
+
+-- the members of the parts of a problem of so many members, and a solution for each part
+pub record AreSolvedParts (members : ℕ) (parts : List (List ℕ)) (solutions : List SolutionData) : Type 0 where
+  pub problems : List ProblemData
+  pub are : AreParts members (record { members = parts; problems = problems })
+  pub solved : AreSolved problems solutions
 
 -- solutions of the parts of a problem, put together, are a solution of the problem
 abbrev pub MergedIsSolution : Type 0

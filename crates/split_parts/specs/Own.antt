@@ -1,5 +1,5 @@
 -- A part's limits and network, in the part's own numbers: a member's own number is its place in the part.
-use Rattle.std.specs.Prelude.{ℕ, ◌==◌, List, length, Option, Some, None, filter_map, position, slice_index_or}
+use Rattle.std.specs.Prelude.{ℕ, ◌==◌, List, length, Option, Some, None, filter_map, position}
 use Rattle.network_laws.specs.declared.rows.Row.{Row}
 use Rattle.network_laws.specs.declared.rows.LimitRow.{LimitRow}
 use Rattle.network_laws.specs.Networks.{NetworkData}
@@ -29,14 +29,6 @@ own_row part row = row_between (number_in part row.seller) (number_in part row.b
 -- the bounds of two members of the part, in own numbers
 abbrev pub own_bounds : List ℕ → LimitRow → Option LimitRow
 own_bounds part row = bounds_between (number_in part row.seller) (number_in part row.buyer) row.lower row.upper
-
--- a row between members that have a number
-abbrev pub numbered : List (Option ℕ) → Row → Option Row
-numbered numbers row = row_between (slice_index_or numbers row.seller None) (slice_index_or numbers row.buyer None) row.amount
-
--- bounds between members that have a number
-abbrev pub numbered_bounds : List (Option ℕ) → LimitRow → Option LimitRow
-numbered_bounds numbers row = bounds_between (slice_index_or numbers row.seller None) (slice_index_or numbers row.buyer None) row.lower row.upper
 
 -- the rows of the part's limits
 abbrev pub own_limit_rows : LimitsData → List ℕ → List LimitRow

@@ -31,6 +31,16 @@ pub record IsPartition (limits : LimitsData) (parts : List (List ℕ)) : Type 0 
   pub each : All IsPart parts
   pub order : AllPairs (λ part later. slice_index part 0 < slice_index later 0) parts
 
+-- how many members there are in all, and those of each part
+pub record PartitionData : Type 0 where
+  pub members : ℕ
+  pub parts : List (List ℕ)
+
+-- they are the parts of these limits
+pub record IsPartitionOf (limits : LimitsData) (p : PartitionData) : Type 0 where
+  pub members : p.members ≡ limits.members
+  pub parts : IsPartition limits p.parts
+
 -- parts, and a problem for each
 pub record PartsData : Type 0 where
   pub members : List (List ℕ)

@@ -1,7 +1,7 @@
 //! The laws of parts, each the contract of a function that does nothing.
 
 ghost use Rattle.split_parts.specs.Merged.{MergedIsSolution};
-ghost use Rattle.split_parts.specs.Cut.{SettledIsSolution};
+ghost use Rattle.split_parts.specs.Settled.{SettledIsSolution};
 
 /// Solutions of the parts of a problem, put together, are a solution of the problem: certified, and the old network
 /// itself where no part's gross fell.

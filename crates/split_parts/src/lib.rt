@@ -4,19 +4,20 @@
 //! between two parts, and none can. So the solutions of the parts, put together, are a solution of the whole.
 #![tactic(auto)]
 
-mod draft;
 mod labels;
 mod law;
 mod members;
 mod merging;
 mod own;
 mod part;
+mod partition;
 mod parts;
 mod places;
 mod settling;
 
 pub use law::{merged_is_solution, settled_is_solution};
-pub use merging::merge;
+pub use merging::{merge, merge_parts};
 pub use part::Part;
-pub use parts::{Cut, Parts, split, split_unless_one};
+pub use partition::Partition;
+pub use parts::{Parts, split};
 pub use settling::settle_others;

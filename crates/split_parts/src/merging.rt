@@ -10,7 +10,7 @@ ghost use Rattle.network_laws.specs.Solutions.{IsPotential};
 ghost use Rattle.network_laws.specs.Solved.{AreSolved};
 ghost use Rattle.split_parts.specs.Own.{number_in};
 ghost use Rattle.split_parts.specs.Parts.{IsRisingPart};
-ghost use Rattle.split_parts.specs.Merged.{named, rows_of, own_or, potential_in, IsMerged, AreParts, AreGoodParts};
+ghost use Rattle.split_parts.specs.Merged.{named, rows_of, own_or, potential_in, IsMerged, AreParts, AreGoodParts, AreSolvedParts};
 
 use crate::part::Part;
 use crate::parts::Parts;
@@ -112,6 +112,25 @@ fn merged_potentials(
     Ok(potentials)
 }
 
+/// The solution of a product, from those of its parts, whose members are these: their rows in the members' own numbers, each
+/// member's potential from its part, and 0 for a member in none. The only error is want of memory.
+pub fn merge_parts(
+    alloc: Global,
+    parts: &[Part],
+    members: u16,
+    solutions: &[Solution],
+) -> Result<Solution, AllocError>
+    requires { AreSolvedParts members parts.now solutions.now }
+    ensures { IfOk result (IsMerged parts.now members solutions.now) }
+{
+    let rows = merged_rows(alloc, parts, solutions)?;
+    let potentials = merged_potentials(alloc, parts, members, solutions)?;
+    match Network::from_rows(members, rows) {
+        Ok(network) => Ok(Solution::new(network, potentials)),
+        Err(_) => unreachable!(),
+    }
+}
+
 /// The solution of a product, from those of its parts: their rows in the members' own numbers, each member's potential
 /// from its part, and 0 for a member in none. The only error is want of memory.
 pub fn merge(
@@ -124,10 +143,5 @@ pub fn merge(
     requires solved { AreSolved parts.now.problems solutions.now }
     ensures { IfOk result (IsMerged parts.now.members members solutions.now) }
 {
-    let rows = merged_rows(alloc, parts.members(), solutions)?;
-    let potentials = merged_potentials(alloc, parts.members(), members, solutions)?;
-    match Network::from_rows(members, rows) {
-        Ok(network) => Ok(Solution::new(network, potentials)),
-        Err(_) => unreachable!(),
-    }
+    merge_parts(alloc, parts.members(), members, solutions)
 }

@@ -1,114 +1,153 @@
-//! The problems of parts, in their own numbers. One reading of the rows gives each to its part.
+//! The problem of a part, in its own numbers.
+//!
+//! Rows stand in the order of their sellers, so the rows of a part are found by its members: from the rows of one member the
+//! reading goes on to those of the next, and rows between them are passed over.
 
-ghost use Rattle.std.specs.Prelude.{◌≡◌, ◌<◌, ℕ, List, [], length, map, filter_map, slice_index_or, Some, None, All, IfOk, IfSome};
-ghost use Rattle.network_laws.specs.Limits.{IsWithinLimits};
+ghost use Rattle.std.specs.Prelude.{◌≡◌, ◌<◌, ◌≤◌, ◌*◌, ℕ, length, filter_map, slice_index_or, All, IfOk};
+ghost use Rattle.network_laws.specs.Networks.{IsCursor, IsRising, place};
+ghost use Rattle.network_laws.specs.Limits.{IsLimitCursor, IsRisingLimits, IsWithinLimits, limit_place};
 ghost use Rattle.network_laws.specs.declared.rows.LimitRow.{LimitRow};
-ghost use Rattle.split_parts.specs.Own.{numbered, numbered_bounds, own_limit_rows, own_rows, own_limits, own_network, own_problem};
-ghost use Rattle.split_parts.specs.Parts.{IsPartition, IsRisingPart};
-ghost use Rattle.split_parts.specs.Places.{AreDrafts, if_in, numbers_for};
+ghost use Rattle.network_laws.specs.declared.rows.Row.{Row};
+ghost use Rattle.split_parts.specs.Own.{own_bounds, own_row, own_limit_rows, own_rows, own_limits, own_network, own_problem};
+ghost use Rattle.split_parts.specs.Parts.{IsRisingPart};
+ghost use Rattle.split_parts.specs.Places.{IsNumbering};
+ghost use Rattle.units_core.specs.declared.limits.TheConstants.{MOST_MEMBERS};
 
-use crate::draft::Draft;
-use crate::part::Part;
-use crate::places::{Place, places_of};
-use network_laws::{LimitRow, Limits, Network, Problem, Row};
+use crate::places::Place;
+use network_laws::{LimitRow, Limits, Network, Problem, Row, first_limit, first_row};
 use std::alloc::{AllocError, Global};
 
-// A row in own numbers, with the part of its members, if they are in one of so many.
-fn row_in(row: Row, places: &[Place], parts: usize) -> Option<(usize, Row)>
-    requires seller { row.seller < length places.now }
-    requires buyer { row.buyer < length places.now }
-    ensures own { (k : ℕ) → k < parts → numbered (numbers_for places.now k) row ≡ if_in k result }
-    ensures within { IfSome result (λ found. found.0 < parts) }
+/// A part, and where all members stand, of whom its own have this part.
+#[derive(Clone, Copy)]
+pub struct PartAt<'a> {
+    pub members: &'a [u16],
+    pub places: &'a [Place],
+    pub part: usize,
+}
+
+// A row in own numbers, if its members are both in the part.
+fn row_in(part: PartAt<'_>, row: Row) -> Option<Row>
+    requires seller { row.seller < length part.places.now }
+    requires buyer { row.buyer < length part.places.now }
+    requires numbers { IsNumbering part.members.now part.places.now part.part }
+    ensures { result ≡ own_row part.entry.members.now row }
 {
-    let seller = places[row.seller as usize];
-    let buyer = places[row.buyer as usize];
-    if seller.part != buyer.part || seller.part >= parts {
+    let seller = part.places[row.seller as usize];
+    let buyer = part.places[row.buyer as usize];
+    if seller.part != part.part || buyer.part != part.part {
         return None;
     }
-    let own = Row {
+    Some(Row {
         seller: seller.number,
         buyer: buyer.number,
         amount: row.amount,
-    };
-    Some((seller.part, own))
+    })
 }
 
-// Bounds in own numbers, with the part of their members, if they are in one of so many.
-fn limit_in(row: LimitRow, places: &[Place], parts: usize) -> Option<(usize, LimitRow)>
-    requires seller { row.seller < length places.now }
-    requires buyer { row.buyer < length places.now }
-    ensures own { (k : ℕ) → k < parts → numbered_bounds (numbers_for places.now k) row ≡ if_in k result }
-    ensures within { IfSome result (λ found. found.0 < parts) }
+// Bounds in own numbers, if their members are both in the part.
+fn limit_in(part: PartAt<'_>, row: LimitRow) -> Option<LimitRow>
+    requires seller { row.seller < length part.places.now }
+    requires buyer { row.buyer < length part.places.now }
+    requires numbers { IsNumbering part.members.now part.places.now part.part }
+    ensures { result ≡ own_bounds part.entry.members.now row }
 {
-    let seller = places[row.seller as usize];
-    let buyer = places[row.buyer as usize];
-    if seller.part != buyer.part || seller.part >= parts {
+    let seller = part.places[row.seller as usize];
+    let buyer = part.places[row.buyer as usize];
+    if seller.part != part.part || buyer.part != part.part {
         return None;
     }
-    let own = LimitRow {
+    Some(LimitRow {
         seller: seller.number,
         buyer: buyer.number,
         lower: row.lower,
         upper: row.upper,
-    };
-    Some((seller.part, own))
+    })
 }
 
-// Gives each row of the limits to the part of its members.
-fn add_limits(drafts: &mut [Draft], places: &[Place], rows: &[LimitRow]) -> Result<(), AllocError>
-    requires rows { All (λ row. (row.seller < length places.now) × (row.buyer < length places.now)) rows.now }
-    requires none { AreDrafts (λ _. []) (λ _. []) drafts.old }
-    ensures { IfOk result (λ _. AreDrafts (λ k. filter_map (numbered_bounds (numbers_for places.now k)) rows.now) (λ _. []) drafts.new) }
+// The first row from a place on that is the seller's or a later one's, where no row before that place is.
+fn rows_from(rows: &[Row], from: usize, seller: u16) -> usize
+    requires rising { IsRising rows.now }
+    requires end { from ≤ length rows.now }
+    requires before { (k : ℕ) (d : Row) → k < from → place (slice_index_or rows.now k d) < seller * 65536 }
+    ensures end { result ≤ length rows.now }
+    ensures cursor { IsCursor rows.now result (seller * 65536) }
 {
-    for row in rows {
-        if let Some((part, own)) = limit_in(*row, places, drafts.len()) {
-            drafts[part].add_limit(own)?;
-        }
+    if from < rows.len() && rows[from].seller >= seller {
+        return from;
     }
-    Ok(())
+    first_row(rows, seller, 0)
 }
 
-// Gives each row of the network to the part of its members.
-fn add_rows(drafts: &mut [Draft], places: &[Place], rows: &[Row]) -> Result<(), AllocError>
-    requires rows { All (λ row. (row.seller < length places.now) × (row.buyer < length places.now)) rows.now }
-    ensures { IfOk result (λ _. (limits : ℕ → List LimitRow) → AreDrafts limits (λ _. []) drafts.old → AreDrafts limits (λ k. filter_map (numbered (numbers_for places.now k)) rows.now) drafts.new) }
+// The same of limits.
+fn limits_from(rows: &[LimitRow], from: usize, seller: u16) -> usize
+    requires rising { IsRisingLimits rows.now }
+    requires end { from ≤ length rows.now }
+    requires before { (k : ℕ) (d : LimitRow) → k < from → limit_place (slice_index_or rows.now k d) < seller * 65536 }
+    ensures end { result ≤ length rows.now }
+    ensures cursor { IsLimitCursor rows.now result (seller * 65536) }
 {
-    for row in rows {
-        if let Some((part, own)) = row_in(*row, places, drafts.len()) {
-            drafts[part].add_row(own)?;
-        }
+    if from < rows.len() && rows[from].seller >= seller {
+        return from;
     }
-    Ok(())
+    first_limit(rows, seller, 0)
 }
 
 // How many rows to make room for at first: one for each pair of the part, but no more than there are.
-fn room_for(part: &Part, limits: &Limits) -> usize {
-    let members = part.members().len();
+fn room_for(members: usize, rows: usize) -> usize {
     let pairs = members.saturating_mul(members.saturating_sub(1));
-    pairs.min(limits.rows().len())
+    pairs.min(rows)
 }
 
-// The rows of each part.
-fn drafts_of(
-    alloc: Global,
-    limits: &Limits,
-    network: &Network,
-    parts: &[Part],
-) -> Result<Vec<Draft>, AllocError>
-    requires same_members { limits.now.members ≡ network.now.members }
-    requires parts { IsPartition limits.now parts.now }
-    ensures size { IfOk result (λ drafts. length drafts.items ≡ length parts.now) }
-    ensures rows { IfOk result (λ drafts. AreDrafts (λ k. own_limit_rows limits.now (slice_index_or parts.now k [])) (λ k. own_rows network.now (slice_index_or parts.now k [])) drafts.items) }
+// The rows of the part's network.
+fn part_rows(alloc: Global, part: PartAt<'_>, rows: &[Row]) -> Result<Vec<Row>, AllocError>
+    requires few { length part.places.now ≤ MOST_MEMBERS }
+    requires members { IsRisingPart part.members.now }
+    requires rising { IsRising rows.now }
+    requires within { All (λ row. (row.seller < length part.places.now) × (row.buyer < length part.places.now)) rows.now }
+    requires numbers { IsNumbering part.members.now part.places.now part.part }
+    ensures { IfOk result (λ own. own.items ≡ filter_map (own_row part.entry.members.now) rows.now) }
 {
-    let places = places_of(alloc, limits.members(), parts)?;
-    let mut drafts = Vec::with_capacity(alloc, parts.len())?;
-    for part in parts {
-        let draft = Draft::with_capacity(alloc, room_for(part, limits))?;
-        drafts.push(draft)?;
+    let mut own = Vec::with_capacity(alloc, room_for(part.members.len(), rows.len()))?;
+    let mut at = 0;
+    for number in 0..part.members.len() {
+        let seller = part.members[number];
+        at = rows_from(rows, at, seller);
+        while at < rows.len() && rows[at].seller == seller {
+            if let Some(row) = row_in(part, rows[at]) {
+                own.push(row)?;
+            }
+            at += 1;
+        }
     }
-    add_limits(&mut drafts, &places, limits.rows())?;
-    add_rows(&mut drafts, &places, network.rows())?;
-    Ok(drafts)
+    Ok(own)
+}
+
+// The rows of the part's limits.
+fn part_limits(
+    alloc: Global,
+    part: PartAt<'_>,
+    rows: &[LimitRow],
+) -> Result<Vec<LimitRow>, AllocError>
+    requires few { length part.places.now ≤ MOST_MEMBERS }
+    requires members { IsRisingPart part.members.now }
+    requires rising { IsRisingLimits rows.now }
+    requires within { All (λ row. (row.seller < length part.places.now) × (row.buyer < length part.places.now)) rows.now }
+    requires numbers { IsNumbering part.members.now part.places.now part.part }
+    ensures { IfOk result (λ own. own.items ≡ filter_map (own_bounds part.entry.members.now) rows.now) }
+{
+    let mut own = Vec::with_capacity(alloc, room_for(part.members.len(), rows.len()))?;
+    let mut at = 0;
+    for number in 0..part.members.len() {
+        let seller = part.members[number];
+        at = limits_from(rows, at, seller);
+        while at < rows.len() && rows[at].seller == seller {
+            if let Some(row) = limit_in(part, rows[at]) {
+                own.push(row)?;
+            }
+            at += 1;
+        }
+    }
+    Ok(own)
 }
 
 // The limits of a part, of these rows.
@@ -134,63 +173,30 @@ fn network_of(network: &Network, part: &[u16], rows: Vec<Row>) -> Network
 {
     let _members = network.members();
     match Network::from_rows(part.len() as u16, rows) {
-        Ok(own) => own,
+        Ok(network) => network,
         Err(_) => unreachable!(),
     }
 }
 
-// The problem of a part, of these rows.
-fn problem_of(limits: &Limits, network: &Network, part: &[u16], draft: Draft) -> Problem
-    requires same_members { limits.now.members ≡ network.now.members }
-    requires network { IsWithinLimits limits.now network.now }
-    requires rising { IsRisingPart part.now }
-    requires within { All (λ m. m < limits.now.members) part.now }
-    requires draft { draft ≡ record { limits = own_limit_rows limits.now part.now; rows = own_rows network.now part.now } }
-    ensures { result ≡ own_problem limits.now network.now part.now }
-{
-    let (bounds, rows) = draft.into_rows();
-    Problem::new(
-        limits_of(limits, part, bounds),
-        network_of(network, part, rows),
-    )
-}
-
-// The problem of each part, of these rows.
-fn problems_from(
+/// The problem of a part: its limits and its network, in its own numbers.
+pub fn problem_of(
     alloc: Global,
     limits: &Limits,
     network: &Network,
-    parts: &[Part],
-    drafts: Vec<Draft>,
-) -> Result<Vec<Problem>, AllocError>
+    part: PartAt<'_>,
+) -> Result<Problem, AllocError>
     requires same_members { limits.now.members ≡ network.now.members }
     requires within { IsWithinLimits limits.now network.now }
-    requires parts { IsPartition limits.now parts.now }
-    requires size { length drafts.items ≡ length parts.now }
-    requires rows { AreDrafts (λ k. own_limit_rows limits.now (slice_index_or parts.now k [])) (λ k. own_rows network.now (slice_index_or parts.now k [])) drafts.items }
-    ensures { IfOk result (λ problems. problems.items ≡ map (own_problem limits.now network.now) parts.now) }
+    requires places { length part.places.now ≡ limits.now.members }
+    requires rising { IsRisingPart part.members.now }
+    requires inside { All (λ m. m < limits.now.members) part.members.now }
+    requires numbers { IsNumbering part.members.now part.places.now part.part }
+    ensures { IfOk result (λ own. own ≡ own_problem limits.now network.now part.entry.members.now) }
 {
-    let _members = limits.members();
-    let mut problems = Vec::with_capacity(alloc, parts.len())?;
-    for draft in drafts {
-        let part = parts[problems.len()].members();
-        problems.push(problem_of(limits, network, part, draft))?;
-    }
-    Ok(problems)
-}
-
-/// The problem of each part: its limits and its network, in its own numbers.
-pub fn problems_of(
-    alloc: Global,
-    limits: &Limits,
-    network: &Network,
-    parts: &[Part],
-) -> Result<Vec<Problem>, AllocError>
-    requires same_members { limits.now.members ≡ network.now.members }
-    requires within { IsWithinLimits limits.now network.now }
-    requires parts { IsPartition limits.now parts.now }
-    ensures { IfOk result (λ problems. problems.items ≡ map (own_problem limits.now network.now) parts.now) }
-{
-    let drafts = drafts_of(alloc, limits, network, parts)?;
-    problems_from(alloc, limits, network, parts, drafts)
+    let bounds = part_limits(alloc, part, limits.rows())?;
+    let rows = part_rows(alloc, part, network.rows())?;
+    Ok(Problem::new(
+        limits_of(limits, part.members, bounds),
+        network_of(network, part.members, rows),
+    ))
 }

@@ -3,7 +3,7 @@
 ghost use Rattle.std.specs.Prelude.{◌≡◌, ◌<◌, ℕ, length, All};
 ghost use Rattle.network_laws.specs.Limits.{potential};
 ghost use Rattle.network_laws.specs.Solutions.{IsPotential};
-ghost use Rattle.split_parts.specs.Cut.{kept_or_zero, IsSettled};
+ghost use Rattle.split_parts.specs.Settled.{kept_or_zero, IsSettled};
 ghost use Rattle.split_parts.specs.Own.{number_in};
 ghost use Rattle.split_parts.specs.Parts.{IsRisingPart};
 

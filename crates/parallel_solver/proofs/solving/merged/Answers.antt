@@ -1,10 +1,9 @@
-use Rattle.std.proofs.Common.{◌≡◌, ◌<◌, ◌∙◌, ◌+◌, ◌++◌, List, Some, drop, length, slice_get, sym, subst, ap, arith}
-use Rattle.std.proofs.lemmas.Option.{slice_get-get_or}
+use Rattle.std.proofs.Common.{◌≡◌, ◌<◌, ◌∙◌, ◌+◌, ◌++◌, List, drop, length, ap, sym, subst, arith}
 use Rattle.network_laws.specs.Solutions.{ProblemData}
 use Rattle.network_laws.specs.Solved.{AreSolved}
-use Rattle.parallel_solver.specs.Cuts.{pieces_of}
+use Rattle.parallel_solver.specs.Cuts.{pieces_in, pieces_of}
 use Rattle.network_laws.proofs.SolvedFacts.{solved_step}
-use Rattle.parallel_solver.proofs.Pieced.{cuts_length, cut_at, left_in, enough, solved_front, solved_back}
+use Rattle.parallel_solver.proofs.Pieced.{cuts_length, cut_at, left_in, enough, pieces_length, solved_front, solved_back}
 use Rattle.parallel_solver.proofs.solving.merged.Goals as goal
 
 pub bounds-cuts-at : goal.bounds-cuts-at
@@ -13,8 +12,9 @@ bounds-cuts-at c = omega (arith, c.loop-at-test.true, cuts_length c.args.problem
 pub taken-requires : goal.taken-requires
 taken-requires c =
     let there : c.loop-at.at < length c.args.cuts.now = omega (arith, c.loop-at-test.true, cuts_length c.args.problems.now c.args.cuts.now c.requires.cuts) in
-    let left = left_in c.args.problems.now c.args.cuts.now c.loop-at.at c.index-cuts-at.result c.pieces_in-count.result.now c.loop-at.solutions.rest.items c.loop-at-test.true there (sym c.index-cuts-at.is) c.pieces_in-count.ensures c.loop-at.invariant.left in
-    enough c.pieces_in-count.result.now _ c.loop-at.solutions.rest.items left
+    let left = left_in c.args.problems.now c.args.cuts.now c.loop-at.at c.index-problems-at.result c.index-cuts-at.result c.loop-at.solutions.rest.items c.loop-at-test.true there (sym c.index-problems-at.is) (sym c.index-cuts-at.is) c.loop-at.invariant.left in
+    let own = pieces_in c.index-problems-at.result c.index-cuts-at.result in
+    omega (arith, ap length c.parts.ensures, pieces_length c.index-problems-at.result c.index-cuts-at.result.parts, enough own _ c.loop-at.solutions.rest.items left)
 
 pub solution_of-requires-clause-cut : goal.solution_of-requires-clause-cut
 solution_of-requires-clause-cut c =
@@ -22,26 +22,25 @@ solution_of-requires-clause-cut c =
 
 pub solution_of-requires-clause-solved : goal.solution_of-requires-clause-solved
 solution_of-requires-clause-solved c =
-    let problems = c.args.problems.now in
     let k = c.loop-at.at in
-    let list = c.pieces_in-count.result.now in
-    let more : List ProblemData = pieces_of (drop (k + 1) problems) (drop (k + 1) c.args.cuts.now) in
-    let there : k < length c.args.cuts.now = omega (arith, c.loop-at-test.true, cuts_length problems c.args.cuts.now c.requires.cuts) in
-    let left = left_in problems c.args.cuts.now k c.index-cuts-at.result list c.loop-at.solutions.rest.items c.loop-at-test.true there (sym c.index-cuts-at.is) c.pieces_in-count.ensures c.loop-at.invariant.left in
-    let at : slice_get problems k ≡ Some c.index-problems-at.result = slice_get-get_or problems k c.index-problems-at.result c.loop-at-test.true ∙ ap Some (sym c.index-problems-at.is) in
-    subst (λ ps. AreSolved ps c.in_ok-own.own.items) (c.pieces_in-count.ensures c.index-problems-at.result at)
-    (solved_front list more c.in_ok-own.own.items c.taken.new.solutions.rest.items c.in_ok-own.ensures.size (subst (λ ss. AreSolved (list ++ more) ss) (sym c.in_ok-own.ensures.rest) left))
+    let own = pieces_in c.index-problems-at.result c.index-cuts-at.result in
+    let more : List ProblemData = pieces_of (drop (k + 1) c.args.problems.now) (drop (k + 1) c.args.cuts.now) in
+    let there : k < length c.args.cuts.now = omega (arith, c.loop-at-test.true, cuts_length c.args.problems.now c.args.cuts.now c.requires.cuts) in
+    let left = left_in c.args.problems.now c.args.cuts.now c.loop-at.at c.index-problems-at.result c.index-cuts-at.result c.loop-at.solutions.rest.items c.loop-at-test.true there (sym c.index-problems-at.is) (sym c.index-cuts-at.is) c.loop-at.invariant.left in
+    let size : length c.in_ok-own.own.items ≡ length own = c.in_ok-own.ensures.size ∙ ap length c.parts.ensures ∙ sym (pieces_length c.index-problems-at.result c.index-cuts-at.result.parts) in
+    solved_front own more c.in_ok-own.own.items c.taken.new.solutions.rest.items size (subst (λ ss. AreSolved (own ++ more) ss) (sym c.in_ok-own.ensures.rest) left)
 
 pub loop-at-preserved : goal.loop-at-preserved
 loop-at-preserved c =
     let problems = c.args.problems.now in
     let k = c.loop-at.at in
-    let list = c.pieces_in-count.result.now in
+    let own = pieces_in c.index-problems-at.result c.index-cuts-at.result in
     let more : List ProblemData = pieces_of (drop (k + 1) problems) (drop (k + 1) c.args.cuts.now) in
     let there : k < length c.args.cuts.now = omega (arith, c.loop-at-test.true, cuts_length problems c.args.cuts.now c.requires.cuts) in
-    let left = left_in problems c.args.cuts.now k c.index-cuts-at.result list c.loop-at.solutions.rest.items c.loop-at-test.true there (sym c.index-cuts-at.is) c.pieces_in-count.ensures c.loop-at.invariant.left in
+    let left = left_in c.args.problems.now c.args.cuts.now c.loop-at.at c.index-problems-at.result c.index-cuts-at.result c.loop-at.solutions.rest.items c.loop-at-test.true there (sym c.index-problems-at.is) (sym c.index-cuts-at.is) c.loop-at.invariant.left in
+    let size : length c.in_ok-own.own.items ≡ length own = c.in_ok-own.ensures.size ∙ ap length c.parts.ensures ∙ sym (pieces_length c.index-problems-at.result c.index-cuts-at.result.parts) in
     record {
       merged = solved_step k problems c.index-problems-at.result c.index-problems-at.result c.loop-at.merged.items c.push.new.self.items c.in_ok-solution.solution c.loop-at-test.true (sym c.index-problems-at.is) c.in_ok-push.ensures.items c.in_ok-solution.ensures
           c.loop-at.invariant.merged;
-      left = solved_back list more c.in_ok-own.own.items c.taken.new.solutions.rest.items c.in_ok-own.ensures.size (subst (λ ss. AreSolved (list ++ more) ss) (sym c.in_ok-own.ensures.rest) left);
+      left = solved_back own more c.in_ok-own.own.items c.taken.new.solutions.rest.items size (subst (λ ss. AreSolved (own ++ more) ss) (sym c.in_ok-own.ensures.rest) left);
     }

@@ -10,7 +10,7 @@ pub new-requires-clause-within : goal.new-requires-clause-within
 new-requires-clause-within c =
     let limits = c.args.limits.now in
     let y = c.args.network.now in
-    let part = c.args.part.now in
-    let within = subst (λ n. All (λ m. m < n) part) c.requires.same_members c.requires.within in
+    let part = c.args.part.members.now in
+    let within = subst (λ n. All (λ m. m < n) part) c.requires.same_members c.requires.inside in
     subst (λ (l : LimitsData). IsWithinLimits l c.network_of.result) (sym c.limits_of.ensures)
-    (subst (λ (z : NetworkData). IsWithinLimits (own_limits limits part) z) (sym c.network_of.ensures) (own_within limits y part c.requires.network c.requires.rising within))
+    (subst (λ (z : NetworkData). IsWithinLimits (own_limits limits part) z) (sym c.network_of.ensures) (own_within limits y part c.requires.within c.requires.rising within))

@@ -1,17 +1,10 @@
--- The parts of limits, where a single one is told by its members alone, and members in no part.
-use Rattle.std.specs.Prelude.{◌≡◌, ◌≢◌, ℕ, ◌<◌, List, [], ◌∷◌, length, Option, Some, None, ℤ, pos}
+-- A problem that has just one part, and members in no part.
+use Rattle.std.specs.Prelude.{◌≡◌, ℕ, ◌<◌, List, [], ◌∷◌, Option, Some, None, ℤ, pos}
 use Rattle.network_laws.specs.Networks.{NetworkData}
 use Rattle.network_laws.specs.Limits.{LimitsData, potential}
 use Rattle.network_laws.specs.Solutions.{SolutionData, Solves}
-use Rattle.split_parts.specs.declared.parts.Cut.{Cut}
-use Rattle.split_parts.specs.declared.parts.Cut.TheVariants.{One, Parts}
 use Rattle.split_parts.specs.Own.{number_in}
-use Rattle.split_parts.specs.Parts.{ArePartsOf, IsPartition}
-
--- the one part of limits; or their parts, each with its own limits and network, where there is not just one
-abbrev pub IsCut : LimitsData → NetworkData → Cut → Type 0
-IsCut limits y (One part) = IsPartition limits (part ∷ [])
-IsCut limits y (Parts parts) = ArePartsOf limits y parts × (length parts.members ≢ 1)
+use Rattle.split_parts.specs.Parts.{IsPartition}
 
 -- a potential of who has a number in the part, and 0 of who has none
 abbrev pub kept_or_zero : Option ℕ → ℤ → ℤ
