@@ -3,12 +3,12 @@
 //! Rows stand in the order of their sellers, so the rows of a part are found by its members: from the rows of one member the
 //! reading goes on to those of the next, and rows between them are passed over.
 
-ghost use Rattle.std.specs.Prelude.{◌≡◌, ◌<◌, ◌≤◌, ◌*◌, ℕ, length, filter_map, slice_index_or, All, IfOk};
+ghost use Rattle.std.specs.Prelude.{◌≡◌, ◌<◌, ◌≤◌, ◌*◌, ℕ, length, filter_map, slice_index_or, Some, All, IfOk};
 ghost use Rattle.network_laws.specs.Networks.{IsCursor, IsRising, place};
 ghost use Rattle.network_laws.specs.Limits.{IsLimitCursor, IsRisingLimits, IsWithinLimits, limit_place};
 ghost use Rattle.network_laws.specs.declared.rows.LimitRow.{LimitRow};
 ghost use Rattle.network_laws.specs.declared.rows.Row.{Row};
-ghost use Rattle.split_parts.specs.Own.{own_bounds, own_row, own_limit_rows, own_rows, own_limits, own_network, own_problem};
+ghost use Rattle.split_parts.specs.Own.{number_in, own_bounds, own_row, own_limit_rows, own_rows, own_limits, own_network, own_problem};
 ghost use Rattle.split_parts.specs.Parts.{IsRisingPart};
 ghost use Rattle.split_parts.specs.Places.{IsNumbering};
 ghost use Rattle.units_core.specs.declared.limits.TheConstants.{MOST_MEMBERS};
@@ -25,39 +25,37 @@ pub struct PartAt<'a> {
     pub part: usize,
 }
 
-// A row in own numbers, if its members are both in the part.
-fn row_in(part: PartAt<'_>, row: Row) -> Option<Row>
-    requires seller { row.seller < length part.places.now }
+// A row in own numbers, of the member with this number, if the buyer is in the part too.
+fn row_in(part: PartAt<'_>, seller: u16, row: Row) -> Option<Row>
+    requires seller { number_in part.members.now row.seller ≡ Some seller }
     requires buyer { row.buyer < length part.places.now }
     requires numbers { IsNumbering part.members.now part.places.now part.part }
     ensures { result ≡ own_row part.entry.members.now row }
 {
-    let seller = part.places[row.seller as usize];
     let buyer = part.places[row.buyer as usize];
-    if seller.part != part.part || buyer.part != part.part {
+    if buyer.part != part.part {
         return None;
     }
     Some(Row {
-        seller: seller.number,
+        seller,
         buyer: buyer.number,
         amount: row.amount,
     })
 }
 
-// Bounds in own numbers, if their members are both in the part.
-fn limit_in(part: PartAt<'_>, row: LimitRow) -> Option<LimitRow>
-    requires seller { row.seller < length part.places.now }
+// The same of limits.
+fn limit_in(part: PartAt<'_>, seller: u16, row: LimitRow) -> Option<LimitRow>
+    requires seller { number_in part.members.now row.seller ≡ Some seller }
     requires buyer { row.buyer < length part.places.now }
     requires numbers { IsNumbering part.members.now part.places.now part.part }
     ensures { result ≡ own_bounds part.entry.members.now row }
 {
-    let seller = part.places[row.seller as usize];
     let buyer = part.places[row.buyer as usize];
-    if seller.part != part.part || buyer.part != part.part {
+    if buyer.part != part.part {
         return None;
     }
     Some(LimitRow {
-        seller: seller.number,
+        seller,
         buyer: buyer.number,
         lower: row.lower,
         upper: row.upper,
@@ -101,6 +99,7 @@ fn room_for(members: usize, rows: usize) -> usize {
 // The rows of the part's network.
 fn part_rows(alloc: Global, part: PartAt<'_>, rows: &[Row]) -> Result<Vec<Row>, AllocError>
     requires few { length part.places.now ≤ MOST_MEMBERS }
+    requires short { length part.members.now ≤ MOST_MEMBERS }
     requires members { IsRisingPart part.members.now }
     requires rising { IsRising rows.now }
     requires within { All (λ row. (row.seller < length part.places.now) × (row.buyer < length part.places.now)) rows.now }
@@ -113,7 +112,7 @@ fn part_rows(alloc: Global, part: PartAt<'_>, rows: &[Row]) -> Result<Vec<Row>, 
         let seller = part.members[number];
         at = rows_from(rows, at, seller);
         while at < rows.len() && rows[at].seller == seller {
-            if let Some(row) = row_in(part, rows[at]) {
+            if let Some(row) = row_in(part, number as u16, rows[at]) {
                 own.push(row)?;
             }
             at += 1;
@@ -129,6 +128,7 @@ fn part_limits(
     rows: &[LimitRow],
 ) -> Result<Vec<LimitRow>, AllocError>
     requires few { length part.places.now ≤ MOST_MEMBERS }
+    requires short { length part.members.now ≤ MOST_MEMBERS }
     requires members { IsRisingPart part.members.now }
     requires rising { IsRisingLimits rows.now }
     requires within { All (λ row. (row.seller < length part.places.now) × (row.buyer < length part.places.now)) rows.now }
@@ -141,7 +141,7 @@ fn part_limits(
         let seller = part.members[number];
         at = limits_from(rows, at, seller);
         while at < rows.len() && rows[at].seller == seller {
-            if let Some(row) = limit_in(part, rows[at]) {
+            if let Some(row) = limit_in(part, number as u16, rows[at]) {
                 own.push(row)?;
             }
             at += 1;

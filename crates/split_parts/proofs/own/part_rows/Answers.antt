@@ -1,9 +1,9 @@
 use Rattle.std.proofs.Common.{◌≢◌, ◌<◌, ◌≤◌, ◌∙◌, ℕ, length, get_or, refl, ap, sym, arith}
 use Rattle.network_laws.specs.declared.rows.Row.{Row}
 use Rattle.std.proofs.lemmas.List.{get_or_default}
-use Rattle.split_parts.specs.Own.{own_row}
+use Rattle.split_parts.specs.Own.{number_in, own_row}
 use Rattle.split_parts.proofs.Kept.{kept_more, kept_none}
-use Rattle.split_parts.proofs.Numbers.{not_some}
+use Rattle.split_parts.proofs.Numbers.{not_some, number_at}
 use Rattle.split_parts.proofs.OwnFacts.{row_outside}
 use Rattle.split_parts.proofs.Sellers.{at_seller, done, left, next_row, skipped}
 use Rattle.split_parts.proofs.own.part_rows.Goals as goal
@@ -28,6 +28,12 @@ loop-at-init c =
       own = skipped (λ (row : Row). row.seller) (own_row part) part rows blank c.loop-number.at to n c.loop-number.own.items c.requires.members c.loop-number-test.true (row_outside part) i.stands i.end c.rows_from-at.ensures.end below above i.own;
       stands = at_seller (λ (row : Row). row.seller) rows to (get_or part n 0) below above;
     }
+
+pub overflow_cast-number : goal.overflow_cast-number
+overflow_cast-number c = omega (arith, c.loop-at.invariant.here, c.requires.short)
+
+pub row_in-requires-clause-seller : goal.row_in-requires-clause-seller
+row_in-requires-clause-seller c = ap (number_in c.args.part.members.now) c.if-rows-at.true ∙ number_at c.args.part.members.now c.loop-number.number c.requires.members c.loop-at.invariant.here
 
 pub loop-at-preserved : goal.loop-at-preserved
 loop-at-preserved c =

@@ -1,10 +1,17 @@
-use Rattle.std.proofs.Common.{◌<◌, sym, subst}
+use Rattle.std.proofs.Common.{◌<◌, sym, subst, arith}
 use Rattle.std.specs.Prelude.{All}
 use Rattle.network_laws.specs.Networks.{NetworkData}
 use Rattle.network_laws.specs.Limits.{LimitsData, IsWithinLimits}
 use Rattle.split_parts.specs.Own.{own_limits}
+use Rattle.split_parts.proofs.Numbers.{part_short}
 use Rattle.split_parts.proofs.OwnFacts.{own_within}
 use Rattle.split_parts.proofs.own.problem_of.Goals as goal
+
+pub part_limits-requires-clause-short : goal.part_limits-requires-clause-short
+part_limits-requires-clause-short c = omega (arith, part_short c.args.part.members.now c.args.limits.now.members c.requires.rising c.requires.inside, c.rows.ensures.limits.few)
+
+pub part_rows-requires-clause-short : goal.part_rows-requires-clause-short
+part_rows-requires-clause-short c = omega (arith, part_short c.args.part.members.now c.args.limits.now.members c.requires.rising c.requires.inside, c.rows.ensures.limits.few)
 
 pub new-requires-clause-within : goal.new-requires-clause-within
 new-requires-clause-within c =
