@@ -16,8 +16,8 @@ use Rattle.path_solver.proofs.Ends.{ends_in}
 use Rattle.path_solver.proofs.Spreads.{few_levels, spread_none}
 
 -- where nobody is entered, it is still a cut
-pub cut_raised : (flows : List Flow) (p p' surplus lack levels : List ℕ) (entered : MemberSet) → AreCut flows p surplus lack levels → AreEntered flows p' levels entered → ((v : ℕ) → has entered v ≡ false) → AreCut flows p' surplus lack levels
-cut_raised flows p p' surplus lack levels entered cut ways none = record {
+pub cut_raised : {flows : List Flow} {p surplus lack levels : List ℕ} (p' : List ℕ) (entered : MemberSet) → AreCut flows p surplus lack levels → AreEntered flows p' levels entered → ((v : ℕ) → has entered v ≡ false) → AreCut flows p' surplus lack levels
+cut_raised {flows} p' entered cut ways none = record {
   closed = λ a l is_open was e. true≢false (sym (ways a l is_open was e) ∙ none (head flows a));
   senders = cut.senders;
   receivers = cut.receivers;

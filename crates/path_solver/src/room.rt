@@ -1,6 +1,6 @@
 //! Room for searches and walks.
 
-ghost use Rattle.std.specs.Prelude.{◌≡◌, ◌+◌, ◌≤◌, length, IfOk};
+ghost use Rattle.std.specs.Prelude.{◌≤◌, IfOk};
 
 use crate::search::UNREACHED;
 use crate::settle::all_of;
@@ -16,12 +16,12 @@ pub struct Room {
 }
 
 impl Room {
+    ghost use Rattle.path_solver.specs.Works.{IsRoom};
+
     /// Room for so many members.
     pub fn of(alloc: Global, members: u16) -> Result<Room, AllocError>
         requires { members ≤ 256 }
-        ensures levels { IfOk result (λ room. members ≡ length room.levels.items) }
-        ensures layers { IfOk result (λ room. members + 1 ≡ length room.layers.items) }
-        ensures path { IfOk result (λ room. members ≡ length room.path.items) }
+        ensures { IfOk result (IsRoom members) }
     {
         let levels = vec![in alloc; UNREACHED; members as usize]?;
         let layers = all_of(alloc, members + 1, MemberSet::new())?;

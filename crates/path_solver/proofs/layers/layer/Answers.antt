@@ -8,9 +8,9 @@ use Rattle.path_solver.proofs.layers.layer.Goals as goal
 
 pub spreads-init : goal.spreads-init
 spreads-init c = record {
-  spread = c.requires.spread;
-  layers = c.requires.layered;
-  whole = c.requires.whole;
+  spread = c.requires.searched.spread;
+  layers = c.requires.searched.passed;
+  whole = c.requires.searched.whole;
 }
 
 pub returns-in-Some-clause-layered : goal.returns-in-Some-clause-layered
@@ -44,8 +44,8 @@ spreads-preserved c =
     let inv = c.spreads.invariant.spread in
     let one = c.is_empty.ensures.some c.spreads-test.true in
     let spread = spread_more c.args.work.now.residual c.args.aim.now.prices.now c.args.work.now.balance.surplus.items c.args.work.now.balance.lack.items c.spreads.levels c.visit-near.new.levels c.spreads.level c.spreads.now c.spreads.seen c.members-members.ensures.residual inv
-    c.deref-entries.result.now c.args.aim.now.groups.now c.visit-near.result c.without-now.result c.or-seen.result (subst (AreEntries c.args.work.now.residual) (sym c.deref-entries.ensures.value) c.requires.work.neighbours.entries) c.requires.sorted c.requires.prices
-    (λ v. omega (arith, c.requires.low v, c.requires.groups)) c.visit-near.auto.levels c.visit-near.ensures.marked c.visit-near.ensures.others one.0 one.1
+    c.deref-entries.result.now c.args.aim.now.groups.now c.visit-near.result c.without-now.result c.or-seen.result (subst (AreEntries c.args.work.now.residual) (sym c.deref-entries.ensures.value) c.requires.work.neighbours.entries) c.requires.sorted.sorted c.requires.sorted.one_each
+    (λ v. omega (arith, c.requires.sorted.low v, c.requires.sorted.long)) c.visit-near.auto.levels c.visit-near.ensures.marked c.visit-near.ensures.others one.0 one.1
     (λ v on sends. true≢false (sym (c.and-met.ensures v ∙ and_from (has c.spreads.now v) (has c.args.aim.now.senders.now v) on ((c.requires.senders v).1 sends)) ∙ c.is_empty-in-spreads.ensures.none.0 c.if-not-is_empty.false v))
     c.visit-near.ensures.near c.visit-near.ensures.all c.or-seen.ensures c.without-now.ensures in
     record {
@@ -61,17 +61,12 @@ returns-clause-layered c =
     spread_cut c.args.work.now.residual c.args.aim.now.prices.now c.args.work.now.balance.surplus.items c.args.work.now.balance.lack.items c.spreads.levels c.spreads.levels c.spreads.level c.spreads.now c.spreads.seen c.members-members.ensures.residual c.spreads.invariant.spread
     (sym c.requires.work.lack) (c.is_empty.ensures.none.0 c.spreads-test.false)
 
-pub returns-clause-reached : goal.returns-clause-reached
-returns-clause-reached c none = c.spreads.invariant.spread.known
-
-pub returns-clause-spread : goal.returns-clause-spread
-returns-clause-spread c none = c.spreads.invariant.spread
-
-pub returns-clause-passed : goal.returns-clause-passed
-returns-clause-passed c none = c.spreads.invariant.layers
-
-pub returns-clause-all_passed : goal.returns-clause-all_passed
-returns-clause-all_passed c none = c.spreads.invariant.whole
+pub returns-clause-searched : goal.returns-clause-searched
+returns-clause-searched c none = record {
+  spread = c.spreads.invariant.spread;
+  passed = c.spreads.invariant.layers;
+  whole = c.spreads.invariant.whole;
+}
 
 pub returns-in-Some-clause-layers : goal.returns-in-Some-clause-layers
 returns-in-Some-clause-layers c =

@@ -31,7 +31,7 @@ steps-preserved-in-Some c =
     let inv = c.steps.invariant in
     let way = c.in-Some.ensures.way in
     let leads =
-    way_leads c.args.work.now.residual c.args.trip.now.labels.now.prices.now c.args.work.now.neighbours c.args.trip.now.labels.now.groups.now c.steps.here c.members-members.ensures.residual c.requires.trip.work.neighbours c.requires.trip.labels.sorted c.steps.invariant.trail.member c.requires.trip.labels.prices (omega (arith, c.requires.trip.labels.low c.steps.here, c.requires.trip.labels.groups)) (layer_at c.steps.layers (c.steps.level - 1)) c.in-Some.exit way in
+    way_leads c.args.work.now.residual c.args.trip.now.labels.now.prices.now c.args.work.now.neighbours c.args.trip.now.labels.now.groups.now c.steps.here c.members-members.ensures.residual c.requires.trip.work.neighbours c.requires.trip.labels.sorted.sorted c.steps.invariant.trail.member c.requires.trip.labels.sorted.one_each (omega (arith, c.requires.trip.labels.sorted.low c.steps.here, c.requires.trip.labels.sorted.long)) (layer_at c.steps.layers (c.steps.level - 1)) c.in-Some.exit way in
     let above : c.steps.level ≡ c.steps.level - 1 + 1 = omega (arith, c.if-level-eq0.false) in
     let at = (inv.layers (c.steps.level - 1) c.in-Some.exit.head (omega (arith, inv.trail.within)) way.inside).1 in
     record {
@@ -55,7 +55,7 @@ returns-then-level-top-clause-fresh c levels whole =
       | then-level-eq0+else-lack_of-gt0 w ↦
           omega (arith, levels.lowest c.steps.here (omega (arith, c.steps.invariant.trail.member, c.requires.trip.labels.levels)) (c.steps.invariant.trail.level ∙ w.if-level-eq0.true), w.if-lack_of-gt0.false, w.lack_of.ensures)
       | else-level-eq0+in_default w ↦
-          some_way c.args.work.now.residual c.args.trip.now.labels.now.prices.now c.args.work.now.neighbours c.args.trip.now.labels.now.groups.now c.steps.here c.members-members.ensures.residual c.requires.trip.work.neighbours c.requires.trip.labels.sorted c.steps.invariant.trail.member c.requires.trip.labels.prices (omega (arith, c.requires.trip.labels.low c.steps.here, c.requires.trip.labels.groups))
+          some_way c.args.work.now.residual c.args.trip.now.labels.now.prices.now c.args.work.now.neighbours c.args.trip.now.labels.now.groups.now c.steps.here c.members-members.ensures.residual c.requires.trip.work.neighbours c.requires.trip.labels.sorted.sorted c.steps.invariant.trail.member c.requires.trip.labels.sorted.one_each (omega (arith, c.requires.trip.labels.sorted.low c.steps.here, c.requires.trip.labels.sorted.long))
           c.args.work.now.balance.lack.items c.args.trip.now.labels.now.levels.now c.steps.layers c.steps.level (get_or c.args.trip.now.labels.now.levels.now c.args.trip.now.from 0 + 1) levels (subst (λ (xs : List MemberSet). AreWholeLayers c.args.trip.now.labels.now.levels.now xs (get_or c.args.trip.now.labels.now.levels.now c.args.trip.now.from 0 + 1)) (sym (c.steps.invariant.whole levels whole)) whole)
           c.requires.trip.labels.levels c.steps.invariant.trail.level (omega (arith, w.if-level-eq0.false)) (omega (arith, c.steps.invariant.trail.within, c.requires.trip.top, c.members-members.ensures.residual.few)) (omega (arith, c.steps.invariant.trail.within))
           (w.in_default.ensures.none refl)
@@ -89,7 +89,7 @@ returns-then-level-top-clause-pruned c =
       | then-level-eq0+else-lack_of-gt0 w ↦ (λ _. omega (arith, w.if-lack_of-gt0.false, w.lack_of.ensures), λ k a e. absurd (omega (arith, e, w.if-level-eq0.true)))
       | else-level-eq0+in_default w ↦ (
         λ e. absurd (w.if-level-eq0.false e),
-        λ k a e l is_open starts. no_way_in c.args.work.now.residual c.args.trip.now.labels.now.prices.now c.args.work.now.neighbours c.args.trip.now.labels.now.groups.now c.steps.here c.members-members.ensures.residual c.requires.trip.work.neighbours c.requires.trip.labels.sorted c.steps.invariant.trail.member c.requires.trip.labels.prices (omega (arith, c.requires.trip.labels.low c.steps.here, c.requires.trip.labels.groups))
+        λ k a e l is_open starts. no_way_in c.args.work.now.residual c.args.trip.now.labels.now.prices.now c.args.work.now.neighbours c.args.trip.now.labels.now.groups.now c.steps.here c.members-members.ensures.residual c.requires.trip.work.neighbours c.requires.trip.labels.sorted.sorted c.steps.invariant.trail.member c.requires.trip.labels.sorted.one_each (omega (arith, c.requires.trip.labels.sorted.low c.steps.here, c.requires.trip.labels.sorted.long))
             c.steps.layers c.steps.level k a e (w.in_default.ensures.none refl) l is_open starts,
       )
     ] in
@@ -121,7 +121,7 @@ returns-then-is_empty-clause-pruned c =
       | then-level-eq0+else-lack_of-gt0 w ↦ (λ _. omega (arith, w.if-lack_of-gt0.false, w.lack_of.ensures), λ k a e. absurd (omega (arith, e, w.if-level-eq0.true)))
       | else-level-eq0+in_default w ↦ (
         λ e. absurd (w.if-level-eq0.false e),
-        λ k a e l is_open starts. no_way_in c.args.work.now.residual c.args.trip.now.labels.now.prices.now c.args.work.now.neighbours c.args.trip.now.labels.now.groups.now c.steps.here c.members-members.ensures.residual c.requires.trip.work.neighbours c.requires.trip.labels.sorted c.steps.invariant.trail.member c.requires.trip.labels.prices (omega (arith, c.requires.trip.labels.low c.steps.here, c.requires.trip.labels.groups))
+        λ k a e l is_open starts. no_way_in c.args.work.now.residual c.args.trip.now.labels.now.prices.now c.args.work.now.neighbours c.args.trip.now.labels.now.groups.now c.steps.here c.members-members.ensures.residual c.requires.trip.work.neighbours c.requires.trip.labels.sorted.sorted c.steps.invariant.trail.member c.requires.trip.labels.sorted.one_each (omega (arith, c.requires.trip.labels.sorted.low c.steps.here, c.requires.trip.labels.sorted.long))
             c.steps.layers c.steps.level k a e (w.in_default.ensures.none refl) l is_open starts,
       )
     ] in
@@ -148,7 +148,7 @@ returns-then-is_empty-clause-fresh c levels whole =
       | then-level-eq0+else-lack_of-gt0 w ↦
           omega (arith, levels.lowest c.steps.here (omega (arith, c.steps.invariant.trail.member, c.requires.trip.labels.levels)) (c.steps.invariant.trail.level ∙ w.if-level-eq0.true), w.if-lack_of-gt0.false, w.lack_of.ensures)
       | else-level-eq0+in_default w ↦
-          some_way c.args.work.now.residual c.args.trip.now.labels.now.prices.now c.args.work.now.neighbours c.args.trip.now.labels.now.groups.now c.steps.here c.members-members.ensures.residual c.requires.trip.work.neighbours c.requires.trip.labels.sorted c.steps.invariant.trail.member c.requires.trip.labels.prices (omega (arith, c.requires.trip.labels.low c.steps.here, c.requires.trip.labels.groups))
+          some_way c.args.work.now.residual c.args.trip.now.labels.now.prices.now c.args.work.now.neighbours c.args.trip.now.labels.now.groups.now c.steps.here c.members-members.ensures.residual c.requires.trip.work.neighbours c.requires.trip.labels.sorted.sorted c.steps.invariant.trail.member c.requires.trip.labels.sorted.one_each (omega (arith, c.requires.trip.labels.sorted.low c.steps.here, c.requires.trip.labels.sorted.long))
           c.args.work.now.balance.lack.items c.args.trip.now.labels.now.levels.now c.steps.layers c.steps.level (get_or c.args.trip.now.labels.now.levels.now c.args.trip.now.from 0 + 1) levels (subst (λ (xs : List MemberSet). AreWholeLayers c.args.trip.now.labels.now.levels.now xs (get_or c.args.trip.now.labels.now.levels.now c.args.trip.now.from 0 + 1)) (sym (c.steps.invariant.whole levels whole)) whole)
           c.requires.trip.labels.levels c.steps.invariant.trail.level (omega (arith, w.if-level-eq0.false)) (omega (arith, c.steps.invariant.trail.within, c.requires.trip.top, c.members-members.ensures.residual.few)) (omega (arith, c.steps.invariant.trail.within))
           (w.in_default.ensures.none refl)
@@ -164,7 +164,7 @@ steps-preserved c =
       | then-level-eq0+else-lack_of-gt0 w ↦ (λ _. omega (arith, w.if-lack_of-gt0.false, w.lack_of.ensures), λ k a e. absurd (omega (arith, e, w.if-level-eq0.true)))
       | else-level-eq0+in_default w ↦ (
         λ e. absurd (w.if-level-eq0.false e),
-        λ k a e l is_open starts. no_way_in c.args.work.now.residual c.args.trip.now.labels.now.prices.now c.args.work.now.neighbours c.args.trip.now.labels.now.groups.now c.steps.here c.members-members.ensures.residual c.requires.trip.work.neighbours c.requires.trip.labels.sorted c.steps.invariant.trail.member c.requires.trip.labels.prices (omega (arith, c.requires.trip.labels.low c.steps.here, c.requires.trip.labels.groups))
+        λ k a e l is_open starts. no_way_in c.args.work.now.residual c.args.trip.now.labels.now.prices.now c.args.work.now.neighbours c.args.trip.now.labels.now.groups.now c.steps.here c.members-members.ensures.residual c.requires.trip.work.neighbours c.requires.trip.labels.sorted.sorted c.steps.invariant.trail.member c.requires.trip.labels.sorted.one_each (omega (arith, c.requires.trip.labels.sorted.low c.steps.here, c.requires.trip.labels.sorted.long))
             c.steps.layers c.steps.level k a e (w.in_default.ensures.none refl) l is_open starts,
       )
     ] in
@@ -181,7 +181,7 @@ steps-preserved c =
             | then-level-eq0+else-lack_of-gt0 w ↦
                 omega (arith, levels.lowest c.steps.here (omega (arith, c.steps.invariant.trail.member, c.requires.trip.labels.levels)) (c.steps.invariant.trail.level ∙ w.if-level-eq0.true), w.if-lack_of-gt0.false, w.lack_of.ensures)
             | else-level-eq0+in_default w ↦
-                some_way c.args.work.now.residual c.args.trip.now.labels.now.prices.now c.args.work.now.neighbours c.args.trip.now.labels.now.groups.now c.steps.here c.members-members.ensures.residual c.requires.trip.work.neighbours c.requires.trip.labels.sorted c.steps.invariant.trail.member c.requires.trip.labels.prices (omega (arith, c.requires.trip.labels.low c.steps.here, c.requires.trip.labels.groups))
+                some_way c.args.work.now.residual c.args.trip.now.labels.now.prices.now c.args.work.now.neighbours c.args.trip.now.labels.now.groups.now c.steps.here c.members-members.ensures.residual c.requires.trip.work.neighbours c.requires.trip.labels.sorted.sorted c.steps.invariant.trail.member c.requires.trip.labels.sorted.one_each (omega (arith, c.requires.trip.labels.sorted.low c.steps.here, c.requires.trip.labels.sorted.long))
                 c.args.work.now.balance.lack.items c.args.trip.now.labels.now.levels.now c.steps.layers c.steps.level (get_or c.args.trip.now.labels.now.levels.now c.args.trip.now.from 0 + 1) levels (subst (λ (xs : List MemberSet). AreWholeLayers c.args.trip.now.labels.now.levels.now xs (get_or c.args.trip.now.labels.now.levels.now c.args.trip.now.from 0 + 1)) (sym (c.steps.invariant.whole levels whole)) whole)
                 c.requires.trip.labels.levels c.steps.invariant.trail.level (omega (arith, w.if-level-eq0.false)) (omega (arith, c.steps.invariant.trail.within, c.requires.trip.top, c.members-members.ensures.residual.few)) (omega (arith, c.steps.invariant.trail.within))
                 (w.in_default.ensures.none refl)
