@@ -65,7 +65,7 @@ module _ (r : ResidualData) (p p' surplus lack levels new : List ℕ) (top level
     (passed : AreLayers levels layers top) (whole : AreWholeLayers levels layers top) (at_here : here ≡ layer_at layers level) (known : AreReached new left)
     (entered : (a : ℕ) → a < arc_count r.flows → IsOpen r.flows p' a → IsReached levels (head r.flows a) → get_or levels (tail r.flows a) 0 ≡ 65535 → level ≤ get_or levels (head r.flows a) 0) where
   low : level < 65535
-  low = omega (arith, few_levels r p surplus lack levels levels top now seen residual h, residual.few, lower)
+  low = omega (arith, few_levels residual h, residual.few, lower)
 
   inner : (v : ℕ) → v < r.members → v < length levels
   inner v l = omega (arith, l, h.one_each)

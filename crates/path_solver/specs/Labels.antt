@@ -11,7 +11,7 @@ use Rattle.path_solver.specs.Levels.{AreLevels, AreShortest, AreLayers, AreWhole
 use Rattle.path_solver.specs.Paths.{IsPathDown, NoneIsShorter}
 use Rattle.path_solver.specs.Pruned.{ArePruned}
 use Rattle.path_solver.specs.Rests.{IsSentAlong}
-use Rattle.path_solver.specs.Trails.{IsBegun}
+use Rattle.path_solver.specs.Trails.{IsTrail, IsBegun}
 use Rattle.path_solver.specs.Works.{IsWork}
 
 -- prices and levels of so many members, and the groups by these prices
@@ -68,6 +68,11 @@ IsPathDownFrom w t end path =
 abbrev pub NoneIsShorterIn : Work → Labels → ℕ → Type 0
 NoneIsShorterIn w l n =
     NoneIsShorter w.residual.flows l.prices.now w.balance.surplus.items w.balance.lack.items n
+
+-- the walk came down to this level, where it is at `here`, over the arcs of the path
+abbrev pub IsTrailFrom : Work → Trip → List MemberSet → List ℕ → ℕ → ℕ → Type 0
+IsTrailFrom w t layers path low here =
+    IsTrail w.residual t.labels.now.prices.now t.labels.now.levels.now layers path low (top_of t) here t.from
 
 -- the walk stands behind the first arcs of the path, which lead down the levels
 abbrev pub IsBegunFrom : Work → Trip → List MemberSet → List ℕ → Stand → Type 0

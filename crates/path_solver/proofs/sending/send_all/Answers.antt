@@ -12,7 +12,7 @@ paths-preserved g c = record {
   fewer = fewer_more c.args.layers.now c.paths.layers c.send_once.new.layers c.paths.invariant.fewer c.send_once.ensures.fewer;
   few = omega (arith, c.paths.invariant.few, c.send_once.ensures.few);
   begun = c.in-Some.ensures.begun;
-  along = sent_more c.args.trip.now.labels.now.prices.now c.args.work.now.residual c.paths.work.residual c.send_once.new.work.residual c.args.work.now.balance.surplus.items c.args.work.now.balance.lack.items c.paths.work.balance.surplus.items c.paths.work.balance.lack.items c.send_once.new.work.balance.surplus.items c.send_once.new.work.balance.lack.items c.paths.invariant.along c.send_once.ensures.along;
+  along = sent_more c.paths.invariant.along c.send_once.ensures.along;
 }
 
 pub returns : goal.returns
@@ -24,5 +24,5 @@ returns g c = record {
   fewer = fewer_more c.args.layers.now c.paths.layers c.send_once.new.layers c.paths.invariant.fewer c.send_once.ensures.fewer;
   few = omega (arith, c.paths.invariant.few, c.send_once.ensures.few);
   done = λ on. c.in_default.ensures.done refl on;
-  along = sent_more c.args.trip.now.labels.now.prices.now c.args.work.now.residual c.paths.work.residual c.send_once.new.work.residual c.args.work.now.balance.surplus.items c.args.work.now.balance.lack.items c.paths.work.balance.surplus.items c.paths.work.balance.lack.items c.send_once.new.work.balance.surplus.items c.send_once.new.work.balance.lack.items c.paths.invariant.along c.send_once.ensures.along;
+  along = sent_more c.paths.invariant.along c.send_once.ensures.along;
 }

@@ -46,8 +46,7 @@ raises-preserved c =
     let all = next c.args.work.now c.raises.self c.raise.new.self c.args.levels.now c.requires.sends.0 c.members-members.ensures.residual c.requires.work c.requires.feasible c.requires.sends.1 c.requires.searched.spread.one_each rising.sorted rising.phase cut c.raise.ensures.one_each c.raise.ensures.raised c.raise.ensures.top c.raise.ensures.groups c.raise.ensures.sorted in
     record {
       phase = all.0;
-      entered = all_entered c.args.work.now.residual new.by_member.items c.args.levels.now c.args.work.now.neighbours new.groups.items c.args.search.now.seen c.around.result c.without-others.result c.entered_from-entered.result c.members-members.ensures.residual c.requires.work.neighbours c.raise.ensures.sorted all.1.one_each
-          (λ v. omega (arith, all.1.low v, all.1.long))
+      entered = all_entered c.args.levels.now c.args.search.now.seen c.around.result c.without-others.result c.entered_from-entered.result c.members-members.ensures.residual c.requires.work.neighbours all.1
           c.requires.searched.spread.known
           (λ h u on e. c.around.ensures.all h u on (ap (λ (es : List Entry). is_entry es h u) c.deref.ensures.value ∙ e))
           c.without-others.ensures
@@ -61,8 +60,7 @@ raises-preserved c =
 
 pub go_back-requires-clause-room : goal.go_back-requires-clause-room
 go_back-requires-clause-room c =
-    let s = c.args.search.now in
-    omega (arith, few_levels c.args.work.now.residual c.args.self.now.by_member.items c.args.work.now.balance.surplus.items c.args.work.now.balance.lack.items c.args.levels.now c.args.levels.now s.level s.now s.seen c.members-members.ensures.residual c.requires.searched.spread, c.requires.layers)
+    omega (arith, few_levels c.members-members.ensures.residual c.requires.searched.spread, c.requires.layers)
 
 pub returns-clause-searched : goal.returns-clause-searched
 returns-clause-searched c =
@@ -70,8 +68,7 @@ returns-clause-searched c =
     let rising = c.raises.invariant in
     let old = c.requires.searched in
     let back = c.go_back.ensures in
-    let s = c.args.search.now in
-    let few = few_levels c.args.work.now.residual c.args.self.now.by_member.items c.args.work.now.balance.surplus.items c.args.work.now.balance.lack.items c.args.levels.now c.args.levels.now s.level s.now s.seen c.members-members.ensures.residual old.spread in
+    let few = few_levels c.members-members.ensures.residual old.spread in
     record {
       spread = spread_back r c.args.self.now.by_member.items c.raises.self.by_member.items c.args.work.now.balance.surplus.items c.args.work.now.balance.lack.items c.args.levels.now c.go_back.new.levels c.args.search.now.level c.go_back.new.search.level c.args.search.now.now c.args.search.now.seen c.go_back.new.search.now c.go_back.new.search.seen c.args.layers.now c.members-members.ensures.residual old.spread
           rising.kept c.go_back.auto.levels back.cut_off back.lower old.passed old.whole back.now back.seen
