@@ -9,7 +9,7 @@ use Rattle.path_solver.specs.Counts.{left_to_do}
 use Rattle.path_solver.specs.Groups.{AreSorted}
 use Rattle.path_solver.specs.Levels.{AreLevels, AreShortest, AreLayers, AreWholeLayers}
 use Rattle.path_solver.specs.Paths.{IsPathDown, NoneIsShorter}
-use Rattle.path_solver.specs.Pruned.{ArePruned}
+use Rattle.path_solver.specs.Pruned.{ArePruned, AreFewer}
 use Rattle.path_solver.specs.Rests.{IsSentAlong}
 use Rattle.path_solver.specs.Trails.{IsTrail, IsBegun}
 use Rattle.path_solver.specs.Works.{IsWork}
@@ -90,3 +90,12 @@ pub record CanGo (w : Work) (t : Trip) (sets : List MemberSet) (arcs : List ℕ)
   pub from : t.from < w.residual.members
   pub pruned : ArePrunedFrom w t sets
   pub begun : IsBegunFrom w t sets arcs t.stand
+
+-- amounts were sent from the level `top`, over layers out of which members were taken from which there is no way on
+pub record IsSentOver (l : Labels) (top : ℕ) (old new : Work) (before after : List MemberSet) : Type 0 where
+  pub work : IsWork new
+  pub along : IsSentIn l old new
+  pub layers : AreLayers l.levels.now after (top + 1)
+  pub pruned : ArePruned new.residual.flows l.prices.now new.balance.lack.items l.levels.now after (top + 1)
+  pub fewer : AreFewer before after
+  pub shortest : AreShortest new.residual.flows l.prices.now new.balance.surplus.items new.balance.lack.items l.levels.now top

@@ -1,23 +1,35 @@
-use Rattle.std.proofs.Common.{◌≡◌, ◌≤◌, length, get_or, sym, ◌∙◌, arith, ap}
-use Rattle.path_solver.specs.Levels.{IsSource, AreLevels}
+use Rattle.std.proofs.Common.{◌≡◌, ◌+◌, ◌<◌, ◌≤◌, length, get_or, sym, ◌∙◌, arith, ap}
+use Rattle.path_solver.specs.Levels.{IsSource, AreLevels, AreWholeLayers}
 use Rattle.path_solver.specs.Rests.{IsSentAlong}
 use Rattle.path_solver.proofs.Spreads.{amount_in}
 use Rattle.path_solver.proofs.Phased.{residual_kept, feasible_kept, none_left, settled, phase_later, phase_sent}
 use Rattle.path_solver.proofs.Counted.{counted_none, counted_round, counted_phase, counted_all}
+use Rattle.path_solver.proofs.Pruned.{pruned_whole}
 use Rattle.path_solver.proofs.Trails.{begun_none}
 use Rattle.path_solver.proofs.WentBack.{spread_start}
 use Rattle.path_solver.proofs.phases.settle_phases.Goals as goal
 
-pub send_phase-requires-clause-labels : goal.send_phase-requires-clause-labels
-send_phase-requires-clause-labels g c = record {
-  sorted = rw (c.deref-in-Some.ensures.value, c.deref-in-Some-2.ensures.value) c.phases.invariant.sorted;
-  levels = sym (c.layer.auto.levels ∙ c.phases.invariant.searched.spread.one_each);
-}
-
-pub send_phase-requires-clause-begun : goal.send_phase-requires-clause-begun
-send_phase-requires-clause-begun g c =
+pub send_phase-requires-clause-trip : goal.send_phase-requires-clause-trip
+send_phase-requires-clause-trip g c =
+    let inv = c.phases.invariant in
+    let levels : length c.layer.new.levels ≡ c.phases.work.residual.members = c.layer.auto.levels ∙ inv.searched.spread.one_each in
     let found : IsSource c.phases.work.balance.surplus.items c.layer.new.levels c.in-Some.source × AreLevels c.phases.work.residual.flows c.deref-in-phases.result.now c.phases.work.balance.lack.items c.layer.new.levels = rw c.in-Some.is at c.layer.ensures.layered in
-    begun_none c.phases.work.residual c.deref-in-Some-2.result.now c.layer.new.levels c.layer.new.layers c.phases.path c.in-Some.source (omega (arith, found.0.member, c.layer.auto.levels, c.phases.invariant.searched.spread.one_each)) c.at.result c.at.ensures.done c.at.ensures.here
+    let from : c.in-Some.source < c.phases.work.residual.members = omega (arith, found.0.member, levels) in
+    let whole : AreWholeLayers c.layer.new.levels c.layer.new.layers (get_or c.layer.new.levels c.in-Some.source 0 + 1) = rw c.in-Some.is at c.layer.ensures.whole in
+    record {
+      work = inv.work;
+      labels = record {
+        sorted = rw (c.deref-in-Some.ensures.value, c.deref-in-Some-2.ensures.value) inv.sorted;
+        levels = sym levels;
+      };
+      layers = rw c.in-Some.is at c.layer.ensures.layers;
+      top = rw c.in-Some.is at c.layer.ensures.low;
+      room = omega (arith, inv.phase.members, c.requires.room.layers, ap length c.deref_mut-layers.ensures.value, c.phases.auto.layers, c.layer.auto.layers);
+      path = omega (arith, inv.phase.members, c.requires.room.path, ap length c.deref_mut-path.ensures.value, c.phases.auto.path);
+      from = from;
+      pruned = pruned_whole c.phases.work.residual c.deref-in-Some-2.result.now c.phases.work.balance.lack.items c.layer.new.levels c.layer.new.layers (get_or c.layer.new.levels c.in-Some.source 0 + 1) (residual_kept c.args.work.now.residual c.phases.work.residual inv.phase.members inv.phase.pairs c.members-members.ensures.residual) (sym levels) whole;
+      begun = begun_none c.phases.work.residual c.deref-in-Some-2.result.now c.layer.new.levels c.layer.new.layers c.phases.path c.in-Some.source from c.at.result c.at.ensures.done c.at.ensures.here;
+    }
 
 pub senders_among-senders-requires-clause-small : goal.senders_among-senders-requires-clause-small
 senders_among-senders-requires-clause-small g c v on =

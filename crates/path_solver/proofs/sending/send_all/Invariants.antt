@@ -1,19 +1,12 @@
 use Rattle.std.proofs.Common.{◌+◌, ◌≤◌, sum}
-use Rattle.path_solver.specs.Pruned.{AreFewer}
-use Rattle.path_solver.specs.Labels.{AreLayersFrom, ArePrunedFrom, AreShortestFrom, IsBegunFrom, IsSentIn, still_to_do}
-use Rattle.path_solver.specs.Works.{IsWork}
+use Rattle.path_solver.specs.Labels.{IsBegunFrom, IsSentOver, still_to_do, top_of}
 use Rattle.path_solver.proofs.sending.send_all.Given as goal
 
 abbrev pub invariant-paths : goal.invariant-paths
 invariant-paths g l = record {
-  work : IsWork l.work;
-  layers : AreLayersFrom l.trip l.layers;
-  shortest : AreShortestFrom l.work l.trip;
-  pruned : ArePrunedFrom l.work l.trip l.layers;
-  fewer : AreFewer l.initial.layers l.layers;
+  over : IsSentOver l.trip.labels.now (top_of l.trip) l.initial.work l.work l.initial.layers l.layers;
   few : l.steps + still_to_do l.trip.labels.now l.work ≤ l.initial.steps + still_to_do l.trip.labels.now l.initial.work;
   begun : IsBegunFrom l.work l.trip l.layers l.path l.stand;
-  along : IsSentIn l.trip.labels.now l.initial.work l.work;
 }
 
 abbrev pub decreases-paths : goal.decreases-paths

@@ -5,12 +5,11 @@ use Rattle.residual_graph.specs.declared.flow.Flow.{Flow}
 use Rattle.residual_graph.specs.Residual.{ResidualData}
 use Rattle.residual_graph.specs.Arcs.{room, tail}
 use Rattle.residual_graph.proofs.Walks.{path_can}
-use Rattle.path_solver.specs.Rests.{AreSamePairs}
+use Rattle.path_solver.specs.Rests.{AreSamePairs, IsSentAlong}
 use Rattle.path_solver.specs.Trails.{IsTrail}
 use Rattle.path_solver.specs.Labels.{top_of}
 use Rattle.path_solver.proofs.Walks.{all_same}
 use Rattle.path_solver.proofs.Resumed.{trail_behind}
-use Rattle.path_solver.specs.Pruned.{ArePruned}
 use Rattle.path_solver.specs.Counts.{left_to_do}
 use Rattle.path_solver.proofs.SentAlong.{plain_path, sent}
 use Rattle.path_solver.proofs.Shortest.{path_steps, shortest_sent, none_is_shorter}
@@ -27,40 +26,40 @@ bottleneck_of-found-requires-clause-some g c = omega (arith, c.between-most.ensu
 pub push_noting-filled-requires-clause-path : goal.push_noting-filled-requires-clause-path
 push_noting-filled-requires-clause-path g c = plain_path c.bottleneck_of-found.result.amount c.in-Some.ensures.path c.bottleneck_of-found.ensures.all
 
-pub returns-clause-along : goal.returns-clause-along
-returns-clause-along g c =
-    rw (c.take_off.ensures.surplus, c.take_off.ensures.lack)
-    (sent c.args.work.now.residual c.push_noting-filled.new.residual c.args.work.now.balance.surplus.items c.bottleneck_of-found.result.amount c.in-Some.ensures.path c.bottleneck_of-found.ensures.all
-    (omega (arith, c.requires.trip.from, c.requires.trip.work.surplus))
-    (omega (arith, c.in-Some.ensures.path.member, c.requires.trip.labels.levels, c.requires.trip.work.lack))
-    (omega (arith, c.bottleneck_of-found.ensures.most, c.between-most.ensures))
-    (omega (arith, c.bottleneck_of-found.ensures.most, c.between-most.ensures))
-    (ap (λ (r : ResidualData). r.members) c.push_noting-filled.ensures.pushed) (ap (λ (r : ResidualData). r.flows) c.push_noting-filled.ensures.pushed))
-
-pub returns-clause-kept : goal.returns-clause-kept
-returns-clause-kept g c =
-    shortest_sent c.bottleneck_of-found.result.amount c.args.work.now.residual c.push_noting-filled.new.residual c.in-Some.ensures.path c.bottleneck_of-found.ensures.all refl (ap (λ (r : ResidualData). r.flows) c.push_noting-filled.ensures.pushed) (returns-clause-along g c) c.requires.shortest
-
-pub returns-clause-pruned : goal.returns-clause-pruned
-returns-clause-pruned g c =
+pub returns-clause-over : goal.returns-clause-over
+returns-clause-over g c =
     let x = c.bottleneck_of-found.result.amount in
     let flows = c.args.work.now.residual.flows in
-    let p = c.args.trip.now.labels.now.prices.now in
-    let levels = c.args.trip.now.labels.now.levels.now in
-    let lack = c.args.work.now.balance.lack.items in
-    let layers = c.walk.new.layers in
-    let n = top_of c.args.trip.now + 1 in
     let path = take (top_of c.args.trip.now) c.walk.new.path in
     let walked = c.in-Some.ensures.path in
-    let plain = plain_path x walked c.bottleneck_of-found.ensures.all in
-    let gone = returns-clause-along g c in
-    let now = ap (λ (r : ResidualData). r.flows) c.push_noting-filled.ensures.pushed in
-    pruned_less c.take_off.new.self.lack.items gone.receivers
-    (subst (λ (fs : List Flow). ArePruned fs c.args.trip.now.labels.now.prices.now c.args.work.now.balance.lack.items c.args.trip.now.labels.now.levels.now c.walk.new.layers (top_of c.args.trip.now + 1)) (sym now)
-    (pruned_walk x p lack levels layers n flows path
-    c.bottleneck_of-found.ensures.some
-    c.walk.ensures.layers (path_can x flows path plain.along) (path_steps walked c.requires.shortest.low)
-    (λ k d l. (walked.arcs k d l, (walked.open_arcs k d l).1)) c.walk.ensures.pruned))
+    let roomy = c.bottleneck_of-found.ensures.all in
+    let members = ap (λ (r : ResidualData). r.members) c.push_noting-filled.ensures.pushed in
+    let pushed = ap (λ (r : ResidualData). r.flows) c.push_noting-filled.ensures.pushed in
+    let along : IsSentAlong c.args.trip.now.labels.now.prices.now c.args.work.now.residual c.push_noting-filled.new.residual c.args.work.now.balance.surplus.items c.args.work.now.balance.lack.items c.take_off.new.self.surplus.items c.take_off.new.self.lack.items =
+    rw (c.take_off.ensures.surplus, c.take_off.ensures.lack)
+    (sent c.args.work.now.residual c.push_noting-filled.new.residual c.args.work.now.balance.surplus.items x walked roomy
+    (omega (arith, c.requires.trip.from, c.requires.trip.work.surplus))
+    (omega (arith, walked.member, c.requires.trip.labels.levels, c.requires.trip.work.lack))
+    (omega (arith, c.bottleneck_of-found.ensures.most, c.between-most.ensures))
+    (omega (arith, c.bottleneck_of-found.ensures.most, c.between-most.ensures))
+    members pushed) in
+    record {
+      work = record {
+        neighbours = c.push_noting-filled.ensures.neighbours;
+        surplus = omega (arith, along.members, along.surplus_each, c.requires.trip.work.surplus);
+        lack = omega (arith, along.members, along.lack_each, c.requires.trip.work.lack);
+      };
+      along = along;
+      layers = c.walk.ensures.layers;
+      pruned = pruned_less c.take_off.new.self.lack.items along.receivers
+          (rw pushed
+          (pruned_walk x c.args.trip.now.labels.now.prices.now c.args.work.now.balance.lack.items c.args.trip.now.labels.now.levels.now c.walk.new.layers (top_of c.args.trip.now + 1) flows path
+          c.bottleneck_of-found.ensures.some
+          c.walk.ensures.layers (path_can x flows path (plain_path x walked roomy).along) (path_steps walked c.requires.shortest.low)
+          (λ k d l. (walked.arcs k d l, (walked.open_arcs k d l).1)) c.walk.ensures.pruned));
+      fewer = c.walk.ensures.fewer;
+      shortest = shortest_sent x c.args.work.now.residual c.push_noting-filled.new.residual walked roomy refl pushed along c.requires.shortest;
+    }
 
 pub returns-clause-few : goal.returns-clause-few
 returns-clause-few g c =
