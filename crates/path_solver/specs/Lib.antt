@@ -12,3 +12,4 @@ pub mod Labels
 pub mod Counts
 pub mod Pruned
 pub mod Trails
+pub mod Tasks

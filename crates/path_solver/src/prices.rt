@@ -5,8 +5,8 @@ ghost use Rattle.member_set.specs.Members.{has};
 
 use crate::groups::{move_up, sort_by_price};
 use crate::outside::{around, entered_from};
+use crate::room::all_of;
 use crate::search::{Search, UNREACHED, go_back};
-use crate::settle::all_of;
 use crate::work::Work;
 use member_set::MemberSet;
 use std::alloc::{AllocError, Global};

@@ -1,9 +1,8 @@
 //! Room for searches and walks.
 
-ghost use Rattle.std.specs.Prelude.{◌≤◌, IfOk};
+ghost use Rattle.std.specs.Prelude.{◌≡◌, ◌≤◌, replicate, IfOk};
 
 use crate::search::UNREACHED;
-use crate::settle::all_of;
 use member_set::MemberSet;
 use std::alloc::{AllocError, Global};
 
@@ -32,4 +31,15 @@ impl Room {
             path,
         })
     }
+}
+
+/// As many of one value as there are members.
+pub fn all_of<T: Copy>(alloc: Global, members: u16, value: T) -> Result<Vec<T>, AllocError>
+    ensures { IfOk result (λ values. values.items ≡ replicate members value) }
+{
+    let mut values = Vec::with_capacity(alloc, members as usize)?;
+    for _member in 0..members {
+        values.push(value)?;
+    }
+    Ok(values)
 }

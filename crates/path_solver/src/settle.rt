@@ -1,6 +1,6 @@
 //! Sends everything that is to be sent, straight where it can go so and else along paths.
 
-ghost use Rattle.std.specs.Prelude.{◌≡◌, ◌+◌, ◌≤◌, length, replicate, IfOk};
+ghost use Rattle.std.specs.Prelude.{◌≡◌, ◌+◌, ◌≤◌, length, IfOk};
 ghost use Rattle.path_solver.specs.Rests.{IsFeasible};
 ghost use Rattle.path_solver.specs.Phases.{IsPhase};
 ghost use Rattle.path_solver.specs.Works.{IsLowered, Settles};
@@ -11,7 +11,7 @@ use crate::direct::{first_prices, send_direct};
 use crate::neighbours::Neighbours;
 use crate::phases::settle_phases;
 use crate::prices::Prices;
-use crate::room::Room;
+use crate::room::{Room, all_of};
 use crate::work::Work;
 use residual_graph::{Residual, Steps};
 use std::alloc::{AllocError, Global};
@@ -22,17 +22,6 @@ use std::sync::ledger::Ledger;
 pub struct Settled {
     pub residual: Residual,
     pub prices: Vec<u16>,
-}
-
-/// As many of one value as there are members.
-pub fn all_of<T: Copy>(alloc: Global, members: u16, value: T) -> Result<Vec<T>, AllocError>
-    ensures { IfOk result (λ values. values.items ≡ replicate members value) }
-{
-    let mut values = Vec::with_capacity(alloc, members as usize)?;
-    for _member in 0..members {
-        values.push(value)?;
-    }
-    Ok(values)
 }
 
 /// Sends everything that is to be sent. The prices are 0 where nothing is.

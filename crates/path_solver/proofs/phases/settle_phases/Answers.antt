@@ -6,7 +6,7 @@ use Rattle.path_solver.proofs.Phased.{residual_kept, feasible_kept, none_left, s
 use Rattle.path_solver.proofs.Counted.{counted_none, counted_round, counted_phase, counted_all}
 use Rattle.path_solver.proofs.Pruned.{pruned_whole}
 use Rattle.path_solver.proofs.Trails.{begun_none}
-use Rattle.path_solver.proofs.WentBack.{spread_start}
+use Rattle.path_solver.proofs.WentBack.{searched_start}
 use Rattle.path_solver.proofs.phases.settle_phases.Goals as goal
 
 pub send_phase-requires-clause-trip : goal.send_phase-requires-clause-trip
@@ -53,12 +53,8 @@ phases-init g c = record {
   sorted = c.requires.sorted;
   senders = c.senders-senders.ensures;
   receivers = c.receivers-receivers.ensures;
-  searched = record {
-    spread = spread_start c.args.work.now.residual c.args.prices.now.by_member.items c.args.work.now.balance.surplus.items c.args.work.now.balance.lack.items c.start-search.new.levels c.start-search.result.level c.start-search.result.now c.receivers-receivers.result c.start-search.result.seen c.start-search.ensures.level c.start-search.ensures.now (c.start-search.auto.levels ∙ sym (c.requires.room.levels ∙ sym (ap length c.deref_mut-levels.ensures.value))) (sym c.requires.work.lack)
-        (λ v l. c.start-search.ensures.forgotten v (omega (arith, l, c.start-search.auto.levels))) c.receivers-receivers.ensures c.start-search.ensures.seen c.members-members.ensures.residual;
-    passed = λ k v l. absurd (omega (arith, l, c.start-search.ensures.level));
-    whole = λ k v l. absurd (omega (arith, l, c.start-search.ensures.level));
-  };
+  searched = searched_start c.args.work.now c.args.prices.now.by_member.items c.start-search.new.levels c.deref_mut-layers.result.now c.start-search.result c.receivers-receivers.result c.members-members.ensures.residual c.requires.work (c.start-search.auto.levels ∙ ap length c.deref_mut-levels.ensures.value ∙ sym c.requires.room.levels) c.receivers-receivers.ensures c.start-search.ensures.level c.start-search.ensures.now c.start-search.ensures.seen
+      (λ v l. c.start-search.ensures.forgotten v (omega (arith, l, c.start-search.auto.levels)));
 }
 
 pub phases-preserved : goal.phases-preserved
@@ -80,13 +76,8 @@ phases-preserved g c =
       sorted = rw sent.members inv.sorted;
       senders = c.senders_among-senders.ensures;
       receivers = c.receivers_among-receivers.ensures;
-      searched = record {
-        spread = spread_start new.residual c.phases.prices.by_member.items new.balance.surplus.items new.balance.lack.items c.start-search-in-Some.new.levels c.start-search-in-Some.result.level c.start-search-in-Some.result.now c.receivers_among-receivers.result c.start-search-in-Some.result.seen c.start-search-in-Some.ensures.level c.start-search-in-Some.ensures.now (omega (arith, c.start-search-in-Some.auto.levels, levels, sent.members))
-            (sym c.send_phase.ensures.work.lack) (λ v l. c.start-search-in-Some.ensures.forgotten v (omega (arith, l, c.start-search-in-Some.auto.levels))) c.receivers_among-receivers.ensures c.start-search-in-Some.ensures.seen
-            (residual_kept old new.residual phase.members phase.pairs c.members-members.ensures.residual);
-        passed = λ k v l. absurd (omega (arith, l, c.start-search-in-Some.ensures.level));
-        whole = λ k v l. absurd (omega (arith, l, c.start-search-in-Some.ensures.level));
-      };
+      searched = searched_start new c.phases.prices.by_member.items c.start-search-in-Some.new.levels c.send_phase.new.layers c.start-search-in-Some.result c.receivers_among-receivers.result (residual_kept old new.residual phase.members phase.pairs c.members-members.ensures.residual) c.send_phase.ensures.work (omega (arith, c.start-search-in-Some.auto.levels, levels, sent.members)) c.receivers_among-receivers.ensures
+          c.start-search-in-Some.ensures.level c.start-search-in-Some.ensures.now c.start-search-in-Some.ensures.seen (λ v l. c.start-search-in-Some.ensures.forgotten v (omega (arith, l, c.start-search-in-Some.auto.levels)));
     }
 
 pub phases-preserved-in-None : goal.phases-preserved-in-None

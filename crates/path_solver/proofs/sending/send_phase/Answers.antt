@@ -1,4 +1,4 @@
-use Rattle.std.proofs.Common.{◌≡◌, ◌+◌, true, false, not, eqb, length, get_or, refl, sym, ap, ◌∙◌, subst, inl, inr, arith, true≢false, ◌<◌}
+use Rattle.std.proofs.Common.{◌≡◌, true, false, not, eqb, length, get_or, refl, sym, ap, ◌∙◌, subst, inl, inr, arith, true≢false, ◌<◌}
 use Rattle.std.proofs.lemmas.Bool.{cases_eq, and_parts, and_from, ne_eqb, false_from_ne_true}
 use Rattle.member_set.specs.Members.{has}
 use Rattle.path_solver.specs.Levels.{layer_at}
