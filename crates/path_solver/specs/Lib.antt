@@ -8,6 +8,7 @@ pub mod Entries
 pub mod Groups
 pub mod Neighbours
 pub mod Works
+pub mod Balances
 pub mod Labels
 pub mod Counts
 pub mod Pruned

@@ -15,7 +15,7 @@ pub struct Balance {
 }
 
 impl Balance {
-    ghost use Rattle.path_solver.specs.Works.{IsEven};
+    ghost use Rattle.path_solver.specs.Balances.{IsEven};
 
     /// Nothing to send, and nothing to receive.
     pub fn even(alloc: Global, members: u16) -> Result<Balance, AllocError>

@@ -3,7 +3,7 @@
 ghost use Rattle.std.specs.Prelude.{◌≡◌, ◌+◌, ◌<◌, ◌≤◌, length, map, IfOk};
 ghost use Rattle.path_solver.specs.Prices.{first_price};
 ghost use Rattle.path_solver.specs.Rests.{IsSentAlong};
-ghost use Rattle.path_solver.specs.Works.{AreFirst};
+ghost use Rattle.path_solver.specs.Balances.{AreFirst};
 
 use crate::balance::Balance;
 use residual_graph::{Flow, Residual, Steps};

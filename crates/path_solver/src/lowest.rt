@@ -4,7 +4,7 @@ ghost use Rattle.std.specs.Prelude.{◌≡◌, ℕ, ◌+◌, ◌<◌, ◌≤◌,
 ghost use Rattle.network_laws.specs.Networks.{total};
 ghost use Rattle.residual_graph.specs.Residual.{flow_rows};
 ghost use Rattle.path_solver.specs.Rests.{AreApart};
-ghost use Rattle.path_solver.specs.Works.{IsEven, IsOwedBack};
+ghost use Rattle.path_solver.specs.Balances.{IsEven, IsOwedBack};
 ghost use Rattle.units_core.specs.declared.limits.TheConstants.{MOST_GROSS};
 
 use crate::balance::Balance;

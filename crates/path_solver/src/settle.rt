@@ -3,7 +3,7 @@
 ghost use Rattle.std.specs.Prelude.{◌≡◌, ◌+◌, ◌≤◌, length, IfOk};
 ghost use Rattle.path_solver.specs.Rests.{IsFeasible};
 ghost use Rattle.path_solver.specs.Phases.{IsPhase};
-ghost use Rattle.path_solver.specs.Works.{IsLowered, Settles};
+ghost use Rattle.path_solver.specs.Balances.{IsLowered, Settles};
 ghost use Rattle.path_solver.specs.Counts.{path_steps, settle_steps};
 
 use crate::balance::Balance;

@@ -35,6 +35,9 @@ pub senders_among-senders-requires-clause-small : goal.senders_among-senders-req
 senders_among-senders-requires-clause-small g c v on =
     amount_in c.phases.work.balance.surplus.items v ((c.phases.invariant.senders v).0 on) (length c.send_phase.new.work.balance.surplus.items) (sym c.send_phase.ensures.along.surplus_each)
 
+pub senders_among-senders-requires-clause-all : goal.senders_among-senders-requires-clause-all
+senders_among-senders-requires-clause-all g c v some = (c.phases.invariant.senders v).1 (c.send_phase.ensures.along.senders v some)
+
 pub receivers_among-receivers-requires-clause-small : goal.receivers_among-receivers-requires-clause-small
 receivers_among-receivers-requires-clause-small g c v on =
     amount_in c.phases.work.balance.lack.items v ((c.phases.invariant.receivers v).0 on) (length c.send_phase.new.work.balance.lack.items) (sym c.send_phase.ensures.along.lack_each)

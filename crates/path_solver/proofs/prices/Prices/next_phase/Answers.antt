@@ -1,4 +1,6 @@
-use Rattle.std.proofs.Common.{◌≡◌, ℕ, ◌+◌, ◌<◌, List, length, get_or, sym, ap, ◌∙◌, subst, arith}
+use Rattle.std.proofs.Common.{◌≡◌, not, ℕ, ◌+◌, ◌<◌, List, length, get_or, sym, ap, ◌∙◌, subst, arith}
+use Rattle.std.proofs.lemmas.Bool.{and_parts}
+use Rattle.member_set.specs.Members.{has}
 use Rattle.residual_graph.specs.Residual.{IsResidual}
 use Rattle.residual_graph.specs.Arcs.{head}
 use Rattle.path_solver.specs.declared.entries.Entry.{Entry}
@@ -9,7 +11,7 @@ use Rattle.path_solver.specs.Groups.{AreGroups, AreSortedIn}
 use Rattle.path_solver.specs.Levels.{AreCut}
 use Rattle.path_solver.specs.Phases.{IsPhase, raised_price}
 use Rattle.path_solver.specs.Works.{IsWork, IsFeasibleIn, ArePhased}
-use Rattle.path_solver.proofs.Entered.{all_entered}
+use Rattle.path_solver.proofs.Entered.{all_entered, entry_in}
 use Rattle.path_solver.proofs.Phased.{raised_phase}
 use Rattle.path_solver.proofs.Spreads.{few_levels}
 use Rattle.path_solver.proofs.WentBack.{cut_raised, still_priced, spread_back, passed_back, whole_back}
@@ -30,6 +32,14 @@ next w p new levels sender residual work feasible sends len sorted phase cut one
         sorted = again;
       },
     )
+
+pub entered_from-entered-requires-clause-exits : goal.entered_from-entered-requires-clause-exits
+entered_from-entered-requires-clause-exits c v on =
+    let known = c.requires.searched.spread.known in
+    let both = and_parts (has c.around.result v) (not (has c.args.search.now.seen v)) (sym (c.without-others.ensures v) ∙ on) in
+    let near = c.around.ensures.near v both.0 in
+    let entry = ap (λ (es : List Entry). is_entry es near.0 v) (sym c.deref.ensures.value) ∙ near.2 in
+    omega (arith, entry_in c.args.work.now.residual c.args.work.now.neighbours.entries.items near.0 v c.members-members.ensures.residual c.requires.work.neighbours.entries ((known near.0).0 near.1).0 entry, ap length c.deref-in-raises.ensures.value, c.requires.work.neighbours.exits.one_each)
 
 pub entered_from-entered-requires-clause-low : goal.entered_from-entered-requires-clause-low
 entered_from-entered-requires-clause-low c v =
