@@ -74,7 +74,7 @@ on_last flows p surplus lack levels last h v (a ∷ arcs) w sends receives some 
 -- where the members of the last level are out of their layer or have sent all, no path is as short as before
 pub none_at_last : (r : ResidualData) (p surplus lack levels : List ℕ) (layers : List MemberSet) (last : ℕ) → AreShortest r.flows p surplus lack levels last → ArePruned r.flows p lack levels layers (last + 1) → AreApart surplus lack → ((w : ℕ) → 0 < get_or lack w 0 → w < length levels) → ((v : ℕ) → has (layer_at layers last) v ≡ true → get_or surplus v 0 ≡ 0) → NoneIsShorter r.flows p surplus lack (last + 1)
 none_at_last r p surplus lack levels layers last h pruned apart inside spent v w arcs sends receives walk opens =
-    let enough = none_is_shorter r.flows p surplus lack levels last h v w arcs sends receives walk opens in
+    let enough = none_is_shorter h v w arcs sends receives walk opens in
     elim (cases_eq (length arcs) last) [
       | inr ne ↦ omega (arith, enough, ne)
       | inl long ↦

@@ -1,5 +1,5 @@
 -- Who is entered by an open arc from outside the reached members is told by the ways of the others around them.
-use Rattle.std.proofs.Common.{◌≡◌, ℕ, ◌+◌, ◌<◌, ◌≤◌, true, false, not, ◌&&◌, ◌↔◌, List, length, get_or, refl, ap, ◌∙◌, inl, inr, arith}
+use Rattle.std.proofs.Common.{◌≡◌, ℕ, ◌+◌, ◌<◌, true, false, not, ◌&&◌, ◌↔◌, List, get_or, refl, ap, ◌∙◌, inl, inr, arith}
 use Rattle.std.proofs.lemmas.Bool.{false_from_ne_true, and_parts, and_from, or_cases, or_left, or_right}
 use Rattle.member_set.specs.declared.set.MemberSet.{MemberSet}
 use Rattle.member_set.specs.Members.{has}
@@ -8,7 +8,7 @@ use Rattle.residual_graph.specs.Arcs.{no_flow, head, tail}
 use Rattle.path_solver.specs.declared.neighbours.Neighbours.{Neighbours}
 use Rattle.path_solver.specs.declared.entries.Entry.{Entry}
 use Rattle.path_solver.specs.Entries.{entry_at, AreEntries, is_entry, is_open_to}
-use Rattle.path_solver.specs.Groups.{group_at, AreGroups}
+use Rattle.path_solver.specs.Groups.{group_at, AreSorted}
 use Rattle.path_solver.specs.Levels.{IsReached}
 use Rattle.path_solver.specs.Searches.{AreEntered}
 use Rattle.path_solver.specs.Neighbours.{AreNeighbours}
@@ -39,20 +39,20 @@ entry_in r entries here u residual are l on =
     ]
 
 -- each open arc that enters the reached members comes from one of the others around them
-pub all_entered : (r : ResidualData) (p levels : List ℕ) (n : Neighbours) (groups : List MemberSet) (reached near others entered : MemberSet) → IsResidual r → AreNeighbours r n → AreGroups p groups → r.members ≡ length p → ((v : ℕ) → get_or p v 0 + 3 ≤ length groups)
+pub all_entered : {r : ResidualData} {p : List ℕ} {n : Neighbours} {groups : List MemberSet} (levels : List ℕ) (reached near others entered : MemberSet) → IsResidual r → AreNeighbours r n → AreSorted r.members p groups
     → ((v : ℕ) → (has reached v ≡ true) ↔ ((v < r.members) × IsReached levels v))
     → ((h u : ℕ) → has reached h ≡ true → is_entry n.entries.items h u ≡ true → has near u ≡ true)
     → ((u : ℕ) → has others u ≡ (has near u && not (has reached u)))
     → ((u h : ℕ) → has others u ≡ true → has reached h ≡ true → is_open_to n.exits.items groups (get_or p u 0) u h ≡ true → has entered h ≡ true)
     → AreEntered r.flows p levels entered
-all_entered r p levels n groups reached near others entered residual are sorted one_each long known around without ways a l is_open at_head q =
+all_entered {r} {p} {n} {groups} levels reached near others entered residual are sorted known around without ways a l is_open at_head q =
     let ends = ends_in r residual a l in
     let in_tail : tail r.flows a < r.members = ends.0 in
     let in_head : head r.flows a < r.members = ends.1 in
     let on : has reached (head r.flows a) ≡ true = (known (head r.flows a)).1 (in_head, at_head) in
     let off : has reached (tail r.flows a) ≡ false = false_from_ne_true (has reached (tail r.flows a)) (λ e. ((known (tail r.flows a)).0 e).1 q) in
-    let entering = open_near r p n.entries.items groups (head r.flows a) residual are.entries sorted in_head one_each (omega (arith, long (head r.flows a))) a l is_open refl in
+    let entering = open_near (head r.flows a) residual are.entries sorted in_head a l is_open refl in
     let close : has near (tail r.flows a) ≡ true = around (head r.flows a) (tail r.flows a) on (entry_of n.entries.items groups (get_or p (head r.flows a) 0) (head r.flows a) (tail r.flows a) entering) in
     let other : has others (tail r.flows a) ≡ true = without (tail r.flows a) ∙ and_from (has near (tail r.flows a)) (not (has reached (tail r.flows a))) close (ap not off) in
-    let leaving = open_exit r p n groups (tail r.flows a) residual are sorted in_tail one_each (omega (arith, long (tail r.flows a))) a l is_open refl in
+    let leaving = open_exit (tail r.flows a) residual are sorted in_tail a l is_open refl in
     ways (tail r.flows a) (head r.flows a) other on leaving

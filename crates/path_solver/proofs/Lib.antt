@@ -1,6 +1,7 @@
 pub mod Same
 pub mod Walks
 pub mod SentAlong
+pub mod SentOver
 pub mod Straight
 pub mod Shortest
 pub mod Cuts

@@ -106,9 +106,9 @@ abbrev pub Fills : ℕ → List Flow → List ℕ → ℕ → ℕ → Type 0
 Fills x flows path has_to_send has_to_receive =
     ((k : ℕ) × (k < length path) × (room flows (get_or path k 0) ≡ x)) ⊎ ((x ≡ has_to_send) ⊎ (x ≡ has_to_receive))
 
-pub less_to_do : (levels : List ℕ) (x : ℕ) (flows : List Flow) (surplus lack : List ℕ) (from end : ℕ) (path : List ℕ) → IsPlainPath x flows path → All (IsDown levels flows) path → 0 < x → from < length surplus → end < length lack → x ≤ get_or surplus from 0 → x ≤ get_or lack end 0 → Fills x flows path (get_or surplus from 0) (get_or lack end 0)
+pub less_to_do : {x : ℕ} {flows : List Flow} {path : List ℕ} (levels : List ℕ) (surplus lack : List ℕ) (from end : ℕ) → IsPlainPath x flows path → All (IsDown levels flows) path → 0 < x → from < length surplus → end < length lack → x ≤ get_or surplus from 0 → x ≤ get_or lack end 0 → Fills x flows path (get_or surplus from 0) (get_or lack end 0)
     → left_to_do levels (pushed_all x flows path) (set surplus from (get_or surplus from 0 - x)) (set lack end (get_or lack end 0 - x)) + 1 ≤ left_to_do levels flows surplus lack
-less_to_do levels x flows surplus lack from end path plain down some in_s in_l le_s le_l fills =
+less_to_do {x} {flows} {path} levels surplus lack from end plain down some in_s in_l le_s le_l fills =
     let can = path_can x flows path plain.along in
     let s = get_or surplus from 0 in
     let l = get_or lack end 0 in

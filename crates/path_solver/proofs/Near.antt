@@ -10,7 +10,7 @@ use Rattle.residual_graph.proofs.Kept.{pair_below}
 use Rattle.path_solver.specs.declared.entries.Entry.{Entry}
 use Rattle.path_solver.specs.Prices.{IsTight, IsOpen, twin_room}
 use Rattle.path_solver.specs.Entries.{entry_at, AreEntries, IsOpenTwin, is_open_to}
-use Rattle.path_solver.specs.Groups.{group_at, AreGroups}
+use Rattle.path_solver.specs.Groups.{group_at, AreSorted}
 
 -- the arc of a pair that leaves its buyer
 pub record Back (flows : List Flow) (k : ℕ) : Type 0 where
@@ -38,14 +38,14 @@ forth flows k =
     let b : eqb ((2 * k) % 2) 0 ≡ true = eq-eqb ((2 * k) % 2) 0 (omega arith) in
     record { pair_is = e; tail_is = rw (b, e) refl; head_is = rw (b, e) refl; twin_is = rw (b, e) refl }
 
-module _ (r : ResidualData) (p : List ℕ) (entries : List Entry) (groups : List MemberSet) (here : ℕ) (residual : IsResidual r) (are : AreEntries r entries) (sorted : AreGroups p groups) (in_here : here < r.members) (one_each : r.members ≡ length p) (long : get_or p here 0 + 2 < length groups) where
+module _ {r : ResidualData} {p : List ℕ} {entries : List Entry} {groups : List MemberSet} (here : ℕ) (residual : IsResidual r) (are : AreEntries r entries) (sorted : AreSorted r.members p groups) (in_here : here < r.members) where
   from_seller : (u : ℕ) → has (entry_at entries here).sellers u ≡ true → has (group_at groups (get_or p here 0 + 2)) u ≡ true → (a : ℕ) × IsOpenTwin r p here u a
   from_seller u known grouped =
       let w = are.sellers here u in_here known in
       let k = w.0 in
       let seller : (flow_at r.flows w.0).seller ≡ u = w.1.1 in
       let buyer : (flow_at r.flows w.0).buyer ≡ here = w.1.2 in
-      let price = ((sorted (get_or p here 0 + 2) u long).0 grouped).1 in
+      let price = ((sorted.sorted (get_or p here 0 + 2) u (omega (arith, sorted.low here, sorted.long))).0 grouped).1 in
       let on : has (entry_at entries (flow_at r.flows w.0).buyer).sellers (flow_at r.flows w.0).seller ≡ true = rw (buyer, seller) known in
       let some : 0 < (flow_at r.flows w.0).room = ltb-true 0 (flow_at r.flows w.0).room (sym (are.growing w.0 w.2) ∙ on) in
       let at_seller : get_or p (flow_at r.flows w.0).seller 0 ≡ get_or p u 0 = ap (λ v. get_or p v 0) seller in
@@ -60,7 +60,7 @@ module _ (r : ResidualData) (p : List ℕ) (entries : List Entry) (groups : List
       let k = w.0 in
       let seller : (flow_at r.flows w.0).seller ≡ here = w.1.1 in
       let buyer : (flow_at r.flows w.0).buyer ≡ u = w.1.2 in
-      let price = ((sorted (get_or p here 0) u (omega arith)).0 grouped).1 in
+      let price = ((sorted.sorted (get_or p here 0) u (omega (arith, sorted.low here, sorted.long))).0 grouped).1 in
       let on : has (entry_at entries (flow_at r.flows w.0).seller).buyers (flow_at r.flows w.0).buyer ≡ true = rw (seller, buyer) known in
       let some : 0 < (flow_at r.flows w.0).back = ltb-true 0 (flow_at r.flows w.0).back (sym (are.falling w.0 w.2) ∙ on) in
       let at_seller : get_or p (flow_at r.flows w.0).seller 0 ≡ get_or p here 0 = ap (λ v. get_or p v 0) seller in
@@ -84,7 +84,7 @@ module _ (r : ResidualData) (p : List ℕ) (entries : List Entry) (groups : List
       let known : has (entry_at entries here).sellers (flow_at r.flows k).seller ≡ true =
       ap (λ v. has (entry_at entries v).sellers u) (sym buyer) ∙ are.growing k l ∙ lt-ltb 0 (flow_at r.flows k).room some in
       let price : get_or p (flow_at r.flows k).seller 0 + 1 ≡ get_or p here 0 + 2 = omega (arith, tight, ap (λ v. get_or p v 0) buyer) in
-      let grouped : has (group_at groups (get_or p here 0 + 2)) (flow_at r.flows k).seller ≡ true = (sorted (get_or p here 0 + 2) u long).1 (omega (arith, good.seller), price) in
+      let grouped : has (group_at groups (get_or p here 0 + 2)) (flow_at r.flows k).seller ≡ true = (sorted.sorted (get_or p here 0 + 2) u (omega (arith, sorted.low here, sorted.long))).1 (omega (arith, good.seller, sorted.one_each), price) in
       or_left (has (entry_at entries here).sellers u && has (group_at groups (get_or p here 0 + 2)) u) (has (entry_at entries here).buyers u && has (group_at groups (get_or p here 0)) u)
       (and_from (has (entry_at entries here).sellers u) (has (group_at groups (get_or p here 0 + 2)) u) known grouped)
 
@@ -95,7 +95,7 @@ module _ (r : ResidualData) (p : List ℕ) (entries : List Entry) (groups : List
       let known : has (entry_at entries here).buyers (flow_at r.flows k).buyer ≡ true =
       ap (λ v. has (entry_at entries v).buyers u) (sym seller) ∙ are.falling k l ∙ lt-ltb 0 (flow_at r.flows k).back some in
       let price : get_or p (flow_at r.flows k).buyer 0 + 1 ≡ get_or p here 0 = omega (arith, tight, ap (λ v. get_or p v 0) seller) in
-      let grouped : has (group_at groups (get_or p here 0)) (flow_at r.flows k).buyer ≡ true = (sorted (get_or p here 0) u (omega arith)).1 (omega (arith, good.buyer), price) in
+      let grouped : has (group_at groups (get_or p here 0)) (flow_at r.flows k).buyer ≡ true = (sorted.sorted (get_or p here 0) u (omega (arith, sorted.low here, sorted.long))).1 (omega (arith, good.buyer, sorted.one_each), price) in
       or_right (has (entry_at entries here).sellers u && has (group_at groups (get_or p here 0 + 2)) u) (has (entry_at entries here).buyers u && has (group_at groups (get_or p here 0)) u)
       (and_from (has (entry_at entries here).buyers u) (has (group_at groups (get_or p here 0)) u) known grouped)
 

@@ -112,8 +112,8 @@ first_phase r surplus lack p top is len_s len_l few one lowest apart = record {
     inside : (xs : List ℕ) (v : ℕ) → 0 < get_or xs v 0 → v < length xs
     inside xs v some = ⊎_elim (λ (lt : v < length xs). lt) (λ (ge : length xs ≤ v). absurd (omega (arith, some, get_or_past xs v 0 ge))) (cases_lt v (length xs))
 
-pub phase_sent : (old a b : ResidualData) (s0 l0 s l s' l' p : List ℕ) (top : ℕ) → IsPhase old a s0 l0 s l p top → IsSentAlong p a b s l s' l' → IsPhase old b s0 l0 s' l' p top
-phase_sent old a b s0 l0 s l s' l' p top h x = record {
+pub phase_sent : {old a b : ResidualData} {s0 l0 s l s' l' p : List ℕ} {top : ℕ} → IsPhase old a s0 l0 s l p top → IsSentAlong p a b s l s' l' → IsPhase old b s0 l0 s' l' p top
+phase_sent {old} {a} {b} {s0} {l0} {s} {l} {s'} {l'} {p} {top} h x = record {
   members = x.members ∙ h.members;
   pairs = same_trans old.flows a.flows b.flows h.pairs x.pairs;
   owed = λ i. x.owed i ∙ h.owed i;
@@ -143,8 +143,9 @@ raised_cases levels p v =
     (λ (ne : get_or levels v 0 ≢ 65535). inr (ne, rw (ne_eqb (get_or levels v 0) 65535 ne) refl))
     (cases_eq (get_or levels v 0) 65535)
 
-pub raised_phase : (old r : ResidualData) (s0 l0 s l p p' levels : List ℕ) (top v0 : ℕ) → IsResidual old → IsFeasible old.flows s0 l0 → length p ≡ old.members → length p' ≡ length p → length levels ≡ old.members → length s ≡ old.members → 0 < get_or s v0 0 → IsPhase old r s0 l0 s l p top → AreCut r.flows p s l levels → ((v : ℕ) → v < length p → get_or p' v 0 ≡ raised_price levels p v) → (top < old.members) × IsPhase old r s0 l0 s l p' (top + 1)
-raised_phase old r s0 l0 s l p p' levels top v0 residual feasible len_p len_p' len_levels len_s some h cut raised = (
+-- after a raise outside a cut the prices are those of the next phase
+pub raised_phase : {old r : ResidualData} {s0 l0 s l p levels : List ℕ} {top : ℕ} (p' : List ℕ) (v0 : ℕ) → IsResidual old → IsFeasible old.flows s0 l0 → length p ≡ old.members → length p' ≡ length p → length levels ≡ old.members → length s ≡ old.members → 0 < get_or s v0 0 → IsPhase old r s0 l0 s l p top → AreCut r.flows p s l levels → ((v : ℕ) → v < length p → get_or p' v 0 ≡ raised_price levels p v) → (top < old.members) × IsPhase old r s0 l0 s l p' (top + 1)
+raised_phase {old} {r} {s0} {l0} {s} {l} {p} {levels} {top} p' v0 residual feasible len_p len_p' len_levels len_s some h cut raised = (
   low,
   record {
     members = h.members;
@@ -224,14 +225,14 @@ first_top zero = (0, omega arith, λ some. absurd (omega (arith, some)))
 first_top (suc n) = (1, omega arith, λ _. refl)
 
 -- the first phase after its amounts went straight, with the price of those that have to send
-pub straight_phase : (old mid : ResidualData) (s0 l0 s l p : List ℕ) → p ≡ map first_price l0 → length s0 ≡ old.members → length l0 ≡ old.members → All (λ (f : Flow). f.back ≡ 0) old.flows → AreApart s0 l0 → IsSentAlong p old mid s0 l0 s l → IsPhase old mid s0 l0 s l p (first_top old.members).0
-straight_phase old mid s0 l0 s l p is len_s len_l lowest apart sent =
+pub straight_phase : {old mid : ResidualData} {s0 l0 s l p : List ℕ} → p ≡ map first_price l0 → length s0 ≡ old.members → length l0 ≡ old.members → All (λ (f : Flow). f.back ≡ 0) old.flows → AreApart s0 l0 → IsSentAlong p old mid s0 l0 s l → IsPhase old mid s0 l0 s l p (first_top old.members).0
+straight_phase {old} {mid} {s0} {l0} {s} {l} {p} is len_s len_l lowest apart sent =
     let top = first_top old.members in
-    phase_sent old old mid s0 l0 s0 l0 s l p top.0 (first_phase old s0 l0 p top.0 is len_s len_l top.1 top.2 lowest apart) sent
+    phase_sent (first_phase old s0 l0 p top.0 is len_s len_l top.1 top.2 lowest apart) sent
 
 -- what is settled from later amounts on is settled from earlier ones on
-pub settled_more : (old mid new : ResidualData) (s0 l0 s l p : List ℕ) → mid.members ≡ old.members → AreSamePairs old.flows mid.flows → ((i : ℕ) → owed mid.flows s l i ≡ owed old.flows s0 l0 i) → IsSettled mid new s l p → IsSettled old new s0 l0 p
-settled_more old mid new s0 l0 s l p members pairs nets h = record {
+pub settled_more : {old mid new : ResidualData} {s0 l0 s l p : List ℕ} → mid.members ≡ old.members → AreSamePairs old.flows mid.flows → ((i : ℕ) → owed mid.flows s l i ≡ owed old.flows s0 l0 i) → IsSettled mid new s l p → IsSettled old new s0 l0 p
+settled_more {old} {mid} {new} {s0} {l0} {s} {l} {p} members pairs nets h = record {
   members = h.members ∙ members;
   pairs = same_trans old.flows mid.flows new.flows pairs h.pairs;
   nets = λ i in_i. h.nets i (omega (arith, in_i, members)) ∙ nets i;
@@ -241,8 +242,8 @@ settled_more old mid new s0 l0 s l p members pairs nets h = record {
 }
 
 -- a phase from its own amounts on
-pub phase_anew : (old mid : ResidualData) (s0 l0 s l p : List ℕ) (top : ℕ) → IsPhase old mid s0 l0 s l p top → IsPhase mid mid s l s l p top
-phase_anew old mid s0 l0 s l p top h = record {
+pub phase_anew : {old mid : ResidualData} {s0 l0 s l p : List ℕ} {top : ℕ} → IsPhase old mid s0 l0 s l p top → IsPhase mid mid s l s l p top
+phase_anew {old} {mid} {s0} {l0} {s} {l} {p} {top} h = record {
   members = refl;
   pairs = same_refl mid.flows;
   owed = λ i. refl;
@@ -253,8 +254,8 @@ phase_anew old mid s0 l0 s l p top h = record {
 }
 
 -- a later phase of the same amounts
-pub phase_later : (old mid : ResidualData) (s0 l0 s l p p' : List ℕ) (top later : ℕ) → IsPhase old mid s0 l0 s l p top → IsPhase mid mid s l s l p' later → IsPhase old mid s0 l0 s l p' later
-phase_later old mid s0 l0 s l p p' top later h x = record {
+pub phase_later : {old mid : ResidualData} {s0 l0 s l p p' : List ℕ} {top later : ℕ} → IsPhase old mid s0 l0 s l p top → IsPhase mid mid s l s l p' later → IsPhase old mid s0 l0 s l p' later
+phase_later {old} {mid} {s0} {l0} {s} {l} {p} {p'} {top} {later} h x = record {
   members = h.members;
   pairs = h.pairs;
   owed = h.owed;
@@ -273,8 +274,8 @@ none_left amounts set are none v =
     ]
 
 -- where nothing is left to send
-pub settled : (old r : ResidualData) (s0 l0 s l p : List ℕ) (top : ℕ) → IsResidual old → IsFeasible old.flows s0 l0 → length p ≡ old.members → ((v : ℕ) → get_or s v 0 ≡ 0) → IsPhase old r s0 l0 s l p top → IsSettled old r s0 l0 p
-settled old r s0 l0 s l p top residual feasible len_p none h =
+pub settled : {old r : ResidualData} {s0 l0 s l p : List ℕ} {top : ℕ} → IsResidual old → IsFeasible old.flows s0 l0 → length p ≡ old.members → ((v : ℕ) → get_or s v 0 ≡ 0) → IsPhase old r s0 l0 s l p top → IsSettled old r s0 l0 p
+settled {old} {r} {s0} {l0} {s} {l} {p} {top} residual feasible len_p none h =
     let now = residual_kept old r h.members h.pairs residual in
     let still = feasible_kept old.flows r.flows s0 l0 s l h.pairs h.owed feasible in
     record {

@@ -70,8 +70,8 @@ module _ (layers : List MemberSet) (level here : ℕ) (gone : MemberSet) (inside
       (λ on. true≢false (sym (and_parts (not (eqb here here)) (has (layer_at layers level) here) (sym (at_level here) ∙ on)).0 ∙ ap not (eq-eqb here here refl)))
 
   -- one who is stuck may be taken out
-  pub pruned_taken : (flows : List Flow) (p lack levels : List ℕ) (n : ℕ) → ArePruned flows p lack levels layers n → IsStuck flows p lack layers level here → ArePruned flows p lack levels (set layers level gone) n
-  pruned_taken flows p lack levels n h stuck = record {
+  pub pruned_taken : {flows : List Flow} {p lack levels : List ℕ} {n : ℕ} → ArePruned flows p lack levels layers n → IsStuck flows p lack layers level here → ArePruned flows p lack levels (set layers level gone) n
+  pruned_taken {flows} {p} {lack} {levels} {n} h stuck = record {
     lowest = λ v some l at off.
         elim (cases_eq 0 level) [
           | inl e ↦
@@ -106,8 +106,8 @@ module _ (before after : List MemberSet) (level top : ℕ) (within : level ≤ t
         | inr ne ↦ above k v (omega (arith, low, ne)) high
       ]
 
-  pub pruned_emptied : (flows : List Flow) (p lack levels : List ℕ) → ArePruned flows p lack levels before (top + 1) → ArePruned flows p lack levels after (top + 1)
-  pruned_emptied flows p lack levels h = record {
+  pub pruned_emptied : {flows : List Flow} {p lack levels : List ℕ} → ArePruned flows p lack levels before (top + 1) → ArePruned flows p lack levels after (top + 1)
+  pruned_emptied {flows} {p} {lack} {levels} h = record {
     lowest = λ v some l at off. h.lowest v some l at (sym (as_before 0 v (omega arith)) ∙ off);
     others = λ k a lt l is_open at off.
         elim (cases_order k level) [
@@ -165,8 +165,8 @@ nothing_more old zero h none = refl
 nothing_more old (suc new) h none = absurd (omega (arith, h (omega arith), none))
 
 -- less is to be received
-pub pruned_less : (flows : List Flow) (p lack lack' levels : List ℕ) (layers : List MemberSet) (n : ℕ) → ((v : ℕ) → 0 < get_or lack' v 0 → 0 < get_or lack v 0) → ArePruned flows p lack levels layers n → ArePruned flows p lack' levels layers n
-pruned_less flows p lack lack' levels layers n receivers h = record {
+pub pruned_less : {flows : List Flow} {p lack levels : List ℕ} {layers : List MemberSet} {n : ℕ} (lack' : List ℕ) → ((v : ℕ) → 0 < get_or lack' v 0 → 0 < get_or lack v 0) → ArePruned flows p lack levels layers n → ArePruned flows p lack' levels layers n
+pruned_less {flows} {p} {lack} {levels} {layers} {n} lack' receivers h = record {
   lowest = λ v some l at off. nothing_more (get_or lack v 0) (get_or lack' v 0) (receivers v) (h.lowest v some l at off);
   others = h.others;
 }

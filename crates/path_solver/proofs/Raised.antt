@@ -1,16 +1,16 @@
 -- The groups after prices rose.
-use Rattle.std.proofs.Common.{◌≡◌, ℕ, ◌+◌, ◌-◌, ◌<◌, ◌≤◌, ◌↔◌, true, false, not, ◌&&◌, ◌||◌, List, length, get_or, refl, sym, ap, ◌∙◌, subst, arith, inl, inr, true≢false}
+use Rattle.std.proofs.Common.{◌≡◌, ℕ, ◌+◌, ◌-◌, ◌<◌, ◌≤◌, ◌↔◌, true, false, not, ◌&&◌, List, length, get_or, refl, sym, ap, ◌∙◌, subst, arith, inl, inr, true≢false}
 use Rattle.std.proofs.lemmas.Bool.{cases_eq, cases_lt, cases_Bool, and_parts, and_from, not-true, or_cases, or_left, or_right, eq-eqb, ne_eqb}
 use Rattle.member_set.specs.declared.set.MemberSet.{MemberSet}
 use Rattle.member_set.specs.Members.{has}
-use Rattle.path_solver.specs.Groups.{AreGroups, group_at}
+use Rattle.path_solver.specs.Groups.{AreGroups, group_at, is_moved_to}
 use Rattle.path_solver.specs.Levels.{IsReached}
 use Rattle.path_solver.specs.Phases.{raised_price}
 
 module _ (p p' levels : List ℕ) (groups groups' : List MemberSet) (stay : MemberSet) (top : ℕ) (h : AreGroups p groups) (len : length p' ≡ length p) (len_groups : length groups' ≡ length groups)
     (stays : (v : ℕ) → (has stay v ≡ true) ↔ ((v < length p) × IsReached levels v)) (most : (v : ℕ) → get_or p v 0 ≤ top) (room : top + 3 ≤ length groups)
     (raised : (v : ℕ) → v < length p → get_or p' v 0 ≡ raised_price levels p v)
-    (moved : (g v : ℕ) → 0 < g → g ≤ top + 1 + 1 → has (group_at groups' g) v ≡ ((has (group_at groups g) v && has stay v) || (has (group_at groups (g - 1)) v && not (has stay v))))
+    (moved : (g v : ℕ) → 0 < g → g ≤ top + 1 + 1 → has (group_at groups' g) v ≡ is_moved_to groups stay g v)
     (lowest : group_at groups' 0 ≡ group_at groups 0) (others : (g : ℕ) → top + 1 + 1 < g → group_at groups' g ≡ group_at groups g) where
   stayed : (v : ℕ) → has stay v ≡ true → get_or p' v 0 ≡ get_or p v 0
   stayed v on =

@@ -18,8 +18,8 @@ use Rattle.path_solver.proofs.Ends.{same_pair}
 use Rattle.path_solver.proofs.Same.{same_trans}
 use Rattle.path_solver.proofs.Walks.{all_same, prices_walk}
 
-pub sent_more : (p : List ℕ) (a b c : ResidualData) (s l s' l' s'' l'' : List ℕ) → IsSentAlong p a b s l s' l' → IsSentAlong p b c s' l' s'' l'' → IsSentAlong p a c s l s'' l''
-sent_more p a b c s l s' l' s'' l'' x y = record {
+pub sent_more : {p : List ℕ} {a b c : ResidualData} {s l s' l' s'' l'' : List ℕ} → IsSentAlong p a b s l s' l' → IsSentAlong p b c s' l' s'' l'' → IsSentAlong p a c s l s'' l''
+sent_more {p} {a} {b} {c} {s} {l} {s'} {l'} {s''} {l''} x y = record {
   members = y.members ∙ x.members;
   pairs = same_trans a.flows b.flows c.flows x.pairs y.pairs;
   owed = λ i. y.owed i ∙ x.owed i;
@@ -42,8 +42,8 @@ sum_less : (xs : List ℕ) (k x : ℕ) → k < length xs → x ≤ get_or xs k 0
 sum_less xs k x l h = omega (arith, sum_by-set (λ y. y) xs k (get_or xs k 0 - x) 0 l)
 
 -- it is one along which amounts can move
-pub path_of : (x : ℕ) (flows : List Flow) (p levels lack : List ℕ) (from end : ℕ) (path : List ℕ) → IsPathDown flows p levels lack from end path → All (λ a. x ≤ room flows a) path → IsPath x flows path
-path_of x flows p levels lack from end path h roomy = record {
+pub path_of : {flows : List Flow} {p levels lack : List ℕ} {from end : ℕ} {path : List ℕ} (x : ℕ) → IsPathDown flows p levels lack from end path → All (λ a. x ≤ room flows a) path → IsPath x flows path
+path_of {flows} {p} {levels} {lack} {from} {end} {path} x h roomy = record {
   from = from;
   to = end;
   walk = h.walk;
@@ -51,9 +51,9 @@ path_of x flows p levels lack from end path h roomy = record {
   roomy = roomy;
 }
 
-pub plain_path : (x : ℕ) (flows : List Flow) (p levels lack : List ℕ) (from end : ℕ) (path : List ℕ) → IsPathDown flows p levels lack from end path → All (λ a. x ≤ room flows a) path → IsPlainPath x flows path
-plain_path x flows p levels lack from end path h roomy = record {
-  along = path_of x flows p levels lack from end path h roomy;
+pub plain_path : {flows : List Flow} {p levels lack : List ℕ} {from end : ℕ} {path : List ℕ} (x : ℕ) → IsPathDown flows p levels lack from end path → All (λ a. x ≤ room flows a) path → IsPlainPath x flows path
+plain_path {flows} {p} {levels} {lack} {from} {end} {path} x h roomy = record {
+  along = path_of x h roomy;
   pairs = λ i j d lt l e.
       let a = get_or path i d in
       let b = get_or path j d in
@@ -66,9 +66,9 @@ plain_path x flows p levels lack from end path h roomy = record {
       ];
 }
 
-pub sent : (p levels : List ℕ) (old new : ResidualData) (surplus lack : List ℕ) (from end x : ℕ) (path : List ℕ) → IsPathDown old.flows p levels lack from end path → All (λ a. x ≤ room old.flows a) path → from < length surplus → end < length lack → x ≤ get_or surplus from 0 → x ≤ get_or lack end 0 → new.members ≡ old.members → new.flows ≡ pushed_all x old.flows path → IsSentAlong p old new surplus lack (set surplus from (get_or surplus from 0 - x)) (set lack end (get_or lack end 0 - x))
-sent p levels old new surplus lack from end x path h roomy in_s in_l le_s le_l members flows =
-    let can = path_can x old.flows path (path_of x old.flows p levels lack from end path h roomy) in
+pub sent : {p levels : List ℕ} {lack : List ℕ} {from end : ℕ} {path : List ℕ} (old new : ResidualData) (surplus : List ℕ) (x : ℕ) → IsPathDown old.flows p levels lack from end path → All (λ a. x ≤ room old.flows a) path → from < length surplus → end < length lack → x ≤ get_or surplus from 0 → x ≤ get_or lack end 0 → new.members ≡ old.members → new.flows ≡ pushed_all x old.flows path → IsSentAlong p old new surplus lack (set surplus from (get_or surplus from 0 - x)) (set lack end (get_or lack end 0 - x))
+sent {p} {levels} {lack} {from} {end} {path} old new surplus x h roomy in_s in_l le_s le_l members flows =
+    let can = path_can x old.flows path (path_of x h roomy) in
     record {
       members = members;
       pairs = subst (λ (fs : List Flow). AreSamePairs old.flows fs) (sym flows) (all_same x old.flows path can);

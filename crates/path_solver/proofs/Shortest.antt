@@ -108,8 +108,8 @@ met_walk x p surplus levels last flows (a ∷ arcs) can steps h =
     (met_pushed x p surplus levels last flows a (steps 0 a (omega arith)) can.1 h)
 
 -- a path down is of steps
-pub path_steps : (flows : List Flow) (p levels lack : List ℕ) (from end : ℕ) (path : List ℕ) → IsPathDown flows p levels lack from end path → get_or levels from 0 < 65535 → All (IsStep flows levels) path
-path_steps flows p levels lack from end path h low k d l =
+pub path_steps : {flows : List Flow} {p levels lack : List ℕ} {from end : ℕ} {path : List ℕ} → IsPathDown flows p levels lack from end path → get_or levels from 0 < 65535 → All (IsStep flows levels) path
+path_steps {flows} {p} {levels} {lack} {from} {end} {path} h low k d l =
     let below = h.below k d l in
     let down = h.steps k d l in
     record {
@@ -132,8 +132,8 @@ walk_level p levels last flows h v (a ∷ arcs) w k is le less walk opens =
     let up = h.steps a walk.1 here more.0 reached in
     (λ q. reached (at ∙ q), omega (arith, up, at, more.1))
 
-pub none_is_shorter : (flows : List Flow) (p surplus lack levels : List ℕ) (last : ℕ) → AreShortest flows p surplus lack levels last → NoneIsShorter flows p surplus lack last
-none_is_shorter flows p surplus lack levels last h v w arcs sends receives walk opens =
+pub none_is_shorter : {flows : List Flow} {p surplus lack levels : List ℕ} {last : ℕ} → AreShortest flows p surplus lack levels last → NoneIsShorter flows p surplus lack last
+none_is_shorter {flows} {p} {surplus} {lack} {levels} {last} h v w arcs sends receives walk opens =
     elim (cases_lt (length arcs) last) [
       | inr enough ↦ enough
       | inl less ↦
@@ -143,14 +143,14 @@ none_is_shorter flows p surplus lack levels last h v w arcs sends receives walk 
     ]
 
 -- after an amount went along a path down, none is shorter either
-pub shortest_sent : (x : ℕ) (p levels : List ℕ) (last : ℕ) (old new : ResidualData) (surplus lack surplus' lack' : List ℕ) (from end : ℕ) (path : List ℕ) → IsPathDown old.flows p levels lack from end path → All (λ a. x ≤ room old.flows a) path → get_or levels from 0 ≡ last → new.flows ≡ pushed_all x old.flows path → IsSentAlong p old new surplus lack surplus' lack' → AreShortest old.flows p surplus lack levels last → AreShortest new.flows p surplus' lack' levels last
-shortest_sent x p levels last old new surplus lack surplus' lack' from end path h roomy at_from flows sent s =
-    let can = path_can x old.flows path (path_of x old.flows p levels lack from end path h roomy) in
+pub shortest_sent : {p levels : List ℕ} {last : ℕ} {surplus lack surplus' lack' : List ℕ} {from end : ℕ} {path : List ℕ} (x : ℕ) (old new : ResidualData) → IsPathDown old.flows p levels lack from end path → All (λ a. x ≤ room old.flows a) path → get_or levels from 0 ≡ last → new.flows ≡ pushed_all x old.flows path → IsSentAlong p old new surplus lack surplus' lack' → AreShortest old.flows p surplus lack levels last → AreShortest new.flows p surplus' lack' levels last
+shortest_sent {p} {levels} {last} {surplus} {lack} {surplus'} {lack'} {from} {end} {path} x old new h roomy at_from flows sent s =
+    let can = path_can x old.flows path (path_of x h roomy) in
     record {
-      fewest = subst (λ (fs : List Flow). AreFewest fs p levels last) (sym flows) (fewest_walk x p levels last old.flows path can (path_steps old.flows p levels lack from end path h (omega (arith, at_from, s.low))) s.fewest);
+      fewest = subst (λ (fs : List Flow). AreFewest fs p levels last) (sym flows) (fewest_walk x p levels last old.flows path can (path_steps h (omega (arith, at_from, s.low))) s.fewest);
       met = λ b l is_open is at sends.
           subst (λ (fs : List Flow). AreMet fs p surplus levels last) (sym flows)
-          (met_walk x p surplus levels last old.flows path can (path_steps old.flows p levels lack from end path h (omega (arith, at_from, s.low))) s.met) b l is_open is at (sent.senders (tail new.flows b) sends);
+          (met_walk x p surplus levels last old.flows path can (path_steps h (omega (arith, at_from, s.low))) s.met) b l is_open is at (sent.senders (tail new.flows b) sends);
       senders = λ v sends. s.senders v (sent.senders v sends);
       receivers = λ v receives. s.receivers v (sent.receivers v receives);
       low = s.low;

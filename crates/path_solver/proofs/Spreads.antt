@@ -9,7 +9,7 @@ use Rattle.residual_graph.specs.Arcs.{arc_count, flow_at, head, tail}
 use Rattle.path_solver.specs.declared.entries.Entry.{Entry}
 use Rattle.path_solver.specs.Prices.{IsTight, IsOpen}
 use Rattle.path_solver.specs.Entries.{AreEntries, IsOpenInto, is_open_to}
-use Rattle.path_solver.specs.Groups.{AreGroups}
+use Rattle.path_solver.specs.Groups.{AreSorted}
 use Rattle.path_solver.specs.Rests.{HaveSome}
 use Rattle.path_solver.specs.Levels.{IsReached, LeadsDown, AreLevels, AreMet, AreShortest, AreCut, IsSource, layer_at, AreLayers, AreWholeLayers}
 use Rattle.path_solver.proofs.Near.{near_open, open_near}
@@ -55,7 +55,7 @@ spread_none r p surplus lack levels now reached one_each len none receivers empt
       first = λ v l some above. absurd (omega (arith, above));
     }
 
-module _ (r : ResidualData) (p surplus lack levels new : List ℕ) (level : ℕ) (now reached : MemberSet) (residual : IsResidual r) (h : IsSpread r p surplus lack levels level now reached) where
+module _ {r : ResidualData} {p surplus lack levels : List ℕ} {level : ℕ} {now reached : MemberSet} (residual : IsResidual r) (h : IsSpread r p surplus lack levels level now reached) where
   -- there are no more levels than members
   pub few_levels : level ≤ r.members
   few_levels = omega (arith, few_values levels level h.filled, h.one_each)
@@ -64,7 +64,7 @@ module _ (r : ResidualData) (p surplus lack levels new : List ℕ) (level : ℕ)
   low = omega (arith, few_levels, residual.few)
 
   -- some of the next members are put on their level
-  module _ (some : MemberSet) (subset : (v : ℕ) → has some v ≡ true → has now v ≡ true) (one_each : length new ≡ length levels) (marked : (v : ℕ) → has some v ≡ true → get_or new v 0 ≡ level) (others : (v : ℕ) → has some v ≡ false → get_or new v 0 ≡ get_or levels v 0) where
+  module _ (new : List ℕ) (some : MemberSet) (subset : (v : ℕ) → has some v ≡ true → has now v ≡ true) (one_each : length new ≡ length levels) (marked : (v : ℕ) → has some v ≡ true → get_or new v 0 ≡ level) (others : (v : ℕ) → has some v ≡ false → get_or new v 0 ≡ get_or levels v 0) where
     was_there : (v : ℕ) → IsReached levels v → get_or new v 0 ≡ get_or levels v 0
     was_there v was =
         elim (cases_Bool (has some v)) [
@@ -215,7 +215,7 @@ module _ (r : ResidualData) (p surplus lack levels new : List ℕ) (level : ℕ)
         ]
 
   -- all of them are put there, none of them has to send, and there is one
-  module _ (entries : List Entry) (groups : List MemberSet) (near rest more : MemberSet) (are : AreEntries r entries) (sorted : AreGroups p groups) (prices : r.members ≡ length p) (long : (v : ℕ) → get_or p v 0 + 2 < length groups)
+  module _ {entries : List Entry} {groups : List MemberSet} (new : List ℕ) (near rest more : MemberSet) (are : AreEntries r entries) (sorted : AreSorted r.members p groups)
       (one_each : length new ≡ length levels) (marked : (v : ℕ) → has now v ≡ true → get_or new v 0 ≡ level) (others : (v : ℕ) → has now v ≡ false → get_or new v 0 ≡ get_or levels v 0)
       (one : ℕ) (is_one : has now one ≡ true) (quiet : (v : ℕ) → has now v ≡ true → 0 < get_or surplus v 0 → ⊥)
       (nears : (u : ℕ) → has near u ≡ true → IsOpenInto entries groups p now u) (all : (v u : ℕ) → has now v ≡ true → is_open_to entries groups (get_or p v 0) v u ≡ true → has near u ≡ true)
@@ -229,8 +229,8 @@ module _ (r : ResidualData) (p surplus lack levels new : List ℕ) (level : ℕ)
           elim (or_cases (has reached v) (has now v) (sym (mores v) ∙ on)) [
             | inl old ↦
                 let was = (h.known v).0 old in
-                (was.0, λ e. was.1 (sym (was_there now itself one_each marked others v was.1) ∙ e))
-            | inr here ↦ (h.next.member v here, marked_reached now itself one_each marked others v here)
+                (was.0, λ e. was.1 (sym (was_there new now itself one_each marked others v was.1) ∙ e))
+            | inr here ↦ (h.next.member v here, marked_reached new now itself one_each marked others v here)
           ],
       λ both.
           mores v
@@ -242,12 +242,12 @@ module _ (r : ResidualData) (p surplus lack levels new : List ℕ) (level : ℕ)
 
     -- a member that is still not reached was not to come now
     off_now : (v : ℕ) → get_or new v 0 ≡ 65535 → has now v ≡ false
-    off_now v e = false_from_ne_true (has now v) (λ on. marked_reached now itself one_each marked others v on e)
+    off_now v e = false_from_ne_true (has now v) (λ on. marked_reached new now itself one_each marked others v on e)
 
     next_more : AreNext r p lack new (level + 1) rest
     next_more =
         let from = λ (u : ℕ) (on : has rest u ≡ true). nears u (and_parts (has near u) (not (has more u)) (sym (rests u) ∙ on)).0 in
-        let arc_of = λ (u : ℕ) (on : has rest u ≡ true). let o = from u on in near_open r p entries groups o.0 residual are sorted (h.next.member o.0 o.1) prices (long o.0) u o.2 in
+        let arc_of = λ (u : ℕ) (on : has rest u ≡ true). let o = from u on in near_open o.0 residual are sorted (h.next.member o.0 o.1) u o.2 in
         let inside : (u : ℕ) → has rest u ≡ true → u < r.members = λ u on. let a = arc_of u on in let l : head r.flows a.0 < r.members = (ends_in r residual a.0 a.1.0).1 in let is : head r.flows a.0 ≡ u = a.1.2 in omega (arith, l, is) in
         record {
           member = inside;
@@ -281,8 +281,8 @@ module _ (r : ResidualData) (p surplus lack levels new : List ℕ) (level : ℕ)
             | inl on ↦ omega (arith, marked v on)
             | inr off ↦ omega (arith, others v off, h.below v l (λ e. is (others v off ∙ e)))
           ];
-      lowest = lowest_more now itself one_each marked others;
-      down = down_more now itself one_each marked others;
+      lowest = lowest_more new now itself one_each marked others;
+      down = down_more new now itself one_each marked others;
       senders = λ v l some.
           elim (cases_Bool (has now v)) [
             | inl on ↦ absurd (quiet v on some)
@@ -293,7 +293,7 @@ module _ (r : ResidualData) (p surplus lack levels new : List ℕ) (level : ℕ)
             | inl e ↦ (one, omega (arith, h.next.member one is_one, h.one_each, one_each), marked one is_one ∙ sym e)
             | inr ne ↦
                 let t = h.filled g (omega (arith, l, ne)) in
-                (t.0, omega (arith, t.1, one_each), was_there now itself one_each marked others t.0 (λ e. omega (arith, e, t.2, l, low)) ∙ t.2)
+                (t.0, omega (arith, t.1, one_each), was_there new now itself one_each marked others t.0 (λ e. omega (arith, e, t.2, l, low)) ∙ t.2)
           ];
       next = next_more;
       receivers = λ v some e.
@@ -305,7 +305,7 @@ module _ (r : ResidualData) (p surplus lack levels new : List ℕ) (level : ℕ)
           elim (cases_Bool (has now (head r.flows a))) [
             | inl on ↦
                 let near_tail : has near (tail r.flows a) ≡ true =
-                all (head r.flows a) (tail r.flows a) on (open_near r p entries groups (head r.flows a) residual are sorted (h.next.member (head r.flows a) on) prices (long (head r.flows a)) a l is_open refl) in
+                all (head r.flows a) (tail r.flows a) on (open_near (head r.flows a) residual are sorted (h.next.member (head r.flows a) on) a l is_open refl) in
                 let not_more : has more (tail r.flows a) ≡ false = false_from_ne_true (has more (tail r.flows a)) (λ on. ((reached_more (tail r.flows a)).0 on).1 e) in
                 rests (tail r.flows a) ∙ and_from (has near (tail r.flows a)) (not (has more (tail r.flows a))) near_tail (ap not not_more)
             | inr off_head ↦
@@ -319,11 +319,11 @@ module _ (r : ResidualData) (p surplus lack levels new : List ℕ) (level : ℕ)
               | inl on ↦ omega (arith, marked (head r.flows a) on, less)
               | inr off_head ↦ true≢false (sym (h.closed a l is_open (λ q. is (others (head r.flows a) off_head ∙ q)) old) ∙ off)
             ];
-        steps = steps_more now itself one_each marked others;
+        steps = steps_more new now itself one_each marked others;
       };
       first = λ v l some _.
           elim (cases_lt 0 level) [
-            | inl above ↦ first_more now itself one_each marked others v l some above
+            | inl above ↦ first_more new now itself one_each marked others v l some above
             | inr none ↦
                 elim (cases_eq (get_or levels v 0) 65535) [
                   | inl e ↦ omega (arith, marked v (h.receivers v some e), none)

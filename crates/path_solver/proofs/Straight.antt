@@ -47,6 +47,6 @@ sent_straight p old new surplus lack k s b x in_k at_s at_b roomy some tight in_
       receives = omega (arith, some, le_b);
       member = in_p;
     } in
-    sent p p old new surplus lack s b x (2 * k ∷ []) path
+    sent old new surplus x path
     (all_one (λ a. x ≤ room old.flows a) (2 * k) (omega (arith, arc.0, roomy)))
     in_s in_b le_s le_b members flows

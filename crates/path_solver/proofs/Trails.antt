@@ -39,10 +39,10 @@ begun_none r p levels layers path from l s done here = record {
       (subst (λ low. IsTrail r p levels layers path low (get_or levels from 0) from from) (omega (arith, done)) (trail_none r p levels layers path (get_or levels from 0) from l refl));
 }
 
-module _ (r : ResidualData) (p levels : List ℕ) (layers : List MemberSet) (path : List ℕ) (residual : IsResidual r) where
+module _ {r : ResidualData} {p levels : List ℕ} {layers : List MemberSet} {path : List ℕ} (residual : IsResidual r) where
   -- a level further down
-  pub trail_down : (low top here from a u : ℕ) → IsTrail r p levels layers path (low + 1) top here from → Leads r.flows p here u a → top - (low + 1) < length path → get_or levels u 0 ≡ low → has (layer_at layers low) u ≡ true → IsTrail r p levels layers (set path (top - (low + 1)) a) low top u from
-  trail_down low top here from a u h leads inside at_u on =
+  pub trail_down : {top here from a u : ℕ} (low : ℕ) → IsTrail r p levels layers path (low + 1) top here from → Leads r.flows p here u a → top - (low + 1) < length path → get_or levels u 0 ≡ low → has (layer_at layers low) u ≡ true → IsTrail r p levels layers (set path (top - (low + 1)) a) low top u from
+  trail_down {top} {here} {from} {a} {u} low h leads inside at_u on =
       let at_low : arc_to (set path (top - (low + 1)) a) top low ≡ a = get_or-set_same path (top - (low + 1)) a 0 inside in
       let other : (i : ℕ) → i ≢ low → i < top → arc_to (set path (top - (low + 1)) a) top i ≡ arc_to path top i = λ i ne lt. get_or-set_other path (top - (low + 1)) (top - (i + 1)) a 0 (λ q. ne (omega (arith, q, lt, h.within))) in
       let at_head : head r.flows (arc_to (set path (top - (low + 1)) a) top low) ≡ u = ap (head r.flows) at_low ∙ leads.ends in
@@ -86,8 +86,8 @@ module _ (r : ResidualData) (p levels : List ℕ) (layers : List MemberSet) (pat
       }
 
   -- back up a level, where a member is taken out of the layer below
-  pub trail_up : (low top here from : ℕ) (gone : MemberSet) → IsTrail r p levels layers path low top here from → low < top → IsTrail r p levels (set layers low gone) path (low + 1) top (tail r.flows (arc_to path top low)) from
-  trail_up low top here from gone h less =
+  pub trail_up : {low top here from : ℕ} (gone : MemberSet) → IsTrail r p levels layers path low top here from → low < top → IsTrail r p levels (set layers low gone) path (low + 1) top (tail r.flows (arc_to path top low)) from
+  trail_up {low} {top} {here} {from} gone h less =
       let rung = h.rungs low (omega arith) less in
       record {
         within = omega (arith, less);
@@ -128,8 +128,8 @@ walk_from flows v (a ∷ arcs) w each joined start end none = (
 )
 
 -- down to the lowest level, and to one that has to receive, it is a path down
-pub trail_path : (r : ResidualData) (p levels lack : List ℕ) (layers : List MemberSet) (path : List ℕ) (top here from : ℕ) → IsTrail r p levels layers path 0 top here from → top ≤ length path → get_or levels from 0 ≡ top → r.members ≡ length levels → 0 < get_or lack here 0 → IsPathDown r.flows p levels lack from here (take top path)
-trail_path r p levels lack layers path top here from h room at_from one_each receives =
+pub trail_path : {r : ResidualData} {p levels : List ℕ} {layers : List MemberSet} {path : List ℕ} {top here from : ℕ} (lack : List ℕ) → IsTrail r p levels layers path 0 top here from → top ≤ length path → get_or levels from 0 ≡ top → r.members ≡ length levels → 0 < get_or lack here 0 → IsPathDown r.flows p levels lack from here (take top path)
+trail_path {r} {p} {levels} {layers} {path} {top} {here} {from} lack h room at_from one_each receives =
     let long : length (take top path) ≡ top = length-take-le top path room in
     let place : (k : ℕ) → k < top → k ≡ top - (top - (k + 1) + 1) = λ k l. omega (arith, l) in
     let at : (k : ℕ) (d : ℕ) → k < length (take top path) → get_or (take top path) k d ≡ arc_to path top (top - (k + 1)) =

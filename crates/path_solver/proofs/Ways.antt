@@ -1,5 +1,5 @@
 -- Open arcs that leave a member, by its exits.
-use Rattle.std.proofs.Common.{◌≡◌, ℕ, ◌+◌, ◌-◌, ◌*◌, ◌<◌, ◌≤◌, Bool, true, false, ◌&&◌, List, length, get_or, map, sym, ap, ◌∙◌, subst, inl, inr, arith, true≢false}
+use Rattle.std.proofs.Common.{◌≡◌, ◌≢◌, ℕ, ◌+◌, ◌-◌, ◌*◌, ◌<◌, ◌≤◌, Bool, true, false, ◌&&◌, List, length, get_or, map, sym, ap, ◌∙◌, subst, inl, inr, arith, true≢false}
 use Rattle.std.proofs.lemmas.Bool.{cases_Bool, ltb-true, false_from_ne_true, and_parts, or_cases, cond-true, cond-false}
 use Rattle.member_set.specs.declared.set.MemberSet.{MemberSet}
 use Rattle.member_set.specs.Members.{has}
@@ -11,13 +11,14 @@ use Rattle.path_solver.specs.declared.neighbours.Neighbours.{Neighbours}
 use Rattle.path_solver.specs.declared.neighbours.Exit.{Exit}
 use Rattle.path_solver.specs.Prices.{IsTight, IsOpen}
 use Rattle.path_solver.specs.Entries.{entry_at, is_open_to}
-use Rattle.path_solver.specs.Groups.{group_at, AreGroups}
+use Rattle.path_solver.specs.Groups.{group_at, AreSorted}
 use Rattle.path_solver.specs.Levels.{layer_at, AreLevels, AreWholeLayers}
 use Rattle.path_solver.proofs.Ends.{ends_in}
-use Rattle.path_solver.specs.Neighbours.{turned, turned_graph, number_at, AreNeighbours, IsWayInto}
+use Rattle.path_solver.specs.Neighbours.{turned, number_at, AreNeighbours, IsWayInto}
 use Rattle.path_solver.proofs.Phased.{forward_of, arc_is}
 use Rattle.path_solver.proofs.TakenBack.{back_of}
 use Rattle.path_solver.proofs.Near.{of_forward, of_backward}
+use Rattle.path_solver.proofs.Pruned.{IsStuck}
 use Rattle.path_solver.proofs.Turned.{flow_turned, count_turned, residual_turned}
 
 -- an open arc from one member to another
@@ -27,7 +28,7 @@ pub record Leads (flows : List Flow) (p : List ℕ) (here u a : ℕ) : Type 0 wh
   pub ends : head flows a ≡ u
   pub is_open : IsOpen flows p a
 
-module _ (r : ResidualData) (p : List ℕ) (n : Neighbours) (groups : List MemberSet) (here : ℕ) (residual : IsResidual r) (are : AreNeighbours r n) (sorted : AreGroups p groups) (in_here : here < r.members) (one_each : r.members ≡ length p) (long : get_or p here 0 + 2 < length groups) where
+module _ {r : ResidualData} {p : List ℕ} {n : Neighbours} {groups : List MemberSet} (here : ℕ) (residual : IsResidual r) (are : AreNeighbours r n) (sorted : AreSorted r.members p groups) (in_here : here < r.members) where
   forward_way : (u : ℕ) → has (entry_at n.exits.items here).buyers u ≡ true → has (group_at groups (get_or p here 0)) u ≡ true → Leads r.flows p here u (2 * number_at n.rows.items here u)
   forward_way u known grouped =
       let w = are.exits.buyers here u in_here known in
@@ -38,7 +39,7 @@ module _ (r : ResidualData) (p : List ℕ) (n : Neighbours) (groups : List Membe
       let buyer : (flow_at r.flows w.0).buyer ≡ u = sym (ap (λ (g : Flow). g.buyer) at_t) ∙ w.1.2 in
       let on : has (entry_at n.exits.items (flow_at (map turned r.flows) w.0).seller).buyers (flow_at (map turned r.flows) w.0).buyer ≡ true = rw (w.1.1, w.1.2) known in
       let some : 0 < (flow_at r.flows w.0).room = omega (arith, ltb-true 0 (flow_at (map turned r.flows) w.0).back (sym (are.exits.falling w.0 w.2) ∙ on), ap (λ (g : Flow). g.back) at_t) in
-      let price = ((sorted (get_or p here 0) u (omega arith)).0 grouped).1 in
+      let price = ((sorted.sorted (get_or p here 0) u (omega (arith, sorted.low here, sorted.long))).0 grouped).1 in
       let tight : IsTight p (flow_at r.flows w.0) = omega (arith, ap (λ v. get_or p v 0) seller, ap (λ v. get_or p v 0) buyer, price) in
       let number : number_at n.rows.items here u ≡ w.0 = subst (λ v. number_at n.rows.items v u ≡ w.0) seller (subst (λ v. number_at n.rows.items (flow_at r.flows w.0).seller v ≡ w.0) buyer (are.rows.numbers w.0 l)) in
       let there = forward_of k in
@@ -61,7 +62,7 @@ module _ (r : ResidualData) (p : List ℕ) (n : Neighbours) (groups : List Membe
       let buyer : (flow_at r.flows w.0).buyer ≡ here = sym (ap (λ (g : Flow). g.buyer) at_t) ∙ w.1.2 in
       let on : has (entry_at n.exits.items (flow_at (map turned r.flows) w.0).buyer).sellers (flow_at (map turned r.flows) w.0).seller ≡ true = rw (w.1.2, w.1.1) known in
       let some : 0 < (flow_at r.flows w.0).back = omega (arith, ltb-true 0 (flow_at (map turned r.flows) w.0).room (sym (are.exits.growing w.0 w.2) ∙ on), ap (λ (g : Flow). g.room) at_t) in
-      let price = ((sorted (get_or p here 0 + 2) u long).0 grouped).1 in
+      let price = ((sorted.sorted (get_or p here 0 + 2) u (omega (arith, sorted.low here, sorted.long))).0 grouped).1 in
       let tight : IsTight p (flow_at r.flows w.0) = omega (arith, ap (λ v. get_or p v 0) seller, ap (λ v. get_or p v 0) buyer, price) in
       let number : number_at n.rows.items u here ≡ w.0 = subst (λ v. number_at n.rows.items v here ≡ w.0) seller (subst (λ v. number_at n.rows.items (flow_at r.flows w.0).seller v ≡ w.0) buyer (are.rows.numbers w.0 l)) in
       let there = back_of k in
@@ -98,13 +99,13 @@ module _ (r : ResidualData) (p : List ℕ) (n : Neighbours) (groups : List Membe
       let at_t = flow_turned r.flows k in
       let tight_t : IsTight p (flow_at (map turned r.flows) k) = subst (IsTight p) (sym at_t) tight in
       ap (λ (g : Flow). is_open_to n.exits.items groups (get_or p here 0) here g.buyer) (sym at_t)
-      ∙ of_backward (turned_graph r) p n.exits.items groups here (residual_turned r residual) are.exits sorted in_here one_each long k (omega (arith, l, count_turned r.flows))
+      ∙ of_backward here (residual_turned r residual) are.exits sorted in_here k (omega (arith, l, count_turned r.flows))
       (ap (λ (g : Flow). g.seller) at_t ∙ starts) (omega (arith, some, ap (λ (g : Flow). g.back) at_t)) tight_t
   exit_case k false l some tight starts =
       let at_t = flow_turned r.flows k in
       let tight_t : IsTight p (flow_at (map turned r.flows) k) = subst (IsTight p) (sym at_t) tight in
       ap (λ (g : Flow). is_open_to n.exits.items groups (get_or p here 0) here g.seller) (sym at_t)
-      ∙ of_forward (turned_graph r) p n.exits.items groups here (residual_turned r residual) are.exits sorted in_here one_each long k (omega (arith, l, count_turned r.flows))
+      ∙ of_forward here (residual_turned r residual) are.exits sorted in_here k (omega (arith, l, count_turned r.flows))
       (ap (λ (g : Flow). g.buyer) at_t ∙ starts) (omega (arith, some, ap (λ (g : Flow). g.room) at_t)) tight_t
 
   -- and each open arc is one
@@ -118,10 +119,14 @@ module _ (r : ResidualData) (p : List ℕ) (n : Neighbours) (groups : List Membe
       subst (λ j. has (layer_at layers j) (head r.flows a) ≡ false) below
       (false_from_ne_true (has (layer_at layers (level - 1)) (head r.flows a)) (λ on. true≢false (sym (open_exit a l is_open starts) ∙ none (head r.flows a) on)))
 
+  -- so it is stuck there
+  pub stuck_above : (lack : List ℕ) (layers : List MemberSet) (level : ℕ) → level ≢ 0 → ((u : ℕ) → has (layer_at layers (level - 1)) u ≡ true → is_open_to n.exits.items groups (get_or p here 0) here u ≡ false) → IsStuck r.flows p lack layers level here
+  stuck_above lack layers level above none = (λ e. absurd (above e), λ k a e l is_open starts. no_way_in layers level k a e none l is_open starts)
+
   -- over new levels, all members of the layer below are ways of a member, so it has one
-  pub some_way : (lack levels : List ℕ) (layers : List MemberSet) (level m : ℕ) → AreLevels r.flows p lack levels → AreWholeLayers levels layers m → r.members ≡ length levels → get_or levels here 0 ≡ level → 0 < level → level < 65535 → level ≤ m
+  pub some_way : {lack levels : List ℕ} (layers : List MemberSet) (level m : ℕ) → AreLevels r.flows p lack levels → AreWholeLayers levels layers m → r.members ≡ length levels → get_or levels here 0 ≡ level → 0 < level → level < 65535 → level ≤ m
       → ((u : ℕ) → has (layer_at layers (level - 1)) u ≡ true → is_open_to n.exits.items groups (get_or p here 0) here u ≡ false) → ⊥
-  some_way lack levels layers level m h whole long_levels at above low most none =
+  some_way {lack} {levels} layers level m h whole long_levels at above low most none =
       let d = h.down here (omega (arith, in_here, long_levels)) (λ e. omega (arith, e, at, low)) (omega (arith, at, above)) in
       let a = d.0 in
       let l : head r.flows d.0 < r.members = (ends_in r residual a d.1.arc).1 in

@@ -7,17 +7,20 @@ use Rattle.member_set.specs.Members.{has}
 use Rattle.residual_graph.specs.declared.flow.Flow.{Flow}
 use Rattle.residual_graph.specs.Residual.{ResidualData, IsResidual}
 use Rattle.residual_graph.specs.Arcs.{arc_count, pair, is_forward, flow_at, head, head_in, tail, tail_in}
+use Rattle.path_solver.specs.declared.search.Search.{Search}
+use Rattle.path_solver.specs.declared.work.Work.{Work}
 use Rattle.path_solver.specs.Prices.{IsTight, IsOpen}
 use Rattle.path_solver.specs.Levels.{IsReached, AreCut, layer_at, AreLayers, AreWholeLayers}
 use Rattle.path_solver.specs.Searches.{IsSpread, AreReached, AreEntered, AreCutOff}
 use Rattle.path_solver.specs.Rests.{HaveSome}
 use Rattle.path_solver.specs.Phases.{raised_price}
+use Rattle.path_solver.specs.Works.{IsWork, IsSearched}
 use Rattle.path_solver.proofs.Ends.{ends_in}
 use Rattle.path_solver.proofs.Spreads.{few_levels, spread_none}
 
 -- where nobody is entered, it is still a cut
-pub cut_raised : (flows : List Flow) (p p' surplus lack levels : List ℕ) (entered : MemberSet) → AreCut flows p surplus lack levels → AreEntered flows p' levels entered → ((v : ℕ) → has entered v ≡ false) → AreCut flows p' surplus lack levels
-cut_raised flows p p' surplus lack levels entered cut ways none = record {
+pub cut_raised : {flows : List Flow} {p surplus lack levels : List ℕ} (p' : List ℕ) (entered : MemberSet) → AreCut flows p surplus lack levels → AreEntered flows p' levels entered → ((v : ℕ) → has entered v ≡ false) → AreCut flows p' surplus lack levels
+cut_raised {flows} p' entered cut ways none = record {
   closed = λ a l is_open was e. true≢false (sym (ways a l is_open was e) ∙ none (head flows a));
   senders = cut.senders;
   receivers = cut.receivers;
@@ -30,10 +33,13 @@ still_priced levels p v is =
     kept
 
 -- a search that starts at the members that have to receive
-pub spread_start : (r : ResidualData) (p surplus lack levels : List ℕ) (level : ℕ) (now receivers seen : MemberSet) → level ≡ 0 → now ≡ receivers → length levels ≡ r.members → length lack ≡ r.members → ((v : ℕ) → v < length levels → get_or levels v 0 ≡ 65535) → HaveSome lack receivers → ((v : ℕ) → has seen v ≡ false) → IsResidual r → IsSpread r p surplus lack levels level now seen
-spread_start r p surplus lack levels level now receivers seen zero same len len_l none some empty residual =
-    subst (λ n. IsSpread r p surplus lack levels n now seen) (sym zero)
-    (subst (λ set. IsSpread r p surplus lack levels 0 set seen) (sym same) (spread_none r p surplus lack levels receivers seen len len_l none some empty residual))
+pub searched_start : (w : Work) (p levels : List ℕ) (layers : List MemberSet) (s : Search) (receivers : MemberSet) → IsResidual w.residual → IsWork w → length levels ≡ w.residual.members → HaveSome w.balance.lack.items receivers
+    → s.level ≡ 0 → s.now ≡ receivers → ((v : ℕ) → has s.seen v ≡ false) → ((v : ℕ) → v < length levels → get_or levels v 0 ≡ 65535) → IsSearched w p levels layers s
+searched_start w p levels layers s receivers residual work len some zero same empty none = record {
+  spread = rw (zero, same) (spread_none w.residual p w.balance.surplus.items w.balance.lack.items levels receivers s.seen len (sym work.lack) none some empty residual);
+  passed = λ k v l. absurd (omega (arith, l, zero));
+  whole = λ k v l. absurd (omega (arith, l, zero));
+}
 
 -- the layers below the level are as before
 pub passed_back : (levels new : List ℕ) (layers : List MemberSet) (top level : ℕ) → length new ≡ length levels → AreCutOff level levels new → level < top → AreLayers levels layers top → AreLayers new layers level
@@ -65,7 +71,7 @@ module _ (r : ResidualData) (p p' surplus lack levels new : List ℕ) (top level
     (passed : AreLayers levels layers top) (whole : AreWholeLayers levels layers top) (at_here : here ≡ layer_at layers level) (known : AreReached new left)
     (entered : (a : ℕ) → a < arc_count r.flows → IsOpen r.flows p' a → IsReached levels (head r.flows a) → get_or levels (tail r.flows a) 0 ≡ 65535 → level ≤ get_or levels (head r.flows a) 0) where
   low : level < 65535
-  low = omega (arith, few_levels r p surplus lack levels levels top now seen residual h, residual.few, lower)
+  low = omega (arith, few_levels residual h, residual.few, lower)
 
   inner : (v : ℕ) → v < r.members → v < length levels
   inner v l = omega (arith, l, h.one_each)

@@ -17,6 +17,14 @@ round_steps r = 2 * (length r.flows + r.members)
 abbrev pub phase_steps : ResidualData → ℕ
 phase_steps r = (r.members + 2) * round_steps r
 
+-- at most so many in all phases, of which there are no more than members, and one
+abbrev pub path_steps : ResidualData → ℕ
+path_steps r = (r.members + 1) * phase_steps r
+
+-- at most so many from the lower bounds on: over each pair one straight, and then those of all phases
+abbrev pub settle_steps : ResidualData → ℕ
+settle_steps r = length r.flows + path_steps r
+
 -- how many of a pair's arcs have room and lead one level down
 abbrev pub downs : List ℕ → Flow → ℕ
 downs levels f =

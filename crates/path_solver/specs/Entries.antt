@@ -9,9 +9,11 @@ use Rattle.path_solver.specs.declared.entries.Entry.{Entry}
 use Rattle.path_solver.specs.Prices.{IsTwinOpen}
 use Rattle.path_solver.specs.Groups.{group_at}
 
+-- no arc with room leads here
 abbrev pub no_entry : Entry
 no_entry = record { sellers = no_members; buyers = no_members }
 
+-- the entry of a member, and an empty one where it has none
 abbrev pub entry_at : List Entry → ℕ → Entry
 entry_at entries v = slice_index_or entries v no_entry
 

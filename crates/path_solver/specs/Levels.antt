@@ -66,6 +66,7 @@ abbrev pub IsLayered : List Flow → List ℕ → List ℕ → List ℕ → List
 IsLayered flows p surplus lack levels None = AreCut flows p surplus lack levels
 IsLayered flows p surplus lack levels (Some s) = IsSource surplus levels s × AreLevels flows p lack levels
 
+-- the layer of this number, and nobody where there is none
 abbrev pub layer_at : List MemberSet → ℕ → MemberSet
 layer_at layers k = slice_index_or layers k no_members
 

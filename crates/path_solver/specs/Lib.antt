@@ -8,7 +8,9 @@ pub mod Entries
 pub mod Groups
 pub mod Neighbours
 pub mod Works
+pub mod Balances
 pub mod Labels
 pub mod Counts
 pub mod Pruned
 pub mod Trails
+pub mod Tasks

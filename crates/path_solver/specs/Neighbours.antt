@@ -19,6 +19,7 @@ turned f = record f { back = f.room; room = f.back }
 abbrev pub turned_graph : ResidualData → ResidualData
 turned_graph r = record { members = r.members; flows = map turned r.flows }
 
+-- no pairs
 abbrev pub no_row : PairRow
 no_row = record { numbers = [] }
 

@@ -1,6 +1,6 @@
 //! What the members still have to send and to receive.
 
-ghost use Rattle.std.specs.Prelude.{◌≡◌, ℕ, ◌+◌, ◌-◌, ◌^◌, ◌<◌, ◌≤◌, min, true, length, slice_index, slice_set, replicate, IfOk};
+ghost use Rattle.std.specs.Prelude.{◌≡◌, ℕ, ◌+◌, ◌-◌, ◌^◌, ◌<◌, ◌≤◌, min, true, length, slice_index, slice_set, IfOk};
 ghost use Rattle.member_set.specs.Members.{has};
 ghost use Rattle.path_solver.specs.Rests.{HaveSome};
 
@@ -15,10 +15,11 @@ pub struct Balance {
 }
 
 impl Balance {
+    ghost use Rattle.path_solver.specs.Balances.{IsEven};
+
     /// Nothing to send, and nothing to receive.
     pub fn even(alloc: Global, members: u16) -> Result<Balance, AllocError>
-        ensures surplus { IfOk result (λ balance. balance.surplus.items ≡ replicate members 0) }
-        ensures lack { IfOk result (λ balance. balance.lack.items ≡ replicate members 0) }
+        ensures { IfOk result (IsEven members) }
     {
         let surplus = vec![in alloc; 0u64; members as usize]?;
         let lack = vec![in alloc; 0u64; members as usize]?;

@@ -1,8 +1,9 @@
 //! The first phase: straight from members that have to send to members that have to receive.
 
-ghost use Rattle.std.specs.Prelude.{◌≡◌, ℕ, ◌+◌, ◌<◌, ◌≤◌, length, slice_index, map, IfOk};
+ghost use Rattle.std.specs.Prelude.{◌≡◌, ◌+◌, ◌<◌, ◌≤◌, length, map, IfOk};
 ghost use Rattle.path_solver.specs.Prices.{first_price};
 ghost use Rattle.path_solver.specs.Rests.{IsSentAlong};
+ghost use Rattle.path_solver.specs.Balances.{AreFirst};
 
 use crate::balance::Balance;
 use residual_graph::{Flow, Residual, Steps};
@@ -29,11 +30,7 @@ fn send_over<L: Ledger>(
     pair: usize,
     steps: &mut Steps<L>,
 )
-    requires prices { residual.old.members ≡ length prices.now }
-    requires surplus { residual.old.members ≡ length balance.old.surplus.items }
-    requires lack { residual.old.members ≡ length balance.old.lack.items }
-    requires senders { (v : ℕ) → 0 < slice_index balance.old.surplus.items v → slice_index prices.now v ≡ 1 }
-    requires receivers { (v : ℕ) → 0 < slice_index balance.old.lack.items v → slice_index prices.now v ≡ 0 }
+    requires first { AreFirst residual.old prices.now balance.old }
     requires pair { pair < length residual.old.flows }
     ensures along { IsSentAlong prices.now residual.old residual.new balance.old.surplus.items balance.old.lack.items balance.new.surplus.items balance.new.lack.items }
     ensures few { steps.new ≤ steps.old + 1 }
@@ -67,11 +64,7 @@ pub fn send_direct<L: Ledger>(
     balance: &mut Balance,
     steps: &mut Steps<L>,
 )
-    requires prices { residual.old.members ≡ length prices.now }
-    requires surplus { residual.old.members ≡ length balance.old.surplus.items }
-    requires lack { residual.old.members ≡ length balance.old.lack.items }
-    requires senders { (v : ℕ) → 0 < slice_index balance.old.surplus.items v → slice_index prices.now v ≡ 1 }
-    requires receivers { (v : ℕ) → 0 < slice_index balance.old.lack.items v → slice_index prices.now v ≡ 0 }
+    requires { AreFirst residual.old prices.now balance.old }
     ensures along { IsSentAlong prices.now residual.old residual.new balance.old.surplus.items balance.old.lack.items balance.new.surplus.items balance.new.lack.items }
     ensures few { steps.new ≤ steps.old + length residual.old.flows }
 {

@@ -1,8 +1,8 @@
 //! The members by their prices, as sets.
 
-ghost use Rattle.std.specs.Prelude.{◌≡◌, ℕ, ◌+◌, ◌-◌, ◌<◌, ◌≤◌, ◌&&◌, ◌||◌, not, false, length, slice_index};
+ghost use Rattle.std.specs.Prelude.{◌≡◌, ℕ, ◌+◌, ◌<◌, ◌≤◌, false, length, slice_index};
 ghost use Rattle.member_set.specs.Members.{has};
-ghost use Rattle.path_solver.specs.Groups.{AreGroups, group_at};
+ghost use Rattle.path_solver.specs.Groups.{AreGroups, group_at, is_moved_to};
 
 use member_set::MemberSet;
 
@@ -25,7 +25,7 @@ pub fn sort_by_price(prices: &[u16], groups: &mut [MemberSet])
 pub fn move_up(groups: &mut [MemberSet], stay: &MemberSet, most: usize)
     requires room { most + 1 < length groups.old }
     requires none { (v : ℕ) → has (group_at groups.old 0) v ≡ false }
-    ensures moved { (g v : ℕ) → 0 < g → g ≤ most + 1 → has (group_at groups.new g) v ≡ ((has (group_at groups.old g) v && has stay.now v) || (has (group_at groups.old (g - 1)) v && not (has stay.now v))) }
+    ensures moved { (g v : ℕ) → 0 < g → g ≤ most + 1 → has (group_at groups.new g) v ≡ is_moved_to groups.old stay.now g v }
     ensures lowest { group_at groups.new 0 ≡ group_at groups.old 0 }
     ensures others { (g : ℕ) → most + 1 < g → group_at groups.new g ≡ group_at groups.old g }
 {

@@ -3,10 +3,10 @@
 ghost use Rattle.std.specs.Prelude.{◌≡◌, ◌↔◌, ℕ, ◌+◌, ◌<◌, ◌≤◌, true, false, length, slice_index, IsNone, IfSome};
 ghost use Rattle.member_set.specs.Members.{has};
 ghost use Rattle.path_solver.specs.Entries.{IsOpenInto, is_open_to};
-ghost use Rattle.path_solver.specs.Groups.{AreGroups};
+ghost use Rattle.path_solver.specs.Groups.{AreSorted};
 ghost use Rattle.path_solver.specs.Rests.{AreApart, HaveSome};
-ghost use Rattle.path_solver.specs.Levels.{IsReached, IsLayered, AreShortest, AreLayers, AreWholeLayers};
-ghost use Rattle.path_solver.specs.Works.{IsWork, IsSpreadIn};
+ghost use Rattle.path_solver.specs.Levels.{IsLayered, AreShortest, AreLayers, AreWholeLayers};
+ghost use Rattle.path_solver.specs.Works.{IsWork, IsSearched};
 
 use crate::entries::Entry;
 use crate::search::{Search, mark};
@@ -34,25 +34,17 @@ pub fn layer(
 ) -> Option<u16>
     requires work { IsWork work.now }
     requires senders { HaveSome work.now.balance.surplus.items aim.now.senders.now }
-    requires low { (v : ℕ) → slice_index aim.now.prices.now v ≤ work.now.residual.members }
-    requires groups { length aim.now.groups.now ≡ work.now.residual.members + 3 }
-    requires sorted { AreGroups aim.now.prices.now aim.now.groups.now }
-    requires prices { work.now.residual.members ≡ length aim.now.prices.now }
+    requires sorted { AreSorted work.now.residual.members aim.now.prices.now aim.now.groups.now }
     requires levels { work.now.residual.members ≡ length levels.old }
     requires layers { work.now.residual.members + 1 ≤ length layers.old }
     requires apart { AreApart work.now.balance.surplus.items work.now.balance.lack.items }
-    requires spread { IsSpreadIn work.now aim.now.prices.now levels.old search.old }
-    requires layered { AreLayers levels.old layers.old search.old.level }
-    requires whole { AreWholeLayers levels.old layers.old search.old.level }
+    requires searched { IsSearched work.now aim.now.prices.now levels.old layers.old search.old }
     ensures layered { IsLayered work.now.residual.flows aim.now.prices.now work.now.balance.surplus.items work.now.balance.lack.items levels.new result }
     ensures shortest { IfSome result (λ s. AreShortest work.now.residual.flows aim.now.prices.now work.now.balance.surplus.items work.now.balance.lack.items levels.new (slice_index levels.new s)) }
     ensures layers { IfSome result (λ s. AreLayers levels.new layers.new (slice_index levels.new s + 1)) }
     ensures whole { IfSome result (λ s. AreWholeLayers levels.new layers.new (slice_index levels.new s + 1)) }
     ensures low { IfSome result (λ s. slice_index levels.new s ≤ work.now.residual.members) }
-    ensures reached { IsNone result → (v : ℕ) → (has search.new.seen v ≡ true) ↔ ((v < work.now.residual.members) × IsReached levels.new v) }
-    ensures spread { IsNone result → IsSpreadIn work.now aim.now.prices.now levels.new search.new }
-    ensures passed { IsNone result → AreLayers levels.new layers.new search.new.level }
-    ensures all_passed { IsNone result → AreWholeLayers levels.new layers.new search.new.level }
+    ensures searched { IsNone result → IsSearched work.now aim.now.prices.now levels.new layers.new search.new }
 {
     let _members = work.residual.members();
     let entries: &[Entry] = &work.neighbours.entries;

@@ -1,9 +1,10 @@
 //! The start: every pair at its lower bound.
 
-ghost use Rattle.std.specs.Prelude.{◌≡◌, ℕ, ◌+◌, ◌<◌, ◌≤◌, ◌^◌, length, slice_index, replicate, All};
+ghost use Rattle.std.specs.Prelude.{◌≡◌, ℕ, ◌+◌, ◌<◌, ◌≤◌, ◌^◌, length, slice_index};
 ghost use Rattle.network_laws.specs.Networks.{total};
 ghost use Rattle.residual_graph.specs.Residual.{flow_rows};
-ghost use Rattle.path_solver.specs.Rests.{AreSamePairs, AreApart, net_of, owed};
+ghost use Rattle.path_solver.specs.Rests.{AreApart};
+ghost use Rattle.path_solver.specs.Balances.{IsEven, IsOwedBack};
 ghost use Rattle.units_core.specs.declared.limits.TheConstants.{MOST_GROSS};
 
 use crate::balance::Balance;
@@ -13,16 +14,10 @@ use std::sync::ledger::Ledger;
 /// Takes each pair back to its lower bound, and tells what each member then has to send or to receive to
 /// have its net position again.
 pub fn lower_all<L: Ledger>(residual: &mut Residual, balance: &mut Balance, steps: &mut Steps<L>)
-    requires surplus { balance.old.surplus.items ≡ replicate residual.old.members 0 }
-    requires lack { balance.old.lack.items ≡ replicate residual.old.members 0 }
+    requires even { IsEven residual.old.members balance.old }
     requires gross { total (flow_rows residual.old.flows) ≤ MOST_GROSS }
-    ensures members { residual.new.members ≡ residual.old.members }
-    ensures pairs { AreSamePairs residual.old.flows residual.new.flows }
-    ensures lowest { All (λ f. f.back ≡ 0) residual.new.flows }
+    ensures owed { IsOwedBack residual.old residual.new balance.new }
     ensures apart { AreApart balance.new.surplus.items balance.new.lack.items }
-    ensures owed { (i : ℕ) → owed residual.new.flows balance.new.surplus.items balance.new.lack.items i ≡ net_of residual.old.flows i }
-    ensures surplus { residual.old.members ≡ length balance.new.surplus.items }
-    ensures lack { residual.old.members ≡ length balance.new.lack.items }
     ensures few { steps.new ≤ steps.old + length residual.old.flows }
 {
     take_back(residual, balance, steps);
@@ -32,15 +27,9 @@ pub fn lower_all<L: Ledger>(residual: &mut Residual, balance: &mut Balance, step
 /// Takes each pair back to its lower bound. The seller then has to send what it sold above that, and the
 /// buyer to receive it.
 fn take_back<L: Ledger>(residual: &mut Residual, balance: &mut Balance, steps: &mut Steps<L>)
-    requires surplus { balance.old.surplus.items ≡ replicate residual.old.members 0 }
-    requires lack { balance.old.lack.items ≡ replicate residual.old.members 0 }
+    requires even { IsEven residual.old.members balance.old }
     requires gross { total (flow_rows residual.old.flows) ≤ MOST_GROSS }
-    ensures members { residual.new.members ≡ residual.old.members }
-    ensures pairs { AreSamePairs residual.old.flows residual.new.flows }
-    ensures lowest { All (λ f. f.back ≡ 0) residual.new.flows }
-    ensures owed { (i : ℕ) → owed residual.new.flows balance.new.surplus.items balance.new.lack.items i ≡ net_of residual.old.flows i }
-    ensures surplus { residual.old.members ≡ length balance.new.surplus.items }
-    ensures lack { residual.old.members ≡ length balance.new.lack.items }
+    ensures owed { IsOwedBack residual.old residual.new balance.new }
     ensures few { steps.new ≤ steps.old + length residual.old.flows }
 {
     for pair in 0..residual.flows().len() {

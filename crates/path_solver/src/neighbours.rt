@@ -6,7 +6,7 @@ ghost use Rattle.path_solver.specs.Entries.{is_open_to};
 ghost use Rattle.path_solver.specs.Neighbours.{AreNumbers, AreNeighbours, turned, turned_graph, IsWayInto, IsChanged};
 
 use crate::entries::{Entry, note, note_first};
-use crate::settle::all_of;
+use crate::room::all_of;
 use member_set::MemberSet;
 use residual_graph::{Flow, Residual};
 use std::alloc::{AllocError, Global};

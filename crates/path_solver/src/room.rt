@@ -1,9 +1,8 @@
 //! Room for searches and walks.
 
-ghost use Rattle.std.specs.Prelude.{◌≡◌, ◌+◌, ◌≤◌, length, IfOk};
+ghost use Rattle.std.specs.Prelude.{◌≡◌, ◌≤◌, replicate, IfOk};
 
 use crate::search::UNREACHED;
-use crate::settle::all_of;
 use member_set::MemberSet;
 use std::alloc::{AllocError, Global};
 
@@ -16,12 +15,12 @@ pub struct Room {
 }
 
 impl Room {
+    ghost use Rattle.path_solver.specs.Works.{IsRoom};
+
     /// Room for so many members.
     pub fn of(alloc: Global, members: u16) -> Result<Room, AllocError>
         requires { members ≤ 256 }
-        ensures levels { IfOk result (λ room. members ≡ length room.levels.items) }
-        ensures layers { IfOk result (λ room. members + 1 ≡ length room.layers.items) }
-        ensures path { IfOk result (λ room. members ≡ length room.path.items) }
+        ensures { IfOk result (IsRoom members) }
     {
         let levels = vec![in alloc; UNREACHED; members as usize]?;
         let layers = all_of(alloc, members + 1, MemberSet::new())?;
@@ -32,4 +31,15 @@ impl Room {
             path,
         })
     }
+}
+
+/// As many of one value as there are members.
+pub fn all_of<T: Copy>(alloc: Global, members: u16, value: T) -> Result<Vec<T>, AllocError>
+    ensures { IfOk result (λ values. values.items ≡ replicate members value) }
+{
+    let mut values = Vec::with_capacity(alloc, members as usize)?;
+    for _member in 0..members {
+        values.push(value)?;
+    }
+    Ok(values)
 }

@@ -2,10 +2,9 @@
 
 ghost use Rattle.std.specs.Prelude.{◌≡◌, ◌+◌, ℕ, true, false, ◌<◌, ◌≤◌, length, slice_index, sum, IsNone, IsSome, IfSome};
 ghost use Rattle.path_solver.specs.Works.{IsWork};
-ghost use Rattle.path_solver.specs.Labels.{CanGo, AreLabels, AreLevelsIn, IsSentIn, still_to_do, surplus_in, top_of, AreLayersFrom, AreWholeFrom, ArePrunedFrom, AreShortestFrom, NoneIsShorterIn, IsBegunFrom};
+ghost use Rattle.path_solver.specs.Labels.{CanGo, AreLevelsIn, IsSentIn, IsSentOver, still_to_do, surplus_in, top_of, AreWholeFrom, AreShortestFrom, NoneIsShorterIn, IsBegunFrom};
 ghost use Rattle.path_solver.specs.Levels.{layer_at, IsSource};
 ghost use Rattle.path_solver.specs.Rests.{AreApart};
-ghost use Rattle.path_solver.specs.Pruned.{AreFewer};
 ghost use Rattle.member_set.specs.Members.{has};
 
 use crate::paths::{bottleneck_of, push_noting};
@@ -25,18 +24,12 @@ pub fn send_phase<L: Ledger>(
     trip: &Trip<'_>,
     steps: &mut Steps<L>,
 )
-    requires work { IsWork work.old }
-    requires labels { AreLabels work.old.residual.members trip.now.labels.now }
-    requires layers { AreLayersFrom trip.now layers.old }
+    requires trip { CanGo work.old trip.now layers.old path.old }
     requires whole { AreWholeFrom trip.now layers.old }
-    requires top { top_of trip.now ≤ work.old.residual.members }
-    requires room { work.old.residual.members < length layers.old }
-    requires path { work.old.residual.members ≤ length path.old }
     requires source { IsSource work.old.balance.surplus.items trip.now.labels.now.levels.now trip.now.from }
     requires shortest { AreShortestFrom work.old trip.now }
     requires apart { AreApart work.old.balance.surplus.items work.old.balance.lack.items }
     requires down { AreLevelsIn work.old trip.now.labels.now }
-    requires begun { IsBegunFrom work.old trip.now layers.old path.old trip.now.stand }
     ensures work { IsWork work.new }
     ensures along { IsSentIn trip.now.labels.now work.old work.new }
     ensures sent { sum work.new.balance.surplus.items < sum work.old.balance.surplus.items }
@@ -67,13 +60,8 @@ fn send_once<L: Ledger>(
 ) -> Option<Stand>
     requires trip { CanGo work.old trip.now layers.old path.old }
     requires shortest { AreShortestFrom work.old trip.now }
-    ensures work { IsWork work.new }
-    ensures layers { AreLayersFrom trip.now layers.new }
+    ensures over { IsSentOver trip.now.labels.now (top_of trip.now) work.old work.new layers.old layers.new }
     ensures begun { IfSome result (λ s. IsBegunFrom work.new trip.now layers.new path.new s) }
-    ensures pruned { ArePrunedFrom work.new trip.now layers.new }
-    ensures fewer { AreFewer layers.old layers.new }
-    ensures kept { AreShortestFrom work.new trip.now }
-    ensures along { IsSentIn trip.now.labels.now work.old work.new }
     ensures few { steps.new + still_to_do trip.now.labels.now work.new ≤ steps.old + still_to_do trip.now.labels.now work.old }
     ensures done { IsNone result → has (layer_at layers.new (top_of trip.now)) trip.now.from ≡ true → surplus_in work.new trip.now.from ≡ 0 }
     ensures sent { IsSome result → sum work.new.balance.surplus.items < sum work.old.balance.surplus.items }
@@ -106,12 +94,7 @@ fn send_all<L: Ledger>(
 )
     requires trip { CanGo work.old trip.now layers.old path.old }
     requires shortest { AreShortestFrom work.old trip.now }
-    ensures work { IsWork work.new }
-    ensures layers { AreLayersFrom trip.now layers.new }
-    ensures pruned { ArePrunedFrom work.new trip.now layers.new }
-    ensures fewer { AreFewer layers.old layers.new }
-    ensures kept { AreShortestFrom work.new trip.now }
-    ensures along { IsSentIn trip.now.labels.now work.old work.new }
+    ensures over { IsSentOver trip.now.labels.now (top_of trip.now) work.old work.new layers.old layers.new }
     ensures few { steps.new + still_to_do trip.now.labels.now work.new ≤ steps.old + still_to_do trip.now.labels.now work.old }
     ensures done { has (layer_at layers.new (top_of trip.now)) trip.now.from ≡ true → surplus_in work.new trip.now.from ≡ 0 }
 {

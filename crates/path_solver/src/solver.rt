@@ -8,6 +8,7 @@ ghost use Rattle.residual_graph.specs.Residual.{flow_rows};
 ghost use Rattle.path_solver.specs.Prices.{potentials};
 ghost use Rattle.path_solver.specs.Phases.{IsPricedAnew};
 ghost use Rattle.path_solver.specs.Counts.{most_steps, phase_steps};
+ghost use Rattle.path_solver.specs.Tasks.{IsTask};
 ghost use Rattle.units_core.specs.declared.limits.TheConstants.{MOST_GROSS};
 
 use crate::balance::Balance;
@@ -64,8 +65,7 @@ fn solve_apart<L: Ledger>(
     network: &Network,
     blank: Blank,
 ) -> Result<Solution, AllocError>
-    requires same_members { limits.now.members ≡ network.now.members }
-    requires within { IsWithinLimits limits.now network.now }
+    requires task { IsTask limits.now network.now }
     requires name { blank.name ≡ L.name }
     requires parts { blank.parts ≡ L.parts }
     requires some { 0 < blank.parts }
@@ -84,8 +84,7 @@ fn solution_of<L: Ledger>(
     network: &Network,
     steps: &mut Steps<L>,
 ) -> Result<Solution, AllocError>
-    requires same_members { limits.now.members ≡ network.now.members }
-    requires within { IsWithinLimits limits.now network.now }
+    requires { IsTask limits.now network.now }
     ensures solves { IfOk result (Solves limits.now network.now) }
     ensures counted { steps.new ≤ steps.old + most_steps limits.now }
 {

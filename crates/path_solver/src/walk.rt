@@ -1,10 +1,9 @@
 //! Down the levels of a search, back where there is no way on.
 
 ghost use Rattle.std.specs.Prelude.{◌≡◌, ◌+◌, ℕ, ◌<◌, ◌≤◌, length, false, slice_index, take, IfSome, IsNone, IsSome};
-ghost use Rattle.path_solver.specs.Labels.{CanGo, AreLevelsIn, top_of, AreLayersFrom, AreWholeFrom, ArePrunedFrom, IsPathDownFrom};
+ghost use Rattle.path_solver.specs.Labels.{CanGo, AreLevelsIn, top_of, AreLayersFrom, AreWholeFrom, ArePrunedFrom, IsPathDownFrom, IsTrailFrom};
 ghost use Rattle.path_solver.specs.Levels.{layer_at};
 ghost use Rattle.path_solver.specs.Pruned.{AreFewer};
-ghost use Rattle.path_solver.specs.Trails.{IsTrail};
 ghost use Rattle.member_set.specs.Members.{has};
 
 use crate::stand::Trip;
@@ -18,7 +17,7 @@ use member_set::MemberSet;
 pub fn walk(work: &Work, layers: &mut [MemberSet], path: &mut [u32], trip: &Trip<'_>) -> Option<u16>
     requires trip { CanGo work.now trip.now layers.old path.old }
     ensures path { IfSome result (λ end. IsPathDownFrom work.now trip.now end (take (top_of trip.now) path.new)) }
-    ensures trail { IfSome result (λ end. IsTrail work.now.residual trip.now.labels.now.prices.now trip.now.labels.now.levels.now layers.new path.new 0 (top_of trip.now) end trip.now.from) }
+    ensures trail { IfSome result (λ end. IsTrailFrom work.now trip.now layers.new path.new 0 end) }
     ensures layers { AreLayersFrom trip.now layers.new }
     ensures pruned { ArePrunedFrom work.now trip.now layers.new }
     ensures fewer { AreFewer layers.old layers.new }

@@ -7,7 +7,7 @@ one_pair before after most old new k h one same l = omega (arith, h, one, same, 
 
 pub loop-pair-preserved-then-surplus_of-gt0 : goal.loop-pair-preserved-then-surplus_of-gt0
 loop-pair-preserved-then-surplus_of-gt0 g c = record {
-  along = sent_more c.args.prices.now c.args.residual.now c.loop-pair.residual c.send_over.new.residual c.args.balance.now.surplus.items c.args.balance.now.lack.items c.loop-pair.balance.surplus.items c.loop-pair.balance.lack.items c.send_over.new.balance.surplus.items c.send_over.new.balance.lack.items c.loop-pair.invariant.along c.send_over.ensures.along;
+  along = sent_more c.loop-pair.invariant.along c.send_over.ensures.along;
   few = one_pair c.loop-pair.steps c.send_over.new.steps (c.args.steps.now + length c.args.residual.now.flows) (length c.loop-pair.residual.flows) (length c.send_over.new.residual.flows) c.loop-pair.pair c.loop-pair.invariant.few c.send_over.ensures.few c.send_over.ensures.along.pairs.same_length
       (omega (arith, c.loop-pair-test.true, ap length c.flows.ensures.value));
 }

@@ -31,16 +31,16 @@ returns-then-amount-gt0-clause-along g c =
     let at_s = ap (λ (g : Flow). g.seller) at in
     let at_b = ap (λ (g : Flow). g.buyer) at in
     let some = c.if-amount-gt0.true in
-    let sends = c.requires.senders f.seller (omega (arith, some, c.min-amount.ensures, c.between-both.ensures)) in
-    let receives = c.requires.receivers f.buyer (omega (arith, some, c.min-amount.ensures, c.between-both.ensures)) in
+    let sends = c.requires.first.senders f.seller (omega (arith, some, c.min-amount.ensures, c.between-both.ensures)) in
+    let receives = c.requires.first.receivers f.buyer (omega (arith, some, c.min-amount.ensures, c.between-both.ensures)) in
     rw (c.take_off.ensures.surplus, c.take_off.ensures.lack)
     (sent_straight c.args.prices.now c.args.residual.now c.push_path.new.self c.args.balance.now.surplus.items c.args.balance.now.lack.items k f.seller f.buyer c.min-amount.result in_k (sym at_s) (sym at_b)
     (omega (arith, c.min-amount.ensures, ap (λ (g : Flow). g.room) at))
     some
     (omega (arith, sends, receives))
-    (omega (arith, good.seller, at_s, c.requires.surplus))
-    (omega (arith, good.buyer, at_b, c.requires.lack))
-    (omega (arith, good.buyer, at_b, c.requires.prices))
+    (omega (arith, good.seller, at_s, c.requires.first.surplus))
+    (omega (arith, good.buyer, at_b, c.requires.first.lack))
+    (omega (arith, good.buyer, at_b, c.requires.first.prices))
     (omega (arith, c.min-amount.ensures, c.between-both.ensures))
     (omega (arith, c.min-amount.ensures, c.between-both.ensures))
     (ap (λ (r : ResidualData). r.members) c.push_path.ensures.pushed)

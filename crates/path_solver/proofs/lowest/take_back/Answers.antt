@@ -50,9 +50,17 @@ push_path-requires g c =
     let arc = arc_is flows (2 * k + 1) k false b.0 b.1 in
     path_one (get_or c.flows.result.now c.loop-pair.pair no_flow).back flows (2 * k + 1) (omega (arith, l)) (omega (arith, arc.0, ap (λ (g : Flow). g.back) at))
 
-pub returns-clause-lowest : goal.returns-clause-lowest
-returns-clause-lowest g c =
-    lowest_all c.loop-pair.residual.flows c.loop-pair.pair c.loop-pair.invariant.taken.lowest (omega (arith, c.loop-pair-test.false, ap length c.flows-pair-end.ensures.value, c.loop-pair.invariant.taken.pairs.same_length))
+pub returns-clause-owed : goal.returns-clause-owed
+returns-clause-owed g c =
+    let inv = c.loop-pair.invariant in
+    record {
+      members = inv.members;
+      pairs = inv.taken.pairs;
+      lowest = lowest_all c.loop-pair.residual.flows c.loop-pair.pair inv.taken.lowest (omega (arith, c.loop-pair-test.false, ap length c.flows-pair-end.ensures.value, inv.taken.pairs.same_length));
+      owed = inv.taken.owed;
+      surplus = inv.surplus;
+      lack = inv.lack;
+    }
 
 -- what was taken back, by other names
 named : (old flows flows' : List Flow) (s s' l l' : List ℕ) (n : ℕ) → flows' ≡ flows → s' ≡ s → l' ≡ l → IsTakenBack old flows s l n → IsTakenBack old flows' s' l' n

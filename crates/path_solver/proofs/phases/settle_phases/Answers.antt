@@ -1,48 +1,35 @@
-use Rattle.std.proofs.Common.{◌≡◌, ◌≤◌, length, get_or, sym, ◌∙◌, arith, ap}
-use Rattle.residual_graph.specs.Residual.{IsResidual}
-use Rattle.path_solver.specs.Levels.{IsSource, AreLevels}
+use Rattle.std.proofs.Common.{◌≡◌, ◌+◌, ◌<◌, ◌≤◌, length, get_or, sym, ◌∙◌, arith, ap}
+use Rattle.path_solver.specs.Levels.{IsSource, AreLevels, AreWholeLayers}
+use Rattle.path_solver.specs.Rests.{IsSentAlong}
 use Rattle.path_solver.proofs.Spreads.{amount_in}
 use Rattle.path_solver.proofs.Phased.{residual_kept, feasible_kept, none_left, settled, phase_later, phase_sent}
 use Rattle.path_solver.proofs.Counted.{counted_none, counted_round, counted_phase, counted_all}
+use Rattle.path_solver.proofs.Pruned.{pruned_whole}
 use Rattle.path_solver.proofs.Trails.{begun_none}
-use Rattle.path_solver.proofs.WentBack.{spread_start}
+use Rattle.path_solver.proofs.WentBack.{searched_start}
 use Rattle.path_solver.proofs.phases.settle_phases.Goals as goal
 
-pub layer-requires-clause-low : goal.layer-requires-clause-low
-layer-requires-clause-low g c v =
+pub send_phase-requires-clause-trip : goal.send_phase-requires-clause-trip
+send_phase-requires-clause-trip g c =
     let inv = c.phases.invariant in
-    omega (arith, inv.phase.rated.most v, inv.phase.few, inv.phase.members)
-
-pub send_phase-requires-clause-labels : goal.send_phase-requires-clause-labels
-send_phase-requires-clause-labels g c =
-    let inv = c.phases.invariant in
+    let levels : length c.layer.new.levels ≡ c.phases.work.residual.members = c.layer.auto.levels ∙ inv.searched.spread.one_each in
+    let found : IsSource c.phases.work.balance.surplus.items c.layer.new.levels c.in-Some.source × AreLevels c.phases.work.residual.flows c.deref-in-phases.result.now c.phases.work.balance.lack.items c.layer.new.levels = rw c.in-Some.is at c.layer.ensures.layered in
+    let from : c.in-Some.source < c.phases.work.residual.members = omega (arith, found.0.member, levels) in
+    let whole : AreWholeLayers c.layer.new.levels c.layer.new.layers (get_or c.layer.new.levels c.in-Some.source 0 + 1) = rw c.in-Some.is at c.layer.ensures.whole in
     record {
-      groups = omega (arith, c.phases.auto.groups, c.requires.groups, inv.phase.members);
-      sorted = inv.sorted;
-      low = λ v. omega (arith, inv.phase.rated.most v, inv.phase.few, inv.phase.members);
-      prices = omega (arith, c.phases.auto.prices, c.requires.prices, inv.phase.members);
-      levels = inv.phase.members ∙ (c.requires.levels ∙ sym (ap length c.deref_mut-levels.ensures.value)) ∙ sym (c.layer.auto.levels ∙ c.phases.auto.levels ∙ c.start-search.auto.levels);
+      work = inv.work;
+      labels = record {
+        sorted = rw (c.deref-in-Some.ensures.value, c.deref-in-Some-2.ensures.value) inv.sorted;
+        levels = sym levels;
+      };
+      layers = rw c.in-Some.is at c.layer.ensures.layers;
+      top = rw c.in-Some.is at c.layer.ensures.low;
+      room = omega (arith, inv.phase.members, c.requires.room.layers, ap length c.deref_mut-layers.ensures.value, c.phases.auto.layers, c.layer.auto.layers);
+      path = omega (arith, inv.phase.members, c.requires.room.path, ap length c.deref_mut-path.ensures.value, c.phases.auto.path);
+      from = from;
+      pruned = pruned_whole c.phases.work.residual c.deref-in-Some-2.result.now c.phases.work.balance.lack.items c.layer.new.levels c.layer.new.layers (get_or c.layer.new.levels c.in-Some.source 0 + 1) (residual_kept c.args.work.now.residual c.phases.work.residual inv.phase.members inv.phase.pairs c.members-members.ensures.residual) (sym levels) whole;
+      begun = begun_none c.phases.work.residual c.deref-in-Some-2.result.now c.layer.new.levels c.layer.new.layers c.phases.path c.in-Some.source from c.at.result c.at.ensures.done c.at.ensures.here;
     }
-
-pub send_phase-requires-clause-begun : goal.send_phase-requires-clause-begun
-send_phase-requires-clause-begun g c =
-    let inv = c.phases.invariant in
-    let found : IsSource c.phases.work.balance.surplus.items c.layer.new.levels c.in-Some.source × AreLevels c.phases.work.residual.flows c.phases.prices c.phases.work.balance.lack.items c.layer.new.levels = rw c.in-Some.is at c.layer.ensures.layered in
-    begun_none c.phases.work.residual c.phases.prices c.layer.new.levels c.layer.new.layers c.phases.path c.in-Some.source (omega (arith, found.0.member, c.layer.auto.levels, c.phases.auto.levels, c.start-search.auto.levels, (c.requires.levels ∙ sym (ap length c.deref_mut-levels.ensures.value)), inv.phase.members)) c.at.result c.at.ensures.done c.at.ensures.here
-
-pub send_phase-requires-clause-layers : goal.send_phase-requires-clause-layers
-send_phase-requires-clause-layers g c = rw c.in-Some.is at c.layer.ensures.layers
-
-pub send_phase-requires-clause-whole : goal.send_phase-requires-clause-whole
-send_phase-requires-clause-whole g c = rw c.in-Some.is at c.layer.ensures.whole
-
-pub send_phase-requires-clause-shortest : goal.send_phase-requires-clause-shortest
-send_phase-requires-clause-shortest g c = rw c.in-Some.is at c.layer.ensures.shortest
-
-pub send_phase-requires-clause-down : goal.send_phase-requires-clause-down
-send_phase-requires-clause-down g c =
-    let found : IsSource c.phases.work.balance.surplus.items c.layer.new.levels c.in-Some.source × AreLevels c.phases.work.residual.flows c.phases.prices c.phases.work.balance.lack.items c.layer.new.levels = rw c.in-Some.is at c.layer.ensures.layered in
-    found.1
 
 pub senders_among-senders-requires-clause-small : goal.senders_among-senders-requires-clause-small
 senders_among-senders-requires-clause-small g c v on =
@@ -58,73 +45,60 @@ receivers_among-receivers-requires-clause-small g c v on =
 pub receivers_among-receivers-requires-clause-all : goal.receivers_among-receivers-requires-clause-all
 receivers_among-receivers-requires-clause-all g c v some = (c.phases.invariant.receivers v).1 (c.send_phase.ensures.along.receivers v some)
 
-pub next_phase-phase-requires-clause-feasible : goal.next_phase-phase-requires-clause-feasible
-next_phase-phase-requires-clause-feasible g c = feasible_kept c.args.work.now.residual.flows c.phases.work.residual.flows c.args.work.now.balance.surplus.items c.args.work.now.balance.lack.items c.phases.work.balance.surplus.items c.phases.work.balance.lack.items c.phases.invariant.phase.pairs c.phases.invariant.phase.owed c.requires.feasible
+pub next_phase-requires-clause-feasible : goal.next_phase-requires-clause-feasible
+next_phase-requires-clause-feasible g c = feasible_kept c.args.work.now.residual.flows c.phases.work.residual.flows c.args.work.now.balance.surplus.items c.args.work.now.balance.lack.items c.phases.work.balance.surplus.items c.phases.work.balance.lack.items c.phases.invariant.phase.pairs c.phases.invariant.phase.owed c.requires.feasible
 
 pub phases-init : goal.phases-init
-phases-init g c =
-    let residual = c.members-members.ensures.residual in
-    record {
-      phase = c.requires.phase;
-      counted = counted_none c.args.steps.now c.args.work.now.residual c.args.work.now.residual c.args.prices.now c.args.work.now.balance.surplus.items c.args.work.now.balance.lack.items 1;
-      work = c.requires.work;
-      sorted = c.requires.sorted;
-      senders = c.senders-senders.ensures;
-      receivers = c.receivers-receivers.ensures;
-      spread = spread_start c.args.work.now.residual c.args.prices.now c.args.work.now.balance.surplus.items c.args.work.now.balance.lack.items c.start-search.new.levels c.start-search.result.level c.start-search.result.now c.receivers-receivers.result c.start-search.result.seen c.start-search.ensures.level c.start-search.ensures.now (c.start-search.auto.levels ∙ sym (c.requires.levels ∙ sym (ap length c.deref_mut-levels.ensures.value))) (sym c.requires.work.lack)
-          (λ v l. c.start-search.ensures.forgotten v (omega (arith, l, c.start-search.auto.levels))) c.receivers-receivers.ensures c.start-search.ensures.seen residual;
-      passed = λ k v l. absurd (omega (arith, l, c.start-search.ensures.level));
-      whole = λ k v l. absurd (omega (arith, l, c.start-search.ensures.level));
-    }
+phases-init g c = record {
+  phase = c.requires.phase;
+  counted = counted_none;
+  work = c.requires.work;
+  sorted = c.requires.sorted;
+  senders = c.senders-senders.ensures;
+  receivers = c.receivers-receivers.ensures;
+  searched = searched_start c.args.work.now c.args.prices.now.by_member.items c.start-search.new.levels c.deref_mut-layers.result.now c.start-search.result c.receivers-receivers.result c.members-members.ensures.residual c.requires.work (c.start-search.auto.levels ∙ ap length c.deref_mut-levels.ensures.value ∙ sym c.requires.room.levels) c.receivers-receivers.ensures c.start-search.ensures.level c.start-search.ensures.now c.start-search.ensures.seen
+      (λ v l. c.start-search.ensures.forgotten v (omega (arith, l, c.start-search.auto.levels)));
+}
 
 pub phases-preserved : goal.phases-preserved
 phases-preserved g c =
     let inv = c.phases.invariant in
-    let sent = c.send_phase.ensures.along in
     let old = c.args.work.now.residual in
-    let found : IsSource c.phases.work.balance.surplus.items c.layer.new.levels c.in-Some.source × AreLevels c.phases.work.residual.flows c.phases.prices c.phases.work.balance.lack.items c.layer.new.levels = rw c.in-Some.is at c.layer.ensures.layered in
+    let mid = c.phases.work in
+    let new = c.send_phase.new.work in
+    let levels : length c.layer.new.levels ≡ c.phases.work.residual.members = c.layer.auto.levels ∙ inv.searched.spread.one_each in
+    let found : IsSource c.phases.work.balance.surplus.items c.layer.new.levels c.in-Some.source × AreLevels c.phases.work.residual.flows c.deref-in-phases.result.now c.phases.work.balance.lack.items c.layer.new.levels = rw c.in-Some.is at c.layer.ensures.layered in
     let low : get_or c.layer.new.levels c.in-Some.source 0 ≤ c.phases.work.residual.members = rw c.in-Some.is at c.layer.ensures.low in
-    let residual : IsResidual c.phases.work.residual = residual_kept old c.phases.work.residual inv.phase.members inv.phase.pairs c.members-members.ensures.residual in
-    let one_each : c.phases.work.residual.members ≡ length c.layer.new.levels = inv.phase.members ∙ (c.requires.levels ∙ sym (ap length c.deref_mut-levels.ensures.value)) ∙ sym (c.layer.auto.levels ∙ c.phases.auto.levels ∙ c.start-search.auto.levels) in
-    let phase = phase_sent old c.phases.work.residual c.send_phase.new.work.residual c.args.work.now.balance.surplus.items c.args.work.now.balance.lack.items c.phases.work.balance.surplus.items c.phases.work.balance.lack.items c.send_phase.new.work.balance.surplus.items c.send_phase.new.work.balance.lack.items c.phases.prices c.phases.phase inv.phase c.send_phase.ensures.along in
+    let sent : IsSentAlong c.phases.prices.by_member.items c.phases.work.residual c.send_phase.new.work.residual c.phases.work.balance.surplus.items c.phases.work.balance.lack.items c.send_phase.new.work.balance.surplus.items c.send_phase.new.work.balance.lack.items = rw c.deref-in-Some-2.ensures.value at c.send_phase.ensures.along in
+    let phase = phase_sent inv.phase sent in
     record {
       phase = phase;
-      counted = counted_round c.args.steps.now c.phases.steps c.send_phase.new.steps old c.phases.work.residual c.send_phase.new.work.residual c.phases.prices c.phases.work.balance.surplus.items c.phases.work.balance.lack.items c.send_phase.new.work.balance.surplus.items c.send_phase.new.work.balance.lack.items c.layer.new.levels c.phases.phase c.in-Some.source inv.counted
-          residual inv.phase.members inv.phase.pairs.same_length one_each (sym inv.work.surplus ∙ inv.phase.members) (sym inv.work.lack ∙ inv.phase.members)
-          found.1 (omega (arith, found.0.member, one_each)) found.0.sends low c.send_phase.ensures.few c.send_phase.ensures.deeper;
+      counted = counted_round c.in-Some.source inv.counted (residual_kept old mid.residual inv.phase.members inv.phase.pairs c.members-members.ensures.residual) inv.phase.members inv.phase.pairs.same_length (sym levels) (sym inv.work.surplus ∙ inv.phase.members) (sym inv.work.lack ∙ inv.phase.members)
+          (rw c.deref-in-phases.ensures.value at found.1) (omega (arith, found.0.member, levels)) found.0.sends low c.send_phase.ensures.few (rw c.deref-in-Some-2.ensures.value at c.send_phase.ensures.deeper);
       work = c.send_phase.ensures.work;
-      sorted = inv.sorted;
+      sorted = rw sent.members inv.sorted;
       senders = c.senders_among-senders.ensures;
       receivers = c.receivers_among-receivers.ensures;
-      spread = spread_start c.send_phase.new.work.residual c.phases.prices c.send_phase.new.work.balance.surplus.items c.send_phase.new.work.balance.lack.items c.start-search-in-Some.new.levels c.start-search-in-Some.result.level c.start-search-in-Some.result.now c.receivers_among-receivers.result c.start-search-in-Some.result.seen c.start-search-in-Some.ensures.level c.start-search-in-Some.ensures.now (omega (arith, c.start-search-in-Some.auto.levels, one_each, phase.members, inv.phase.members))
-          (omega (arith, sent.lack_each, inv.work.lack, sent.members)) (λ v l. c.start-search-in-Some.ensures.forgotten v (omega (arith, l, c.start-search-in-Some.auto.levels))) c.receivers_among-receivers.ensures c.start-search-in-Some.ensures.seen
-          (residual_kept old c.send_phase.new.work.residual phase.members phase.pairs c.members-members.ensures.residual);
-      passed = λ k v l. absurd (omega (arith, l, c.start-search-in-Some.ensures.level));
-      whole = λ k v l. absurd (omega (arith, l, c.start-search-in-Some.ensures.level));
+      searched = searched_start new c.phases.prices.by_member.items c.start-search-in-Some.new.levels c.send_phase.new.layers c.start-search-in-Some.result c.receivers_among-receivers.result (residual_kept old new.residual phase.members phase.pairs c.members-members.ensures.residual) c.send_phase.ensures.work (omega (arith, c.start-search-in-Some.auto.levels, levels, sent.members)) c.receivers_among-receivers.ensures
+          c.start-search-in-Some.ensures.level c.start-search-in-Some.ensures.now c.start-search-in-Some.ensures.seen (λ v l. c.start-search-in-Some.ensures.forgotten v (omega (arith, l, c.start-search-in-Some.auto.levels)));
     }
 
 pub phases-preserved-in-None : goal.phases-preserved-in-None
 phases-preserved-in-None g c =
     let inv = c.phases.invariant in
     record {
-      phase = phase_later c.args.work.now.residual c.phases.work.residual c.args.work.now.balance.surplus.items c.args.work.now.balance.lack.items c.phases.work.balance.surplus.items c.phases.work.balance.lack.items c.phases.prices c.next_phase-phase.new.prices c.phases.phase c.next_phase-phase.result inv.phase c.next_phase-phase.ensures.phase;
-      counted = counted_phase c.args.steps.now c.phases.steps c.args.work.now.residual c.phases.work.residual c.phases.prices c.next_phase-phase.new.prices c.phases.work.balance.surplus.items c.phases.work.balance.lack.items c.phases.phase c.next_phase-phase.result inv.counted (omega (arith, c.next_phase-phase.ensures.later));
+      phase = phase_later inv.phase c.next_phase.ensures.phase;
+      counted = counted_phase inv.counted (omega (arith, c.next_phase.ensures.later));
       work = inv.work;
-      sorted = c.next_phase-phase.ensures.sorted;
+      sorted = c.next_phase.ensures.sorted;
       senders = inv.senders;
       receivers = inv.receivers;
-      spread = c.next_phase-phase.ensures.spread;
-      passed = c.next_phase-phase.ensures.passed;
-      whole = c.next_phase-phase.ensures.whole;
+      searched = c.next_phase.ensures.searched;
     }
-
-pub phases-smaller-in-None : goal.phases-smaller-in-None
-phases-smaller-in-None g c =
-    omega (arith, c.next_phase-phase.ensures.later, c.next_phase-phase.ensures.phase.few, c.phases.invariant.phase.members, c.members-members.ensures.residual.few)
 
 pub returns-clause-settled : goal.returns-clause-settled
 returns-clause-settled g c =
-    settled c.args.work.now.residual c.phases.work.residual c.args.work.now.balance.surplus.items c.args.work.now.balance.lack.items c.phases.work.balance.surplus.items c.phases.work.balance.lack.items c.phases.prices c.phases.phase c.members-members.ensures.residual c.requires.feasible (c.phases.auto.prices ∙ sym c.requires.prices) (none_left c.phases.work.balance.surplus.items c.phases.senders c.phases.invariant.senders (c.is_empty.ensures.none.0 c.phases-test.false)) c.phases.invariant.phase
+    settled c.members-members.ensures.residual c.requires.feasible (sym c.phases.invariant.sorted.one_each ∙ c.phases.invariant.phase.members) (none_left c.phases.work.balance.surplus.items c.phases.senders c.phases.invariant.senders (c.is_empty.ensures.none.0 c.phases-test.false)) c.phases.invariant.phase
 
 pub returns-clause-counted : goal.returns-clause-counted
-returns-clause-counted g c = counted_all c.args.steps.now c.phases.steps c.args.work.now.residual c.phases.work.residual c.phases.prices c.phases.work.balance.surplus.items c.phases.work.balance.lack.items c.phases.phase c.phases.invariant.counted c.phases.invariant.phase.few
+returns-clause-counted g c = counted_all c.phases.invariant.counted c.phases.invariant.phase.few

@@ -1,17 +1,14 @@
-use Rattle.std.proofs.Common.{◌≡◌, ℕ, ◌+◌, ◌-◌, ◌≤◌, ltb, List, length, get_or, set, take, refl, sym, ap, ◌∙◌, subst, inl, inr, arith}
-use Rattle.std.specs.Prelude.{All}
+use Rattle.std.proofs.Common.{◌≡◌, ℕ, ◌+◌, ◌-◌, ◌≤◌, ltb, length, get_or, set, take, refl, sym, ap, ◌∙◌, subst, inl, inr, arith}
 use Rattle.std.proofs.lemmas.Bool.{cases_eq, lt-ltb, le-ltb, cond-true, cond-false}
 use Rattle.std.proofs.lemmas.List.{get_or-take}
-use Rattle.residual_graph.specs.declared.flow.Flow.{Flow}
 use Rattle.residual_graph.specs.Residual.{ResidualData}
 use Rattle.residual_graph.specs.Arcs.{room, tail}
 use Rattle.residual_graph.proofs.Walks.{path_can}
-use Rattle.path_solver.specs.Paths.{IsPathDown}
-use Rattle.path_solver.specs.Rests.{AreSamePairs}
+use Rattle.path_solver.specs.Rests.{AreSamePairs, IsSentAlong}
 use Rattle.path_solver.specs.Trails.{IsTrail}
+use Rattle.path_solver.specs.Labels.{top_of}
 use Rattle.path_solver.proofs.Walks.{all_same}
 use Rattle.path_solver.proofs.Resumed.{trail_behind}
-use Rattle.path_solver.specs.Pruned.{ArePruned}
 use Rattle.path_solver.specs.Counts.{left_to_do}
 use Rattle.path_solver.proofs.SentAlong.{plain_path, sent}
 use Rattle.path_solver.proofs.Shortest.{path_steps, shortest_sent, none_is_shorter}
@@ -20,64 +17,48 @@ use Rattle.path_solver.proofs.Measured.{Fills, less_to_do}
 use Rattle.path_solver.proofs.sending.send_once.Goals as goal
 
 pub bottleneck_of-found-requires-clause-few : goal.bottleneck_of-found-requires-clause-few
-bottleneck_of-found-requires-clause-few g c =
-    let walked : IsPathDown c.args.work.now.residual.flows c.args.trip.now.labels.now.prices.now c.args.trip.now.labels.now.levels.now c.args.work.now.balance.lack.items c.args.trip.now.from c.in-Some.end (take (get_or c.args.trip.now.labels.now.levels.now c.args.trip.now.from 0) c.walk.new.path) = c.in-Some.ensures.path in
-    omega (arith, walked.long, c.requires.trip.top, c.members-members.ensures.residual.few)
+bottleneck_of-found-requires-clause-few g c = omega (arith, c.in-Some.ensures.path.long, c.requires.trip.top, c.members-members.ensures.residual.few)
 
 pub bottleneck_of-found-requires-clause-some : goal.bottleneck_of-found-requires-clause-some
-bottleneck_of-found-requires-clause-some g c =
-    let walked : IsPathDown c.args.work.now.residual.flows c.args.trip.now.labels.now.prices.now c.args.trip.now.labels.now.levels.now c.args.work.now.balance.lack.items c.args.trip.now.from c.in-Some.end (take (get_or c.args.trip.now.labels.now.levels.now c.args.trip.now.from 0) c.walk.new.path) = c.in-Some.ensures.path in
-    omega (arith, c.between-most.ensures, walked.receives, c.if-surplus_of-eq0.false, c.surplus_of.ensures)
+bottleneck_of-found-requires-clause-some g c = omega (arith, c.between-most.ensures, c.in-Some.ensures.path.receives, c.if-surplus_of-eq0.false, c.surplus_of.ensures)
 
 pub push_noting-filled-requires-clause-path : goal.push_noting-filled-requires-clause-path
-push_noting-filled-requires-clause-path g c =
-    let walked : IsPathDown c.args.work.now.residual.flows c.args.trip.now.labels.now.prices.now c.args.trip.now.labels.now.levels.now c.args.work.now.balance.lack.items c.args.trip.now.from c.in-Some.end (take (get_or c.args.trip.now.labels.now.levels.now c.args.trip.now.from 0) c.walk.new.path) = c.in-Some.ensures.path in
-    plain_path c.bottleneck_of-found.result.amount c.args.work.now.residual.flows c.args.trip.now.labels.now.prices.now c.args.trip.now.labels.now.levels.now c.args.work.now.balance.lack.items c.args.trip.now.from c.in-Some.end (take (get_or c.args.trip.now.labels.now.levels.now c.args.trip.now.from 0) c.walk.new.path) walked
-    c.bottleneck_of-found.ensures.all
+push_noting-filled-requires-clause-path g c = plain_path c.bottleneck_of-found.result.amount c.in-Some.ensures.path c.bottleneck_of-found.ensures.all
 
-pub returns-clause-along : goal.returns-clause-along
-returns-clause-along g c =
+pub returns-clause-over : goal.returns-clause-over
+returns-clause-over g c =
     let x = c.bottleneck_of-found.result.amount in
-    let path = take (get_or c.args.trip.now.labels.now.levels.now c.args.trip.now.from 0) c.walk.new.path in
-    let walked : IsPathDown c.args.work.now.residual.flows c.args.trip.now.labels.now.prices.now c.args.trip.now.labels.now.levels.now c.args.work.now.balance.lack.items c.args.trip.now.from c.in-Some.end (take (get_or c.args.trip.now.labels.now.levels.now c.args.trip.now.from 0) c.walk.new.path) = c.in-Some.ensures.path in
-    let roomy : All (λ a. c.bottleneck_of-found.result.amount ≤ room c.args.work.now.residual.flows a) (take (get_or c.args.trip.now.labels.now.levels.now c.args.trip.now.from 0) c.walk.new.path) = c.bottleneck_of-found.ensures.all in
+    let flows = c.args.work.now.residual.flows in
+    let path = take (top_of c.args.trip.now) c.walk.new.path in
+    let walked = c.in-Some.ensures.path in
+    let roomy = c.bottleneck_of-found.ensures.all in
+    let members = ap (λ (r : ResidualData). r.members) c.push_noting-filled.ensures.pushed in
+    let pushed = ap (λ (r : ResidualData). r.flows) c.push_noting-filled.ensures.pushed in
+    let along : IsSentAlong c.args.trip.now.labels.now.prices.now c.args.work.now.residual c.push_noting-filled.new.residual c.args.work.now.balance.surplus.items c.args.work.now.balance.lack.items c.take_off.new.self.surplus.items c.take_off.new.self.lack.items =
     rw (c.take_off.ensures.surplus, c.take_off.ensures.lack)
-    (sent c.args.trip.now.labels.now.prices.now c.args.trip.now.labels.now.levels.now c.args.work.now.residual c.push_noting-filled.new.residual c.args.work.now.balance.surplus.items c.args.work.now.balance.lack.items c.args.trip.now.from c.in-Some.end x path walked roomy
+    (sent c.args.work.now.residual c.push_noting-filled.new.residual c.args.work.now.balance.surplus.items x walked roomy
     (omega (arith, c.requires.trip.from, c.requires.trip.work.surplus))
     (omega (arith, walked.member, c.requires.trip.labels.levels, c.requires.trip.work.lack))
     (omega (arith, c.bottleneck_of-found.ensures.most, c.between-most.ensures))
     (omega (arith, c.bottleneck_of-found.ensures.most, c.between-most.ensures))
-    (ap (λ (r : ResidualData). r.members) c.push_noting-filled.ensures.pushed) (ap (λ (r : ResidualData). r.flows) c.push_noting-filled.ensures.pushed))
-
-pub returns-clause-kept : goal.returns-clause-kept
-returns-clause-kept g c =
-    let x = c.bottleneck_of-found.result.amount in
-    let path = take (get_or c.args.trip.now.labels.now.levels.now c.args.trip.now.from 0) c.walk.new.path in
-    let walked : IsPathDown c.args.work.now.residual.flows c.args.trip.now.labels.now.prices.now c.args.trip.now.labels.now.levels.now c.args.work.now.balance.lack.items c.args.trip.now.from c.in-Some.end (take (get_or c.args.trip.now.labels.now.levels.now c.args.trip.now.from 0) c.walk.new.path) = c.in-Some.ensures.path in
-    let roomy : All (λ a. c.bottleneck_of-found.result.amount ≤ room c.args.work.now.residual.flows a) (take (get_or c.args.trip.now.labels.now.levels.now c.args.trip.now.from 0) c.walk.new.path) = c.bottleneck_of-found.ensures.all in
-    shortest_sent x c.args.trip.now.labels.now.prices.now c.args.trip.now.labels.now.levels.now (get_or c.args.trip.now.labels.now.levels.now c.args.trip.now.from 0) c.args.work.now.residual c.push_noting-filled.new.residual c.args.work.now.balance.surplus.items c.args.work.now.balance.lack.items c.take_off.new.self.surplus.items c.take_off.new.self.lack.items c.args.trip.now.from c.in-Some.end path walked roomy refl (ap (λ (r : ResidualData). r.flows) c.push_noting-filled.ensures.pushed) (returns-clause-along g c) c.requires.shortest
-
-pub returns-clause-pruned : goal.returns-clause-pruned
-returns-clause-pruned g c =
-    let x = c.bottleneck_of-found.result.amount in
-    let flows = c.args.work.now.residual.flows in
-    let p = c.args.trip.now.labels.now.prices.now in
-    let levels = c.args.trip.now.labels.now.levels.now in
-    let lack = c.args.work.now.balance.lack.items in
-    let layers = c.walk.new.layers in
-    let n = get_or c.args.trip.now.labels.now.levels.now c.args.trip.now.from 0 + 1 in
-    let path = take (get_or c.args.trip.now.labels.now.levels.now c.args.trip.now.from 0) c.walk.new.path in
-    let walked : IsPathDown c.args.work.now.residual.flows c.args.trip.now.labels.now.prices.now c.args.trip.now.labels.now.levels.now c.args.work.now.balance.lack.items c.args.trip.now.from c.in-Some.end (take (get_or c.args.trip.now.labels.now.levels.now c.args.trip.now.from 0) c.walk.new.path) = c.in-Some.ensures.path in
-    let roomy : All (λ a. c.bottleneck_of-found.result.amount ≤ room c.args.work.now.residual.flows a) (take (get_or c.args.trip.now.labels.now.levels.now c.args.trip.now.from 0) c.walk.new.path) = c.bottleneck_of-found.ensures.all in
-    let plain = plain_path x flows p levels lack c.args.trip.now.from c.in-Some.end path walked roomy in
-    let gone = returns-clause-along g c in
-    let now = ap (λ (r : ResidualData). r.flows) c.push_noting-filled.ensures.pushed in
-    pruned_less c.push_noting-filled.new.residual.flows p lack c.take_off.new.self.lack.items levels layers n gone.receivers
-    (subst (λ (fs : List Flow). ArePruned fs c.args.trip.now.labels.now.prices.now c.args.work.now.balance.lack.items c.args.trip.now.labels.now.levels.now c.walk.new.layers (get_or c.args.trip.now.labels.now.levels.now c.args.trip.now.from 0 + 1)) (sym now)
-    (pruned_walk x p lack levels layers n flows path
-    c.bottleneck_of-found.ensures.some
-    c.walk.ensures.layers (path_can x flows path plain.along) (path_steps flows p levels lack c.args.trip.now.from c.in-Some.end path walked c.requires.shortest.low)
-    (λ k d l. (walked.arcs k d l, (walked.open_arcs k d l).1)) c.walk.ensures.pruned))
+    members pushed) in
+    record {
+      work = record {
+        neighbours = c.push_noting-filled.ensures.neighbours;
+        surplus = omega (arith, along.members, along.surplus_each, c.requires.trip.work.surplus);
+        lack = omega (arith, along.members, along.lack_each, c.requires.trip.work.lack);
+      };
+      along = along;
+      layers = c.walk.ensures.layers;
+      pruned = pruned_less c.take_off.new.self.lack.items along.receivers
+          (rw pushed
+          (pruned_walk x c.args.trip.now.labels.now.prices.now c.args.work.now.balance.lack.items c.args.trip.now.labels.now.levels.now c.walk.new.layers (top_of c.args.trip.now + 1) flows path
+          c.bottleneck_of-found.ensures.some
+          c.walk.ensures.layers (path_can x flows path (plain_path x walked roomy).along) (path_steps walked c.requires.shortest.low)
+          (λ k d l. (walked.arcs k d l, (walked.open_arcs k d l).1)) c.walk.ensures.pruned));
+      fewer = c.walk.ensures.fewer;
+      shortest = shortest_sent x c.args.work.now.residual c.push_noting-filled.new.residual walked roomy refl pushed along c.requires.shortest;
+    }
 
 pub returns-clause-few : goal.returns-clause-few
 returns-clause-few g c =
@@ -87,11 +68,10 @@ returns-clause-few g c =
     let levels = c.args.trip.now.labels.now.levels.now in
     let surplus = c.args.work.now.balance.surplus.items in
     let lack = c.args.work.now.balance.lack.items in
-    let path = take (get_or c.args.trip.now.labels.now.levels.now c.args.trip.now.from 0) c.walk.new.path in
-    let walked : IsPathDown c.args.work.now.residual.flows c.args.trip.now.labels.now.prices.now c.args.trip.now.labels.now.levels.now c.args.work.now.balance.lack.items c.args.trip.now.from c.in-Some.end (take (get_or c.args.trip.now.labels.now.levels.now c.args.trip.now.from 0) c.walk.new.path) = c.in-Some.ensures.path in
-    let roomy : All (λ a. c.bottleneck_of-found.result.amount ≤ room c.args.work.now.residual.flows a) (take (get_or c.args.trip.now.labels.now.levels.now c.args.trip.now.from 0) c.walk.new.path) = c.bottleneck_of-found.ensures.all in
-    let plain = plain_path x flows p levels lack c.args.trip.now.from c.in-Some.end path walked roomy in
-    let fills : Fills c.bottleneck_of-found.result.amount c.args.work.now.residual.flows (take (get_or c.args.trip.now.labels.now.levels.now c.args.trip.now.from 0) c.walk.new.path) (get_or c.args.work.now.balance.surplus.items c.args.trip.now.from 0) (get_or c.args.work.now.balance.lack.items c.in-Some.end 0) =
+    let path = take (top_of c.args.trip.now) c.walk.new.path in
+    let walked = c.in-Some.ensures.path in
+    let plain = plain_path x walked c.bottleneck_of-found.ensures.all in
+    let fills : Fills c.bottleneck_of-found.result.amount c.args.work.now.residual.flows (take (top_of c.args.trip.now) c.walk.new.path) (get_or c.args.work.now.balance.surplus.items c.args.trip.now.from 0) (get_or c.args.work.now.balance.lack.items c.in-Some.end 0) =
     elim (cases_eq c.bottleneck_of-found.result.amount (get_or c.args.work.now.balance.surplus.items c.args.trip.now.from 0)) [
       | inl e ↦ inr (inl e)
       | inr ne_s ↦
@@ -101,7 +81,7 @@ returns-clause-few g c =
                 inl (c.bottleneck_of-found.ensures.reached (omega (arith, ne_s, ne_l, c.bottleneck_of-found.ensures.most, c.between-most.ensures)))
           ]
     ] in
-    let less = less_to_do levels x flows surplus lack c.args.trip.now.from c.in-Some.end path plain (λ k d l. walked.steps k d l)
+    let less = less_to_do levels surplus lack c.args.trip.now.from c.in-Some.end plain (λ k d l. walked.steps k d l)
     c.bottleneck_of-found.ensures.some
     (omega (arith, c.requires.trip.from, c.requires.trip.work.surplus))
     (omega (arith, walked.member, c.requires.trip.labels.levels, c.requires.trip.work.lack))
@@ -112,28 +92,28 @@ returns-clause-few g c =
 
 pub returns-clause-shortest : goal.returns-clause-shortest
 returns-clause-shortest g c _ =
-    none_is_shorter c.args.work.now.residual.flows c.args.trip.now.labels.now.prices.now c.args.work.now.balance.surplus.items c.args.work.now.balance.lack.items c.args.trip.now.labels.now.levels.now (get_or c.args.trip.now.labels.now.levels.now c.args.trip.now.from 0) c.requires.shortest
+    none_is_shorter c.requires.shortest
 
 pub behind-requires : goal.behind-requires
 behind-requires g c k d l =
     let x = c.bottleneck_of-found.result.amount in
-    let path = take (get_or c.args.trip.now.labels.now.levels.now c.args.trip.now.from 0) c.walk.new.path in
-    let walked : IsPathDown c.args.work.now.residual.flows c.args.trip.now.labels.now.prices.now c.args.trip.now.labels.now.levels.now c.args.work.now.balance.lack.items c.args.trip.now.from c.in-Some.end (take (get_or c.args.trip.now.labels.now.levels.now c.args.trip.now.from 0) c.walk.new.path) = c.in-Some.ensures.path in
-    let plain = plain_path x c.args.work.now.residual.flows c.args.trip.now.labels.now.prices.now c.args.trip.now.labels.now.levels.now c.args.work.now.balance.lack.items c.args.trip.now.from c.in-Some.end path walked c.bottleneck_of-found.ensures.all in
+    let path = take (top_of c.args.trip.now) c.walk.new.path in
+    let walked = c.in-Some.ensures.path in
+    let plain = plain_path x walked c.bottleneck_of-found.ensures.all in
     let same = all_same x c.args.work.now.residual.flows path (path_can x c.args.work.now.residual.flows path plain.along) in
     omega (arith, walked.arcs k d l, same.same_length, ap (λ (r : ResidualData). length r.flows) c.push_noting-filled.ensures.pushed)
 
 pub returns-clause-begun : goal.returns-clause-begun
 returns-clause-begun g c =
-    let top = get_or c.args.trip.now.labels.now.levels.now c.args.trip.now.from 0 in
+    let top = top_of c.args.trip.now in
     let path = c.walk.new.path in
     let new = c.push_noting-filled.new.residual in
     let n = c.behind.result.done in
-    let walked : IsPathDown c.args.work.now.residual.flows c.args.trip.now.labels.now.prices.now c.args.trip.now.labels.now.levels.now c.args.work.now.balance.lack.items c.args.trip.now.from c.in-Some.end (take (get_or c.args.trip.now.labels.now.levels.now c.args.trip.now.from 0) c.walk.new.path) = c.in-Some.ensures.path in
-    let trail : IsTrail c.args.work.now.residual c.args.trip.now.labels.now.prices.now c.args.trip.now.labels.now.levels.now c.walk.new.layers c.walk.new.path 0 (get_or c.args.trip.now.labels.now.levels.now c.args.trip.now.from 0) c.in-Some.end c.args.trip.now.from = c.in-Some.ensures.trail in
-    let long : length (take (get_or c.args.trip.now.labels.now.levels.now c.args.trip.now.from 0) c.walk.new.path) ≡ get_or c.args.trip.now.labels.now.levels.now c.args.trip.now.from 0 = omega (arith, walked.long, trail.level) in
-    let within : c.behind.result.done ≤ get_or c.args.trip.now.labels.now.levels.now c.args.trip.now.from 0 = omega (arith, c.behind.ensures.done, c.push_noting-filled.ensures.within, long) in
-    let plain = plain_path c.bottleneck_of-found.result.amount c.args.work.now.residual.flows c.args.trip.now.labels.now.prices.now c.args.trip.now.labels.now.levels.now c.args.work.now.balance.lack.items c.args.trip.now.from c.in-Some.end (take (get_or c.args.trip.now.labels.now.levels.now c.args.trip.now.from 0) c.walk.new.path) walked c.bottleneck_of-found.ensures.all in
+    let walked = c.in-Some.ensures.path in
+    let trail : IsTrail c.args.work.now.residual c.args.trip.now.labels.now.prices.now c.args.trip.now.labels.now.levels.now c.walk.new.layers c.walk.new.path 0 (top_of c.args.trip.now) c.in-Some.end c.args.trip.now.from = c.in-Some.ensures.trail in
+    let long : length (take (top_of c.args.trip.now) c.walk.new.path) ≡ top_of c.args.trip.now = omega (arith, walked.long, trail.level) in
+    let within : c.behind.result.done ≤ top_of c.args.trip.now = omega (arith, c.behind.ensures.done, c.push_noting-filled.ensures.within, long) in
+    let plain = plain_path c.bottleneck_of-found.result.amount walked c.bottleneck_of-found.ensures.all in
     let same = all_same c.bottleneck_of-found.result.amount c.args.work.now.residual.flows (take top path) (path_can c.bottleneck_of-found.result.amount c.args.work.now.residual.flows (take top path) plain.along) in
     record {
       done = within;

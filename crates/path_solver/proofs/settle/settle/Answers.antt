@@ -10,7 +10,7 @@ returns-then-is_empty-clause-settled g c =
     let l = c.args.balance.lack.items in
     let p = c.in_ok-prices.prices.items in
     let is : c.in_ok-prices.prices.items ≡ replicate c.args.residual.members 0 = c.in_ok-prices.ensures ∙ ap (λ n. replicate {A = ℕ} n 0) c.members-members.ensures.value in
-    settled r r s l s l p 0 c.members-members.ensures.residual c.requires.feasible
+    settled c.members-members.ensures.residual c.requires.feasible
     (ap length is ∙ length-replicate {A = ℕ} c.args.residual.members 0)
     (none_left s c.senders.result c.senders.ensures (c.is_empty.ensures.none.0 c.if-is_empty.true))
     (phase_none r s l p is c.requires.lowest c.requires.apart)

@@ -1,4 +1,5 @@
 use Rattle.std.proofs.Common.{◌≡◌, ℕ, ◌+◌, ◌<◌, ◌≤◌, List, All, ℤ, get_or, sym, ap, ◌∙◌, subst, arith}
+use Rattle.network_laws.specs.Limits.{LimitsData}
 use Rattle.network_laws.specs.Networks.{NetworkData, gross, total}
 use Rattle.network_laws.specs.Solutions.{SolutionData, IsPotential, Solves}
 use Rattle.residual_graph.specs.Residual.{ResidualData, residual_of, network_of, flow_rows}
@@ -23,12 +24,13 @@ find_prices-requires g c =
     omega (arith, same, start_gross c.args.limits.now c.args.network.now c.in_ok-residual.ensures.limits c.members-members.ensures.network c.requires.same_members c.requires.within, c.members-members.ensures.network.rows.within)
 
 -- what is found, for the residual graph of the network
-found_anew : (before : ℕ) (old : NetworkData) (start : ℕ → ResidualData) (r new : ResidualData) (p : List ℕ) → r ≡ start before → before ≡ gross old → IsPricedAnew r new p → IsPricedAnew (start (gross old)) new p
-found_anew before old start r new p e g h = subst (λ (x : ResidualData). IsPricedAnew x new p) (e ∙ ap start g) h
+found_anew : (limits : LimitsData) (network : NetworkData) (before : ℕ) {r new : ResidualData} {p : List ℕ} → r ≡ residual_of (before + 1) limits network → before ≡ gross network → IsPricedAnew r new p → IsPricedAnew (residual_of (gross network + 1) limits network) new p
+found_anew limits network before {r} {new} {p} is same h =
+    subst (λ (x : ResidualData). IsPricedAnew x new p) (is ∙ ap (λ g. residual_of (g + 1) limits network) same) h
 
 pub network-requires : goal.network-requires
 network-requires g c =
-    let found = found_anew c.gross-before.result c.args.network.now (λ g. residual_of (g + 1) c.args.limits.now c.args.network.now) c.in_ok-residual.residual c.in_ok-settled.settled.residual c.in_ok-settled.settled.prices.items c.in_ok-residual.ensures.value c.gross-before.ensures c.in_ok-settled.ensures.priced in
+    let found = found_anew c.args.limits.now c.args.network.now c.gross-before.result c.in_ok-residual.ensures.value c.gross-before.ensures c.in_ok-settled.ensures.priced in
     few_rows c.args.limits.now c.args.network.now c.in_ok-settled.settled.residual c.in_ok-settled.settled.prices.items c.in_ok-residual.ensures.limits c.members-members.ensures.network c.requires.same_members c.requires.within found
 
 range_at : (n : ℕ) (xs : List ℤ) (ps qs : List ℕ) → n ≤ 256 → xs ≡ potentials qs → qs ≡ ps → ((v : ℕ) → get_or ps v 0 ≤ n) → All IsPotential xs
@@ -41,7 +43,7 @@ new-requires-clause-in_range g c =
 
 pub returns-then-gross-before-clause-solves : goal.returns-then-gross-before-clause-solves
 returns-then-gross-before-clause-solves g c =
-    let found = found_anew c.gross-before.result c.args.network.now (λ g. residual_of (g + 1) c.args.limits.now c.args.network.now) c.in_ok-residual.residual c.in_ok-settled.settled.residual c.in_ok-settled.settled.prices.items c.in_ok-residual.ensures.value c.gross-before.ensures c.in_ok-settled.ensures.priced in
+    let found = found_anew c.args.limits.now c.args.network.now c.gross-before.result c.in_ok-residual.ensures.value c.gross-before.ensures c.in_ok-settled.ensures.priced in
     let p : c.in_ok-potentials.potentials.items ≡ potentials c.in_ok-settled.settled.prices.items = c.in_ok-potentials.ensures ∙ ap potentials c.deref.ensures.value in
     let y : c.in_ok-found.found ≡ network_of c.in_ok-settled.settled.residual = c.in_ok-found.ensures in
     let less : gross (network_of c.in_ok-settled.settled.residual) < gross c.args.network.now = omega (arith, c.if-gross-before.true, c.gross.ensures, c.gross-before.ensures, ap gross y) in
@@ -55,7 +57,7 @@ new-requires-else-gross-before-clause-in_range g c =
 
 pub returns-clause-solves : goal.returns-clause-solves
 returns-clause-solves g c =
-    let found = found_anew c.gross-before.result c.args.network.now (λ g. residual_of (g + 1) c.args.limits.now c.args.network.now) c.in_ok-residual.residual c.in_ok-settled.settled.residual c.in_ok-settled.settled.prices.items c.in_ok-residual.ensures.value c.gross-before.ensures c.in_ok-settled.ensures.priced in
+    let found = found_anew c.args.limits.now c.args.network.now c.gross-before.result c.in_ok-residual.ensures.value c.gross-before.ensures c.in_ok-settled.ensures.priced in
     let p : c.in_ok-potentials.potentials.items ≡ potentials c.in_ok-settled.settled.prices.items = c.in_ok-potentials.ensures ∙ ap potentials c.deref.ensures.value in
     let least : gross c.args.network.now ≤ gross (network_of c.in_ok-settled.settled.residual) = omega (arith, c.if-gross-before.false, c.gross.ensures, c.gross-before.ensures, ap gross c.in_ok-found.ensures) in
     subst (Solves c.args.limits.now c.args.network.now) (sym (c.new-else-gross-before.ensures ∙ same_solution c.in_ok-copy.field-0 c.args.network.now c.in_ok-potentials.potentials.items (potentials c.in_ok-settled.settled.prices.items) c.in_ok-copy.ensures p))

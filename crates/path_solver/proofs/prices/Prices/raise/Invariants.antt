@@ -1,6 +1,6 @@
 use Rattle.std.proofs.Common.{◌≡◌, ℕ, ◌<◌, ◌≤◌, get_or}
 use Rattle.path_solver.specs.Phases.{raised_price}
-use Rattle.path_solver.proofs.prices.raise.Given as goal
+use Rattle.path_solver.proofs.prices.Prices.raise.Given as goal
 
 abbrev pub invariant-loop-member : goal.invariant-loop-member
 invariant-loop-member l = record {
