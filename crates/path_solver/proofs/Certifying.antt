@@ -93,9 +93,6 @@ module _ (limits : LimitsData) (old : NetworkData) (new : ResidualData) (p : Lis
   pub few_rows : gross (network_of new) ≤ 10 ^ 18
   few_rows = omega (arith, few, same_amounts new old.members, network.rows.within)
 
-  pub found_least : gross (network_of new) ≤ gross old
-  found_least = omega (arith, few, same_amounts new old.members)
-
   certify : IsCertified limits old (flow_network old.members new.flows) (potentials p)
   certify =
       let by_labels = labels_certify limits old new.flows (map neg_ℤ (potentials p)) are.rows.rising (flows_same (gross old + 1) limits.rows (residual_of (gross old + 1) limits old).flows new.flows found.pairs (are_flows (gross old + 1) limits old are members within cap_ok)) few (labels_of new.flows p found.priced) members (λ i l. found.nets i l ∙ built_net (gross old + 1) limits old are members within cap_ok old_rows i) in
