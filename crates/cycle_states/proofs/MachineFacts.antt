@@ -13,25 +13,18 @@ use Rattle.command_types.specs.declared.answer.Answer.{Answer}
 use Rattle.command_types.specs.declared.refusal.Refusal.{Refusal}
 use Rattle.command_types.specs.declared.refusal.Refusal.TheVariants.{NotGreeted}
 use Rattle.network_laws.specs.Solutions.{SolutionData}
-use Rattle.command_types.specs.declared.figures.Cycle.{Cycle}
 use Rattle.command_types.specs.declared.figures.State.{State}
 use Rattle.command_types.specs.declared.plan.PlanRow.{PlanRow}
-use Rattle.command_types.specs.declared.tolerance.ToleranceRow.{ToleranceRow}
-use Rattle.command_types.specs.declared.trade.Side.{Side}
-use Rattle.command_types.specs.declared.trade.TradeRow.{TradeRow}
 use Rattle.command_types.specs.declared.roster.Role.TheVariants.{Dealer}
 use Rattle.command_types.specs.declared.roster.MemberRow.{MemberRow}
-use Rattle.command_types.specs.Roster.{Rows, member_place, is_operator}
+use Rattle.command_types.specs.Roster.{member_place, is_operator}
 use Rattle.command_types.specs.Trades.{gross_of}
 use Rattle.command_types.specs.Machine.{first_of, refusals, command_refusals, trade_refusals, product_of, member_of, position_of, changes, is_refusal, refused_or, accepted, answer_to, state_by, state_after}
 use Rattle.command_types.specs.Cycles.{posted_plan}
 use Rattle.command_types.specs.Books.{live_network}
-use Rattle.command_types.specs.CycleRefusals.{is_crossed}
-use Rattle.command_types.specs.Tolerances.{with_setting}
-use Rattle.command_types.specs.CycleSteps.{with_tolerance, market_of, market_in, proposed_or_done, touched_in, after_vote, left_after}
+use Rattle.command_types.specs.CycleSteps.{market_of, market_in, proposed_or_done, touched_in, after_vote, left_after}
 use Rattle.command_types.specs.History.{is_recorded}
 use Rattle.product_book.specs.Book.{gross_limit}
-use Rattle.cycle_states.specs.Machine.{state_in, state_with}
 
 roster_posted : (s : State) (solutions : List SolutionData) (plan : List PlanRow) (touched : List ℕ) → (proposed_or_done s solutions plan touched).roster ≡ s.roster
 roster_posted s solutions plan [] = refl

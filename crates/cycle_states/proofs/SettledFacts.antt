@@ -1,22 +1,20 @@
 -- A posting that the machine accepts, and a proposal that it keeps, can be executed.
-use Rattle.std.proofs.Common.{◌≡◌, ℕ, ◌+◌, ◌≤◌, List, [], ◌∷◌, ◌++◌, length, Option, Some, None, is_some, IsTrue, All, refl, ap, sym, subst, ◌∙◌, arith}
+use Rattle.std.proofs.Common.{◌≡◌, ℕ, ◌≤◌, List, [], ◌∷◌, length, Option, Some, None, is_some, IsTrue, All, refl, ap, sym, subst, ◌∙◌, arith}
 use Rattle.std.specs.Prelude.{filter, not}
 use Rattle.std.proofs.lemmas.Bool.{false≢true}
 use Rattle.std.proofs.lemmas.List.Elements.{All-weaker}
 use Rattle.network_laws.specs.Solutions.{SolutionData, IsSolution}
 use Rattle.units_core.specs.Day.{DayParts}
-use Rattle.command_types.specs.declared.answer.Answer.TheVariants.{Proposed, Nothing, Accepted}
 use Rattle.command_types.specs.declared.figures.Cycle.{Cycle}
 use Rattle.command_types.specs.declared.figures.State.{State}
 use Rattle.command_types.specs.declared.plan.PlanRow.{PlanRow}
 use Rattle.command_types.specs.declared.plan.PlanRow.TheVariants.{End, Cut, New}
-use Rattle.command_types.specs.declared.tolerance.ToleranceRow.{ToleranceRow}
 use Rattle.command_types.specs.declared.trade.TradeRow.{TradeRow}
 use Rattle.command_types.specs.Roster.{Rows}
 use Rattle.command_types.specs.Trades.{gross_of, trade_numbered}
-use Rattle.command_types.specs.Cycles.{is_solving, is_proposed, may_break, has_limits, bad_post, plan_on, posted_plan, old_networks, new_networks, gross_of_all, proposed_with}
+use Rattle.command_types.specs.Cycles.{is_solving, is_proposed, may_break, has_limits, bad_post, plan_on, posted_plan, old_networks, new_networks}
 use Rattle.command_types.specs.CycleRefusals.{has_voted}
-use Rattle.command_types.specs.CycleSteps.{proposed_or_done, proposed_answer, touched_in, after_post, after_vote, after_accept, left_after, vote_answer, executed_answer, after_execution}
+use Rattle.command_types.specs.CycleSteps.{proposed_or_done, proposed_answer, after_vote, left_after, vote_answer, after_execution}
 use Rattle.command_types.specs.Plans.{plan_of, count_of, is_new, touched_by}
 use Rattle.command_types.specs.Execution.{IsExecutable}
 use Rattle.acceptance.specs.Parties.{HasPartiesBelow, IsStepBelow, IsPlanBelow}
@@ -26,7 +24,7 @@ use Rattle.posting.specs.Laws.{IsFrozenMarket, IsSettled}
 use Rattle.posting.specs.Posted.{AreOfMembers}
 use Rattle.posting.proofs.CertifiedFacts.{shaped, shape_size}
 use Rattle.posting.proofs.Settled.{begun_size, begun_of_members, begun_is_settled}
-use Rattle.cycle_states.specs.Machine.{state_in, state_with, IsMachine}
+use Rattle.cycle_states.specs.Machine.{state_in, IsMachine}
 use Rattle.cycle_states.proofs.PlanSizes.{few_made}
 use Rattle.cycle_states.proofs.CycleFacts.{limits_break, proposed_limits, solving_limits}
 

@@ -3,6 +3,7 @@ use Rattle.std.specs.Prelude.{◌≡◌, ◌⊎◌, ℕ, ◌≤◌, List, [], �
 use Rattle.command_types.specs.declared.ask.Entry.{Entry}
 use Rattle.outside.specs.Disk.{History, moment, may_leave, left_since}
 use Rattle.journal_core.specs.Journal.{IsAtRest}
+use Rattle.journal_core.specs.Moments.{LeavesOnly}
 use Rattle.recovery.specs.StandsFor.{SpellAll, StandsFor}
 
 -- all of the disk's content is on the disk: a journal that ends at this place, whose records spell these entries
@@ -54,6 +55,10 @@ ContentStandsFor (Some h) entries = StandsFor h.content entries
 abbrev pub AreStored : Option History → ℕ → List Entry → Type 0
 AreStored None size entries = Unit {0}
 AreStored (Some h) size entries = IsStored h size entries
+
+-- from a disk that had these entries on, what a crash at any moment leaves stands for them, or for them and the one more
+abbrev pub LeavesEither : Option History → ℕ → Option History → List Entry → Entry → Type 0
+LeavesEither before size after entries entry = AreStored before size entries → LeavesOnly before after (StandsForEither entries entry)
 
 -- what a crash now leaves stands for these entries
 abbrev pub LeavesEntries : Option History → List Entry → Type 0

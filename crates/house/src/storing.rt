@@ -7,9 +7,8 @@ ghost use Rattle.command_types.specs.Sizes.{record_size, frame_size, journal_lim
 ghost use Rattle.command_types.specs.Spelling.{Spells, posted, most_solutions};
 ghost use Rattle.cycle_states.specs.Machine.{IsYoung};
 ghost use Rattle.outside.specs.Faults.{Rose};
-ghost use Rattle.journal_core.specs.Moments.{LeavesOnly};
 ghost use Rattle.journal_core.specs.Journal.{disk_of, size_of, IsReady as IsReadyAt};
-ghost use Rattle.house.specs.Storing.{AreStored, StandsForEither};
+ghost use Rattle.house.specs.Storing.{AreStored, LeavesEither};
 ghost use Rattle.house.specs.declared.storing.Unstored.TheVariants.{Memory};
 ghost use Rattle.house.specs.Unstored.{Tells};
 
@@ -73,7 +72,7 @@ pub(crate) fn store<D: Disk>(
     ensures solutions { OnOk result (All IsSolution (solutions_posted entry.ask.what)) }
     ensures size { OnOk result (size_of journal.new ≡ size_of journal.old + frame_size entry.ask) }
     ensures stored { AreStored (D.history (disk_of journal.old)) (size_of journal.old) past.old → OnOk result (AreStored (D.history (disk_of journal.new)) (size_of journal.new) (past.old ++ entry ∷ [])) }
-    ensures any_moment { AreStored (D.history (disk_of journal.old)) (size_of journal.old) past.old → LeavesOnly (D.history (disk_of journal.old)) (D.history (disk_of journal.new)) (StandsForEither past.old entry) }
+    ensures any_moment { LeavesEither (D.history (disk_of journal.old)) (size_of journal.old) (D.history (disk_of journal.new)) past.old entry }
     ensures same_state { OnErr result (machine.new.state ≡ machine.old.state) }
     ensures same_past { OnErr result (past.new ≡ past.old) }
     ensures same_size { OnErr result (size_of journal.new ≡ size_of journal.old) }
