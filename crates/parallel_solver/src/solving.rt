@@ -83,8 +83,8 @@ fn merged(
     Ok(merged)
 }
 
-/// A certified solution for each problem, in order, by so many workers, each of which claims one piece after another: a part
-/// of a problem, or a problem that has just one part. The only error is want of memory.
+/// A certified solution for each problem, in order, by at most so many workers, each of which claims one piece after
+/// another: a part of a problem, or a problem that has just one part. The only error is want of memory.
 pub fn solve_all<R: Threads + Sync, V: Solver, G: Gate>(
     rt: &R,
     alloc: Global,

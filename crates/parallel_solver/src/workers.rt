@@ -194,8 +194,8 @@ fn work_all<R: Threads + Sync, V: Solver, G: Gate>(
     );
 }
 
-/// A certified solution for each piece, in order, by so many workers, each of which claims one piece after another. The
-/// only error is want of memory.
+/// A certified solution for each piece, in order, by at most so many workers, and no more than there are pieces, each of
+/// which claims one piece after another. The only error is want of memory.
 pub fn solve_pieces<R: Threads + Sync, V: Solver, G: Gate>(
     rt: &R,
     alloc: Global,
@@ -209,7 +209,8 @@ pub fn solve_pieces<R: Threads + Sync, V: Solver, G: Gate>(
 {
     let mut found = places(alloc, pieces)?;
     let (table, mut first) = Counter::new(alloc, pieces.len() as u64)?;
-    let mut jobs = jobs(alloc, &table, pieces, &mut first, workers)?;
+    let needed = (workers as usize).min(pieces.len()).max(1) as u32;
+    let mut jobs = jobs(alloc, &table, pieces, &mut first, needed)?;
     work_all(rt, &table, pieces, solver, gate, &mut jobs);
     put_jobs(&table, pieces, &mut first, &mut found, jobs)?;
     collected(alloc, pieces, found)
