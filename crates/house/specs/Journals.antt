@@ -4,37 +4,14 @@ use Rattle.std.specs.Prelude.{◌≡◌, ℕ, List, [], ◌∷◌, ◌++◌, Opt
 use Rattle.command_types.specs.declared.ask.Entry.{Entry}
 use Rattle.command_types.specs.Spelling.{Spells}
 use Rattle.outside.specs.Disk.{History}
-use Rattle.journal_core.specs.Holds.{end_of, Holds}
 use Rattle.journal_core.specs.Moments.{LeavesOnly}
 use Rattle.journal_core.specs.Walk.{EndsAt}
-use Rattle.journal_core.specs.Journal.{DiskHolds, IsAtRest, IsReady, HoldsWithOrWithout}
+use Rattle.journal_core.specs.Journal.{IsReady}
+use Rattle.journal_core.specs.Calls.{IsAppending, IsAppended, IsStarting, IsStarted}
 use Rattle.recovery.specs.declared.entries.EntryAt.{EntryAt}
 use Rattle.recovery.specs.StandsFor.{StandsFor}
 use Rattle.recovery.specs.Reading.{entries_in, IsRead}
 use Rattle.house.specs.Storing.{IsStored, AreStored, StandsForEither, ContentStandsFor}
-
--- ---- what a journal's calls tell of its records
-
--- from old to new, bytes were appended at this place, or in part
-abbrev pub IsAppending : Option History → Option History → ℕ → List ℕ → Type 0
-IsAppending old new end bytes =
-    (records : List (List ℕ)) → IsAtRest old end records → LeavesOnly old new (HoldsWithOrWithout records bytes)
-
--- they were, and the journal ends at the next place
-abbrev pub IsAppended : Option History → Option History → ℕ → ℕ → List ℕ → Type 0
-IsAppended old new end next bytes =
-    (records : List (List ℕ)) → IsAtRest old end records → IsAtRest new next (records ++ bytes ∷ [])
-
--- from old to new, the journal was started, or in part
-abbrev pub IsStarting : Option History → Option History → Type 0
-IsStarting old new = (records : List (List ℕ)) → DiskHolds old records → LeavesOnly old new (λ image. Holds image records)
-
--- it was, where its records end
-abbrev pub IsStarted : Option History → Option History → ℕ → Type 0
-IsStarted old new end =
-    (records : List (List ℕ)) → DiskHolds old records → end ≡ end_of records → IsAtRest new end records
-
--- ---- the facts
 
 -- What is read of a file is what it stands for,
 abbrev pub ReadEntriesStand : Type 0

@@ -1,11 +1,11 @@
 //! A journal on a disk.
-ghost use Rattle.std.specs.Prelude.{◌≡◌, ◌≤◌, ◌<◌, ◌↔◌, ◌+◌, [], ◌∷◌, ◌++◌, List, ℕ, length, IsTrue, OnOk, OnErr, IfOk, IfErr};
+ghost use Rattle.std.specs.Prelude.{◌≡◌, ◌≤◌, ◌<◌, ◌↔◌, ◌+◌, List, ℕ, length, IsTrue, OnOk, OnErr, IfOk, IfErr};
 ghost use Rattle.outside.specs.Disk.{IsSettled};
 ghost use Rattle.outside.specs.Faults.{Rose};
-ghost use Rattle.journal_core.specs.Holds.{Holds, end_of, limit};
-ghost use Rattle.journal_core.specs.Moments.{LeavesOnly};
+ghost use Rattle.journal_core.specs.Holds.{end_of, limit};
 ghost use Rattle.journal_core.specs.Walk.{EndsAt};
-ghost use Rattle.journal_core.specs.Journal.{DiskHolds, IsAtRest, disk_of, size_of, IsReady, HoldsWithOrWithout};
+ghost use Rattle.journal_core.specs.Journal.{DiskHolds, IsAtRest, disk_of, size_of, IsReady};
+ghost use Rattle.journal_core.specs.Calls.{IsAppended, IsAppending, IsStarted, IsStarting};
 
 use crate::Frame;
 use crate::put::put;
@@ -27,7 +27,7 @@ fn prepare<D: Disk>(disk: &mut D) -> Result<(), Failed>
     requires { IsSettled (D.history disk.old) }
     ensures at_rest { (records : List (List ℕ)) → DiskHolds (D.history disk.old) records → OnOk result (IsAtRest (D.history disk.new) (end_of records) records) }
     ensures ready { (end : ℕ) → EndsAt (D.history disk.old) end → OnOk result (IsReady (D.history disk.new) end) }
-    ensures any_moment { (records : List (List ℕ)) → DiskHolds (D.history disk.old) records → LeavesOnly (D.history disk.old) (D.history disk.new) (λ image. Holds image records) }
+    ensures any_moment { IsStarting (D.history disk.old) (D.history disk.new) }
     ensures never_falls { D.fault_count disk.old ≤ D.fault_count disk.new }
     ensures failed { OnErr result (Rose (D.fault_count disk.old) (D.fault_count disk.new)) }
 {
@@ -44,11 +44,11 @@ impl<D: Disk> Journal<D> {
     /// its header and a closed gate. A crash at any moment leaves a file that holds the same records.
     pub fn start(disk: D, end: u64) -> Result<Journal<D>, (Failed, D)>
         requires { IsSettled (D.history disk) }
-        ensures at_rest { (records : List (List ℕ)) → DiskHolds (D.history disk) records → end ≡ end_of records → IfOk result (λ j. IsAtRest (D.history (disk_of j)) end records) }
+        ensures at_rest { IfOk result (λ j. IsStarted (D.history disk) (D.history (disk_of j)) end) }
         ensures ready { EndsAt (D.history disk) end → IfOk result (λ j. IsReady (D.history (disk_of j)) (size_of j)) }
         ensures end { IfOk result (λ j. size_of j ≡ end) }
-        ensures any_moment { (records : List (List ℕ)) → DiskHolds (D.history disk) records → IfOk result (λ j. LeavesOnly (D.history disk) (D.history (disk_of j)) (λ image. Holds image records)) }
-        ensures any_moment_failed { (records : List (List ℕ)) → DiskHolds (D.history disk) records → IfErr result (λ e. LeavesOnly (D.history disk) (D.history e.1) (λ image. Holds image records)) }
+        ensures any_moment { IfOk result (λ j. IsStarting (D.history disk) (D.history (disk_of j))) }
+        ensures any_moment_failed { IfErr result (λ e. IsStarting (D.history disk) (D.history e.1)) }
         ensures never_falls { IfOk result (λ j. D.fault_count disk ≤ D.fault_count (disk_of j)) }
         ensures never_falls_failed { IfErr result (λ e. D.fault_count disk ≤ D.fault_count e.1) }
         ensures failed { IfErr result (λ e. Rose (D.fault_count disk) (D.fault_count e.1)) }
@@ -80,11 +80,11 @@ impl<D: Disk> Journal<D> {
     pub fn append(&mut self, frame: &Frame) -> Result<(), Failed>
         requires ready { IsReady (D.history (disk_of self.old)) (size_of self.old) }
         requires fits { size_of self.old + 4 + length frame.now + 1 ≤ limit }
-        ensures done { (records : List (List ℕ)) → IsAtRest (D.history (disk_of self.old)) (size_of self.old) records → OnOk result (IsAtRest (D.history (disk_of self.new)) (size_of self.new) (records ++ frame.now ∷ [])) }
+        ensures done { OnOk result (IsAppended (D.history (disk_of self.old)) (D.history (disk_of self.new)) (size_of self.old) (size_of self.new) frame.now) }
         ensures ready { OnOk result (IsReady (D.history (disk_of self.new)) (size_of self.new)) }
         ensures size { OnOk result (size_of self.new ≡ size_of self.old + (5 + length frame.now)) }
         ensures same_size { OnErr result (size_of self.new ≡ size_of self.old) }
-        ensures any_moment { (records : List (List ℕ)) → IsAtRest (D.history (disk_of self.old)) (size_of self.old) records → LeavesOnly (D.history (disk_of self.old)) (D.history (disk_of self.new)) (HoldsWithOrWithout records frame.now) }
+        ensures any_moment { IsAppending (D.history (disk_of self.old)) (D.history (disk_of self.new)) (size_of self.old) frame.now }
         ensures never_falls { D.fault_count (disk_of self.old) ≤ D.fault_count (disk_of self.new) }
         ensures failed { OnErr result (Rose (D.fault_count (disk_of self.old)) (D.fault_count (disk_of self.new))) }
     {
