@@ -8,8 +8,8 @@ pub fn nets_stay_at_executions()
     ensures { NetsStayAtExecutions }
 {}
 
-/// Each accepted posting has for each product a network of the least gross that the product's limits allow, for the
-/// problems that the BEGIN of its version took.
+/// Each accepted posting has for each product a network of the least gross of all that keep the product's limits and every
+/// net position, for the problems that the BEGIN of its version took.
 pub fn postings_are_least()
     ensures { PostingsAreLeast }
 {}

@@ -8,7 +8,8 @@ pub fn nothing_fails_where_all_pass()
 {}
 
 /// A check of trades and parts says yes exactly where, beside the network of each product's trades, the part's network
-/// is certified and its figures are right; and then no network within the product's limits has less gross.
+/// is certified and its figures are right; and then no network within the product's limits that keeps every net position
+/// has less gross.
 pub fn yes_where_all_are_least()
     ensures { YesWhereAllAreLeast }
 {}

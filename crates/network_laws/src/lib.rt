@@ -2,8 +2,8 @@
 //!
 //! A network says what each member sold to each other one. Compression replaces it by a network with
 //! the same net positions and less gross notional (D'Errico and Roukny, *Compressing Over-the-Counter
-//! Markets*). Potentials certify that no network within the limits has less gross: the duality of
-//! minimum-cost flow (Ahuja, Magnanti and Orlin, *Network Flows*).
+//! Markets*). Potentials certify that no network within the limits that keeps every net position has
+//! less gross: the duality of minimum-cost flow (Ahuja, Magnanti and Orlin, *Network Flows*).
 #![tactic(auto)]
 
 mod clash;

@@ -4,7 +4,7 @@ ghost use Rattle.posting.specs.Laws.{PostingCanBeExecuted, PlanStays};
 
 /// What a certified posting changes can be executed: each trade that it ends or cuts is there, each new one is between
 /// members, and no product's gross is over the limit afterwards. No member's position changes and no product's gross
-/// grows, and each posted network has the least gross that its limits allow.
+/// grows, and each posted network has the least gross of all that keep its limits and every net position.
 pub fn posting_can_be_executed()
     ensures { PostingCanBeExecuted }
 {}
