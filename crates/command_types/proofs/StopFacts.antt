@@ -8,7 +8,7 @@ use Rattle.command_types.specs.declared.ask.Entry.{Entry}
 use Rattle.command_types.specs.declared.answer.Answer.{Answer}
 use Rattle.command_types.specs.declared.answer.Answer.TheVariants.{Ended, Marked, No}
 use Rattle.command_types.specs.declared.refusal.Refusal.{Refusal}
-use Rattle.command_types.specs.declared.refusal.Refusal.TheVariants.{JournalFull, Stopped, DiskFault}
+use Rattle.command_types.specs.declared.refusal.Refusal.TheVariants.{JournalFull, Stopped, Memory, DiskFault}
 use Rattle.command_types.specs.declared.answer.Reply.{Reply}
 use Rattle.network_laws.specs.Solutions.{SolutionData}
 use Rattle.command_types.specs.declared.figures.State.{State}
@@ -27,20 +27,28 @@ use Rattle.command_types.specs.History.{History, is_recorded, replayed_from}
 use Rattle.command_types.specs.Sizes.{journal_limit, frame_size}
 use Rattle.command_types.specs.Told.{IsTold, IsRecorded, IsNotRecorded, IsHouse, IsMemory, journal_size, tells_stop}
 
--- none of these refusals tells of a stop
+-- an answer of the desk, not of the machine: its own refusals, and want of memory
+abbrev pub is_desks : Answer → Bool
+is_desks (No (JournalFull size)) = true
+is_desks (No (Stopped at)) = true
+is_desks (No Memory) = true
+is_desks (No DiskFault) = true
+is_desks answer = false
+
+-- none of these refusals is the desk's
 abbrev Plain : List (Bool × Refusal) → Type 0
 Plain [] = Unit {0}
-Plain (row ∷ rows) = (tells_stop (No row.1) ≡ false) × Plain rows
+Plain (row ∷ rows) = (is_desks (No row.1) ≡ false) × Plain rows
 
-chosen : (answer : Answer) (b : Bool) (refusal : Refusal) (rest : Option Refusal) → tells_stop (No refusal) ≡ false → tells_stop (refused_or answer rest) ≡ false → tells_stop (refused_or answer (if b then Some refusal else rest)) ≡ false
+chosen : (answer : Answer) (b : Bool) (refusal : Refusal) (rest : Option Refusal) → is_desks (No refusal) ≡ false → is_desks (refused_or answer rest) ≡ false → is_desks (refused_or answer (if b then Some refusal else rest)) ≡ false
 chosen answer true refusal rest p q = p
 chosen answer false refusal rest p q = q
 
-first_plain : (answer : Answer) (rows : List (Bool × Refusal)) → tells_stop answer ≡ false → Plain rows → tells_stop (refused_or answer (first_of rows)) ≡ false
+first_plain : (answer : Answer) (rows : List (Bool × Refusal)) → is_desks answer ≡ false → Plain rows → is_desks (refused_or answer (first_of rows)) ≡ false
 first_plain answer [] p q = p
 first_plain answer (row ∷ rows) p q = chosen answer row.0 row.1 (first_of rows) q.0 (first_plain answer rows p q.1)
 
-maturity_plain : (row : Option ProductRow) (day : DayParts) → tells_stop (No (maturity_refusal row day).1) ≡ false
+maturity_plain : (row : Option ProductRow) (day : DayParts) → is_desks (No (maturity_refusal row day).1) ≡ false
 maturity_plain None day = refl
 maturity_plain (Some row) day = refl
 
@@ -60,7 +68,7 @@ free_plain : (s : State) (by : List ℕ) (row : Option TradeRow) → Plain (free
 free_plain s by None = (refl, tt)
 free_plain s by (Some row) = (refl, (refl, (refl, tt)))
 
-post_plain : (post : Option BadPost) → tells_stop (No (if_bad_post post).1) ≡ false
+post_plain : (post : Option BadPost) → is_desks (No (if_bad_post post).1) ≡ false
 post_plain None = refl
 post_plain (Some post) = refl
 
@@ -112,27 +120,27 @@ refusals_plain s by (Cancel cycle) = (refl, command_plain s (unwrap_or by []) (C
 refusals_plain s by Bye = tt
 refusals_plain s by (Unreadable at) = (refl, tt)
 
-ending_plain : (ends : Bool) (trade : ℕ) → tells_stop (cond {A = Answer} ends (Ended trade) (Marked trade)) ≡ false
+ending_plain : (ends : Bool) (trade : ℕ) → is_desks (cond {A = Answer} ends (Ended trade) (Marked trade)) ≡ false
 ending_plain true trade = refl
 ending_plain false trade = refl
 
-end_answer_plain : (trade : ℕ) (row : Option TradeRow) → tells_stop (end_answer trade row) ≡ false
+end_answer_plain : (trade : ℕ) (row : Option TradeRow) → is_desks (end_answer trade row) ≡ false
 end_answer_plain trade None = refl
 end_answer_plain trade (Some row) = ending_plain _ trade
 
-nets_plain : (operator : Bool) (market own : Answer) → tells_stop market ≡ false → tells_stop own ≡ false → tells_stop (cond {A = Answer} operator market own) ≡ false
+nets_plain : (operator : Bool) (market own : Answer) → is_desks market ≡ false → is_desks own ≡ false → is_desks (cond {A = Answer} operator market own) ≡ false
 nets_plain true market own m o = m
 nets_plain false market own m o = o
 
-proposed_plain : (s : State) (solutions : List SolutionData) (touched : List ℕ) → tells_stop (proposed_answer s solutions touched) ≡ false
+proposed_plain : (s : State) (solutions : List SolutionData) (touched : List ℕ) → is_desks (proposed_answer s solutions touched) ≡ false
 proposed_plain s solutions [] = refl
 proposed_plain s solutions (member ∷ members) = refl
 
-vote_plain : (cycle : Cycle) (left : List ℕ) → tells_stop (vote_answer cycle left) ≡ false
+vote_plain : (cycle : Cycle) (left : List ℕ) → is_desks (vote_answer cycle left) ≡ false
 vote_plain cycle [] = refl
 vote_plain cycle (member ∷ members) = refl
 
-accepted_plain : (s : State) (by : Option (List ℕ)) (what : What) → tells_stop (accepted s by what) ≡ false
+accepted_plain : (s : State) (by : Option (List ℕ)) (what : What) → is_desks (accepted s by what) ≡ false
 accepted_plain s by (Hello name key) = refl
 accepted_plain s by (Trade seller buyer product amount day) = refl
 accepted_plain s by (Affirm trade) = refl
@@ -156,8 +164,8 @@ accepted_plain s by (Cancel cycle) = refl
 accepted_plain s by Bye = refl
 accepted_plain s by (Unreadable at) = refl
 
--- the machine never answers so
-pub machine_plain : (s : State) (ask : Ask) → tells_stop (answer_to s ask) ≡ false
+-- the machine never answers as the desk alone does
+pub machine_plain : (s : State) (ask : Ask) → is_desks (answer_to s ask) ≡ false
 machine_plain s ask = first_plain (accepted s ask.by ask.what) (refusals s ask.by ask.what) (accepted_plain s ask.by ask.what) (refusals_plain s ask.by ask.what)
 
 -- what is recorded was not refused
@@ -165,9 +173,15 @@ refused : (b : Bool) → IsTrue (b && false) → ⊥
 refused true e = absurd (cc)
 refused false e = absurd (cc)
 
-recorded_plain : (what : What) (answer : Answer) → IsTrue (is_recorded what answer) → tells_stop answer ≡ false
+pub recorded_plain : (what : What) (answer : Answer) → IsTrue (is_recorded what answer) → is_desks answer ≡ false
 recorded_plain what (No refusal) r = absurd (refused (changes what) r)
 recorded_plain what answer r = refl
+
+-- an answer that tells of a stop is the desk's
+stop_desks : (answer : Answer) → is_desks answer ≡ false → tells_stop answer ≡ false
+stop_desks (No (Stopped at)) e = absurd (cc)
+stop_desks (No DiskFault) e = absurd (cc)
+stop_desks answer e = refl
 
 clash : (P : Type 0) (b : Bool) → b ≡ false → b ≡ true → P
 clash P b p q = absurd (cc)
@@ -188,9 +202,9 @@ house_stop (Some journal) figures before after s front n ask answer h stays stop
 
 pub told_stop : (figures : Figures) (before after : Bool) (h : History) (seat : ℕ) (ask : Ask) (reply : Reply) → IsTold figures before after h seat ask reply → (before ≡ true → after ≡ true) → tells_stop reply.answer ≡ true → after ≡ true
 told_stop figures before after h seat ask reply told stays stop = let s : State = h.base.state in let a : Answer = reply.answer in ⊎_elim
-    (λ (x : IsRecorded s told.front seat ask a). clash (after ≡ true) (tells_stop a) (recorded_plain ask.what a x.change) stop)
+    (λ (x : IsRecorded s told.front seat ask a). clash (after ≡ true) (tells_stop a) (stop_desks a (recorded_plain ask.what a x.change)) stop)
     (λ (x : IsNotRecorded s told.front ask a ⊎ IsHouse figures.journal figures before after s told.front reply.at ask a ⊎ IsMemory a). ⊎_elim
-    (λ (y : IsNotRecorded s told.front ask a). clash (after ≡ true) (tells_stop a) (ap tells_stop y.same ∙ machine_plain (replayed_from s told.front) ask) stop)
+    (λ (y : IsNotRecorded s told.front ask a). clash (after ≡ true) (tells_stop a) (stop_desks a (ap is_desks y.same ∙ machine_plain (replayed_from s told.front) ask)) stop)
     (λ (y : IsHouse figures.journal figures before after s told.front reply.at ask a ⊎ IsMemory a). ⊎_elim
     (λ (z : IsHouse figures.journal figures before after s told.front reply.at ask a). house_stop figures.journal figures before after s told.front reply.at ask a z stays stop)
     (λ (z : IsMemory a). clash (after ≡ true) (tells_stop a) (ap tells_stop z) stop)

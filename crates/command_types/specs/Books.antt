@@ -22,6 +22,7 @@ amount_row i j amount = if nat_lt 0 amount then record { seller = i; buyer = j; 
 abbrev pub network_by : ℕ → (ℕ → ℕ → ℕ) → NetworkData
 network_by members f = record { members = members; rows = listed_pairs members (λ i j. amount_row i j (f i j)) }
 
+-- the trade is one of this product, from this seller to this buyer
 abbrev pub is_between : ℕ → ℕ → ℕ → TradeRow → Bool
 is_between product seller buyer row = (row.product == product) && (row.seller == seller) && (row.buyer == buyer)
 
@@ -34,12 +35,14 @@ abbrev pub network_where : (TradeRow → Bool) → ℕ → ℕ → List TradeRow
 network_where test members product rows =
     network_by members (λ seller buyer. total_where (λ row. is_between product seller buyer row && test row) rows)
 
--- a product's network of live trades, of the frozen ones, and of the held ones among these
+-- a product's network of live trades
 abbrev pub live_network : ℕ → ℕ → List TradeRow → NetworkData
 live_network members product rows = network_where (λ row. is_live row.state) members product rows
 
+-- a product's network of the frozen trades
 abbrev pub frozen_network : ℕ → ℕ → List TradeRow → NetworkData
 frozen_network members product rows = network_where (λ row. row.frozen) members product rows
 
+-- a product's network of those frozen trades that a party holds
 abbrev pub held_network : ℕ → ℕ → List TradeRow → NetworkData
 held_network members product rows = network_where (λ row. row.frozen && is_held row) members product rows

@@ -30,6 +30,7 @@ market_in s product = market_of (live_network (length s.roster.members) product 
 abbrev pub rows_of_member : ℕ → List TradeRow → List TradeRow
 rows_of_member member rows = filter (λ row. (row.seller == member) || (row.buyer == member)) rows
 
+-- the setting of a member for its side of a pair in a product replaces the one before
 abbrev pub with_tolerance : State → ℕ → ℕ → ℕ → Side → ℕ → Option ℕ → State
 with_tolerance s member product other side floor ceiling =
     record s { tolerances = with_setting (record { member = member; product = product; other = other; side = side; floor = floor; ceiling = ceiling }) s.tolerances }
@@ -38,12 +39,15 @@ with_tolerance s member product other side floor ceiling =
 abbrev pub after_freeze : State → DayParts → State
 after_freeze s day = record s { trades = frozen_rows s.roster.products day s.trades; cycle = opened s.cycle day }
 
+-- a freeze tells the next cycle's number, and how many trades it takes
 abbrev pub freeze_answer : State → DayParts → Answer
 freeze_answer s day = Frozen (1 + s.cycle.number) (length (filter (λ row. row.frozen) (frozen_rows s.roster.products day s.trades)))
 
+-- the next version begins, with the problems that trades, settings and mode now make
 abbrev pub after_begin : State → Mode → State
 after_begin s mode = record s { cycle = begun_with s.cycle (problems_of s.roster s.trades s.tolerances mode) }
 
+-- the limits of a product's pairs, as the version began with them
 abbrev pub limits_answer : State → ℕ → Answer
 limits_answer s product = LimitRows (lines_of_problem (slice_get s.cycle.begun product))
 
@@ -60,15 +64,18 @@ abbrev pub proposed_or_done : State → List SolutionData → List PlanRow → L
 proposed_or_done s solutions plan [] = after_execution s plan
 proposed_or_done s solutions plan (member ∷ members) = record s { cycle = proposed_with s.cycle solutions plan }
 
+-- the state after a posting: its plan is proposed, or executed at once where it touches nobody
 abbrev pub after_post : State → List SolutionData → State
 after_post s solutions =
     proposed_or_done s solutions (posted_plan s.cycle s.trades solutions) (touched_in s (posted_plan s.cycle s.trades solutions))
 
+-- a posting that touches nobody is told to change nothing; of any other the gross notional before and after is told
 abbrev pub proposed_answer : State → List SolutionData → List ℕ → Answer
 proposed_answer s solutions [] = Nothing s.cycle.number s.cycle.version
 proposed_answer s solutions (member ∷ members) =
     Proposed s.cycle.number s.cycle.version (gross_of_all (old_networks s.cycle.begun)) (gross_of_all (new_networks solutions))
 
+-- what a posting is answered, by the members that its plan touches
 abbrev pub post_answer : State → List SolutionData → Answer
 post_answer s solutions = proposed_answer s solutions (touched_in s (posted_plan s.cycle s.trades solutions))
 
@@ -76,6 +83,7 @@ post_answer s solutions = proposed_answer s solutions (touched_in s (posted_plan
 abbrev pub shown_plan : State → List ℕ → ℕ → List PlanRow
 shown_plan s by member = if is_operator s.roster by then s.cycle.plan else filter (is_in_step s.trades member) s.cycle.plan
 
+-- the steps of the proposed plan that the party sees
 abbrev pub plan_answer : State → List ℕ → ℕ → Answer
 plan_answer s by member = PlanRows s.cycle.number s.cycle.version (shown_plan s by member)
 
@@ -83,13 +91,16 @@ plan_answer s by member = PlanRows s.cycle.number s.cycle.version (shown_plan s 
 abbrev pub left_after : State → ℕ → List ℕ
 left_after s member = filter (λ voter. not (has_voted (member ∷ s.cycle.votes) voter)) (touched_in s s.cycle.plan)
 
+-- an execution tells how many trades its plan ends, cuts and makes
 abbrev pub executed_answer : Cycle → Answer
 executed_answer cycle = Executed cycle.number cycle.version (count_of is_end cycle.plan) (count_of is_cut cycle.plan) (count_of is_new cycle.plan)
 
+-- the last vote is told the execution, any other one how many are missing
 abbrev pub vote_answer : Cycle → List ℕ → Answer
 vote_answer cycle [] = executed_answer cycle
 vote_answer cycle (member ∷ members) = Accepted cycle.number cycle.version (1 + length members)
 
+-- what the vote of the member at this place is answered
 abbrev pub accept_answer : State → ℕ → Answer
 accept_answer s member = vote_answer s.cycle (left_after s member)
 
@@ -98,12 +109,15 @@ abbrev pub after_vote : State → ℕ → List ℕ → State
 after_vote s member [] = after_execution s s.cycle.plan
 after_vote s member (voter ∷ voters) = record s { cycle = record s.cycle { votes = s.cycle.votes ++ member ∷ [] } }
 
+-- the state after the vote of the member at this place
 abbrev pub after_accept : State → ℕ → State
 after_accept s member = after_vote s member (left_after s member)
 
+-- the proposed plan is dropped
 abbrev pub after_decline : State → State
 after_decline s = record s { cycle = declined s.cycle }
 
+-- the cycle is over, and no trade is frozen
 abbrev pub after_cancel : State → State
 after_cancel s = record s { trades = thawed s.trades; cycle = closed s.cycle.number s.cycle.version }
 

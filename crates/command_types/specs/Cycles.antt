@@ -42,18 +42,22 @@ closed number version = record {
 abbrev pub opened : Cycle → DayParts → Cycle
 opened cycle day = record (closed (1 + cycle.number) 0) { phase = Frozen; day = Some day }
 
+-- a cycle is open
 abbrev pub is_open : Phase → Bool
 is_open NoPhase = false
 is_open phase = true
 
+-- the cycle is broken
 abbrev pub is_broken : Phase → Bool
 is_broken Broken = true
 is_broken phase = false
 
+-- a version has begun, and waits for its posting
 abbrev pub is_solving : Phase → Bool
 is_solving Solving = true
 is_solving phase = false
 
+-- a plan is proposed
 abbrev pub is_proposed : Phase → Bool
 is_proposed Proposed = true
 is_proposed phase = false
@@ -76,6 +80,7 @@ has_limits Solving = true
 has_limits Proposed = true
 has_limits phase = false
 
+-- the product is there, and matures after this day
 abbrev pub product_matures_after : Option ProductRow → DayParts → Bool
 product_matures_after None day = false
 product_matures_after (Some row) day = is_before day row.maturity
@@ -84,6 +89,7 @@ product_matures_after (Some row) day = is_before day row.maturity
 abbrev pub is_taken : List ProductRow → DayParts → TradeRow → Bool
 is_taken products day row = is_live row.state && product_matures_after (slice_get products row.product) day
 
+-- the trade as a freeze of this day leaves it: frozen exactly if the freeze takes it
 abbrev pub row_at_freeze : List ProductRow → DayParts → TradeRow → TradeRow
 row_at_freeze products day row = record row { frozen = is_taken products day row }
 
@@ -125,6 +131,7 @@ limit_line problem seller buyer =
     } ∷ []
     else []
 
+-- what is told of the pairs of a product, in their order
 abbrev pub lines_of_problem : Option ProblemData → List LimitLine
 lines_of_problem None = []
 lines_of_problem (Some problem) = listed_pairs problem.network.members (limit_line problem)
@@ -133,6 +140,7 @@ lines_of_problem (Some problem) = listed_pairs problem.network.members (limit_li
 abbrev pub is_of_members : ℕ → SolutionData → Bool
 is_of_members members solution = (solution.network.members == members) && (length solution.potentials == members)
 
+-- the clash of this product if it has one, and else what is found in the next ones
 abbrev pub clash_or_next : ℕ → Option Clash → Option BadPost → Option BadPost
 clash_or_next product (Some clash) next = Some (At product clash)
 clash_or_next product None next = next
@@ -155,12 +163,15 @@ bad_post members problems solutions = if has_shape members problems solutions th
 abbrev pub gross_of_all : List NetworkData → ℕ
 gross_of_all networks = sum_by gross networks
 
+-- the networks of problems
 abbrev pub old_networks : List ProblemData → List NetworkData
 old_networks problems = map (λ problem. problem.network) problems
 
+-- the networks of solutions
 abbrev pub new_networks : List SolutionData → List NetworkData
 new_networks solutions = map (λ solution. solution.network) solutions
 
+-- what the new networks change by new trades of the freeze's day; without a freeze nothing
 abbrev pub plan_on : Option DayParts → List TradeRow → List NetworkData → List NetworkData → List PlanRow
 plan_on None rows old new = []
 plan_on (Some day) rows old new = plan_of rows old new day

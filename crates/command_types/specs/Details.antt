@@ -12,6 +12,7 @@ use Rattle.command_types.specs.Roster.{Rows}
 use Rattle.command_types.specs.Books.{is_held}
 use Rattle.command_types.specs.Text.{product_name, state_text, pair_text, numbers_text, head_text}
 
+-- whether a party holds the trade
 abbrev pub held_text : Bool → List ℕ
 held_text true = codes "held"
 held_text false = codes "-"

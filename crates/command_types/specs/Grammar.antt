@@ -36,21 +36,27 @@ abbrev pub value_or_none : {A : Type 0} → Result A NumberFault → Option A
 value_or_none (Ok value) = Some value
 value_or_none (Err fault) = None
 
+-- a name
 abbrev pub name_word : List ℕ → Option (List ℕ)
 name_word word = if is_name word then Some word else None
 
+-- an amount
 abbrev pub amount_word : List ℕ → Option ℕ
 amount_word word = value_or_none (amount_of word)
 
+-- a number of at most 10^18
 abbrev pub number_word : List ℕ → Option ℕ
 number_word word = value_or_none (number_of word MOST_NUMBER)
 
+-- a number with a sign or without one
 abbrev pub signed_word : List ℕ → Option ℤ
 signed_word word = value_or_none (signed_of word)
 
+-- a day
 abbrev pub day_word : List ℕ → Option DayParts
 day_word word = day_of word
 
+-- a mode: conservative, hybrid or free
 abbrev pub mode_word : List ℕ → Option Mode
 mode_word word =
     if bytes_eq word (codes "conservative") then Some modes.Conservative
@@ -58,9 +64,11 @@ mode_word word =
     else if bytes_eq word (codes "free") then Some modes.Free
     else None
 
+-- a side: out or in
 abbrev pub side_word : List ℕ → Option Side
 side_word word = if bytes_eq word (codes "out") then Some Out else (if bytes_eq word (codes "in") then Some In else None)
 
+-- a ceiling that was read as a number is one that is given
 abbrev pub given_ceiling : Option ℕ → Option (Option ℕ)
 given_ceiling None = None
 given_ceiling (Some ceiling) = Some (Some ceiling)
@@ -74,11 +82,13 @@ pub record Taken (A : Type 0) : Type 0 where
   pub value : A
   pub rest : Cursor
 
+-- a word that was read gives its value and the words behind it; one that could not be read is told at its place
 abbrev pub taken_word : {A : Type 0} → Option A → List ℕ → List (List ℕ) → ℕ → ℕ → Result (Taken A) ℕ
 taken_word None word words place size = Err place
 taken_word (Some value) word words place size =
     Ok (record { value = value; rest = record { words = words; place = place + length word + 1; size = size } })
 
+-- the first of these words is read; if there is none, that is told at the line's length
 abbrev pub next_of : {A : Type 0} → (List ℕ → Option A) → List (List ℕ) → ℕ → ℕ → Result (Taken A) ℕ
 next_of read [] place size = Err size
 next_of read (word ∷ words) place size = taken_word (read word) word words place size
@@ -87,10 +97,12 @@ next_of read (word ∷ words) place size = taken_word (read word) word words pla
 abbrev pub next : {A : Type 0} → (List ℕ → Option A) → Cursor → Result (Taken A) ℕ
 next read cursor = next_of read cursor.words cursor.place cursor.size
 
+-- what is read goes on behind a value that was taken, and ends at a fault
 abbrev pub and_then : {A B : Type 0} → Result (Taken A) ℕ → (A → Cursor → Result B ℕ) → Result B ℕ
 and_then (Err place) more = Err place
 and_then (Ok taken) more = more taken.value taken.rest
 
+-- the value, if no word is left; else the first of them is told at its place
 abbrev pub ended_at : {A : Type 0} → A → List (List ℕ) → ℕ → Result A ℕ
 ended_at value [] place = Ok value
 ended_at value (word ∷ words) place = Err place
@@ -183,6 +195,7 @@ line_by verb c =
     else (if bytes_eq verb (codes "BYE") then ended Bye c
     else Err 0))))))))))))))))))))
 
+-- the first word tells the command, and the others are read behind it
 abbrev pub line_of_words : ℕ → List (List ℕ) → Result Line ℕ
 line_of_words size [] = Err 0
 line_of_words size (verb ∷ words) = line_by verb (record { words = words; place = length verb + 1; size = size })

@@ -6,13 +6,13 @@ use Rattle.command_types.specs.declared.ask.What.{What}
 use Rattle.command_types.specs.declared.ask.What.TheVariants.{Post}
 use Rattle.command_types.specs.declared.ask.Entry.{Entry}
 use Rattle.command_types.specs.declared.answer.Answer.{Answer}
-use Rattle.command_types.specs.declared.figures.Base.{Base}
+use Rattle.command_types.specs.declared.figures.Start.{Start}
 use Rattle.command_types.specs.declared.figures.State.{State}
 use Rattle.command_types.specs.Machine.{answer_to, state_after, changes, is_refusal}
 
 -- where it begins, and the changes since
 pub record History : Type 0 where
-  pub base : Base
+  pub base : Start
   pub entries : List Entry
 
 -- the history without a change, from position 0 on
@@ -56,6 +56,7 @@ solutions_posted what = []
 abbrev pub IsAcceptedIn : State → Entry → Type 0
 IsAcceptedIn s entry = IsTrue (is_recorded entry.ask.what (answer_to s entry.ask)) × All IsSolution (solutions_posted entry.ask.what)
 
+-- each of these changes is one that the machine accepts, after the ones before it
 abbrev pub IsLegalFrom : State → List Entry → Type 0
 IsLegalFrom s [] = Unit {0}
 IsLegalFrom s (entry ∷ entries) = IsAcceptedIn s entry × IsLegalFrom (state_after s entry.ask) entries

@@ -1,5 +1,6 @@
 pub mod Roster
 pub mod Names
+pub mod Stamps
 pub mod Trades
 pub mod Books
 pub mod Tolerances
@@ -10,9 +11,12 @@ pub mod CycleRefusals
 pub mod CycleSteps
 pub mod Machine
 pub mod History
+pub mod Folds
 pub mod Sizes
 pub mod Spelling
+pub mod Bases
 pub mod Told
+pub mod Laws
 pub mod Lines
 pub mod Grammar
 pub mod Text

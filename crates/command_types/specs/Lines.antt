@@ -6,6 +6,7 @@ use Rattle.units_core.specs.declared.limits.TheConstants.{MOST_LINE}
 abbrev pub line_limit : ℕ
 line_limit = MOST_LINE
 
+-- the last byte is a carriage return
 abbrev pub ends_with_return : List ℕ → Bool
 ends_with_return line = nat_lt 0 (length line) && (slice_index line (length line - 1) == 13)
 
@@ -28,6 +29,7 @@ cut_on cut byte =
     if byte == 10 then record { whole = cut.whole ++ ended_line cut.rest ∷ []; rest = [] }
     else record { whole = cut.whole; rest = cut.rest ++ byte ∷ [] }
 
+-- no byte has come
 abbrev pub empty_cut : Cut
 empty_cut = record { whole = []; rest = [] }
 

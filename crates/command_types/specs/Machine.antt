@@ -30,10 +30,11 @@ abbrev pub first_of : List (Bool × Refusal) → Option Refusal
 first_of [] = None
 first_of (row ∷ rows) = if row.0 then Some row.1 else first_of rows
 
--- the place of a member, and of a product; where there is none, an earlier refusal holds
+-- the place of the member with this name; where there is none, an earlier refusal holds
 abbrev pub member_of : State → List ℕ → ℕ
 member_of s name = unwrap_or (member_place s.roster name) 0
 
+-- the place of the product with this name; where there is none, an earlier refusal holds
 abbrev pub product_of : State → List ℕ → ℕ
 product_of s name = unwrap_or (product_place s.roster name) 0
 
@@ -68,6 +69,7 @@ is_party_of s by row = is_on_side s by row Out || is_on_side s by row In
 abbrev pub side_in : State → List ℕ → TradeRow → Side
 side_in s by row = if is_on_side s by row Out then Out else In
 
+-- the party stands on the side that submitted the trade; a trade that a plan made has none
 abbrev pub is_submitter : State → List ℕ → TradeRow → Option Side → Bool
 is_submitter s by row None = false
 is_submitter s by row (Some side) = is_on_side s by row side
@@ -110,6 +112,7 @@ free_refusals s by (Some row) =
     ∷ if_frozen s row
     ∷ []
 
+-- the refusal of a NETS: the product is not there
 abbrev pub nets_refusals : State → List ℕ → List (Bool × Refusal)
 nets_refusals s product = (is_none (product_place s.roster product), UnknownProduct) ∷ []
 
@@ -188,6 +191,7 @@ accepted s by Bye = Left
 accepted s by (Unreadable at) = No (BadLine at)
 accepted s by what = party_answer s (unwrap_or by []) what
 
+-- the refusal if there is one, and else the answer
 abbrev pub refused_or : Answer → Option Refusal → Answer
 refused_or answer None = answer
 refused_or answer (Some refusal) = No refusal
@@ -212,6 +216,7 @@ changes (Decline cycle version) = true
 changes (Cancel cycle) = true
 changes what = false
 
+-- the answer is a refusal
 abbrev pub is_refusal : Answer → Bool
 is_refusal (No refusal) = true
 is_refusal answer = false
@@ -247,6 +252,7 @@ state_by_party s by (Decline cycle version) = after_decline s
 state_by_party s by (Cancel cycle) = after_cancel s
 state_by_party s by what = s
 
+-- the state after an accepted command; who has not greeted has no name
 abbrev pub state_by : State → Option (List ℕ) → What → State
 state_by s by what = state_by_party s (unwrap_or by []) what
 

@@ -27,6 +27,7 @@ pair_plan rows day product old new seller buyer =
     if nat_lt (at new seller buyer) (at old seller buyer) then falling (at old seller buyer - at new seller buyer) (free_rows rows product seller buyer)
     else (if nat_lt (at old seller buyer) (at new seller buyer) then New product seller buyer (at new seller buyer - at old seller buyer) day ∷ [] else [])
 
+-- what a product's new network changes, in the order of its pairs
 abbrev pub product_plan : List TradeRow → DayParts → ℕ → NetworkData → NetworkData → List PlanRow
 product_plan rows day product old new = listed_pairs old.members (pair_plan rows day product old new)
 
@@ -39,6 +40,7 @@ plan_from rows day product olds news = []
 abbrev pub plan_of : List TradeRow → List NetworkData → List NetworkData → DayParts → List PlanRow
 plan_of rows old new day = plan_from rows day 0 old new
 
+-- the trade is there, and the member is one of its two
 abbrev pub is_party_row : Option TradeRow → ℕ → Bool
 is_party_row None member = false
 is_party_row (Some row) member = (row.seller == member) || (row.buyer == member)
@@ -53,6 +55,7 @@ is_in_step rows member (New product seller buyer amount day) = (seller == member
 abbrev pub is_touched : List TradeRow → List PlanRow → ℕ → Bool
 is_touched rows plan member = list_any (is_in_step rows member) plan
 
+-- the member if the test holds, and else nobody
 abbrev pub only_if : Bool → ℕ → List ℕ
 only_if test member = if test then member ∷ [] else []
 
@@ -60,9 +63,11 @@ only_if test member = if test then member ∷ [] else []
 abbrev pub touched_by : ℕ → List TradeRow → List PlanRow → List ℕ
 touched_by members rows plan = listed_below members (λ member. only_if (is_touched rows plan member) member)
 
+-- a trade that a plan ends
 abbrev pub ended_row : TradeRow → TradeRow
 ended_row row = record row { state = Ended }
 
+-- a trade that a plan cuts to this amount
 abbrev pub cut_row : ℕ → TradeRow → TradeRow
 cut_row amount row = record row { amount = amount }
 
@@ -93,14 +98,17 @@ after_step rows (New product seller buyer amount day) = rows ++ made_row (length
 abbrev pub executed : List PlanRow → List TradeRow → List TradeRow
 executed plan rows = fold after_step rows plan
 
+-- the step ends a trade
 abbrev pub is_end : PlanRow → Bool
 is_end (End trade) = true
 is_end row = false
 
+-- the step cuts a trade
 abbrev pub is_cut : PlanRow → Bool
 is_cut (Cut trade from to) = true
 is_cut row = false
 
+-- the step makes a trade
 abbrev pub is_new : PlanRow → Bool
 is_new (New product seller buyer amount day) = true
 is_new row = false
@@ -109,6 +117,7 @@ is_new row = false
 abbrev pub count_of : (PlanRow → Bool) → List PlanRow → ℕ
 count_of kind plan = length (filter kind plan)
 
+-- the trade takes part in no cycle
 abbrev pub thawed_row : TradeRow → TradeRow
 thawed_row row = record row { frozen = false }
 

@@ -23,6 +23,7 @@ member_place rows name = position (λ row. bytes_eq row.name name) rows.members
 abbrev pub product_place : Rows → List ℕ → Option ℕ
 product_place rows name = position (λ row. bytes_eq row.name name) rows.products
 
+-- there is an operator, and this is its name
 abbrev pub is_operator_row : Option OperatorRow → List ℕ → Bool
 is_operator_row None name = false
 is_operator_row (Some row) name = bytes_eq row.name name
@@ -35,6 +36,7 @@ is_operator rows name = is_operator_row rows.operator name
 abbrev pub is_member_key : Rows → List ℕ → List ℕ → Bool
 is_member_key rows name key = list_any (λ row. bytes_eq row.name name && bytes_eq row.key key) rows.members
 
+-- there is an operator, and this is its name and its key
 abbrev pub is_operator_key : Option OperatorRow → List ℕ → List ℕ → Bool
 is_operator_key None name key = false
 is_operator_key (Some row) name key = bytes_eq row.name name && bytes_eq row.key key
@@ -48,6 +50,7 @@ abbrev pub is_party : Rows → Option (List ℕ) → Bool
 is_party rows None = false
 is_party rows (Some name) = is_some (member_place rows name) || is_operator rows name
 
+-- there is a member, and this is its name
 abbrev pub is_member_row : Option MemberRow → List ℕ → Bool
 is_member_row None name = false
 is_member_row (Some row) name = bytes_eq row.name name
@@ -56,6 +59,7 @@ is_member_row (Some row) name = bytes_eq row.name name
 abbrev pub is_member_at : Rows → ℕ → List ℕ → Bool
 is_member_at rows place name = is_member_row (slice_get rows.members place) name
 
+-- the operator's name, if there is an operator
 abbrev pub operator_names : Option OperatorRow → List (List ℕ)
 operator_names None = []
 operator_names (Some row) = row.name ∷ []
@@ -69,6 +73,7 @@ abbrev pub are_different : List (List ℕ) → Bool
 are_different [] = true
 are_different (name ∷ names) = not (list_any (bytes_eq name) names) && are_different names
 
+-- the role is a dealer's
 abbrev pub is_dealer : Role → Bool
 is_dealer Dealer = true
 is_dealer role = false

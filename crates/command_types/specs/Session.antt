@@ -43,9 +43,11 @@ pub record Draft : Type 0 where
   pub rows : List DraftRow
   pub potentials : List DraftPotential
 
+-- nothing is noted
 abbrev pub empty_draft : Draft
 empty_draft = record { rows = []; potentials = [] }
 
+-- the two rows are of one product and pair
 abbrev pub is_same_row : DraftRow → DraftRow → Bool
 is_same_row a b = bytes_eq a.product b.product && bytes_eq a.seller b.seller && bytes_eq a.buyer b.buyer
 
@@ -54,6 +56,7 @@ abbrev pub with_draft_row : DraftRow → List DraftRow → List DraftRow
 with_draft_row new [] = new ∷ []
 with_draft_row new (row ∷ rows) = if is_same_row new row then new ∷ rows else row ∷ with_draft_row new rows
 
+-- the two potentials are of one product and member
 abbrev pub is_same_potential : DraftPotential → DraftPotential → Bool
 is_same_potential a b = bytes_eq a.product b.product && bytes_eq a.member b.member
 
@@ -75,10 +78,12 @@ draft_sum product rows = sum_by (λ row. if bytes_eq row.product product then ro
 abbrev pub capped : ℕ → ℕ
 capped sum = if nat_lt MOST_GROSS sum then MOST_GROSS + 1 else sum
 
+-- the draft with this row noted
 abbrev pub noted_row : Draft → List ℕ → List ℕ → List ℕ → ℕ → Draft
 noted_row draft product seller buyer amount =
     record draft { rows = with_draft_row (record { product = product; seller = seller; buyer = buyer; amount = amount }) draft.rows }
 
+-- the draft with this potential noted
 abbrev pub noted_potential : Draft → List ℕ → List ℕ → ℤ → Draft
 noted_potential draft product member value =
     record draft { potentials = with_draft_potential (record { product = product; member = member; value = value }) draft.potentials }
@@ -88,6 +93,7 @@ abbrev pub draft_amount : List ℕ → List ℕ → List ℕ → List DraftRow �
 draft_amount product seller buyer rows =
     sum_by (λ row. if bytes_eq row.product product && bytes_eq row.seller seller && bytes_eq row.buyer buyer then row.amount else 0) rows
 
+-- the row of a pair; an amount of 0 has none
 abbrev pub positive_row : ℕ → ℕ → ℕ → List NetworkRow
 positive_row i j amount = if nat_lt 0 amount then record { seller = i; buyer = j; amount = amount } ∷ [] else []
 
@@ -107,6 +113,7 @@ draft_potential product member [] = pos 0
 draft_potential product member (potential ∷ potentials) =
     if bytes_eq potential.product product && bytes_eq potential.member member then potential.value else draft_potential product member potentials
 
+-- one potential for each member, in their order
 abbrev pub potentials_for : (List ℕ → ℤ) → List MemberRow → List ℤ
 potentials_for value_of [] = []
 potentials_for value_of (member ∷ members) = value_of member.name ∷ potentials_for value_of members
@@ -121,6 +128,7 @@ draft_solution members draft product = record {
   potentials = potentials_for (λ member. draft_potential product member draft.potentials) members;
 }
 
+-- the draft's solution of each of these products, in their order
 abbrev pub solutions_for : List MemberRow → Draft → List ProductRow → List SolutionData
 solutions_for members draft [] = []
 solutions_for members draft (product ∷ products) = draft_solution members draft product.name ∷ solutions_for members draft products
@@ -134,6 +142,7 @@ pub record Speaker : Type 0 where
   pub party : Option (List ℕ)
   pub draft : Draft
 
+-- nobody has greeted, and nothing is noted
 abbrev pub nobody : Speaker
 nobody = record { party = None; draft = empty_draft }
 
@@ -162,6 +171,7 @@ what_by rows draft (Decline cycle version) = AskDecline cycle version
 what_by rows draft (Cancel cycle) = AskCancel cycle
 what_by rows draft Bye = AskBye
 
+-- the command of what was read of a line; what can't be read is a command that is refused, with the byte at which it fails
 abbrev pub what_or_fault : Rows → Draft → Result Line ℕ → What
 what_or_fault rows draft (Ok line) = what_by rows draft line
 what_or_fault rows draft (Err at) = Unreadable at
@@ -206,6 +216,7 @@ pub record Mark : Type 0 where
   pub position : ℕ
   pub stopped : Bool
 
+-- what a session knows of the history, as it stands
 abbrev pub mark_of : Standing → Mark
 mark_of standing = record { position = standing.position; stopped = standing.stopped }
 
@@ -220,13 +231,15 @@ pub record IsAsked (figures : Figures) (h : History) (seat : ℕ) (from : Mark) 
   pub keeps : made ≡ recorded seat ask reply.answer
   pub position : to.position ≡ reply.at
 
--- the commands of a PROPOSE
+-- the first command of a PROPOSE: it begins a version
 abbrev pub ask_begin : Option (List ℕ) → ℕ → Mode → Ask
 ask_begin by cycle mode = record { by = by; what = AskBegin cycle mode }
 
+-- the second: it asks for the problems of the version that was begun
 abbrev pub ask_fetch : Option (List ℕ) → ℕ → ℕ → Ask
 ask_fetch by cycle version = record { by = by; what = Fetch cycle version }
 
+-- the third: it posts the solutions
 abbrev pub ask_post : Option (List ℕ) → ℕ → ℕ → List SolutionData → Ask
 ask_post by cycle version solutions = record { by = by; what = AskPost cycle version solutions }
 

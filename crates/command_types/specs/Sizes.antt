@@ -11,6 +11,7 @@ use Rattle.command_types.specs.declared.ask.What.TheVariants.{Trade, Affirm, End
 abbrev pub journal_limit : ℕ
 journal_limit = MOST_JOURNAL
 
+-- a name has a byte for its length
 abbrev pub name_size : List ℕ → ℕ
 name_size name = 1 + length name
 
@@ -23,6 +24,7 @@ ceiling_size (Some ceiling) = 9
 abbrev pub solution_size : SolutionData → ℕ
 solution_size solution = 6 + 12 * length solution.network.rows + 4 * length solution.potentials
 
+-- the fields of a change; other commands have none
 abbrev pub fields_size : What → ℕ
 fields_size (Trade seller buyer product amount day) = name_size seller + name_size buyer + name_size product + 12
 fields_size (Affirm trade) = 8

@@ -34,10 +34,12 @@ name_spelling name = length name ∷ name
 abbrev pub day_spelling : DayParts → List ℕ
 day_spelling d = to_le_bytes w16 d.year ++ d.month ∷ d.day ∷ []
 
+-- a side in one byte
 abbrev pub side_byte : Side → ℕ
 side_byte Out = 0
 side_byte In = 1
 
+-- a mode in one byte
 abbrev pub mode_byte : Mode → ℕ
 mode_byte modes.Conservative = 0
 mode_byte modes.Hybrid = 1
@@ -99,16 +101,20 @@ abbrev pub posted : What → ℕ
 posted (Post cycle version solutions) = length solutions
 posted what = 0
 
+-- a party is there, and has a name
 abbrev pub IsParty : Option (List ℕ) → Type 0
 IsParty None = ⊥
 IsParty (Some name) = IsTrue (is_name name)
 
+-- the number fits into eight bytes
 abbrev pub IsNumber : ℕ → Type 0
 IsNumber n = n < 2 ^ 64
 
+-- the floor or ceiling is at most the largest gross
 abbrev pub IsLevel : ℕ → Type 0
 IsLevel n = n ≤ MOST_GROSS
 
+-- the day is one of the calendar, of a year with at most four digits
 abbrev pub IsDay : DayParts → Type 0
 IsDay d = (d.year ≤ 9999) × IsTrue (is_civil d)
 

@@ -18,6 +18,7 @@ use Rattle.command_types.specs.declared.roster.MemberRow.{MemberRow}
 use Rattle.command_types.specs.declared.roster.ProductRow.{ProductRow}
 use Rattle.command_types.specs.Roster.{Rows}
 
+-- a member's name; where there is no member, no text
 abbrev pub member_row_name : Option MemberRow → List ℕ
 member_row_name None = []
 member_row_name (Some row) = row.name
@@ -26,6 +27,7 @@ member_row_name (Some row) = row.name
 abbrev pub member_name : Rows → ℕ → List ℕ
 member_name rows place = member_row_name (slice_get rows.members place)
 
+-- a product's name; where there is no product, no text
 abbrev pub product_row_name : Option ProductRow → List ℕ
 product_row_name None = []
 product_row_name (Some row) = row.name
@@ -34,11 +36,13 @@ product_row_name (Some row) = row.name
 abbrev pub product_name : Rows → ℕ → List ℕ
 product_name rows place = product_row_name (slice_get rows.products place)
 
+-- the word for a trade's state
 abbrev pub state_text : TradeState → List ℕ
 state_text Alleged = codes "alleged"
 state_text Live = codes "live"
 state_text EndedState = codes "ended"
 
+-- the word for a cycle's phase
 abbrev pub phase_text : Phase → List ℕ
 phase_text NoPhase = codes "none"
 phase_text FrozenPhase = codes "frozen"
@@ -50,6 +54,7 @@ phase_text Broken = codes "broken"
 abbrev pub pair_text : Rows → ℕ → ℕ → List ℕ
 pair_text rows seller buyer = codes " " ++ member_name rows seller ++ codes " " ++ member_name rows buyer
 
+-- the word for what is wrong with a solution, and the pair or the member where it is
 abbrev pub clash_text : Rows → Clash → List ℕ
 clash_text rows (Below seller buyer) = codes "below" ++ pair_text rows seller buyer
 clash_text rows (Above seller buyer) = codes "above" ++ pair_text rows seller buyer
@@ -57,6 +62,7 @@ clash_text rows (Net member) = codes "net " ++ member_name rows member
 clash_text rows (Open seller buyer) = codes "open" ++ pair_text rows seller buyer
 clash_text rows (Slack seller buyer) = codes "slack" ++ pair_text rows seller buyer
 
+-- what is wrong with a posting: its shape, or the first clash of a product
 abbrev pub post_text : Rows → BadPost → List ℕ
 post_text rows Shape = codes "shape"
 post_text rows (At product clash) = product_name rows product ++ codes " " ++ clash_text rows clash

@@ -12,6 +12,7 @@ use Rattle.command_types.specs.declared.roster.MemberRow.{MemberRow}
 use Rattle.command_types.specs.Roster.{is_dealer}
 use Rattle.command_types.specs.Books.{listed_pairs}
 
+-- the outgoing side stands before the incoming one
 abbrev pub side_place : Side → ℕ
 side_place Out = 0
 side_place In = 1
@@ -60,6 +61,7 @@ abbrev pub pair_ceiling : List ToleranceRow → ℕ → ℕ → ℕ → Option �
 pair_ceiling settings product seller buyer =
     smaller_of (ceiling_in settings seller product buyer Out) (ceiling_in settings buyer product seller In)
 
+-- there is a member, and it is a dealer
 abbrev pub is_dealer_row : Option MemberRow → Bool
 is_dealer_row None = false
 is_dealer_row (Some row) = is_dealer row.role
@@ -76,6 +78,7 @@ abbrev pub may_grow : Mode → List MemberRow → ℕ → ℕ → Bool
 may_grow mode members seller buyer =
     not (seller == buyer) && is_open mode (slice_get members seller) (slice_get members buyer)
 
+-- a ceiling that is given, but at least this amount
 abbrev pub raised_to : ℕ → Option ℕ → Option ℕ
 raised_to now None = None
 raised_to now (Some ceiling) = Some (max now ceiling)
@@ -89,6 +92,7 @@ pair_upper true now ceiling = raised_to now ceiling
 abbrev pub pair_lower : ℕ → ℕ → ℕ → ℕ
 pair_lower now floor held = min now (max floor held)
 
+-- the most is given, and it is 0
 abbrev pub is_zero_bound : Option ℕ → Bool
 is_zero_bound None = false
 is_zero_bound (Some most) = most == 0
@@ -98,6 +102,7 @@ abbrev pub limit_row : ℕ → ℕ → ℕ → Option ℕ → List LimitRow
 limit_row seller buyer low high =
     if is_zero_bound high then [] else record { seller = seller; buyer = buyer; lower = low; upper = high } ∷ []
 
+-- the limits of a pair: what floors, ceilings, holds and the mode leave around its amount
 abbrev pub pair_limit : Mode → List MemberRow → List ToleranceRow → ℕ → NetworkData → NetworkData → ℕ → ℕ → List LimitRow
 pair_limit mode members settings product network held seller buyer =
     limit_row seller buyer

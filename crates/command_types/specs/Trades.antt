@@ -7,14 +7,17 @@ use Rattle.command_types.specs.declared.trade.Side.TheVariants.{Out, In}
 use Rattle.command_types.specs.declared.trade.TradeState.{TradeState}
 use Rattle.command_types.specs.declared.trade.TradeState.TheVariants.{Alleged, Live, Ended}
 
+-- the trade waits for the other party
 abbrev pub is_alleged : TradeState → Bool
 is_alleged Alleged = true
 is_alleged state = false
 
+-- the trade is live
 abbrev pub is_live : TradeState → Bool
 is_live Live = true
 is_live state = false
 
+-- the trade has ended
 abbrev pub is_ended : TradeState → Bool
 is_ended Ended = true
 is_ended state = false
@@ -53,10 +56,12 @@ submitted_count rows = length (filter (λ row. is_some row.submitter) rows)
 abbrev pub trade_numbered : List TradeRow → ℕ → Option TradeRow
 trade_numbered rows number = if nat_lt 0 number then slice_get rows (number - 1) else None
 
+-- the rows with this one at a trade's place; without one they stay
 abbrev pub with_row : List TradeRow → ℕ → Option TradeRow → List TradeRow
 with_row rows number None = rows
 with_row rows number (Some row) = slice_set rows (number - 1) row
 
+-- the changed row, if the trade is there
 abbrev pub changed_row : (TradeRow → TradeRow) → Option TradeRow → Option TradeRow
 changed_row change None = None
 changed_row change (Some row) = Some (change row)
@@ -86,10 +91,11 @@ affirmed rows number = with_changed live_row rows number
 abbrev pub ended_by : Side → List TradeRow → ℕ → List TradeRow
 ended_by side rows number = with_changed (row_ended_by side) rows number
 
--- the rows with a party's hold on this trade, and without it
+-- the rows with a party's hold on this trade
 abbrev pub held_by : Side → List TradeRow → ℕ → List TradeRow
 held_by side rows number = with_changed (row_with_hold true side) rows number
 
+-- the rows without a party's hold on this trade
 abbrev pub freed_by : Side → List TradeRow → ℕ → List TradeRow
 freed_by side rows number = with_changed (row_with_hold false side) rows number
 

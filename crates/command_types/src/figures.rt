@@ -42,7 +42,7 @@ pub struct State {
 }
 
 /// Where a history begins: a position, and the state there.
-pub struct Base {
+pub struct Start {
     pub position: u64,
     pub state: State,
 }
@@ -65,7 +65,7 @@ pub struct JournalFigures {
 
 /// What a desk was when it was made. No call changes it.
 pub struct Figures {
-    pub base: Base,
+    pub base: Start,
     /// How long the history was.
     pub opening: u64,
     /// The journal's figures; a desk without a journal has none.

@@ -1,5 +1,7 @@
 //! Who takes part, and in which products.
 
+use crate::name_index::{NameIndex, key_of};
+use crate::row_places::{member_at, product_at};
 use std::alloc::AllocError;
 use std::marker::Model;
 use units_core::{Day, MemberNo, Name, ProductNo};
@@ -39,22 +41,28 @@ pub struct Roster {
     members: Vec<MemberRow>,
     products: Vec<ProductRow>,
     operator: Option<OperatorRow>,
+    /// Where the members' names stand. Contracts see nothing of it.
+    member_index: NameIndex,
+    /// The same of the products' names.
+    product_index: NameIndex,
 }
 
 impl Model for Roster {
-    ghost use Rattle.command_types.specs.Roster.{Rows, IsRoster};
+    ghost use Rattle.command_types.specs.Roster.{Rows};
+    ghost use Rattle.command_types.specs.Stamps.{IsIndexed};
 
     ghost Value = { Rows };
 
     ghost view = { λ r. record { members = r.members.items; products = r.products.items; operator = r.operator } };
 
-    ghost invariant = { λ r. IsRoster (record { members = r.members.items; products = r.products.items; operator = r.operator }) };
+    ghost invariant = { λ r. IsIndexed (record { members = r.members.items; products = r.products.items; operator = r.operator }) r.member_index r.product_index };
 }
 
-ghost use Rattle.std.specs.Prelude.{◌≡◌, ◌≤◌, ◌<◌, ◌&&◌, IfOk, IfSome, length, position};
+ghost use Rattle.std.specs.Prelude.{◌≡◌, ◌≤◌, ◌<◌, ◌&&◌, IfOk, IfSome, None, length, map, position, true, if◌then◌else◌};
 ghost use Rattle.std.specs.List.{list_any};
 ghost use Rattle.std.specs.Str.{bytes_eq};
-ghost use Rattle.command_types.specs.Roster.{Rows, IsRoster, member_place, product_place, is_operator, is_operator_row, is_key, is_member_key, is_operator_key};
+ghost use Rattle.command_types.specs.Roster.{Rows, IsRoster, member_place, product_place, is_operator, is_operator_row, is_key, is_member_key, is_operator_key, are_different};
+ghost use Rattle.units_core.specs.Name.{is_name};
 ghost use Rattle.units_core.specs.declared.limits.TheConstants.{MOST_MEMBERS, MOST_PRODUCTS};
 
 impl Roster {
@@ -67,10 +75,14 @@ impl Roster {
         requires { IsRoster (record { members = members.items; products = products.items; operator = operator }) }
         ensures { result ≡ record { members = members.items; products = products.items; operator = operator } }
     {
+        let member_index = NameIndex::of_members(&members);
+        let product_index = NameIndex::of_products(&products);
         Roster {
             members,
             products,
             operator,
+            member_index,
+            product_index,
         }
     }
 
@@ -84,6 +96,8 @@ impl Roster {
             members,
             products,
             operator: self.operator,
+            member_index: self.member_index.copy(),
+            product_index: self.product_index.copy(),
         })
     }
 
@@ -115,17 +129,44 @@ impl Roster {
     pub fn member_named(&self, name: &Name) -> Option<MemberNo>
         ensures { result ≡ member_place self.now name.now }
     {
-        match place_of_member(&self.members, name) {
-            None => None,
-            Some(place) => Some(MemberNo(place as u16)),
-        }
+        self.member_spelt(name.text())
     }
 
     /// The place of the product with this name; none exactly where no product has it.
     pub fn product_named(&self, name: &Name) -> Option<ProductNo>
         ensures { result ≡ product_place self.now name.now }
     {
-        match place_of_product(&self.products, name) {
+        self.product_spelt(name.text())
+    }
+
+    /// The place of the member whose name this text is; none exactly where it is no member's name.
+    #[inline]
+    pub fn member_spelt(&self, text: &[u8]) -> Option<MemberNo>
+        ensures { result ≡ (if is_name text.now then member_place self.now text.now else None) }
+    {
+        let key = key_of(text);
+        let place = self.member_index.place(key);
+        if self.member_index.has_stamp(place, text, key) {
+            return Some(MemberNo(place as u16));
+        }
+        match member_at(&self.members, text, place as usize) {
+            None => None,
+            Some(place) => Some(MemberNo(place as u16)),
+        }
+    }
+
+    /// The place of the product whose name this text is; none exactly where it is no product's name.
+    #[inline]
+    pub fn product_spelt(&self, text: &[u8]) -> Option<ProductNo>
+        ensures place { result ≡ (if is_name text.now then product_place self.now text.now else None) }
+        ensures few { IfSome result (λ place. place < MOST_PRODUCTS) }
+    {
+        let key = key_of(text);
+        let place = self.product_index.place(key);
+        if self.product_index.has_stamp(place, text, key) {
+            return Some(ProductNo(place as u16));
+        }
+        match product_at(&self.products, text, place as usize) {
             None => None,
             Some(place) => Some(ProductNo(place as u16)),
         }
@@ -144,20 +185,6 @@ impl Roster {
     {
         has_member_key(&self.members, name, key) || has_key(&self.operator, name, key)
     }
-}
-
-fn place_of_member(members: &[MemberRow], name: &Name) -> Option<usize>
-    ensures place { result ≡ position (λ row. bytes_eq row.name name.now) members.now }
-    ensures within { IfSome result (λ place. place < length members.now) }
-{
-    members.iter().position(|row| row.name.is(name))
-}
-
-fn place_of_product(products: &[ProductRow], name: &Name) -> Option<usize>
-    ensures place { result ≡ position (λ row. bytes_eq row.name name.now) products.now }
-    ensures within { IfSome result (λ place. place < length products.now) }
-{
-    products.iter().position(|row| row.name.is(name))
 }
 
 fn has_member_key(members: &[MemberRow], name: &Name, key: &Name) -> bool
