@@ -9,7 +9,6 @@ pub mod DraftFacts
 pub mod TextFacts
 pub mod RangeFacts
 pub mod PartFacts
-pub mod FirstFacts
 pub mod NumberTexts
 pub mod SpacedWords
 pub mod LineTexts

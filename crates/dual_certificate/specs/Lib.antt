@@ -7,5 +7,4 @@ pub mod ProposalLine
 pub mod Proposal
 pub mod ProposalDraft
 pub mod Parts
-pub mod Firsts
 pub mod Laws

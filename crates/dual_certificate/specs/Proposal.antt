@@ -26,6 +26,7 @@ pub record Reading : Type 0 where
 abbrev pub nothing_read : Reading
 nothing_read = record { parts = []; figures = None; rows = []; potentials = []; has_ended = false }
 
+-- there is a product, and this is its name
 abbrev pub is_product_row : Option ProductRow → List ℕ → Bool
 is_product_row None name = false
 is_product_row (Some row) name = bytes_eq row.name name
@@ -39,6 +40,7 @@ abbrev pub with_product : Rows → Reading → List ℕ → Figures → Option R
 with_product roster r name figures =
     if is_between r && is_product_row (slice_get roster.products (length r.parts)) name then Some (record r { figures = Some figures }) else None
 
+-- the row stands behind the last one, by its seller and then its buyer
 abbrev pub is_behind : Option NetworkRow → NetworkRow → Bool
 is_behind None row = true
 is_behind (Some last) row = nat_lt (place last) (place row)
@@ -48,6 +50,7 @@ abbrev pub fits : List NetworkRow → NetworkRow → Bool
 fits rows row =
     not (row.seller == row.buyer) && is_behind (slice_get rows (length rows - 1)) row && nat_le (total rows + row.amount) MOST_GROSS
 
+-- one more row of the part that is begun, which has no potential yet
 abbrev pub with_network_row : Reading → NetworkRow → Option Reading
 with_network_row r row =
     if is_some r.figures && (length r.potentials == 0) && fits r.rows row then Some (record r { rows = r.rows ++ row ∷ [] }) else None
@@ -73,6 +76,7 @@ finished roster r figures value = record {
   bound = value;
 }
 
+-- the part that is begun is finished, once each member has a potential
 abbrev pub with_finished : Rows → Reading → Option Figures → ℕ → Option Reading
 with_finished roster r None value = None
 with_finished roster r (Some figures) value =

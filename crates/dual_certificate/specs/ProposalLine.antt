@@ -21,6 +21,7 @@ pub record Taken (A : Type 0) : Type 0 where
   pub value : A
   pub rest : List (List ℕ)
 
+-- a word that was read gives its value and the words behind it
 abbrev pub taken_of : {A : Type 0} → Option A → List (List ℕ) → Option (Taken A)
 taken_of None words = None
 taken_of (Some value) words = Some (record { value = value; rest = words })
@@ -30,6 +31,7 @@ abbrev pub next : {A : Type 0} → (List ℕ → Option A) → List (List ℕ) �
 next read [] = None
 next read (word ∷ words) = taken_of (read word) words
 
+-- what is read goes on behind a value that was taken
 abbrev pub and_then : {A B : Type 0} → Option (Taken A) → (A → List (List ℕ) → Option B) → Option B
 and_then None more = None
 and_then (Some taken) more = more taken.value taken.rest
@@ -39,6 +41,7 @@ abbrev pub ended : ProposalLine → List (List ℕ) → Option ProposalLine
 ended line [] = Some line
 ended line (word ∷ words) = None
 
+-- a product's figures, as its line tells them
 abbrev pub figures_of : ℕ → ℕ → ℕ → ℕ → Figures
 figures_of gross least floor_m bilateral = record { gross = gross; least = least; floor_m = floor_m; bilateral = bilateral }
 
@@ -83,6 +86,7 @@ line_by verb w =
     else (if bytes_eq verb (codes "end") then end_line w
     else None))))
 
+-- the first word tells the line's kind, and the others are read behind it
 abbrev pub line_of_words : List (List ℕ) → Option ProposalLine
 line_of_words [] = None
 line_of_words (verb ∷ w) = line_by verb w

@@ -13,14 +13,17 @@ product_text roster product old new =
     codes "product " ++ product_name roster product ++ codes " " ++ decimal (gross old) ++ codes " " ++ decimal (gross new)
     ++ codes " " ++ decimal (floor_m old) ++ codes " " ++ decimal (bilateral old) ++ codes "\n"
 
+-- the line of a row
 abbrev pub row_text : Rows → Row → List ℕ
 row_text roster row =
     codes "row " ++ member_name roster row.seller ++ codes " " ++ member_name roster row.buyer ++ codes " " ++ decimal row.amount ++ codes "\n"
 
+-- the lines of rows, in their order
 abbrev pub rows_text : Rows → List Row → List ℕ
 rows_text roster [] = []
 rows_text roster (row ∷ rows) = row_text roster row ++ rows_text roster rows
 
+-- the line of a member's potential
 abbrev pub pot_text : Rows → ℕ → ℤ → List ℕ
 pot_text roster member value = codes "pot " ++ member_name roster member ++ codes " " ++ signed_decimal value ++ codes "\n"
 
@@ -35,6 +38,7 @@ part_text roster product old new =
     product_text roster product old new.network ++ rows_text roster new.network.rows ++ pots_text roster 0 new.potentials
     ++ (codes "bound " ++ decimal (gross new.network) ++ codes "\n")
 
+-- the lines of one product, if it has a network and a solution
 abbrev pub part_of : Rows → ℕ → Option NetworkData → Option SolutionData → List ℕ
 part_of roster product (Some old) (Some new) = part_text roster product old new
 part_of roster product old new = []

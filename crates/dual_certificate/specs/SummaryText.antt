@@ -5,6 +5,7 @@ use Rattle.network_laws.specs.Solutions.{SolutionData}
 use Rattle.command_types.specs.Roster.{Rows}
 use Rattle.dual_certificate.specs.ProposalText.{product_text}
 
+-- the line of one product, if it has a network and a solution
 abbrev pub summary_line : Rows → ℕ → Option NetworkData → Option SolutionData → List ℕ
 summary_line roster product (Some old) (Some new) = product_text roster product old new.network
 summary_line roster product old new = []

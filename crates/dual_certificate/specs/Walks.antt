@@ -26,6 +26,7 @@ abbrev pub limit_or_end : Option LimitRow → ℕ
 limit_or_end None = no_pair
 limit_or_end (Some row) = limit_place row
 
+-- the same of a network's row
 abbrev pub row_or_end : Option Row → ℕ
 row_or_end None = no_pair
 row_or_end (Some row) = place row
@@ -34,6 +35,7 @@ row_or_end (Some row) = place row
 abbrev pub KnowsLimit : List LimitRow → RowCursor → Type 0
 KnowsLimit limits cursor = cursor.place ≡ limit_or_end (slice_get limits cursor.at)
 
+-- the same of a network's rows
 abbrev pub KnowsRow : List Row → RowCursor → Type 0
 KnowsRow rows cursor = cursor.place ≡ row_or_end (slice_get rows cursor.at)
 
@@ -43,6 +45,7 @@ pub record IsAtLimit (limits : List LimitRow) (cursor : RowCursor) (w : ℕ) : T
   pub first : IsLimitCursor limits cursor.at w
   pub knows : KnowsLimit limits cursor
 
+-- the same of a network's rows
 pub record IsAtRow (rows : List Row) (cursor : RowCursor) (w : ℕ) : Type 0 where
   pub end : cursor.at ≤ length rows
   pub first : IsCursor rows cursor.at w

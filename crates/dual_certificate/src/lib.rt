@@ -11,7 +11,6 @@ mod checker;
 mod cost;
 mod dual;
 mod laws;
-mod member_search;
 mod net_test;
 mod pair_cursor;
 mod pieces;

@@ -7,7 +7,6 @@ ghost use Rattle.dual_certificate.specs.Proposal.{nothing_read, is_between, is_b
 ghost use Rattle.dual_certificate.specs.ProposalDraft.{reading_of, IsDraft, ReadSteps};
 ghost use Rattle.units_core.specs.declared.limits.TheConstants.{MOST_GROSS};
 
-use crate::member_search::Members;
 use crate::proposal_line::{Figures, Potential, ProposalLine, read_line};
 use crate::proposal_part::ProposalPart;
 use command_types::{FileFault, Roster};
@@ -190,19 +189,19 @@ impl ProposalDraft {
 
     fn add_named_row(
         &mut self,
-        members: &Members<'_>,
+        roster: &Roster,
         row: u64,
         seller: Name,
         buyer: Name,
         amount: Amount,
     ) -> Result<(), FileFault>
-        requires { IsDraft members.now self.old }
-        ensures { ReadSteps members.now row (with_row (reading_of self.old) (member_place members.now seller) (member_place members.now buyer) amount) self.new result }
+        requires { IsDraft roster.now self.old }
+        ensures { ReadSteps roster.now row (with_row (reading_of self.old) (member_place roster.now seller) (member_place roster.now buyer) amount) self.new result }
     {
-        let Some(seller) = members.member(&seller) else {
+        let Some(seller) = roster.member_named(&seller) else {
             return Err(FileFault::BadLine { row });
         };
-        let Some(buyer) = members.member(&buyer) else {
+        let Some(buyer) = roster.member_named(&buyer) else {
             return Err(FileFault::BadLine { row });
         };
         let added = Row {
@@ -210,50 +209,40 @@ impl ProposalDraft {
             buyer: buyer.0,
             amount: amount.get(),
         };
-        self.add_row(members.roster(), row, added)
+        self.add_row(roster, row, added)
     }
 
     // What a line with this number says.
-    fn take(&mut self, members: &Members<'_>, row: u64, line: ProposalLine) -> Result<(), FileFault>
-        requires { IsDraft members.now self.old }
-        ensures { ReadSteps members.now row (with_said members.now (reading_of self.old) (Some line)) self.new result }
+    fn take(&mut self, roster: &Roster, row: u64, line: ProposalLine) -> Result<(), FileFault>
+        requires { IsDraft roster.now self.old }
+        ensures { ReadSteps roster.now row (with_said roster.now (reading_of self.old) (Some line)) self.new result }
     {
         match line {
-            ProposalLine::Product { name, figures } => self.begin(
-                members.roster(),
-                row,
-                name,
-                figures,
-            ),
+            ProposalLine::Product { name, figures } => self.begin(roster, row, name, figures),
             ProposalLine::Row {
                 seller,
                 buyer,
                 amount,
-            } => self.add_named_row(members, row, seller, buyer, amount),
-            ProposalLine::Pot { member, value } => self.add_potential(
-                members.roster(),
-                row,
-                member,
-                value,
-            ),
-            ProposalLine::Bound { value } => self.finish(members.roster(), row, value),
-            ProposalLine::End { count } => self.end(members.roster(), row, count),
+            } => self.add_named_row(roster, row, seller, buyer, amount),
+            ProposalLine::Pot { member, value } => self.add_potential(roster, row, member, value),
+            ProposalLine::Bound { value } => self.finish(roster, row, value),
+            ProposalLine::End { count } => self.end(roster, row, count),
         }
     }
 
     /// Takes the line with this number, without its line feed.
     pub(crate) fn take_line(
         &mut self,
-        members: &Members<'_>,
+        roster: &Roster,
         row: u64,
         line: &[u8],
     ) -> Result<(), FileFault>
-        requires { IsDraft members.now self.old }
-        ensures { ReadSteps members.now row (with_line members.now (reading_of self.old) line.now) self.new result }
+        requires { IsDraft roster.now self.old }
+        ensures { ReadSteps roster.now row (with_line roster.now (reading_of self.old) line.now) self.new result }
     {
         match read_line(line) {
             None => Err(FileFault::BadLine { row }),
-            Some(line) => self.take(members, row, line),
+            Some(line) => self.take(roster, row, line),
         }
     }
 

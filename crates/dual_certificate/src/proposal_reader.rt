@@ -8,7 +8,6 @@ ghost use Rattle.dual_certificate.specs.ProposalDraft.{reading_of};
 ghost use Rattle.dual_certificate.specs.Parts.{AreParts};
 ghost use Rattle.units_core.specs.declared.limits.TheConstants.{MOST_FILE};
 
-use crate::member_search::Members;
 use crate::pieces::cut;
 use crate::proposal_draft::ProposalDraft;
 use crate::proposal_part::ProposalPart;
@@ -30,21 +29,17 @@ fn parts_of(draft: ProposalDraft, row: u64, rest: &[u8]) -> Result<Vec<ProposalP
 }
 
 // The parts that the lines say.
-fn read_lines(
-    alloc: Global,
-    bytes: &[u8],
-    members: &Members<'_>,
-) -> Result<Vec<ProposalPart>, FileFault>
+fn read_lines(alloc: Global, bytes: &[u8], roster: &Roster) -> Result<Vec<ProposalPart>, FileFault>
     requires { length bytes.now ≤ MOST_FILE }
-    ensures parts { IfOk result (λ parts. with_pieces members.now 1 nothing_read (pieces 10 bytes.now) ≡ Ok parts.items) }
+    ensures parts { IfOk result (λ parts. with_pieces roster.now 1 nothing_read (pieces 10 bytes.now) ≡ Ok parts.items) }
     ensures solutions { IfOk result (λ parts. All (λ part. IsSolution part.solution) parts.items) }
-    ensures fault { IfErr result (λ fault. (fault ≡ Memory) ⊎ (with_pieces members.now 1 nothing_read (pieces 10 bytes.now) ≡ Err fault)) }
+    ensures fault { IfErr result (λ fault. (fault ≡ Memory) ⊎ (with_pieces roster.now 1 nothing_read (pieces 10 bytes.now) ≡ Err fault)) }
 {
     let mut draft = ProposalDraft::new(alloc);
     let mut rest = bytes;
     let mut row = 1;
     while let Some((line, more)) = cut(rest, b'\n') {
-        match draft.take_line(members, row, line) {
+        match draft.take_line(roster, row, line) {
             Ok(()) => {}
             Err(fault) => return Err(fault),
         }
@@ -71,8 +66,5 @@ pub fn read_proposal(
     if bytes.len() > MOST_FILE {
         return Err(FileFault::TooLong);
     }
-    let Ok(members) = Members::of(alloc, roster) else {
-        return Err(FileFault::Memory);
-    };
-    read_lines(alloc, bytes, &members)
+    read_lines(alloc, bytes, roster)
 }

@@ -20,12 +20,12 @@ use Rattle.command_types.specs.declared.refusal.Refusal.TheVariants.{JournalFull
 use Rattle.command_types.specs.Grammar.{line_within}
 use Rattle.command_types.specs.History.{History, longer, recorded, is_recorded, replayed_from}
 use Rattle.command_types.specs.Lines.{cut_of, lines_of}
-use Rattle.command_types.specs.Machine.{first_of}
+use Rattle.command_types.specs.Machine.{answer_to, first_of}
 use Rattle.command_types.specs.Roster.{Rows}
 use Rattle.command_types.specs.Session.{Speaker, nobody, speaker_after, is_bye, Standing, Mark, mark_of, IsAsked, IsProposed, IsReplied, IsTalk, GoesOnFetched, GoesOnBegun, ask_begin, ask_fetch, ask_post}
 use Rattle.command_types.specs.Sizes.{journal_limit, frame_size}
 use Rattle.command_types.specs.Told.{IsTold, IsRecorded, IsNotRecorded, IsHouse, IsMemory, journal_size, tells_stop}
-use Rattle.command_types.proofs.StopFacts.{machine_plain}
+use Rattle.command_types.proofs.StopFacts.{is_desks, machine_plain}
 use Rattle.session.specs.declared.serve.SessionEnd.{SessionEnd}
 use Rattle.session.specs.declared.serve.SessionEnd.TheVariants.{Ended, SourceFault, SinkFault, Limit, Memory}
 use Rattle.session.specs.Answered.{IsOfMachine, IsOfFullJournal, IsAnswer, IsCommandOf, IsLineAnswered, AreAnswered, IsInputAnswered, EveryLineIsAnswered}
@@ -42,6 +42,12 @@ recorded_one seat ask answer is = ap (λ t. cond {A = List Entry} t (record { se
 
 recorded_none : (seat : ℕ) (ask : Ask) (answer : Answer) → IsTrue (not (is_recorded ask.what answer)) → recorded seat ask answer ≡ []
 recorded_none seat ask answer is = ap (λ t. cond {A = List Entry} t (record { seat = seat; ask = ask } ∷ []) []) (not-true (is_recorded ask.what answer) is)
+
+-- what a desk alone answers has the tellings of a stop among it
+stop_desks : (answer : Answer) → is_desks answer ≡ false → tells_stop answer ≡ false
+stop_desks (No (Stopped at)) plain = cc
+stop_desks (No DiskFault) plain = cc
+stop_desks answer plain = refl
 
 -- a desk that is not stopped refuses for a full journal alone
 full_alone : (full : Bool) (size n : ℕ) (refusal : Refusal) → first_of ((full, JournalFull size) ∷ (false, Stopped n) ∷ (false, DiskFault) ∷ []) ≡ Some refusal → (full ≡ true) × (refusal ≡ JournalFull size)
@@ -105,7 +111,7 @@ module _ (figures : Figures) (h : History) (seat : ℕ) (ask : Ask) (reply : Rep
 
   -- no such answer tells a stop
   answer_runs : IsAnswer figures h seat ask reply → tells_stop reply.answer ≡ false
-  answer_runs (inl m) = ap tells_stop m.same ∙ machine_plain (replayed_from h.base.state m.front) ask
+  answer_runs (inl m) = ap tells_stop m.same ∙ stop_desks (answer_to (replayed_from h.base.state m.front) ask) (machine_plain (replayed_from h.base.state m.front) ask)
   answer_runs (inr (inl f)) = ap tells_stop f.same
   answer_runs (inr (inr e)) = ap tells_stop e
 

@@ -7,13 +7,10 @@ use Rattle.std.proofs.lemmas.Option.{get_or_from_slice_get}
 use Rattle.std.proofs.lemmas.Slice.Eq.{bytes_eq-Decides}
 use Rattle.std.specs.Str.{bytes_eq}
 use Rattle.command_types.specs.declared.roster.MemberRow.{MemberRow}
-use Rattle.command_types.specs.declared.roster.Role.TheVariants.{Dealer}
 use Rattle.command_types.specs.Session.{DraftRow, draft_amount, draft_sum}
 use Rattle.pair_table.specs.PairSums.{PairSums, gross_in}
+use Rattle.session.proofs.PlaceFacts.{nobody}
 use Rattle.session.specs.Places.{name_at, IsPlaceOf, pair_part, product_part, HasMore, HasRows}
-
-nobody : MemberRow
-nobody = record { name = []; role = Dealer; key = [] }
 
 -- the name of the member at the place of a name
 named : (members : List MemberRow) (name : List ℕ) (p : ℕ) → IsPlaceOf (length members) members name (Some p) → name ≡ name_at members p nobody

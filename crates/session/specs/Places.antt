@@ -1,11 +1,9 @@
 -- The places of members, by their names, and what a table of sums has of a draft's rows.
 use Rattle.std.specs.Prelude.{◌≡◌, ℕ, ◌+◌, ◌<◌, ◌≤◌, ◌==◌, ◌&&◌, Bool, false, List, length, slice_index_or, Option, Some, None, IfSome, if◌then◌else◌}
-use Rattle.std.specs.Map.{lookup}
 use Rattle.std.specs.Str.{bytes_eq}
 use Rattle.command_types.specs.declared.roster.MemberRow.{MemberRow}
 use Rattle.command_types.specs.Session.{DraftRow, draft_amount, draft_sum}
 use Rattle.pair_table.specs.PairSums.{PairSums, sum_in, gross_in}
-use Rattle.units_core.specs.declared.limits.TheConstants.{MOST_MEMBERS}
 
 abbrev pub is_there : Option ℕ → ℕ → Bool
 is_there None i = false
@@ -19,15 +17,6 @@ name_at members i other = (slice_index_or members i other).name
 pub record IsPlaceOf (first : ℕ) (members : List MemberRow) (name : List ℕ) (place : Option ℕ) : Type 0 where
   pub within : IfSome place (λ p. p < first)
   pub is : (i : ℕ) (other : MemberRow) → i < first → is_there place i ≡ bytes_eq name (name_at members i other)
-
--- the entries have the places of the first members
-abbrev pub KnowsPlaces : ℕ → List MemberRow → List (List ℕ × ℕ) → Type 0
-KnowsPlaces first members entries = (name : List ℕ) → IsPlaceOf first members name (lookup (bytes_eq name) entries)
-
--- the entries have the places of all members, of whom there are at most 256
-pub record ArePlaces (members : List MemberRow) (entries : List (List ℕ × ℕ)) : Type 0 where
-  pub few : length members ≤ MOST_MEMBERS
-  pub known : KnowsPlaces (length members) members entries
 
 -- what a row has for a product and a pair of names, and for the product
 abbrev pub pair_part : List ℕ → DraftRow → List ℕ → List ℕ → ℕ

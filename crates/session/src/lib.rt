@@ -8,7 +8,6 @@ mod draft_potentials;
 mod draft_rows;
 mod laws;
 mod line_buffer;
-mod member_places;
 mod outbox;
 mod product_network;
 mod proposals;

@@ -7,7 +7,6 @@ ghost use Rattle.session.specs.KeptDraft.{draft_of};
 
 use crate::draft::Draft;
 use crate::draft_potentials::{DraftPotentials, PlaceKey};
-use crate::member_places::MemberPlaces;
 use crate::product_network::product_network;
 use command_types::{Listed, MemberRow, Roster};
 use network_laws::Solution;
@@ -34,14 +33,14 @@ fn product_potentials(
 // The solution of a product. The only error is want of memory.
 fn product_solution(
     alloc: Global,
-    places: &MemberPlaces,
+    roster: &Roster,
     draft: &Draft,
     product: Name,
 ) -> Result<Solution, AllocError>
-    ensures { IfOk result (λ solution. solution ≡ draft_solution places.now (draft_of draft.now) product) }
+    ensures { IfOk result (λ solution. solution ≡ draft_solution roster.now.members (draft_of draft.now) product) }
 {
-    let network = product_network(alloc, places, draft.rows(), &product)?;
-    let potentials = product_potentials(alloc, draft.potentials(), places.members(), product)?;
+    let network = product_network(alloc, roster, draft.rows(), &product)?;
+    let potentials = product_potentials(alloc, draft.potentials(), roster.members(), product)?;
     Ok(Solution::new(network, potentials))
 }
 
@@ -54,10 +53,9 @@ pub fn draft_solutions(
 ) -> Result<Listed<Solution>, AllocError>
     ensures { IfOk result (λ solutions. solutions ≡ draft_solutions roster.now (draft_of draft.now)) }
 {
-    let places = MemberPlaces::of(alloc, roster)?;
     let mut solutions = Vec::new(alloc);
     for product in roster.products() {
-        solutions.push(product_solution(alloc, &places, draft, product.name)?)?;
+        solutions.push(product_solution(alloc, roster, draft, product.name)?)?;
     }
     Ok(Listed::new(solutions))
 }

@@ -4,6 +4,7 @@ use Rattle.std.specs.declared.alloc.Global.{Global}
 use Rattle.std.specs.declared.vec.Vec.{Vec}
 use Rattle.trade_file.specs.declared.file_trade.FileTrade.{FileTrade}
 
+-- the trades of a vector, in their order
 abbrev pub items_of : Vec FileTrade Global → List FileTrade
 items_of v = v.items
 
@@ -11,6 +12,7 @@ items_of v = v.items
 abbrev pub pile_of : List (List FileTrade) → ℕ → List FileTrade
 pile_of piles product = slice_index_or piles product []
 
+-- the trade is one of this product
 abbrev pub is_of : ℕ → FileTrade → Bool
 is_of product trade = trade.product == product
 

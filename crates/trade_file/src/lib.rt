@@ -2,7 +2,6 @@
 //! of a file that doesn't say it. And the market of a number, which needs no files.
 #![tactic(auto)]
 
-mod directory;
 mod draft;
 mod draws;
 mod file_trade;
@@ -10,7 +9,6 @@ mod generated;
 mod laws;
 mod names;
 mod piles;
-mod places;
 mod roster;
 mod roster_row;
 mod trade_draft;

@@ -5,9 +5,8 @@ ghost use Rattle.units_core.specs.Number.{amount_of};
 ghost use Rattle.trade_file.specs.TradeFile.{is_trade_header, member_of, product_of, with_amount, between, trade_of};
 ghost use Rattle.units_core.specs.declared.limits.TheConstants.{MOST_PRODUCTS};
 
-use crate::directory::Directory;
 use crate::file_trade::FileTrade;
-use command_types::FileFault;
+use command_types::{FileFault, Roster};
 use csv::ByteRecord;
 use units_core::{Amount, MOST_TRADE_AMOUNT, MemberNo, ProductNo};
 
@@ -36,23 +35,23 @@ fn read_amount(
 }
 
 fn read_fields(
-    directory: &Directory<'_>,
+    roster: &Roster,
     row: u64,
     seller: &[u8],
     buyer: &[u8],
     product: &[u8],
     amount: &[u8],
 ) -> Result<FileTrade, FileFault>
-    ensures trade { result ≡ trade_of directory.now row (seller.now ∷ buyer.now ∷ product.now ∷ amount.now ∷ []) }
+    ensures trade { result ≡ trade_of roster.now row (seller.now ∷ buyer.now ∷ product.now ∷ amount.now ∷ []) }
     ensures product { IfOk result (λ trade. trade.product < MOST_PRODUCTS) }
 {
-    let Some(seller) = directory.member(seller) else {
+    let Some(seller) = roster.member_spelt(seller) else {
         return Err(FileFault::UnknownName { row });
     };
-    let Some(buyer) = directory.member(buyer) else {
+    let Some(buyer) = roster.member_spelt(buyer) else {
         return Err(FileFault::UnknownName { row });
     };
-    let Some(product) = directory.product(product) else {
+    let Some(product) = roster.product_spelt(product) else {
         return Err(FileFault::UnknownName { row });
     };
     if seller.0 == buyer.0 {
@@ -107,16 +106,16 @@ pub(crate) fn reads_header(record: &ByteRecord) -> bool
 /// The trade that the record with this number writes, or what is wrong with it.
 #[tactic(auto, using(crate::proofs::TradeFieldFacts::no_trade))]
 pub(crate) fn read_row(
-    directory: &Directory<'_>,
+    roster: &Roster,
     row: u64,
     record: &ByteRecord,
 ) -> Result<FileTrade, FileFault>
-    ensures trade { result ≡ trade_of directory.now row (fields_of record.now) }
+    ensures trade { result ≡ trade_of roster.now row (fields_of record.now) }
     ensures product { IfOk result (λ trade. trade.product < MOST_PRODUCTS) }
 {
     match four_fields(record) {
         Some((seller, buyer, product, amount)) => {
-            read_fields(directory, row, seller, buyer, product, amount)
+            read_fields(roster, row, seller, buyer, product, amount)
         }
         None => Err(FileFault::Columns { row }),
     }

@@ -7,7 +7,6 @@ ghost use Rattle.trade_file.specs.TradeFile.{trade_file, trades_of, with_trade_r
 ghost use Rattle.trade_file.specs.TradeDraft.{IsTradeDraft, trades_of_draft, TradeSteps};
 ghost use Rattle.units_core.specs.declared.limits.TheConstants.{MOST_FILE};
 
-use crate::directory::Directory;
 use crate::file_trade::FileTrade;
 use crate::trade_draft::TradeDraft;
 use crate::trade_row::{read_row, reads_header};
@@ -19,12 +18,12 @@ use units_core::MOST_FILE;
 // Takes the record with this number into the draft.
 fn take_record(
     draft: &mut TradeDraft,
-    directory: &Directory<'_>,
+    roster: &Roster,
     number: u64,
     record: &ByteRecord,
 ) -> Result<(), FileFault>
     requires { IsTradeDraft draft.old }
-    ensures { TradeSteps (with_trade_record directory.now number (trades_of_draft draft.old) (fields_of record.now)) draft.new result }
+    ensures { TradeSteps (with_trade_record roster.now number (trades_of_draft draft.old) (fields_of record.now)) draft.new result }
 {
     if number == 1 {
         if reads_header(record) {
@@ -35,7 +34,7 @@ fn take_record(
     if draft.is_full() {
         return Err(FileFault::RowLimit { row: number });
     }
-    match read_row(directory, number, record) {
+    match read_row(roster, number, record) {
         Ok(trade) => draft.add(number, trade),
         Err(fault) => Err(fault),
     }
@@ -53,14 +52,10 @@ fn whole_draft(draft: TradeDraft, records: u64) -> Result<TradeDraft, FileFault>
 }
 
 // The draft of all records of a file. Each record is read into the place of the one before it.
-fn read_records(
-    alloc: Global,
-    bytes: &[u8],
-    directory: &Directory<'_>,
-) -> Result<TradeDraft, FileFault>
+fn read_records(alloc: Global, bytes: &[u8], roster: &Roster) -> Result<TradeDraft, FileFault>
     requires { length bytes.now ≤ MOST_FILE }
-    ensures trades { IfOk result (λ draft. trades_of directory.now (records_of bytes.now) ≡ Ok (trades_of_draft draft)) }
-    ensures fault { IfErr result (λ fault. (fault ≡ Memory) ⊎ (trades_of directory.now (records_of bytes.now) ≡ Err fault)) }
+    ensures trades { IfOk result (λ draft. trades_of roster.now (records_of bytes.now) ≡ Ok (trades_of_draft draft)) }
+    ensures fault { IfErr result (λ fault. (fault ≡ Memory) ⊎ (trades_of roster.now (records_of bytes.now) ≡ Err fault)) }
 {
     let mut reader = ReaderBuilder::new()
         .has_headers(false)
@@ -75,7 +70,7 @@ fn read_records(
         if !found {
             return whole_draft(draft, number - 1);
         }
-        match take_record(&mut draft, directory, number, &record) {
+        match take_record(&mut draft, roster, number, &record) {
             Ok(()) => {}
             Err(fault) => return Err(fault),
         }
@@ -99,10 +94,7 @@ pub fn read_trades(
     if bytes.len() > MOST_FILE {
         return Err(FileFault::TooLong);
     }
-    let Ok(directory) = Directory::of(alloc, roster) else {
-        return Err(FileFault::Memory);
-    };
-    match read_records(alloc, bytes, &directory) {
+    match read_records(alloc, bytes, roster) {
         Ok(draft) => Ok(draft.into_trades()),
         Err(fault) => Err(fault),
     }

@@ -8,27 +8,27 @@ use Rattle.dual_certificate.proofs.proposal_reader.read_lines.Goals as goal
 
 pub loop-line-init : goal.loop-line-init
 loop-line-init c =
-    (ap (λ r. with_pieces c.args.members.now 1 r (pieces 10 c.args.bytes.now)) (sym c.new-draft.ensures.reading), c.new-draft.ensures.draft c.args.members.now, omega arith)
+    (ap (λ r. with_pieces c.args.roster.now 1 r (pieces 10 c.args.bytes.now)) (sym c.new-draft.ensures.reading), c.new-draft.ensures.draft c.args.roster.now, omega arith)
 
 pub loop-line-preserved : goal.loop-line-preserved
 loop-line-preserved c =
     let inv = c.loop-line.invariant in
     let took = c.in-Ok.ensures in
-    let goes_on = stands c.args.members.now c.loop-line.row (reading_of c.loop-line.draft) (reading_of c.take_line.new.self) c.loop-line.rest.now c.in-Some.line.now c.in-Some.more.now c.in-Some.ensures.some took.1 in
+    let goes_on = stands c.args.roster.now c.loop-line.row (reading_of c.loop-line.draft) (reading_of c.take_line.new.self) c.loop-line.rest.now c.in-Some.line.now c.in-Some.more.now c.in-Some.ensures.some took.1 in
     (inv.0 ∙ goes_on, took.0, omega (arith, inv.2, c.in-Some.ensures.shorter))
 
 pub returns-in-Err-clause-fault : goal.returns-in-Err-clause-fault
 returns-in-Err-clause-fault c =
-    fails c.args.members.now c.loop-line.row (reading_of c.loop-line.draft) c.loop-line.rest.now c.in-Some.line.now c.in-Some.more.now c.in-Err.fault (with_pieces c.args.members.now 1 nothing_read (pieces 10 c.args.bytes.now)) c.loop-line.invariant.0 c.in-Some.ensures.some c.in-Err.ensures
+    fails c.args.roster.now c.loop-line.row (reading_of c.loop-line.draft) c.loop-line.rest.now c.in-Some.line.now c.in-Some.more.now c.in-Err.fault (with_pieces c.args.roster.now 1 nothing_read (pieces 10 c.args.bytes.now)) c.loop-line.invariant.0 c.in-Some.ensures.some c.in-Err.ensures
 
 pub returns-clause-parts : goal.returns-clause-parts
 returns-clause-parts c =
-    let end = c.loop-line.invariant.0 ∙ last c.args.members.now c.loop-line.row (reading_of c.loop-line.draft) c.loop-line.rest.now c.in_default.ensures.none in
+    let end = c.loop-line.invariant.0 ∙ last c.args.roster.now c.loop-line.row (reading_of c.loop-line.draft) c.loop-line.rest.now c.in_default.ensures.none in
     rw end c.parts_of.ensures.parts
 
 pub returns-clause-fault : goal.returns-clause-fault
 returns-clause-fault c =
-    let end = c.loop-line.invariant.0 ∙ last c.args.members.now c.loop-line.row (reading_of c.loop-line.draft) c.loop-line.rest.now c.in_default.ensures.none in
+    let end = c.loop-line.invariant.0 ∙ last c.args.roster.now c.loop-line.row (reading_of c.loop-line.draft) c.loop-line.rest.now c.in_default.ensures.none in
     rw end c.parts_of.ensures.fault
 
 pub returns-clause-solutions : goal.returns-clause-solutions

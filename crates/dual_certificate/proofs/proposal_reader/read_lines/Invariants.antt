@@ -5,8 +5,8 @@ use Rattle.dual_certificate.specs.ProposalDraft.{IsDraft, reading_of}
 use Rattle.dual_certificate.proofs.proposal_reader.read_lines.Given as goal
 
 abbrev pub invariant-loop-line : goal.invariant-loop-line
-invariant-loop-line l = (with_pieces l.fn.members 1 nothing_read (pieces 10 l.fn.bytes) ≡ with_pieces l.fn.members l.row (reading_of l.draft) (pieces 10 l.rest))
-    × IsDraft l.fn.members l.draft × (l.row + length l.rest ≤ length l.fn.bytes + 1)
+invariant-loop-line l = (with_pieces l.fn.roster 1 nothing_read (pieces 10 l.fn.bytes) ≡ with_pieces l.fn.roster l.row (reading_of l.draft) (pieces 10 l.rest))
+    × IsDraft l.fn.roster l.draft × (l.row + length l.rest ≤ length l.fn.bytes + 1)
 
 abbrev pub decreases-loop-line : goal.decreases-loop-line
 decreases-loop-line l = length l.rest

@@ -1,6 +1,5 @@
-use Rattle.std.proofs.Common.{◌∙◌, ◌<◌, ◌++◌, ◌∷◌, [], List, length, sym, ap, arith}
-use Rattle.command_types.specs.declared.roster.MemberRow.{MemberRow}
-use Rattle.command_types.specs.Session.{draft_solution, solutions_for}
+use Rattle.std.proofs.Common.{◌∙◌, ◌<◌, ◌++◌, ◌∷◌, [], length, sym, ap, arith}
+use Rattle.command_types.specs.Session.{solutions_for}
 use Rattle.session.specs.KeptDraft.{draft_of}
 use Rattle.session.proofs.SolutionFacts.{solutions_step, solutions_end}
 use Rattle.session.proofs.solutions.draft_solutions.Goals as goal
@@ -10,7 +9,7 @@ loop-product-preserved c =
     let k = c.loop-product.product-index in
     let within : k < length c.products-product-items.result.now = omega arith in
     solutions_step c.args.roster.now.members (draft_of c.args.draft.now) k c.products-product-items.result.now c.product-item.result c.loop-product.solutions.items c.push.new.self.items _ within (sym c.product-item.is)
-    (c.in_ok-push.ensures.items ∙ ap (λ s. c.loop-product.solutions.items ++ s ∷ []) (c.in_ok-product_solution.ensures ∙ ap (λ (members : List MemberRow). draft_solution members (draft_of c.args.draft.now) c.product-item.result.name) c.in_ok-places.ensures)) c.loop-product.invariant
+    (c.in_ok-push.ensures.items ∙ ap (λ s. c.loop-product.solutions.items ++ s ∷ []) c.in_ok-product_solution.ensures) c.loop-product.invariant
 
 pub returns : goal.returns
 returns c =

@@ -37,7 +37,7 @@ loop-number-preserved c =
     let s = subst (λ b. ReadRecord (λ (s : Bor (List ℕ)). Some s.now) reader next b fields) c.if-not-found.false (c.in-Ok.ensures.reads inv.0 inv.1) in
     let m = rows-more (λ (s : Bor (List ℕ)). Some s.now) reader next fields default_config st.StartRecord (strip_bom c.args.bytes.now) inv.3 inv.5 inv.2 inv.4 inv.6 s in
     let fine = c.in-Ok-take_record.ensures in
-    let step : with_trade_record c.args.directory.now (length inv.5 + 1) (trades_of_draft c.loop-number.draft) fields ≡ Ok (trades_of_draft c.take_record.new.draft) = rw inv.9 at fine.1 in (
+    let step : with_trade_record c.args.roster.now (length inv.5 + 1) (trades_of_draft c.loop-number.draft) fields ≡ Ok (trades_of_draft c.take_record.new.draft) = rw inv.9 at fine.1 in (
       s.3 ∙ inv.0,
       inl (c.in-Ok.ensures.ready inv.0),
       s.2 ∙ inv.2,
@@ -46,7 +46,7 @@ loop-number-preserved c =
       inv.5 ++ (fields ∷ []),
       m.2,
       fine.0,
-      read_on c.args.directory.now inv.5 fields (trades_of_draft c.loop-number.draft) (trades_of_draft c.take_record.new.draft) inv.8 step,
+      read_on c.args.roster.now inv.5 fields (trades_of_draft c.loop-number.draft) (trades_of_draft c.take_record.new.draft) inv.8 step,
       omega (arith, length-append inv.5 (fields ∷ []), inv.9),
     )
 
@@ -60,7 +60,7 @@ returns-in-Err-clause-fault c =
     let m = rows-more (λ (s : Bor (List ℕ)). Some s.now) reader next fields default_config st.StartRecord (strip_bom c.args.bytes.now) inv.3 inv.5 inv.2 inv.4 inv.6 s in
     let bad = rw inv.9 at c.in-Err.ensures in
     let f = reached-front (strip_bom c.args.bytes.now) m.0 next.state (inv.5 ++ (fields ∷ [])) m.2 in
-    ends c.args.directory.now (records_of c.args.bytes.now) inv.5 f.0 fields (trades_of_draft c.loop-number.draft) c.in-Err.fault f.1 inv.8 bad
+    ends c.args.roster.now (records_of c.args.bytes.now) inv.5 f.0 fields (trades_of_draft c.loop-number.draft) c.in-Err.fault f.1 inv.8 bad
 
 pub returns-then-not-found-clause-trades : goal.returns-then-not-found-clause-trades
 returns-then-not-found-clause-trades c =
@@ -70,7 +70,7 @@ returns-then-not-found-clause-trades c =
     let s = subst (λ b. ReadRecord (λ (s : Bor (List ℕ)). Some s.now) reader c.read_byte_record.new.self b fields) c.if-not-found.true (c.in-Ok.ensures.reads inv.0 inv.1) in
     let end = rows-end (λ (s : Bor (List ℕ)). Some s.now) reader c.read_byte_record.new.self fields default_config inv.3 inv.2 inv.4 s in
     let all = reached-all (strip_bom c.args.bytes.now) inv.3 reader.state inv.5 inv.6 end in
-    (whole_answer c.args.directory.now (records_of c.args.bytes.now) inv.5 c.loop-number.draft (c.loop-number.number - 1) c.whole_draft.result all inv.8 (omega (arith, inv.9)) c.whole_draft.ensures.draft c.whole_draft.ensures.fault).0
+    (whole_answer c.args.roster.now (records_of c.args.bytes.now) inv.5 c.loop-number.draft (c.loop-number.number - 1) c.whole_draft.result all inv.8 (omega (arith, inv.9)) c.whole_draft.ensures.draft c.whole_draft.ensures.fault).0
 
 pub returns-then-not-found-clause-fault : goal.returns-then-not-found-clause-fault
 returns-then-not-found-clause-fault c =
@@ -80,7 +80,7 @@ returns-then-not-found-clause-fault c =
     let s = subst (λ b. ReadRecord (λ (s : Bor (List ℕ)). Some s.now) reader c.read_byte_record.new.self b fields) c.if-not-found.true (c.in-Ok.ensures.reads inv.0 inv.1) in
     let end = rows-end (λ (s : Bor (List ℕ)). Some s.now) reader c.read_byte_record.new.self fields default_config inv.3 inv.2 inv.4 s in
     let all = reached-all (strip_bom c.args.bytes.now) inv.3 reader.state inv.5 inv.6 end in
-    (whole_answer c.args.directory.now (records_of c.args.bytes.now) inv.5 c.loop-number.draft (c.loop-number.number - 1) c.whole_draft.result all inv.8 (omega (arith, inv.9)) c.whole_draft.ensures.draft c.whole_draft.ensures.fault).1
+    (whole_answer c.args.roster.now (records_of c.args.bytes.now) inv.5 c.loop-number.draft (c.loop-number.number - 1) c.whole_draft.result all inv.8 (omega (arith, inv.9)) c.whole_draft.ensures.draft c.whole_draft.ensures.fault).1
 
 pub unreachable-requires : goal.unreachable-requires
 unreachable-requires c =

@@ -10,4 +10,4 @@ abbrev pub invariant-loop-number : goal.invariant-loop-number
 invariant-loop-number l = (l.reader.trim ≡ trim.None) × Ready l.reader × (l.reader.config ≡ default_config)
     × (y : List ℕ) × (source_of (λ s. Some s.now) l.reader ≡ Some y)
     × (front : List (List (List ℕ))) × Reached default_config st.StartRecord (strip_bom l.fn.bytes) front l.reader.state y
-    × IsTradeDraft l.draft × (with_trade_records l.fn.directory 1 [] front ≡ Ok (trades_of_draft l.draft)) × (l.number ≡ length front + 1)
+    × IsTradeDraft l.draft × (with_trade_records l.fn.roster 1 [] front ≡ Ok (trades_of_draft l.draft)) × (l.number ≡ length front + 1)
