@@ -23,9 +23,9 @@ use Rattle.cycle_laws.specs.Histories.{IsMarketHistory, HasBegun}
 use Rattle.posting.specs.Laws.{KeepsNets}
 use Rattle.cycle_laws.specs.Laws.{NetsStayAtExecutions, IsLeastPosting, PostingsAreLeast, ExecutesPosting, ExecutionsFollowThePosting}
 use Rattle.cycle_states.proofs.Thawing.{gross_thawed, position_thawed}
-use Rattle.cycle_laws.proofs.Market.{IsMarket, solutions_settled, market_on, market_empty}
+use Rattle.cycle_laws.proofs.Market.{IsMarket, solutions_settled, market_on, market_base}
 use Rattle.cycle_laws.proofs.Prefixes.{replayed_push}
-use Rattle.cycle_laws.proofs.Traces.{IsTraced, traced_on, traced_empty}
+use Rattle.cycle_laws.proofs.Traces.{IsTraced, traced_on, traced_closed}
 use Rattle.cycle_laws.proofs.Executed.{RunsSolutions, runs_solutions}
 use Rattle.cycle_laws.proofs.Certified.{certified_free, certified_least, problems_each, solutions_each}
 
@@ -38,11 +38,10 @@ module _ (roster : Rows) (h : History) (is : IsMarketHistory roster h) (before :
 
   market : IsMarket roster now
   market =
-      market_on roster h.base.state before (legal-front h.base.state before entry after legal)
-      (subst (IsMarket roster) (sym is.base) (market_empty roster is.few_members is.few_products))
+      market_on roster h.base.state before (legal-front h.base.state before entry after legal) (market_base roster h.base.state is.base)
 
   traced : IsTraced h.base.state before now.cycle
-  traced = traced_on h.base.state before (subst (λ base. IsTraced base [] base.cycle) (sym is.base) (traced_empty roster)) (legal-front h.base.state before entry after legal)
+  traced = traced_on h.base.state before (traced_closed h.base.state is.base.closed.phase) (legal-front h.base.state before entry after legal)
 
   recorded : IsTrue (is_recorded entry.ask.what (answer_to now entry.ask))
   recorded = legal-at h.base.state before entry after legal

@@ -5,3 +5,7 @@ pub mod Traces
 pub mod Executed
 pub mod Certified
 pub mod Changes
+pub mod Writable
+pub mod WritableSteps
+pub mod Settings
+pub mod Bases

@@ -1,5 +1,5 @@
 -- What every legal history of a roster's market keeps: its trades are a book's, frozen ones are live while the cycle may break, and the cycle is as its phase tells.
-use Rattle.std.proofs.Common.{◌≡◌, ℕ, ◌≤◌, List, [], ◌∷◌, length, Option, None, All, IsTrue, unwrap_or, refl, sym, subst, ◌∙◌}
+use Rattle.std.proofs.Common.{◌≡◌, ℕ, Bool, false, List, [], ◌∷◌, length, Option, None, All, IsTrue, unwrap_or, refl, sym, ap, subst, ◌∙◌}
 use Rattle.std.proofs.lemmas.Bool.{false≢true}
 use Rattle.std.proofs.lemmas.List.Elements.{All-head, All-tail}
 use Rattle.network_laws.specs.Solutions.{SolutionData, IsSolution}
@@ -7,21 +7,26 @@ use Rattle.command_types.specs.declared.ask.Ask.{Ask}
 use Rattle.command_types.specs.declared.ask.Entry.{Entry}
 use Rattle.command_types.specs.declared.ask.What.{What}
 use Rattle.command_types.specs.declared.ask.What.TheVariants.{Trade, Affirm, End, Hold, Free, Freeze, Post, Accept, Cancel}
+use Rattle.command_types.specs.declared.cycle.Phase.{Phase}
+use Rattle.command_types.specs.declared.cycle.Phase.TheVariants.{None as NoPhase}
 use Rattle.command_types.specs.declared.figures.State.{State}
 use Rattle.command_types.specs.declared.plan.PlanRow.{PlanRow}
 use Rattle.command_types.specs.Roster.{Rows}
 use Rattle.command_types.specs.Trades.{trade_numbered}
-use Rattle.command_types.specs.Cycles.{posted_plan, bad_post, has_limits}
+use Rattle.command_types.specs.Cycles.{posted_plan, bad_post, has_limits, is_proposed, may_break}
 use Rattle.command_types.specs.CycleSteps.{proposed_or_done, touched_in, after_vote, left_after}
-use Rattle.command_types.specs.Machine.{empty_state, first_of, refusals, member_of, side_at, state_by, state_after}
-use Rattle.command_types.specs.History.{IsLegalFrom, replayed_from, solutions_posted}
+use Rattle.command_types.specs.Machine.{first_of, refusals, member_of, side_at, state_by, state_after}
+use Rattle.command_types.specs.History.{IsLegalFrom, replayed, replayed_from, solutions_posted}
 use Rattle.command_types.specs.Execution.{IsExecutable}
 use Rattle.posting.specs.Laws.{IsSettled}
 use Rattle.cycle_states.specs.Machine.{IsUnbroken, IsCycle, IsMachine}
 use Rattle.cycle_states.proofs.MachineFacts.{roster_after, not_refused}
 use Rattle.cycle_states.proofs.CycleFacts.{stays_unbroken, solving_limits}
-use Rattle.cycle_states.proofs.KeptFacts.{closed_kept, stays_kept, post_solves, post_certified, accept_proposed}
+use Rattle.cycle_states.proofs.KeptFacts.{stays_kept, post_solves, post_certified, accept_proposed}
 use Rattle.cycle_states.proofs.SettledFacts.{settled, proposal_settled}
+use Rattle.trade_history.proofs.Folds.{folds_are_closed}
+use Rattle.cycle_laws.specs.Histories.{IsMarketBase}
+use Rattle.cycle_laws.specs.Laws.{EmptyBeginsMarkets, FoldsBeginMarkets}
 use Rattle.cycle_laws.proofs.BookSteps.{IsBookOfRoster, affirm_book, end_book, hold_book, free_book, freeze_book, thaw_book, execution_book, trade_book, empty_book}
 
 pub record IsMarket (roster : Rows) (s : State) : Type 0 where
@@ -90,11 +95,36 @@ market_on roster s [] legal market = market
 market_on roster s (entry ∷ entries) (here, rest) market =
     market_on roster (state_after s entry.ask) entries rest (market_after roster s entry.ask (not_refused s entry.ask here.0) here.1 market)
 
--- and it holds before the first command
-pub market_empty : (roster : Rows) → length roster.members ≤ 256 → length roster.products ≤ 64 → IsMarket roster (empty_state roster)
-market_empty roster few_members few_products = record {
+-- it holds of each state in which a history may begin
+pub market_base : (roster : Rows) (s : State) → IsMarketBase roster s → IsMarket roster s
+market_base roster s base =
+    let not_so : (test : Phase → Bool) → test NoPhase ≡ false → IsTrue (test s.cycle.phase) → ⊥ =
+    λ test false_there is. false≢true (sym false_there ∙ ap test (sym base.closed.phase) ∙ is) in
+    record {
+      same = base.same;
+      book = subst (λ r. IsBookOfRoster r s.trades) (sym base.same) base.book;
+      unbroken = λ may. absurd (not_so may_break refl may);
+      cycle = record {
+        day = λ may. absurd (not_so may_break refl may);
+        begun = λ stands. absurd (not_so has_limits refl stands);
+        proposed = λ on. absurd (not_so is_proposed refl on);
+      };
+    }
+
+-- among them that before the first command
+pub empty_begins_markets : EmptyBeginsMarkets
+empty_begins_markets roster few_members few_products = record {
   same = refl;
+  closed = record { phase = refl; free = refl; numbered = tt };
   book = empty_book roster few_members few_products;
-  unbroken = λ may. absurd (false≢true may);
-  cycle = closed_kept roster [] 0 0;
 }
+
+-- and that at the end of a history in which no cycle is open
+pub folds_begin_markets : FoldsBeginMarkets
+folds_begin_markets roster h is rest =
+    let market = market_on roster h.base.state h.entries is.legal (market_base roster h.base.state is.base) in
+    record {
+      same = market.same;
+      closed = folds_are_closed h is.base.closed is.legal rest;
+      book = subst (λ r. IsBookOfRoster r (replayed h).trades) market.same market.book;
+    }

@@ -7,6 +7,7 @@ use Rattle.command_types.specs.declared.ask.What.{What}
 use Rattle.command_types.specs.declared.ask.What.TheVariants.{End, Freeze, Begin, Post, Accept, Decline, Cancel}
 use Rattle.command_types.specs.declared.answer.Answer.TheVariants.{Begun}
 use Rattle.command_types.specs.declared.cycle.Mode.{Mode}
+use Rattle.command_types.specs.declared.cycle.Phase.TheVariants.{None as NoPhase}
 use Rattle.command_types.specs.declared.figures.Cycle.{Cycle}
 use Rattle.command_types.specs.declared.figures.State.{State}
 use Rattle.command_types.specs.declared.plan.PlanRow.{PlanRow}
@@ -14,7 +15,7 @@ use Rattle.command_types.specs.Roster.{Rows}
 use Rattle.command_types.specs.Trades.{trade_numbered}
 use Rattle.command_types.specs.Cycles.{closed, has_limits, is_proposed, may_break, broken_at, posted_plan}
 use Rattle.command_types.specs.CycleSteps.{is_frozen_and_marked, proposed_or_done, touched_in, after_vote, left_after}
-use Rattle.command_types.specs.Machine.{empty_state, first_of, refusals, member_of, state_by}
+use Rattle.command_types.specs.Machine.{first_of, refusals, member_of, state_by}
 use Rattle.command_types.specs.History.{IsLegalFrom, replayed_from}
 use Rattle.cycle_states.proofs.MachineFacts.{not_refused, accepted_answer}
 use Rattle.cycle_states.proofs.CycleFacts.{solving_limits}
@@ -145,6 +146,6 @@ traced_on base entries first legal =
     (traced_by base past entry.seat entry.ask.by entry.ask.what (not_refused (replayed_from base past) entry.ask is) traced))
     first entries legal
 
--- as before the first command
-pub traced_empty : (roster : Rows) → IsTraced (empty_state roster) [] (empty_state roster).cycle
-traced_empty roster = untraced (empty_state roster) [] (closed 0 0) refl refl
+-- as it is where no cycle is open
+pub traced_closed : (s : State) → s.cycle.phase ≡ NoPhase → IsTraced s [] s.cycle
+traced_closed s none = untraced s [] s.cycle (ap has_limits none) (ap is_proposed none)

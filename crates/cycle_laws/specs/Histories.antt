@@ -1,5 +1,5 @@
 -- Histories of a roster's market, and the commands in them that began and posted a version.
-use Rattle.std.specs.Prelude.{◌≡◌, ℕ, ◌≤◌, List, ◌∷◌, ◌++◌, length}
+use Rattle.std.specs.Prelude.{◌≡◌, ℕ, List, ◌∷◌, ◌++◌, length}
 use Rattle.network_laws.specs.Solutions.{SolutionData, ProblemData}
 use Rattle.command_types.specs.declared.ask.Entry.{Entry}
 use Rattle.command_types.specs.declared.ask.What.TheVariants.{Begin, Post}
@@ -8,15 +8,21 @@ use Rattle.command_types.specs.declared.cycle.Mode.{Mode}
 use Rattle.command_types.specs.declared.figures.State.{State}
 use Rattle.command_types.specs.Roster.{Rows}
 use Rattle.command_types.specs.Cycles.{problems_of}
-use Rattle.command_types.specs.Machine.{empty_state, answer_to}
+use Rattle.command_types.specs.Machine.{answer_to}
 use Rattle.command_types.specs.History.{History, IsLegal, replayed_from}
-use Rattle.units_core.specs.declared.limits.TheConstants.{MOST_MEMBERS, MOST_PRODUCTS}
+use Rattle.command_types.specs.Trades.{submitted_count}
+use Rattle.product_book.specs.Book.{IsBook}
+use Rattle.trade_history.specs.Book.{IsClosedBase}
 
--- a legal history of a roster's market, from the state before the first command on
+-- a state in which a history of a roster's market may begin: no cycle is open, and the trades are those of a book of its members and products
+pub record IsMarketBase (roster : Rows) (s : State) : Type 0 where
+  pub same : s.roster ≡ roster
+  pub closed : IsClosedBase s
+  pub book : IsBook (length roster.members) (length roster.products) (submitted_count s.trades) s.trades
+
+-- a legal history of a roster's market, from such a state on
 pub record IsMarketHistory (roster : Rows) (h : History) : Type 0 where
-  pub few_members : length roster.members ≤ MOST_MEMBERS
-  pub few_products : length roster.products ≤ MOST_PRODUCTS
-  pub base : h.base.state ≡ empty_state roster
+  pub base : IsMarketBase roster h.base.state
   pub legal : IsLegal h
 
 -- one of these changes is the BEGIN that began this version of this cycle, and it took these problems: those that the frozen trades and the tolerances just before it gave in its mode

@@ -1,5 +1,5 @@
 -- The laws of cycles in histories, as statements.
-use Rattle.std.specs.Prelude.{◌≡◌, ℕ, List, [], ◌∷◌, ◌++◌, length, IsTrue}
+use Rattle.std.specs.Prelude.{◌≡◌, ℕ, ◌≤◌, List, [], ◌∷◌, ◌++◌, length, IsTrue}
 use Rattle.network_laws.specs.Solutions.{SolutionData, ProblemData}
 use Rattle.command_types.specs.declared.ask.Entry.{Entry}
 use Rattle.command_types.specs.declared.ask.What.TheVariants.{Post}
@@ -7,12 +7,23 @@ use Rattle.command_types.specs.declared.figures.State.{State}
 use Rattle.command_types.specs.Roster.{Rows}
 use Rattle.command_types.specs.Plans.{executed, thawed}
 use Rattle.command_types.specs.Cycles.{posted_plan}
-use Rattle.command_types.specs.Machine.{answer_to}
-use Rattle.command_types.specs.History.{History, replayed_from}
+use Rattle.command_types.specs.Machine.{empty_state, answer_to}
+use Rattle.command_types.specs.History.{History, replayed, replayed_from}
+use Rattle.command_types.specs.Folds.{IsAtRest}
 use Rattle.acceptance.specs.FreePlans.{IsFreePlan}
 use Rattle.posting.specs.Laws.{AreLeast, KeepsNets}
 use Rattle.trade_history.specs.Laws.{is_execution}
-use Rattle.cycle_laws.specs.Histories.{IsMarketHistory, HasBegun, HasPosted}
+use Rattle.cycle_laws.specs.Histories.{IsMarketBase, IsMarketHistory, HasBegun, HasPosted}
+use Rattle.units_core.specs.declared.limits.TheConstants.{MOST_MEMBERS, MOST_PRODUCTS}
+
+-- a history of a roster's market may begin in the state before the first command,
+abbrev pub EmptyBeginsMarkets : Type 0
+EmptyBeginsMarkets =
+    (roster : Rows) → length roster.members ≤ MOST_MEMBERS → length roster.products ≤ MOST_PRODUCTS → IsMarketBase roster (empty_state roster)
+
+-- and begin again where no cycle is open at its end: so each law below speaks of what comes behind a fold, too
+abbrev pub FoldsBeginMarkets : Type 0
+FoldsBeginMarkets = (roster : Rows) (h : History) → IsMarketHistory roster h → IsAtRest h → IsMarketBase roster (replayed h)
 
 -- wherever the answer tells an execution, every net stays and no gross grows, trades that came after the freeze included
 abbrev pub NetsStayAtExecutions : Type 0

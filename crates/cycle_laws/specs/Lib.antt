@@ -1,3 +1,4 @@
 pub mod Histories
 pub mod Laws
+pub mod Bases
 pub mod Examples

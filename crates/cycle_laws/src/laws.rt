@@ -1,6 +1,18 @@
 //! The laws of cycles in histories, each the contract of a function that does nothing.
 
-ghost use Rattle.cycle_laws.specs.Laws.{NetsStayAtExecutions, PostingsAreLeast, ExecutionsFollowThePosting};
+ghost use Rattle.cycle_laws.specs.Laws.{EmptyBeginsMarkets, FoldsBeginMarkets, NetsStayAtExecutions, PostingsAreLeast, ExecutionsFollowThePosting};
+ghost use Rattle.cycle_laws.specs.Bases.{EmptyIsWritable, FoldsAreWritable, WritableFits, WritableComesBack};
+
+/// A history of a roster's market may begin in the state before the first command, for a roster of at most 256 members and 64
+/// products.
+pub fn empty_begins_markets()
+    ensures { EmptyBeginsMarkets }
+{}
+
+/// It may begin again at its end, where no cycle is open there.
+pub fn folds_begin_markets()
+    ensures { FoldsBeginMarkets }
+{}
 
 /// Where a change of a history executes a plan, every member's position in every product stays, over all live trades,
 /// and no product's gross grows.
@@ -18,4 +30,24 @@ pub fn postings_are_least()
 /// it ends and cuts frozen trades alone that nobody holds.
 pub fn executions_follow_the_posting()
     ensures { ExecutionsFollowThePosting }
+{}
+
+/// The state before the first command can be written as a base, for a roster of at most 256 members and 64 products.
+pub fn empty_is_writable()
+    ensures { EmptyIsWritable }
+{}
+
+/// So can that at the end of a legal history from such a state on, where no cycle is open.
+pub fn folds_are_writable()
+    ensures { FoldsAreWritable }
+{}
+
+/// What is written of it fits the roster.
+pub fn writable_fits()
+    ensures { WritableFits }
+{}
+
+/// It is read as the same base.
+pub fn writable_comes_back()
+    ensures { WritableComesBack }
 {}

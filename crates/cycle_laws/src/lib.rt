@@ -3,4 +3,8 @@
 
 mod laws;
 
-pub use laws::{executions_follow_the_posting, nets_stay_at_executions, postings_are_least};
+pub use laws::{
+    empty_begins_markets, empty_is_writable, executions_follow_the_posting, folds_are_writable,
+    folds_begin_markets, nets_stay_at_executions, postings_are_least, writable_comes_back,
+    writable_fits,
+};

@@ -26,10 +26,11 @@ use Rattle.command_types.specs.CycleRefusals.{post_refusals, decline_refusals}
 use Rattle.command_types.specs.Roster.{is_party}
 use Rattle.command_types.specs.Cycles.{is_solving, is_proposed, has_limits, may_begin, may_break, product_matures_after, row_at_freeze, posted_plan, broken_at}
 use Rattle.command_types.specs.CycleSteps.{is_frozen_and_marked, proposed_or_done, touched_in, after_vote, left_after}
-use Rattle.command_types.specs.History.{replayed_from}
-use Rattle.command_types.specs.Machine.{empty_state, first_of, refusals, member_of, product_of, side_at, side_of, state_by, state_after}
+use Rattle.command_types.specs.History.{History, replayed_from}
+use Rattle.command_types.specs.Machine.{first_of, refusals, member_of, product_of, side_at, side_of, state_by, state_after}
 use Rattle.cycle_states.specs.Machine.{FrozenAreLive, IsUnbroken, IsYoung}
-use Rattle.cycle_states.specs.PlainDesk.{IsReplayed}
+use Rattle.cycle_states.specs.PlainDesk.{IsPlain}
+use Rattle.cycle_states.specs.Replayed.{IsReplayed, IsSmall}
 use Rattle.cycle_states.proofs.MachineFacts.{none_holds, not_false}
 
 -- a frozen trade is live
@@ -228,13 +229,20 @@ risen s (entry ∷ entries) =
     let rest = risen (state_after s entry.ask) entries in
     (omega (arith, first.0, rest.0), omega (arith, first.1, rest.1))
 
-young_below : (bound : ℕ) (state : State) (entries : List Entry) → IsReplayed state entries → length entries < bound → (state.cycle.number < bound) × (state.cycle.version < bound)
-young_below bound state entries replayed few =
-    let all = risen (empty_state state.roster) entries in
-    let number = ap (λ s. s.cycle.number) replayed.same in
-    let version = ap (λ s. s.cycle.version) replayed.same in
-    (omega (arith, all.0, number, few), omega (arith, all.1, version, few))
+-- a machine that made few changes behind a base with small numbers is young
+pub young_of : (state : State) (h : History) → IsReplayed state h → h.base.state.cycle.number + length h.entries < 2 ^ 63 → h.base.state.cycle.version + length h.entries < 2 ^ 63 → IsYoung state.cycle
+young_of state h is numbers versions =
+    let all = risen h.base.state h.entries in
+    let number = ap (λ s. s.cycle.number) is.same in
+    let version = ap (λ s. s.cycle.version) is.same in
+    record { number = omega (arith, all.0, number, numbers); version = omega (arith, all.1, version, versions) }
 
--- a machine that made few changes is young
-pub young_of : (state : State) (entries : List Entry) → IsReplayed state entries → length entries < 2 ^ 63 → IsYoung state.cycle
-young_of state entries replayed few = let both = young_below (2 ^ 63) state entries replayed few in record { number = both.0; version = both.1 }
+pub young_small : (state : State) (h : History) → IsReplayed state h → IsSmall h.base → length h.entries < 2 ^ 62 → IsYoung state.cycle
+young_small state h is small few = young_of state h is (omega (arith, small.cycle, few)) (omega (arith, small.version, few))
+
+-- as one is before whose history no cycle was opened
+pub young_plain : (state : State) (h : History) → IsPlain state h → length h.entries < 2 ^ 63 → IsYoung state.cycle
+young_plain state h is few =
+    young_of state h is.replayed
+    (let number = ap (λ c. c.number) is.first in omega (arith, number, few))
+    (let version = ap (λ c. c.version) is.first in omega (arith, version, few))

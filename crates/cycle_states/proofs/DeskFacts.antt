@@ -1,74 +1,82 @@
--- How the history of a desk without a journal goes on, and what its replies tell.
-use Rattle.std.proofs.Common.{◌≡◌, ℕ, ◌+◌, not, Bool, false, List, [], ◌∷◌, ◌++◌, length, All, IsTrue, if◌then◌else◌, arith, sym, subst, ap, inl, inr, ◌∙◌}
-use Rattle.std.proofs.lemmas.List.{length-append, append-nil}
-use Rattle.std.proofs.lemmas.List.Sums.{fold-append}
+-- How the history of a desk goes on, and what its replies tell.
+use Rattle.std.proofs.Common.{◌≡◌, ℕ, ◌+◌, not, Bool, false, List, [], ◌∷◌, ◌++◌, length, length-append, All, IsTrue, if◌then◌else◌, arith, refl, sym, subst, ap, inl, inr, ◌∙◌}
+use Rattle.std.proofs.lemmas.List.{append-nil}
 use Rattle.network_laws.specs.Solutions.{IsSolution}
 use Rattle.command_types.specs.declared.ask.Ask.{Ask}
 use Rattle.command_types.specs.declared.ask.Entry.{Entry}
 use Rattle.command_types.specs.declared.answer.Answer.{Answer}
 use Rattle.command_types.specs.declared.figures.State.{State}
 use Rattle.command_types.specs.declared.figures.Figures.{Figures}
-use Rattle.command_types.specs.Machine.{empty_state, answer_to, state_after}
-use Rattle.command_types.specs.History.{IsLegalFrom, longer, recorded, is_recorded, replayed_from, solutions_posted}
+use Rattle.command_types.specs.Cycles.{closed}
+use Rattle.command_types.specs.Machine.{answer_to, state_after}
+use Rattle.command_types.specs.History.{History, IsLegalFrom, end_of, longer, recorded, is_recorded, replayed_from, solutions_posted}
+use Rattle.command_types.specs.Roster.{IsRoster}
 use Rattle.command_types.specs.Told.{IsTold}
-use Rattle.command_types.proofs.HistoryFacts.{legal_on}
-use Rattle.cycle_states.specs.PlainDesk.{history_of, plain_figures, IsReplayed}
+use Rattle.command_types.proofs.HistoryFacts.{legal_on, replayed_on}
+use Rattle.cycle_states.specs.PlainDesk.{IsPlain}
+use Rattle.cycle_states.specs.Replayed.{history_from, IsReplayed}
 use Rattle.cycle_states.proofs.MachineFacts.{roster_after}
 
 -- the machine after a change is where the longer history leads
-pub replayed_more : (m n : State) (entries more : List Entry) (entry : Entry) → IsReplayed m entries → n ≡ state_after m entry.ask → more ≡ entries ++ entry ∷ [] → IsTrue (is_recorded entry.ask.what (answer_to m entry.ask)) →
-    All IsSolution (solutions_posted entry.ask.what) → IsReplayed n more
-replayed_more m n entries more entry before on is change sound =
-    let same : n.roster ≡ m.roster = ap (λ s. s.roster) on ∙ roster_after m entry.ask in
+pub replayed_more : (m n : State) (h : History) (more : List Entry) (entry : Entry) → IsReplayed m h → n ≡ state_after m entry.ask → more ≡ h.entries ++ entry ∷ [] → IsTrue (is_recorded entry.ask.what (answer_to m entry.ask)) →
+    All IsSolution (solutions_posted entry.ask.what) → IsReplayed n (record h { entries = more })
+replayed_more m n h more entry before on is change sound =
     let accepts : State → Type 0 = λ s. IsTrue (is_recorded entry.ask.what (answer_to s entry.ask)) in
-    let legal : IsLegalFrom (empty_state m.roster) (entries ++ entry ∷ []) = legal_on (empty_state m.roster) entries entry before.legal (subst accepts before.same change, sound) in
     record {
-      same =
-          on ∙ ap (λ s. state_after s entry.ask) before.same
-          ∙ sym (fold-append (λ state e. state_after state e.ask) (empty_state m.roster) entries (entry ∷ []))
-          ∙ ap (λ es. replayed_from (empty_state m.roster) es) (sym is) ∙ ap (λ r. replayed_from (empty_state r) more) (sym same);
-      legal = subst (λ r. IsLegalFrom (empty_state r) more) (sym same) (subst (λ es. IsLegalFrom (empty_state m.roster) es) (sym is) legal);
+      same = on ∙ ap (λ s. state_after s entry.ask) before.same ∙ sym (replayed_on h.base.state h.entries entry) ∙ ap (replayed_from h.base.state) (sym is);
+      legal = subst (IsLegalFrom h.base.state) (sym is) (legal_on h.base.state h.entries entry before.legal (subst accepts before.same change, sound));
     }
 
--- a change leaves what the desk was when it was made
-pub figures_stay : (m n : State) (entries more : List Entry) (ask : Ask) → n ≡ state_after m ask → plain_figures (history_of n more) ≡ plain_figures (history_of m entries)
-figures_stay m n entries more ask on =
-    ap (λ r. plain_figures (history_of (empty_state r) more)) (ap (λ s. s.roster) on ∙ roster_after m ask)
+-- a desk without a change yet
+pub plain_new : (m s : State) (entries : List Entry) → s ≡ m → entries ≡ [] → m.cycle ≡ closed 0 0 → IsPlain m (history_from 0 s entries)
+plain_new m s entries same none first =
+    subst (λ (es : List Entry). IsPlain m (history_from 0 s es)) (sym none)
+    (subst (λ (t : State). IsPlain m (history_from 0 t [])) (sym same) (record { replayed = record { same = refl; legal = tt }; first = first }))
+
+-- no change changes the roster
+roster_on : (s : State) (entries : List Entry) → (replayed_from s entries).roster ≡ s.roster
+roster_on s [] = refl
+roster_on s (entry ∷ entries) = roster_on (state_after s entry.ask) entries ∙ roster_after s entry.ask
+
+pub roster_replayed : (m : State) (h : History) → IsReplayed m h → m.roster ≡ h.base.state.roster
+roster_replayed m h is = ap (λ s. s.roster) is.same ∙ roster_on h.base.state h.entries
+
+-- so the base's roster keeps its limits where the machine's does
+pub base_roster : (m : State) (h : History) → IsReplayed m h → IsRoster m.roster → IsRoster h.base.state.roster
+base_roster m h is roster = subst IsRoster (roster_replayed m h is) roster
 
 -- the history grows by a recorded change
-pub grown : (m n : State) (entries more : List Entry) (seat : ℕ) (ask : Ask) (answer : Answer) → n ≡ state_after m ask → more ≡ entries ++ record { seat = seat; ask = ask } ∷ [] → IsTrue (is_recorded ask.what answer) →
-    history_of n more ≡ longer (history_of m entries) (recorded seat ask answer)
-grown m n entries more seat ask answer on is change =
-    let same : n.roster ≡ m.roster = ap (λ s. s.roster) on ∙ roster_after m ask in
+pub grown : (h : History) (more : List Entry) (seat : ℕ) (ask : Ask) (answer : Answer) → more ≡ h.entries ++ record { seat = seat; ask = ask } ∷ [] → IsTrue (is_recorded ask.what answer) →
+    record h { entries = more } ≡ longer h (recorded seat ask answer)
+grown h more seat ask answer is change =
     let one : recorded seat ask answer ≡ record { seat = seat; ask = ask } ∷ [] = ap (λ (t : Bool). if t then record { seat = seat; ask = ask } ∷ [] else []) change in
-    ap (λ r. history_of (empty_state r) more) same ∙ ap (λ es. history_of m es) (is ∙ ap (λ es. entries ++ es) (sym one))
+    ap (λ (es : List Entry). record h { entries = es }) (is ∙ ap (λ es. h.entries ++ es) (sym one))
 
 -- a command that is recorded
-pub told_recorded : (m n : State) (entries more : List Entry) (seat at : ℕ) (ask : Ask) (answer : Answer) (figures : Figures) → IsReplayed m entries → n ≡ state_after m ask → more ≡ entries ++ record { seat = seat; ask = ask } ∷ [] →
-    IsTrue (is_recorded ask.what answer) → answer ≡ answer_to m ask → at ≡ length entries + 1 → IsTold figures false false (history_of n more) seat ask (record { at = at; answer = answer })
-told_recorded m n entries more seat at ask answer figures before on is change answers place =
-    let same : m.roster ≡ n.roster = sym (ap (λ s. s.roster) on ∙ roster_after m ask) in
+pub told_recorded : (m : State) (h : History) (more : List Entry) (seat at : ℕ) (ask : Ask) (answer : Answer) (figures : Figures) → IsReplayed m h → more ≡ h.entries ++ record { seat = seat; ask = ask } ∷ [] →
+    IsTrue (is_recorded ask.what answer) → answer ≡ answer_to m ask → at ≡ end_of h + 1 → IsTold figures false false (record h { entries = more }) seat ask (record { at = at; answer = answer })
+told_recorded m h more seat at ask answer figures before is change answers place =
     record {
       front = more;
       back = [];
       split = sym (append-nil more);
-      place = let size : length more ≡ length (entries ++ record { seat = seat; ask = ask } ∷ []) = ap length is in omega (arith, length-append entries (record { seat = seat; ask = ask } ∷ []));
+      place = let size : length more ≡ length (h.entries ++ record { seat = seat; ask = ask } ∷ []) = ap length is in omega (arith, place, size, length-append h.entries (record { seat = seat; ask = ask } ∷ []));
       one = inl (record {
-        before = entries;
+        before = h.entries;
         last = is;
         change = change;
-        same = answers ∙ ap (λ s. answer_to s ask) before.same ∙ ap (λ r. answer_to (replayed_from (empty_state r) entries) ask) same;
+        same = answers ∙ ap (λ s. answer_to s ask) before.same;
       });
     }
 
 -- a command that is not recorded
-pub told_not_recorded : (m : State) (entries : List Entry) (seat at : ℕ) (ask : Ask) (answer : Answer) (figures : Figures) → IsReplayed m entries → IsTrue (not (is_recorded ask.what answer)) → answer ≡ answer_to m ask → at ≡ length entries →
-    IsTold figures false false (history_of m entries) seat ask (record { at = at; answer = answer })
-told_not_recorded m entries seat at ask answer figures before unchanged answers place =
+pub told_not_recorded : (m : State) (h : History) (seat at : ℕ) (ask : Ask) (answer : Answer) (figures : Figures) → IsReplayed m h → IsTrue (not (is_recorded ask.what answer)) → answer ≡ answer_to m ask → at ≡ end_of h →
+    IsTold figures false false h seat ask (record { at = at; answer = answer })
+told_not_recorded m h seat at ask answer figures before unchanged answers place =
     record {
-      front = entries;
+      front = h.entries;
       back = [];
-      split = sym (append-nil entries);
-      place = omega arith;
+      split = sym (append-nil h.entries);
+      place = place;
       one = inr (inl (record { no_change = unchanged; same = answers ∙ ap (λ s. answer_to s ask) before.same }));
     }

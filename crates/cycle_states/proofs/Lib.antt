@@ -10,3 +10,4 @@ pub mod DeskFacts
 pub mod EffectFacts
 pub mod RecordFacts
 pub mod RefusalFacts
+pub mod Sends

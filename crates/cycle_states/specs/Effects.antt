@@ -102,6 +102,11 @@ rows_added s ask = rows_with (effect_of s ask) s.cycle.plan
 abbrev pub settings_added : State → Ask → ℕ
 settings_added s ask = settings_with (effect_of s ask)
 
+-- a member accepts what is proposed
+abbrev pub is_accept : What → Bool
+is_accept (Accept cycle version) = true
+is_accept other = false
+
 -- a command about a trade
 abbrev pub is_of_trade : What → Bool
 is_of_trade (Trade seller buyer product amount day) = true

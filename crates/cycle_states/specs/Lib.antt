@@ -1,5 +1,6 @@
 pub mod Effects
 pub mod Machine
+pub mod Replayed
 pub mod PlainDesk
 pub mod Refusals
 pub mod Ready

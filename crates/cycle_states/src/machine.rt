@@ -24,20 +24,25 @@ mod solutions;
 mod terms;
 mod trade_refusals;
 
-ghost use Rattle.std.specs.Prelude.{◌≡◌, ◌≤◌, All, IsTrue, IfOk, OnOk, is_some};
+ghost use Rattle.std.specs.Prelude.{ℕ, ◌≡◌, ◌≤◌, ◌<◌, ◌^◌, length, All, IsTrue, IfOk, IsOk, OnOk, is_some};
 ghost use Rattle.network_laws.specs.Solutions.{IsSolution};
+ghost use Rattle.command_types.specs.Bases.{AreRising};
+ghost use Rattle.command_types.specs.Trades.{gross_of};
+ghost use Rattle.command_types.specs.Cycles.{closed};
 ghost use Rattle.command_types.specs.Machine.{answer_to, state_after};
 ghost use Rattle.command_types.specs.History.{is_recorded, solutions_posted};
 ghost use Rattle.command_types.specs.Spelling.{posted, most_solutions};
 ghost use Rattle.trade_history.specs.Laws.{is_execution};
 ghost use Rattle.posting.specs.Laws.{AreLeast, KeepsNets};
-ghost use Rattle.cycle_states.specs.Effects.{rows_added, settings_added};
-ghost use Rattle.cycle_states.specs.Machine.{IsYoung};
+ghost use Rattle.product_book.specs.Book.{gross_limit, AreTrades};
+ghost use Rattle.cycle_states.specs.Effects.{is_accept, rows_added, settings_added};
+ghost use Rattle.cycle_states.specs.Machine.{state_with, IsYoung};
 ghost use Rattle.cycle_states.specs.Ready.{IsReady};
 
 use applying::apply;
-use command_types::{Answer, Ask, Entry, Roster};
+use command_types::{Answer, Ask, Entry, Roster, ToleranceRow, TradeRow};
 use cycle::Cycle;
+pub use cycle::LastCycle;
 use product_book::Book;
 pub use ready::Ready;
 use room::make_room;
@@ -82,6 +87,33 @@ impl Machine {
         })
     }
 
+    /// The machine that stands between two cycles: after this one, with exactly these settings and trades. The settings stand in
+    /// rising order of their places. The trades are numbered from 1, their parties and products are places in range, and no
+    /// product's alleged and live amounts come to more than 10^18. The only error is want of memory.
+    pub fn at_rest(
+        alloc: Global,
+        roster: Roster,
+        last: LastCycle,
+        tolerances: &[ToleranceRow],
+        trades: &[TradeRow],
+    ) -> Result<Machine, AllocError>
+        requires rising { AreRising 0 tolerances.now }
+        requires few { length trades.now < 2 ^ 32 }
+        requires trades { AreTrades (length roster.members) (length roster.products) 1 trades.now }
+        requires bounded { (product : ℕ) → gross_of product trades.now ≤ gross_limit }
+        ensures { IfOk result (λ machine. machine.state ≡ state_with roster trades.now tolerances.now (closed last.number last.version)) }
+    {
+        let members = roster.members().len() as u16;
+        let products = roster.products().len() as u16;
+        let book = Book::of_rows(alloc, members, products, trades)?;
+        Ok(Machine {
+            roster,
+            book,
+            tolerances: Tolerances::of_rows(alloc, tolerances)?,
+            cycle: Cycle::after(alloc, last),
+        })
+    }
+
     /// Who takes part.
     pub fn roster(&self) -> &Roster
         ensures { result.now ≡ self.now.state.roster }
@@ -90,12 +122,13 @@ impl Machine {
     }
 
     /// What a command is answered now. What is accepted and changes the machine has a party, and posts few solutions. The
-    /// only error is want of memory.
+    /// only error is want of memory, and it never comes for an ACCEPT, which takes none.
     pub fn answer(&self, ask: &Ask) -> Result<Answer, AllocError>
         requires { IsYoung self.now.state.cycle }
         ensures answer { IfOk result (λ answer. answer ≡ answer_to self.now.state ask.now) }
         ensures party { IfOk result (λ answer. IsTrue (is_recorded ask.now.what answer) → IsTrue (is_some ask.now.by)) }
         ensures few { IfOk result (λ answer. IsTrue (is_recorded ask.now.what answer) → posted ask.now.what ≤ most_solutions) }
+        ensures vote { IsTrue (is_accept ask.now.what) → IsOk result }
     {
         // What the cycle keeps tells that few solutions are posted.
         let _cycle = &self.cycle;

@@ -11,6 +11,7 @@ use crate::recorded::is_recorded;
 use command_types::{Answer, Ask, Desk, Entry, Refusal, Reply};
 use std::alloc::{AllocError, Global};
 use std::marker::Model;
+use std::snapshot::Snapshot;
 
 // The reply where no memory is to be had.
 fn no_memory(at: u64) -> Reply
@@ -58,17 +59,20 @@ fn record(
 pub struct PlainDesk {
     machine: Machine,
     entries: Vec<Entry>,
+    // The machine as it was before the first entry, for contracts alone.
+    begun: Snapshot<Machine>,
 }
 
 impl Model for PlainDesk {
     ghost use Rattle.command_types.specs.History.{History};
-    ghost use Rattle.cycle_states.specs.PlainDesk.{history_of, IsReplayed};
+    ghost use Rattle.cycle_states.specs.PlainDesk.{IsPlain};
+    ghost use Rattle.cycle_states.specs.Replayed.{history_from};
 
     ghost Value = { History };
 
-    ghost view = { λ desk. history_of desk.machine.state desk.entries.items };
+    ghost view = { λ desk. history_from 0 desk.begun.value.state desk.entries.items };
 
-    ghost invariant = { λ desk. IsReplayed desk.machine.state desk.entries.items };
+    ghost invariant = { λ desk. IsPlain desk.machine.state (history_from 0 desk.begun.value.state desk.entries.items) };
 }
 
 impl PlainDesk {
@@ -78,9 +82,10 @@ impl PlainDesk {
     /// A desk before the first command. It takes no memory.
     pub fn new(alloc: Global, machine: Machine) -> PlainDesk
         requires { machine.state ≡ empty_state machine.state.roster }
-        ensures { result ≡ new_history (empty_state machine.state.roster) }
+        ensures { result ≡ new_history machine.state }
     {
         PlainDesk {
+            begun: Snapshot::of(&machine),
             machine,
             entries: Vec::new(alloc),
         }

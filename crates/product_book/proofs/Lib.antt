@@ -12,3 +12,4 @@ pub mod EntryFacts
 pub mod ListedFacts
 pub mod WalkFacts
 pub mod LinkedFacts
+pub mod LoadingFacts

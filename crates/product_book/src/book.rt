@@ -1,6 +1,6 @@
 //! The book of trades, in the order of their numbers.
 
-ghost use Rattle.std.specs.Prelude.{ℕ, ◌≡◌, ◌≢◌, ◌+◌, ◌-◌, ◌≤◌, ◌<◌, ◌^◌, [], ◌∷◌, ◌++◌, length, IsTrue, OnOk, OnErr, IfOk, IfSome, vec_len, vec_capacity, option_copied};
+ghost use Rattle.std.specs.Prelude.{ℕ, ◌≡◌, ◌≢◌, ◌+◌, ◌-◌, ◌≤◌, ◌<◌, ◌^◌, [], ◌∷◌, ◌++◌, length, IsTrue, OnOk, OnErr, IfOk, IsOk, IfSome, vec_len, vec_capacity, option_copied};
 ghost use Rattle.command_types.specs.CycleSteps.{rows_of_member};
 ghost use Rattle.command_types.specs.Plans.{executed, count_of, is_new, thawed};
 ghost use Rattle.command_types.specs.Trades.{gross_of, sold_by, bought_by, pair_sum_of, submitted_count, trade_numbered, with_alleged, affirmed, ended_by, held_by, freed_by, row_ended_by};
@@ -15,7 +15,7 @@ use crate::links::Links;
 use crate::networks::{self, Which};
 use crate::places::place_of;
 use crate::row::{append, ended_by, has_ended, live, put_row, row_at, with_hold};
-use crate::{execution, freezes, picks};
+use crate::{execution, freezes, loading, picks};
 use command_types::{PlanRow, Side, TradeRow, TradeState};
 use network_laws::Network;
 use std::alloc::{AllocError, Global};
@@ -43,7 +43,8 @@ pub struct Position {
 /// All trades of a market. Trades are numbered from 1 in the order in which they came. The alleged and live amounts
 /// of a product come to at most 10^18.
 ///
-/// Only [`Book::new`], [`Book::reserve`], [`Book::network`], [`Book::rows_of`] and [`Book::pair_rows`] take memory.
+/// Only [`Book::new`], [`Book::of_rows`], [`Book::reserve`], [`Book::network`], [`Book::rows_of`] and [`Book::pair_rows`] take
+/// memory.
 #[derive(Drop)]
 pub struct Book {
     rows: Vec<TradeRow>,
@@ -83,13 +84,54 @@ impl Book {
         })
     }
 
-    /// Makes room for so many more trades. The only error is want of memory, and it changes nothing.
+    /// The book that has exactly these trades, alleged, live and ended ones, as they stand. They are numbered from 1, their
+    /// parties and products are places in range, and no product's alleged and live amounts come to more than 10^18. The only
+    /// error is want of memory.
+    pub fn of_rows(
+        alloc: Global,
+        members: u16,
+        products: u16,
+        rows: &[TradeRow],
+    ) -> Result<Book, AllocError>
+        requires few_members { members ≤ MOST_MEMBERS }
+        requires few_products { products ≤ MOST_PRODUCTS }
+        requires few { length rows.now < 2 ^ 32 }
+        requires trades { AreTrades members products 1 rows.now }
+        requires bounded { (product : ℕ) → gross_of product rows.now ≤ gross_limit }
+        ensures rows { IfOk result (λ book. book.rows ≡ rows.now) }
+        ensures members { IfOk result (λ book. book.members ≡ members) }
+        ensures products { IfOk result (λ book. book.products ≡ products) }
+    {
+        let mut book = Book::new(alloc, members, products)?;
+        book.reserve(rows.len() as u32)?;
+        book.load(rows);
+        Ok(book)
+    }
+
+    // Puts these trades into a book without any, in the room that it has.
+    fn load(&mut self, rows: &[TradeRow])
+        requires none { self.old.rows ≡ [] }
+        requires room { length rows.now ≤ self.old.spare }
+        requires trades { AreTrades self.old.members self.old.products 1 rows.now }
+        requires bounded { (product : ℕ) → gross_of product rows.now ≤ gross_limit }
+        ensures { self.new ≡ record self.old { rows = rows.now; spare = self.old.spare - length rows.now } }
+    {
+        loading::load(&mut self.rows, &mut self.sums, &mut self.links, rows);
+        self.submitted = loading::submitted_among(rows);
+    }
+
+    /// Makes room for so many more trades. The only error is want of memory, which changes nothing, and which never comes where
+    /// there is room for them already.
     pub fn reserve(&mut self, trades: u32) -> Result<(), AllocError>
         ensures same { self.new ≡ record self.old { spare = self.new.spare } }
         ensures keeps { self.old.spare ≤ self.new.spare }
         ensures room { OnOk result (trades ≤ self.new.spare) }
+        ensures enough { trades ≤ self.old.spare → IsOk result }
         ensures err { OnErr result (self.new ≡ self.old) }
     {
+        if trades as u64 <= self.links.spare {
+            return Ok(());
+        }
         make_room(&mut self.rows, trades as usize)?;
         self.links.reserve(trades)
     }

@@ -7,6 +7,7 @@ mod freezes;
 mod kept;
 mod laws;
 mod links;
+mod loading;
 mod networks;
 mod open_lists;
 mod picks;

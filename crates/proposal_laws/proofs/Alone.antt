@@ -50,7 +50,6 @@ alone_turns figures h seat from (line ∷ lines) text made to (next, head, more,
     )
 
 pub scripts_stand_alone : ScriptsStandAlone
-scripts_stand_alone figures h seat from lines text made to talk first all =
-    let size : length h.entries ≡ length made = ap length all in
-    let ends = talk_ends figures h seat from lines text made to talk (omega (arith, first)) in
-    alone_turns figures h seat from lines text made to talk (omega (arith, first, size, ends))
+scripts_stand_alone figures h seat from lines text made to talk all =
+    let ends = talk_ends figures h seat from lines text made to talk (omega (arith, all)) in
+    alone_turns figures h seat from lines text made to talk (omega (arith, ends, all))

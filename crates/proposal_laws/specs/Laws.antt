@@ -8,7 +8,7 @@ use Rattle.command_types.specs.declared.figures.Figures.{Figures}
 use Rattle.command_types.specs.declared.refusal.BadPost.{BadPost}
 use Rattle.command_types.specs.declared.refusal.Refusal.{Refusal}
 use Rattle.command_types.specs.declared.refusal.Refusal.TheVariants.{WrongCycle, CycleBroken, WrongPhase, WrongVersion, BadCertificate}
-use Rattle.command_types.specs.History.{History, IsLegal}
+use Rattle.command_types.specs.History.{History, IsLegal, end_of}
 use Rattle.command_types.specs.Session.{Standing, Mark, IsProposed, IsTalk, IsSession}
 use Rattle.proposal_laws.specs.Turns.{Turn, turns, begun_in}
 
@@ -70,11 +70,11 @@ abbrev pub IsOvertakenByOther : {figures : Figures} {h : History} {seat : ℕ} �
 IsOvertakenByOther {figures} {h} {seat} turn =
     (begun : Reply) → begun_in turn ≡ Some begun → IsOvertaken begun turn.answered.reply → HasOther h seat begun.at turn.answered.reply.at
 
--- where a history has no changes but those of a talk from its base on, each line is alone, and no PROPOSE is overtaken
+-- where a history has, from the position before a talk on, no changes but the talk's, each line is alone, and no PROPOSE is overtaken
 abbrev pub ScriptsStandAlone : Type 0
 ScriptsStandAlone =
     (figures : Figures) (h : History) (seat : ℕ) (from : Standing) (lines : List (List ℕ)) (text : List ℕ) (made : List Entry) (to : Standing) →
-    (talk : IsTalk figures h seat from lines text made to) → from.position ≡ h.base.position → h.entries ≡ made →
+    (talk : IsTalk figures h seat from lines text made to) → end_of h ≡ from.position + length made →
     All IsAlone (turns figures h seat from lines text made to talk) × All IsNotOvertaken (turns figures h seat from lines text made to talk)
 
 -- in a session each PROPOSE that is overtaken is so by a change of another seat

@@ -18,7 +18,8 @@ pub fn proposals_alone_stand()
     ensures { ProposalsAloneStand }
 {}
 
-/// In a history without changes but those of one talk, each line's reply stands so, and no PROPOSE is overtaken.
+/// In a history that has, from the position before a talk on, no changes but the talk's, as a script's has, each line's reply
+/// stands so, and no PROPOSE is overtaken.
 pub fn scripts_stand_alone()
     ensures { ScriptsStandAlone }
 {}

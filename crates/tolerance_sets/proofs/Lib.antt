@@ -7,3 +7,4 @@ pub mod Passed
 pub mod OpenPairs
 pub mod ModeLaws
 mod OpenRows
+pub mod RisingFacts

@@ -2,6 +2,7 @@
 
 ghost use Rattle.std.specs.Prelude.{◌≡◌, ◌≢◌, ◌↔◌, ◌+◌, ◌≤◌, [], length, IsTrue, IsErr, IfOk, OnOk, OnErr};
 ghost use Rattle.network_laws.specs.Limits.{IsWithinLimits};
+ghost use Rattle.command_types.specs.Bases.{AreRising};
 ghost use Rattle.command_types.specs.Tolerances.{with_setting, limits_of};
 ghost use Rattle.command_types.specs.CycleRefusals.{is_crossed};
 
@@ -53,6 +54,19 @@ impl Tolerances {
             settings: Settings::new(alloc),
             alloc,
         }
+    }
+
+    /// These settings, which stand in rising order of their places. The only error is want of memory.
+    pub fn of_rows(alloc: Global, rows: &[ToleranceRow]) -> Result<Tolerances, AllocError>
+        requires { AreRising 0 rows.now }
+        ensures { IfOk result (λ made. made.settings ≡ rows.now) }
+    {
+        let mut made = Tolerances::new(alloc);
+        for row in rows {
+            made.reserve()?;
+            made.settings.put(*row);
+        }
+        Ok(made)
     }
 
     /// Makes room for one more setting. The only error is want of memory, and it changes nothing.

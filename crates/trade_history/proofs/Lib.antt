@@ -23,3 +23,5 @@ pub mod Whole
 pub mod Listed
 pub mod Versions
 pub mod Positions
+pub mod PlanFacts
+pub mod Folds

@@ -2,7 +2,7 @@
 use Rattle.std.proofs.Common.{◌≡◌, ℕ, ◌+◌, Bool, true, false, cond, ◌||◌, ◌==◌, List, [], ◌∷◌, ◌++◌, length, fold, Option, Some, None, refl, sym, ap, ◌∙◌, subst, arith}
 use Rattle.std.proofs.lemmas.List.{append-nil}
 use Rattle.command_types.specs.declared.ask.Entry.{Entry}
-use Rattle.command_types.specs.declared.figures.Base.{Base}
+use Rattle.command_types.specs.declared.figures.Start.{Start}
 use Rattle.command_types.specs.declared.trade.TradeRow.{TradeRow}
 use Rattle.command_types.specs.Roster.{Rows}
 use Rattle.command_types.specs.Plans.{thawed, thawed_row}
@@ -33,7 +33,7 @@ length-book : (roster : Rows) (number : ℕ) (book : Book) (entries : List Entry
 length-book roster number book [] = omega arith
 length-book roster number book (entry ∷ entries) = (let e = length-book roster number (noted roster number book entry) entries in omega arith)
 
-executions-push : (base : Base) (front : List Entry) (entry : Entry) → executions_from base (front ++ entry ∷ [])
+pub executions-push : (base : Start) (front : List Entry) (entry : Entry) → executions_from base (front ++ entry ∷ [])
     ≡ executions_from base front ++ execution_row (base.position + length front + 1) (execution_at base.state.roster base.state.cycle.number (book_from base.state (front ++ entry ∷ [])).moments)
 executions-push base front entry =
     let roster = base.state.roster in

@@ -4,7 +4,7 @@ use Rattle.command_types.specs.declared.ask.What.{What}
 use Rattle.command_types.specs.declared.ask.What.TheVariants.{Trade, Affirm, End, Hold, Free}
 use Rattle.command_types.specs.declared.ask.Entry.{Entry}
 use Rattle.command_types.specs.declared.cycle.Phase.TheVariants.{None as NoPhase}
-use Rattle.command_types.specs.declared.figures.Base.{Base}
+use Rattle.command_types.specs.declared.figures.Start.{Start}
 use Rattle.command_types.specs.declared.figures.State.{State}
 use Rattle.command_types.specs.declared.trade.Side.{Side}
 use Rattle.command_types.specs.declared.trade.Side.TheVariants.{Out, In}
@@ -98,7 +98,7 @@ executions_at roster number position (now ∷ before) =
     executions_at roster number position before ++ execution_row (position + length (now ∷ before)) (execution_at roster number (now ∷ before))
 
 -- the executions of these changes after a base, in their order
-abbrev pub executions_from : Base → List Entry → List ExecutionRow
+abbrev pub executions_from : Start → List Entry → List ExecutionRow
 executions_from base entries = executions_at base.state.roster base.state.cycle.number base.position (book_from base.state entries).moments
 
 abbrev pub executions_of : History → List ExecutionRow

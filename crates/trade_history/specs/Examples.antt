@@ -70,6 +70,16 @@ end number by = change by (End number) ∷ []
 abbrev pub ring_compressed : History
 ring_compressed = history_of (ring ++ freeze ++ proposal 1 [] ++ accept 1 name_a ++ accept 1 name_b ++ accept 1 name_c)
 
+-- after that A and B come to owe each other 10, which cycle 2 compresses to nothing
+abbrev pub pair_in_cycle_2 : List Entry
+pair_in_cycle_2 =
+    deal 4 name_a name_b 10 ++ deal 5 name_b name_a 10 ++ freeze
+    ++ change name_ops (Begin 2 Conservative)
+    ∷ change name_ops (Post 2 1 (record { network = record { members = 3; rows = [] }; potentials = pos 0 ∷ pos 0 ∷ pos 0 ∷ [] } ∷ []))
+    ∷ change name_a (Accept 2 1)
+    ∷ change name_b (Accept 2 1)
+    ∷ []
+
 -- C has not accepted yet
 abbrev pub ring_waiting : History
 ring_waiting = history_of (ring ++ freeze ++ proposal 1 [] ++ accept 1 name_a ++ accept 1 name_b)

@@ -3,4 +3,5 @@ pub mod Executes
 pub mod Search
 pub mod Book
 pub mod Laws
+pub mod Folds
 pub mod Examples

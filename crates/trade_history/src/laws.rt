@@ -1,6 +1,7 @@
 //! The laws of a history's trades, each the contract of a function that does nothing.
 
 ghost use Rattle.trade_history.specs.Laws.{EmptyIsClosed, TradesAreTheHistorys, AnswersTellExecutions, SearchFindsExecutions, PlansExecuteWhole, OthersChangeOneRow, OwnRowsAreTheHistorys, ExecutionsAreListed, OthersAreNotListed, BegunLimitsStand, TradesFollowAtEachPosition, PositionsAreChanges, VersionsArePostedOnce};
+ghost use Rattle.trade_history.specs.Folds.{FoldsGoOn, FoldsAreClosed, TradesStayInFolds, ExecutionsStayInFolds};
 
 /// The state before the first command can be a history's base.
 pub fn empty_is_closed()
@@ -67,4 +68,26 @@ pub fn begun_limits_stand()
 /// A version of a cycle is posted once at most in a legal history.
 pub fn versions_are_posted_once()
     ensures { VersionsArePostedOnce }
+{}
+
+/// Further changes behind the fold of a legal history end at the position and in the state in which they would have ended
+/// behind the history, and are as legal.
+pub fn folds_go_on()
+    ensures { FoldsGoOn }
+{}
+
+/// Where no cycle is open at its end, a legal history may begin again there: the laws of trades and executions hold from
+/// there on.
+pub fn folds_are_closed()
+    ensures { FoldsAreClosed }
+{}
+
+/// The trades of a history are the same from any fold of it on.
+pub fn trades_stay_in_folds()
+    ensures { TradesStayInFolds }
+{}
+
+/// The executions of a history are those up to a fold of it and those from there on, at the same positions.
+pub fn executions_stay_in_folds()
+    ensures { ExecutionsStayInFolds }
 {}

@@ -1,11 +1,12 @@
 //! What the commands that are not refused are answered.
 
-ghost use Rattle.std.specs.Prelude.{◌≡◌, None, Some, IfOk, IsTrue, length};
+ghost use Rattle.std.specs.Prelude.{◌≡◌, None, Some, IfOk, IsOk, IsTrue, length};
 ghost use Rattle.command_types.specs.Cycles.{bad_post, is_solving};
 ghost use Rattle.command_types.specs.CycleSteps.{freeze_answer, limits_answer, plan_answer, post_answer, rows_of_member};
 ghost use Rattle.command_types.specs.Machine.{accepted, end_answer, first_of, member_of, nets_answer, party_answer, product_of, refusals};
 ghost use Rattle.command_types.specs.Trades.{trade_numbered};
 ghost use Rattle.cycle_states.specs.Machine.{IsYoung};
+ghost use Rattle.cycle_states.specs.Effects.{is_accept};
 
 use super::Machine;
 use super::freezing::taken_count;
@@ -116,7 +117,8 @@ impl Machine {
     pub(super) fn party_answer(&self, by: &Name, what: &What) -> Result<Answer, AllocError>
         requires young { IsYoung self.now.state.cycle }
         requires accepted { first_of (refusals self.now.state (Some by.now) what.now) ≡ None }
-        ensures { IfOk result (λ answer. answer ≡ party_answer self.now.state by.now what.now) }
+        ensures told { IfOk result (λ answer. answer ≡ party_answer self.now.state by.now what.now) }
+        ensures vote { IsTrue (is_accept what.now) → IsOk result }
     {
         match what {
             What::Trade { .. } => Ok(Answer::Traded {
@@ -140,7 +142,7 @@ impl Machine {
             What::Pot { size, .. } => Ok(Answer::Noted { size: *size }),
             What::Post { solutions, .. } => self.post_answer(solutions.rows()),
             What::Plan { .. } => self.plan_rows(by),
-            What::Accept { .. } => Ok(self.vote(place_of_member(&self.roster, by))?.answer),
+            What::Accept { .. } => Ok(self.vote_answer(place_of_member(&self.roster, by))),
             What::Decline { cycle, version } => Ok(Answer::Declined {
                 cycle: *cycle,
                 version: *version,
@@ -154,7 +156,8 @@ impl Machine {
     pub(super) fn accepted(&self, ask: &Ask) -> Result<Answer, AllocError>
         requires young { IsYoung self.now.state.cycle }
         requires accepted { first_of (refusals self.now.state ask.now.by ask.now.what) ≡ None }
-        ensures { IfOk result (λ answer. answer ≡ accepted self.now.state ask.now.by ask.now.what) }
+        ensures told { IfOk result (λ answer. answer ≡ accepted self.now.state ask.now.by ask.now.what) }
+        ensures vote { IsTrue (is_accept ask.now.what) → IsOk result }
     {
         match &ask.what {
             What::Hello { name, .. } => Ok(Answer::Hello { name: *name }),

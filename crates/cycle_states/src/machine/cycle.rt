@@ -70,6 +70,15 @@ fn is_frozen_and_marked(row: Option<TradeRow>) -> bool
     }
 }
 
+/// What stays of a cycle that is no longer open. Before the first one both numbers are 0.
+#[derive(Clone, Copy)]
+pub struct LastCycle {
+    /// How many cycles were opened so far.
+    pub number: u64,
+    /// How many versions were begun in the last one.
+    pub version: u64,
+}
+
 /// The last cycle that was opened. Contracts see it as the machine's cycle.
 #[derive(Drop)]
 pub(super) struct Cycle {
@@ -97,9 +106,20 @@ impl Cycle {
     pub(super) fn none(alloc: Global) -> Cycle
         ensures { result ≡ closed 0 0 }
     {
-        Cycle {
+        let last = LastCycle {
             number: 0,
             version: 0,
+        };
+        Cycle::after(alloc, last)
+    }
+
+    /// After this cycle, with none open. It takes no memory.
+    pub(super) fn after(alloc: Global, last: LastCycle) -> Cycle
+        ensures { result ≡ closed last.number last.version }
+    {
+        Cycle {
+            number: last.number,
+            version: last.version,
             phase: Phase::None,
             day: None,
             begun: Vec::new(alloc),

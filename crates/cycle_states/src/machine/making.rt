@@ -16,7 +16,7 @@ use super::proposal::{left_after, plan_posted, touches_nobody};
 use super::proposal_answers::{counted, executed_answer, nothing, proposed};
 use super::ready::Made;
 use super::solutions::copies;
-use command_types::{Listed, What};
+use command_types::{Answer, Listed, What};
 use network_laws::Solution;
 use std::alloc::AllocError;
 use units_core::{MemberNo, Name};
@@ -47,6 +47,17 @@ impl Machine {
             answer,
             effect: Effect::Propose { solutions, plan },
         })
+    }
+
+    /// What the member's vote is answered. It takes no memory.
+    pub(super) fn vote_answer(&self, member: MemberNo) -> Answer
+        requires { IsTrue (is_proposed self.now.state.cycle.phase) }
+        ensures { result ≡ accept_answer self.now.state member }
+    {
+        match left_after(&self.roster, &self.book, &self.cycle, member) {
+            0 => executed_answer(&self.cycle),
+            left => counted(&self.cycle, left),
+        }
     }
 
     /// What the member's vote is answered, and what it does. Whose votes are left is found once. The only error is want

@@ -11,7 +11,7 @@ use Rattle.cycle_states.proofs.machine.Machine.answer.Goals as goal
 pub returns-in-Ok-clause-answer : goal.returns-in-Ok-clause-answer
 returns-in-Ok-clause-answer c =
     let Tells : Answer → Type 0 = λ told. IfOk c.accepted.result (λ answer. answer ≡ told) in
-    subst Tells (sym (accepted_answer c.args.self.now.state c.args.ask.now (sym c.in-Ok.ensures))) c.accepted.ensures
+    subst Tells (sym (accepted_answer c.args.self.now.state c.args.ask.now (sym c.in-Ok.ensures))) c.accepted.ensures.told
 
 pub returns-in-Err-clause-party : goal.returns-in-Err-clause-party
 returns-in-Err-clause-party c = λ change. absurd (refusal_unrecorded c.args.ask.now.what c.in-Err.refusal change)

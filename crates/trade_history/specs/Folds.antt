@@ -1,0 +1,32 @@
+-- What stays of a history that begins again at its end, as statements.
+use Rattle.std.specs.Prelude.{◌≡◌, ◌↔◌, List, ◌++◌}
+use Rattle.command_types.specs.declared.ask.Entry.{Entry}
+use Rattle.command_types.specs.History.{History, IsLegal, IsLegalFrom, end_of, longer, replayed}
+use Rattle.command_types.specs.Folds.{IsAtRest, folded}
+use Rattle.trade_history.specs.Book.{IsClosedBase, trades_of, executions_of}
+
+-- further changes behind the fold of a history end at the same position and in the same state as behind the history, and are as legal
+pub record GoesOn (h : History) (more : List Entry) : Type 0 where
+  pub place : end_of (longer (folded h) more) ≡ end_of (longer h more)
+  pub state : replayed (longer (folded h) more) ≡ replayed (longer h more)
+  pub legal : IsLegal (longer (folded h) more) ↔ IsLegal (longer h more)
+
+-- so it is with any further changes behind any legal history
+abbrev pub FoldsGoOn : Type 0
+FoldsGoOn = (h : History) → IsLegal h → (more : List Entry) → GoesOn h more
+
+-- where no cycle is open, a fold begins as the laws of trades and executions ask, if the history did
+abbrev pub FoldsAreClosed : Type 0
+FoldsAreClosed = (h : History) → IsClosedBase h.base.state → IsLegal h → IsAtRest h → IsClosedBase (replayed h)
+
+-- the trades after further changes are the same, told from the fold on or from the history's base
+abbrev pub TradesStayInFolds : Type 0
+TradesStayInFolds =
+    (h : History) → IsClosedBase h.base.state → IsLegal h → IsAtRest h → (more : List Entry) → IsLegalFrom (replayed h) more →
+    trades_of (longer (folded h) more) ≡ trades_of (longer h more)
+
+-- and the executions are those up to the fold, and those told from the fold on, at the same positions
+abbrev pub ExecutionsStayInFolds : Type 0
+ExecutionsStayInFolds =
+    (h : History) → IsClosedBase h.base.state → IsLegal h → IsAtRest h → (more : List Entry) → IsLegalFrom (replayed h) more →
+    executions_of (longer h more) ≡ executions_of h ++ executions_of (longer (folded h) more)
