@@ -8,10 +8,10 @@ use Rattle.std.specs.List.{flat_map}
 use Rattle.outside.specs.Disk.{History, IsTorn, IsSettled, IsPlace, HasLength, overwritten}
 use Rattle.journal_core.specs.Holds.{header, limit, frame, front, end_of, IsJournal, Holds}
 use Rattle.journal_core.specs.Frame.{staged}
-use Rattle.journal_core.specs.Moments.{LeavesOnly, TornOf, Puts}
+use Rattle.journal_core.specs.Moments.{LeavesOnly, TornOf, Puts, MayLeaveYet, IsContent}
 use Rattle.journal_core.specs.Walk.{EndsAt}
 use Rattle.journal_core.specs.Journal.{DiskHolds, IsAtRest, IsReady, HoldsWithOrWithout}
-use Rattle.journal_core.proofs.MomentFacts.{started, leaves_more}
+use Rattle.journal_core.proofs.MomentFacts.{started, leaves_more, yet_more}
 
 pub length-frame : (bytes : List ℕ) → length (frame bytes) ≡ 5 + length bytes
 length-frame bytes = omega arith
@@ -130,6 +130,24 @@ module _ (records : List (List ℕ)) (bytes : List ℕ) where
       (leaves_more (Some puts.0) after (IsTorn gate 1 puts.0.content) (HoldsWithOrWithout records bytes)
       (λ image torn. at_gate puts.0.content image (drop (length (staged bytes)) rest.1.rest) gate rest.1.gate content here small torn)
       (subst (λ (m : Option History). LeavesOnly m after (TornOf m gate 1)) puts.1 leaves))
+
+  -- until the last moment of the first write, and of the second, a crash may leave the records from before
+  pub first_yet : (o mid : Option History) (end : ℕ) → IsAtRest o end records → MayLeaveYet o mid (IsContent o) → MayLeaveYet o mid (λ image. Holds image records)
+  first_yet None mid end rest yet = tt
+  first_yet (Some h) mid end rest yet =
+      yet_more (Some h) mid (IsContent (Some h)) (λ image. Holds image records)
+      (λ image same. subst (λ (f : List ℕ). Holds f records) (sym same) (journal_holds h.content records rest.1)) yet
+
+  pub second_yet : (o mid after : Option History) (end : ℕ) → IsAtRest o end records → Puts o end (staged bytes) mid → MayLeaveYet mid after (IsContent mid) → MayLeaveYet mid after (λ image. Holds image records)
+  second_yet None mid after end rest puts yet = subst (λ (m : Option History). MayLeaveYet m after (λ image. Holds image records)) (sym puts) tt
+  second_yet (Some h) mid after end rest puts yet =
+      let content = puts.2 ∙ behind_done h.content end rest.1 rest.2 in
+      let holds : Holds puts.0.content records = journal_holds puts.0.content records
+      (record { gate = rest.1.gate; rest = staged bytes ++ drop (length (staged bytes)) rest.1.rest; split = content; closed = rest.1.closed; within = rest.1.within }) in
+      subst (λ (m : Option History). MayLeaveYet m after (λ image. Holds image records)) (sym puts.1)
+      (yet_more (Some puts.0) after (IsContent (Some puts.0)) (λ image. Holds image records)
+      (λ image same. subst (λ (f : List ℕ). Holds f records) (sym same) holds)
+      (subst (λ (m : Option History). MayLeaveYet m after (IsContent m)) puts.1 yet))
 
   pub appended : (o mid after : Option History) (end gate next : ℕ) → IsAtRest o end records → gate ≡ end - 1 → end + 5 + length bytes ≤ limit → next ≡ end + (5 + length bytes)
       → Puts o end (staged bytes) mid → Puts mid gate (1 ∷ []) after → IsAtRest after next (records ++ bytes ∷ [])

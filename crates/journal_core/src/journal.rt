@@ -5,7 +5,7 @@ ghost use Rattle.outside.specs.Faults.{Rose};
 ghost use Rattle.journal_core.specs.Holds.{end_of, limit};
 ghost use Rattle.journal_core.specs.Walk.{EndsAt};
 ghost use Rattle.journal_core.specs.Journal.{DiskHolds, IsAtRest, disk_of, size_of, IsReady};
-ghost use Rattle.journal_core.specs.Calls.{IsAppended, IsAppending, IsStarted, IsStarting};
+ghost use Rattle.journal_core.specs.Calls.{IsAppended, IsAppendedLast, IsAppending, IsStarted, IsStarting};
 
 use crate::Frame;
 use crate::put::put;
@@ -76,7 +76,7 @@ impl<D: Disk> Journal<D> {
 
     /// Puts a record behind the others, in four calls of the disk and without memory. When it is done, each crash leaves
     /// a file that holds it too. A crash at any moment before leaves one that holds the records from before, with the
-    /// new one or without. After a fault the journal is to be opened again.
+    /// new one or without, and until the last moment it may be without. After a fault the journal is to be opened again.
     pub fn append(&mut self, frame: &Frame) -> Result<(), Failed>
         requires ready { IsReady (D.history (disk_of self.old)) (size_of self.old) }
         requires fits { size_of self.old + 4 + length frame.now + 1 ≤ limit }
@@ -85,6 +85,7 @@ impl<D: Disk> Journal<D> {
         ensures size { OnOk result (size_of self.new ≡ size_of self.old + (5 + length frame.now)) }
         ensures same_size { OnErr result (size_of self.new ≡ size_of self.old) }
         ensures any_moment { IsAppending (D.history (disk_of self.old)) (D.history (disk_of self.new)) (size_of self.old) frame.now }
+        ensures last { IsAppendedLast (D.history (disk_of self.old)) (D.history (disk_of self.new)) (size_of self.old) }
         ensures never_falls { D.fault_count (disk_of self.old) ≤ D.fault_count (disk_of self.new) }
         ensures failed { OnErr result (Rose (D.fault_count (disk_of self.old)) (D.fault_count (disk_of self.new))) }
     {

@@ -6,3 +6,4 @@ pub mod ChangeReading
 pub mod RecordReading
 pub mod SizeFacts
 pub mod LoopFacts
+pub mod ShortFacts

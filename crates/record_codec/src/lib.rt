@@ -12,6 +12,7 @@ mod fields;
 mod laws;
 mod put;
 mod put_solution;
+mod short;
 mod size;
 mod solution;
 
@@ -19,4 +20,5 @@ pub use decoding::decode;
 pub use encoding::encode;
 pub use fault::DecodeFault;
 pub use laws::spellings_are_unique;
+pub use short::encode_short;
 pub use size::length;

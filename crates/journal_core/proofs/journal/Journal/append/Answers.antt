@@ -1,9 +1,9 @@
 use Rattle.std.proofs.Common.{◌≡◌, ◌+◌, ◌≤◌, List, ℕ, length, subst, ap, arith}
-use Rattle.journal_core.specs.Holds.{limit}
+use Rattle.journal_core.specs.Holds.{limit, Holds}
 use Rattle.journal_core.specs.Moments.{Puts}
 use Rattle.journal_core.specs.Journal.{HoldsWithOrWithout}
-use Rattle.journal_core.proofs.MomentFacts.{leaves_both}
-use Rattle.journal_core.proofs.JournalFacts.{first_moments, second_moments, appended, ready_again, length-staged}
+use Rattle.journal_core.proofs.MomentFacts.{leaves_both, yet_both}
+use Rattle.journal_core.proofs.JournalFacts.{first_moments, second_moments, first_yet, second_yet, appended, ready_again, length-staged}
 use Rattle.journal_core.proofs.journal.Journal.append.Goals as goal
 
 pub returns-in_err-put-clause-any_moment : goal.returns-in_err-put-clause-any_moment
@@ -53,3 +53,34 @@ returns-clause-ready g c =
     let was = g.D.Disk.history c.args.self.now.disk in
     let after = g.D.Disk.history c.put-2.new.disk in
     ready_again was after c.args.self.now.end (c.args.self.now.end + length c.behind_gate-behind.result.now) c.args.frame.now c.requires.ready (returns-clause-done g c)
+
+pub returns-in_err-put-clause-last : goal.returns-in_err-put-clause-last
+returns-in_err-put-clause-last g c = λ records rest. first_yet records c.args.frame.now _ _ c.args.self.now.end rest c.put.ensures.yet
+
+pub returns-in_err-put-2-clause-last : goal.returns-in_err-put-2-clause-last
+returns-in_err-put-2-clause-last g c = λ records rest.
+    let was = g.D.Disk.history c.args.self.now.disk in
+    let mid = g.D.Disk.history c.put.new.disk in
+    let after = g.D.Disk.history c.put-2.new.disk in
+    let end = c.args.self.now.end in
+    let record_bytes = c.args.frame.now in
+    let fits : end + 5 + length record_bytes ≤ limit = omega (arith, c.requires.fits) in
+    let puts = subst (λ (b : List ℕ). Puts was end b mid) c.behind_gate-behind.ensures c.in_ok-put.ensures.done in
+    yet_both was mid after (λ image. Holds image records) (HoldsWithOrWithout records record_bytes)
+    (first_yet records record_bytes was mid end rest c.put.ensures.yet)
+    (second_moments records record_bytes was mid after end c.saturating_sub-gate.result rest c.saturating_sub-gate.ensures fits puts c.put-2.ensures.any_moment)
+    (second_yet records record_bytes was mid after end rest puts c.put-2.ensures.yet)
+
+pub returns-clause-last : goal.returns-clause-last
+returns-clause-last g c = λ records rest.
+    let was = g.D.Disk.history c.args.self.now.disk in
+    let mid = g.D.Disk.history c.put.new.disk in
+    let after = g.D.Disk.history c.put-2.new.disk in
+    let end = c.args.self.now.end in
+    let record_bytes = c.args.frame.now in
+    let fits : end + 5 + length record_bytes ≤ limit = omega (arith, c.requires.fits) in
+    let puts = subst (λ (b : List ℕ). Puts was end b mid) c.behind_gate-behind.ensures c.in_ok-put.ensures.done in
+    yet_both was mid after (λ image. Holds image records) (HoldsWithOrWithout records record_bytes)
+    (first_yet records record_bytes was mid end rest c.put.ensures.yet)
+    (second_moments records record_bytes was mid after end c.saturating_sub-gate.result rest c.saturating_sub-gate.ensures fits puts c.put-2.ensures.any_moment)
+    (second_yet records record_bytes was mid after end rest puts c.put-2.ensures.yet)
