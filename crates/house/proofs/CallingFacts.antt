@@ -27,10 +27,10 @@ none_of None h = refl
 none_of (Some x) h = absurd (false≢true (sym h))
 
 -- a house that runs has its history on the disk
-pub running_stored : (v : HouseView) → Keeps v → is_stopped v ≡ false → AreStored v.disk (bytes_of v) v.history.entries
+pub running_stored : (v : HouseView) → Keeps v → is_stopped v ≡ false → AreStored v.disk (bytes_of v) v.history
 running_stored v keeps runs =
-    stored_now v.journal.first_moment v.opening v.disk (bytes_of v) v.history.entries
-    (subst (λ (k : Option Entry). AreOnDisk v.journal.first_moment v.opening v.disk (bytes_of v) v.history.entries k) (none_of v.kept runs) keeps.on_disk)
+    stored_now v.journal.first_moment v.opening v.disk (bytes_of v) v.history
+    (subst (λ (k : Option Entry). AreOnDisk v.journal.first_moment v.opening v.disk (bytes_of v) v.history k) (none_of v.kept runs) keeps.on_disk)
 
 pub grows_by_nothing : (v : HouseView) (seat : ℕ) (ask : Ask) (answer : Answer) → is_recorded ask.what answer ≡ false → v.history ≡ longer v.history (recorded seat ask answer)
 grows_by_nothing v seat ask answer unrecorded =
@@ -46,14 +46,14 @@ unchanged v seat ask reply keeps place told unrecorded no_fault = record {
   rests = λ _. refl;
   runs = λ made. absurd (false≢true (sym unrecorded ∙ made));
   same = λ _. refl;
-  any_moment = λ runs. still v.disk (bytes_of v) v.history.entries (record { seat = seat; ask = ask }) (running_stored v keeps runs);
+  any_moment = λ runs. still v.disk (bytes_of v) v.history (record { seat = seat; ask = ask }) (running_stored v keeps runs);
   counted = omega arith;
   failed = λ fault. absurd (false≢true (sym no_fault ∙ fault));
   figures = refl;
   keeps = keeps;
 }
 
-module _ (s : State) (size : ℕ) (v : HouseView) (house : IsHouse s size v) (zero_base : v.history.base.position ≡ 0) (seat : ℕ) (ask : Ask) where
+module _ (s : State) (size : ℕ) (v : HouseView) (house : IsHouse s size v) (seat : ℕ) (ask : Ask) where
   -- there is no memory
   pub memory_call : (at : ℕ) (reply : Reply) → at ≡ end_of v.history → reply ≡ record { at = at; answer = No Memory } → Calls v v seat ask reply
   memory_call at reply place is =
@@ -77,7 +77,7 @@ module _ (s : State) (size : ℕ) (v : HouseView) (house : IsHouse s size v) (ze
         let here : reply.at ≡ at = ap (λ (r : Reply). r.at) is in
         let answer : reply.answer ≡ No refusal = ap (λ (r : Reply). r.answer) is in
         unchanged v seat ask reply house.keeps (here ∙ place)
-        (told_by_journal v seat ask reply (is_stopped v) refusal zero_base (here ∙ place) change (ap (λ (n : ℕ). first_of (house_refusals (bytes_of v) n (is_stopped v) (is_stopped v) ask)) here ∙ first) answer)
+        (told_by_journal v seat ask reply (is_stopped v) refusal (here ∙ place) change (ap (λ (n : ℕ). first_of (house_refusals (bytes_of v) n (is_stopped v) (is_stopped v) ask)) here ∙ first) answer)
         (ap (λ a. is_recorded ask.what a) answer ∙ no_refusal_recorded ask refusal) (ap is_disk_fault answer ∙ plain)
 
     -- the journal has no room
@@ -95,5 +95,5 @@ module _ (s : State) (size : ℕ) (v : HouseView) (house : IsHouse s size v) (ze
         refused_call (Stopped at) at reply place is (first_stopped (bytes_of v) at (is_stopped v) (is_stopped v) ask room_here was) refl
 
 -- a house that runs is ready for a change
-pub house_stored : (s : State) (size : ℕ) (v : HouseView) → IsHouse s size v → is_stopped v ≡ false → AreStored v.disk size v.history.entries
-house_stored s size v house runs = subst (λ (n : ℕ). AreStored v.disk n v.history.entries) (sym house.sized) (running_stored v house.keeps runs)
+pub house_stored : (s : State) (size : ℕ) (v : HouseView) → IsHouse s size v → is_stopped v ≡ false → AreStored v.disk size v.history
+house_stored s size v house runs = subst (λ (n : ℕ). AreStored v.disk n v.history) (sym house.sized) (running_stored v house.keeps runs)

@@ -13,18 +13,19 @@ use Rattle.command_types.specs.declared.refusal.Refusal.TheVariants.{DiskFault}
 use Rattle.command_types.specs.declared.figures.JournalFigures.{JournalFigures}
 use Rattle.command_types.specs.declared.figures.State.{State}
 use Rattle.command_types.specs.Machine.{answer_to, state_after}
-use Rattle.command_types.specs.History.{is_recorded, replayed, solutions_posted}
+use Rattle.command_types.specs.History.{History, end_of, is_recorded, longer, replayed, solutions_posted}
 use Rattle.command_types.specs.Sizes.{journal_limit, frame_size, frames_size}
-use Rattle.outside.specs.Disk.{History}
+use Rattle.outside.specs.Disk as disks
 use Rattle.outside.specs.Faults.{Rose}
-use Rattle.journal_core.specs.Moments.{LeavesOnly}
-use Rattle.cycle_states.specs.PlainDesk.{history_of, IsReplayed}
+use Rattle.recovery.specs.StandsFor.{StandsFor}
+use Rattle.journal_core.specs.Moments.{LeavesOnly, MayLeaveYet}
+use Rattle.cycle_states.specs.Replayed.{IsReplayed}
 use Rattle.cycle_states.proofs.DeskFacts.{replayed_more, grown, told_recorded}
-use Rattle.cycle_states.proofs.MachineFacts.{roster_after}
-use Rattle.house.specs.Storing.{AreStored, AreOnDisk, StandsForEither}
+use Rattle.house.specs.Storing.{AreStored, AreOnDisk, StandsForEither, moment_of}
 use Rattle.house.specs.House.{HouseView, figures_of, bytes_of, Keeps, IsHouse, house_of}
 use Rattle.house.specs.Calling.{is_disk_fault, Calls}
 use Rattle.house.proofs.StoringFacts.{stored_leaves, on_disk_more, on_disk_broken, moments_rise, tells_on}
+use Rattle.house.proofs.GoingFacts.{back_more, back_kept, kept_now, none_kept}
 use Rattle.house.proofs.StopFacts.{machine_plain}
 use Rattle.house.proofs.ToldFacts.{first_failed, told_by_journal, no_refusal_recorded}
 use Rattle.house.proofs.CallingFacts.{grows_by_nothing}
@@ -42,16 +43,22 @@ nor true b is h = false≢true h
 nor false true is h = false≢true h
 nor false false is h = false≢true is
 
-module _ (s : State) (entries : List Entry) (opening size : ℕ) (journal : JournalFigures) (disk : Option History) (count : ℕ)
-    (house : IsHouse s size (house_of s entries opening journal None disk count)) (seat : ℕ) (ask : Ask) (change : IsTrue (is_recorded ask.what (answer_to s ask))) where
+module _ (s : State) (h : History) (opening size : ℕ) (journal : JournalFigures) (disk : Option disks.History) (count : ℕ)
+    (house : IsHouse s size (house_of h opening journal None disk count)) (seat : ℕ) (ask : Ask) (change : IsTrue (is_recorded ask.what (answer_to s ask))) where
   abbrev entry : Entry
   entry = record { seat = seat; ask = ask }
 
-  abbrev was : HouseView
-  was = house_of s entries opening journal None disk count
+  abbrev entries : List Entry
+  entries = h.entries
 
-  on_disk : AreOnDisk journal.first_moment opening disk (bytes_of was) entries None
+  abbrev was : HouseView
+  was = house_of h opening journal None disk count
+
+  on_disk : AreOnDisk journal.first_moment opening disk (bytes_of was) h None
   on_disk = house.keeps.on_disk
+
+  since : journal.first_moment ≤ moment_of disk
+  since = omega (arith, house.keeps.moments.0, house.keeps.moments.1)
 
   bytes_more : (next : ℕ) → next ≡ size + frame_size ask → next ≡ journal.size + frames_size (drop opening (entries ++ entry ∷ []))
   bytes_more next is =
@@ -59,71 +66,70 @@ module _ (s : State) (entries : List Entry) (opening size : ℕ) (journal : Jour
       ap frames_size (drop-append-le opening entries (entry ∷ []) house.keeps.opened) ∙ sum_by-append (λ (e : Entry). frame_size e.ask) (drop opening entries) (entry ∷ []) in
       omega (arith, is, house.sized, split)
 
-  module _ (after : State) (next : ℕ) (then_disk : Option History) (then_count : ℕ) (on : after ≡ state_after s ask) (sized : next ≡ size + frame_size ask)
-      (leaves : LeavesOnly disk then_disk (StandsForEither entries entry)) (stored : AreStored then_disk next (entries ++ entry ∷ [])) (rises : count ≤ then_count)
-      (sound : All IsSolution (solutions_posted ask.what)) where
+  module _ (after : State) (next : ℕ) (then_disk : Option disks.History) (then_count : ℕ) (on : after ≡ state_after s ask) (sized : next ≡ size + frame_size ask)
+      (leaves : LeavesOnly disk then_disk (StandsForEither h entry)) (yet : MayLeaveYet disk then_disk (λ image. StandsFor image h))
+      (stored : AreStored then_disk next (longer h (entry ∷ []))) (rises : count ≤ then_count) (sound : All IsSolution (solutions_posted ask.what)) where
     abbrev done : HouseView
-    done = house_of after (entries ++ entry ∷ []) opening journal None then_disk then_count
+    done = house_of (longer h (entry ∷ [])) opening journal None then_disk then_count
 
-    goes_on : IsReplayed after (entries ++ entry ∷ [])
-    goes_on = replayed_more s after entries (entries ++ entry ∷ []) entry house.replayed on refl change sound
+    goes_on : IsReplayed after (longer h (entry ∷ []))
+    goes_on = replayed_more s after h (entries ++ entry ∷ []) entry house.replayed on refl change sound
 
     keeps_on : Keeps done
     keeps_on =
         let bytes = bytes_more next sized in
-        let stored_there = subst (λ (n : ℕ). AreStored then_disk n (entries ++ entry ∷ [])) bytes stored in
+        let stored_there = subst (λ (n : ℕ). AreStored then_disk n (longer h (entry ∷ []))) bytes stored in
         record {
           legal = goes_on.legal;
           opened = omega (arith, house.keeps.opened, length-append entries (entry ∷ []));
           first = house.keeps.first ∙ sym (take-append-le opening entries (entry ∷ []) house.keeps.opened);
           size = house.keeps.size;
-          tells = tells_on disk then_disk (StandsForEither entries entry) leaves ∙ house.keeps.tells;
-          on_disk = on_disk_more opening entries house.keeps.opened journal.first_moment disk then_disk (bytes_of was) (bytes_of done) entry on_disk leaves stored_there;
-          moments = (house.keeps.moments.0, omega (arith, house.keeps.moments.1, moments_rise disk then_disk (StandsForEither entries entry) leaves));
-          leaves = λ _. stored_leaves then_disk (bytes_of done) (entries ++ entry ∷ []) stored_there;
+          tells = tells_on disk then_disk (StandsForEither h entry) leaves ∙ house.keeps.tells;
+          on_disk = on_disk_more opening h house.keeps.opened journal.first_moment disk then_disk (bytes_of was) (bytes_of done) entry on_disk leaves stored_there;
+          moments = (house.keeps.moments.0, omega (arith, house.keeps.moments.1, moments_rise disk then_disk (StandsForEither h entry) leaves));
+          leaves = λ _. stored_leaves then_disk (bytes_of done) (longer h (entry ∷ [])) stored_there;
+          kept_legal = goes_on.legal;
+          leaves_kept = none_kept then_disk (longer h (entry ∷ [])) (stored_leaves then_disk (bytes_of done) (longer h (entry ∷ [])) stored_there);
+          never_back = back_more journal.first_moment opening h entry house.keeps.opened disk then_disk since house.keeps.never_back leaves yet;
           counted = omega (arith, house.keeps.counted, rises);
           stopped = λ never. absurd (false≢true never);
         }
 
-    pub made_house : (then_entries : List Entry) → then_entries ≡ entries ++ entry ∷ [] → IsHouse after next (house_of after then_entries opening journal None then_disk then_count)
-    made_house then_entries is =
-        subst (λ (es : List Entry). IsHouse after next (house_of after es opening journal None then_disk then_count)) (sym is)
+    pub made_house : (then : History) → then ≡ longer h (entry ∷ []) → IsHouse after next (house_of then opening journal None then_disk then_count)
+    made_house then is =
+        subst (λ (n : History). IsHouse after next (house_of n opening journal None then_disk then_count)) (sym is)
         (record { replayed = goes_on; sized = bytes_more next sized; keeps = keeps_on })
 
-    same_figures : figures_of done ≡ figures_of was
-    same_figures =
-        let roster : after.roster ≡ s.roster = ap (λ (t : State). t.roster) on ∙ roster_after s ask in
-        ap (λ r. figures_of (house_of (record s { roster = r }) (entries ++ entry ∷ []) opening journal None then_disk then_count)) roster
-
-    made_literally : (answer : Answer) (at : ℕ) → answer ≡ answer_to s ask → at ≡ length entries + 1 → Calls was done seat ask (record { at = at; answer = answer })
+    made_literally : (answer : Answer) (at : ℕ) → answer ≡ answer_to s ask → at ≡ end_of h + 1 → Calls was done seat ask (record { at = at; answer = answer })
     made_literally answer at answers place =
         let told_so : IsTrue (is_recorded ask.what answer) = subst (λ a. IsTrue (is_recorded ask.what a)) (sym answers) change in
         let plain : is_disk_fault answer ≡ false = ap is_disk_fault answers ∙ machine_plain s ask in
         record {
           place = omega (arith, place, length-append entries (entry ∷ []));
-          told = told_recorded s after entries (entries ++ entry ∷ []) seat at ask answer (figures_of was) house.replayed on refl told_so answers place;
-          grows = grown s after entries (entries ++ entry ∷ []) seat ask answer on refl told_so;
+          told = told_recorded s h (entries ++ entry ∷ []) seat at ask answer (figures_of was) house.replayed refl told_so answers place;
+          grows = grown h (entries ++ entry ∷ []) seat ask answer refl told_so;
           rests = λ never. absurd (false≢true never);
           runs = λ _. refl;
           same = λ as_before. absurd (neither (is_recorded ask.what answer) (is_disk_fault answer) told_so as_before);
           any_moment = λ _. leaves;
           counted = rises;
           failed = λ fault. absurd (false≢true (sym plain ∙ fault));
-          figures = same_figures;
+          figures = refl;
           keeps = keeps_on;
         }
 
-    pub made : (then_entries : List Entry) (answer : Answer) (at : ℕ) → then_entries ≡ entries ++ entry ∷ [] → answer ≡ answer_to s ask → at ≡ length entries + 1
-        → Calls was (house_of after then_entries opening journal None then_disk then_count) seat ask (record { at = at; answer = answer })
-    made then_entries answer at is answers place =
-        subst (λ (es : List Entry). Calls was (house_of after es opening journal None then_disk then_count) seat ask (record { at = at; answer = answer })) (sym is)
+    pub made : (then : History) (answer : Answer) (at : ℕ) → then ≡ longer h (entry ∷ []) → answer ≡ answer_to s ask → at ≡ end_of h + 1
+        → Calls was (house_of then opening journal None then_disk then_count) seat ask (record { at = at; answer = answer })
+    made then answer at is answers place =
+        subst (λ (n : History). Calls was (house_of n opening journal None then_disk then_count) seat ask (record { at = at; answer = answer })) (sym is)
         (made_literally answer at answers place)
 
   -- ---- the disk failed
 
-  module _ (then_disk : Option History) (then_count : ℕ) (leaves : LeavesOnly disk then_disk (StandsForEither entries entry)) (rises : count ≤ then_count) (rose : Rose count then_count) where
+  module _ (then_disk : Option disks.History) (then_count : ℕ) (leaves : LeavesOnly disk then_disk (StandsForEither h entry)) (yet : MayLeaveYet disk then_disk (λ image. StandsFor image h))
+      (rises : count ≤ then_count) (rose : Rose count then_count) (sound : All IsSolution (solutions_posted ask.what)) where
     abbrev broken : HouseView
-    broken = house_of s entries opening journal (Some entry) then_disk then_count
+    broken = house_of h opening journal (Some entry) then_disk then_count
 
     keeps_broken : Keeps broken
     keeps_broken = record {
@@ -131,10 +137,13 @@ module _ (s : State) (entries : List Entry) (opening size : ℕ) (journal : Jour
       opened = house.keeps.opened;
       first = house.keeps.first;
       size = house.keeps.size;
-      tells = tells_on disk then_disk (StandsForEither entries entry) leaves ∙ house.keeps.tells;
-      on_disk = on_disk_broken opening entries house.keeps.opened journal.first_moment disk then_disk (bytes_of was) entry on_disk leaves;
-      moments = (house.keeps.moments.0, omega (arith, house.keeps.moments.1, moments_rise disk then_disk (StandsForEither entries entry) leaves));
+      tells = tells_on disk then_disk (StandsForEither h entry) leaves ∙ house.keeps.tells;
+      on_disk = on_disk_broken opening h house.keeps.opened journal.first_moment disk then_disk (bytes_of was) entry on_disk leaves;
+      moments = (house.keeps.moments.0, omega (arith, house.keeps.moments.1, moments_rise disk then_disk (StandsForEither h entry) leaves));
       leaves = λ none. absurd cc;
+      kept_legal = (replayed_more s (state_after s ask) h (entries ++ entry ∷ []) entry house.replayed refl refl change sound).legal;
+      leaves_kept = kept_now disk then_disk h entry leaves;
+      never_back = back_kept journal.first_moment opening h entry house.keeps.opened disk then_disk since house.keeps.never_back leaves yet;
       counted = omega (arith, house.keeps.counted, rises);
       stopped = λ _. rose_from journal.faults count then_count house.keeps.counted rose;
     }
@@ -142,15 +151,15 @@ module _ (s : State) (entries : List Entry) (opening size : ℕ) (journal : Jour
     pub broken_house : IsHouse s size broken
     broken_house = record { replayed = house.replayed; sized = house.sized; keeps = keeps_broken }
 
-    pub failed_call : (at : ℕ) → at ≡ length entries → nat_lt journal_limit (size + frame_size ask) ≡ false → Calls was broken seat ask (record { at = at; answer = No DiskFault })
+    pub failed_call : (at : ℕ) → at ≡ end_of h → nat_lt journal_limit (size + frame_size ask) ≡ false → Calls was broken seat ask (record { at = at; answer = No DiskFault })
     failed_call at place room =
         let reply : Reply = record { at = at; answer = No DiskFault } in
-        let changed : IsTrue (is_recorded ask.what (answer_to (replayed (history_of s entries)) ask)) = subst (λ (t : State). IsTrue (is_recorded ask.what (answer_to t ask))) house.replayed.same change in
+        let changed : IsTrue (is_recorded ask.what (answer_to (replayed h) ask)) = subst (λ (t : State). IsTrue (is_recorded ask.what (answer_to t ask))) house.replayed.same change in
         let room_there : nat_lt journal_limit (bytes_of was + frame_size ask) ≡ false = ap (λ (n : ℕ). nat_lt journal_limit (n + frame_size ask)) (sym house.sized) ∙ room in
         let unrecorded : is_recorded ask.what (No DiskFault) ≡ false = no_refusal_recorded ask DiskFault in
         record {
           place = omega (arith, place);
-          told = told_by_journal was seat ask reply true DiskFault refl (omega (arith, place)) changed (first_failed (bytes_of was) at ask room_there) refl;
+          told = told_by_journal was seat ask reply true DiskFault (omega (arith, place)) changed (first_failed (bytes_of was) at ask room_there) refl;
           grows = grows_by_nothing was seat ask (No DiskFault) unrecorded;
           rests = λ never. absurd (false≢true never);
           runs = λ never. absurd (false≢true (sym unrecorded ∙ never));

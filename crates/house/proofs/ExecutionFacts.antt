@@ -6,11 +6,9 @@ use Rattle.command_types.specs.declared.answer.Answer.{Answer}
 use Rattle.command_types.specs.declared.answer.Reply.{Reply}
 use Rattle.command_types.specs.declared.ask.Entry.{Entry}
 use Rattle.command_types.specs.declared.figures.State.{State}
-use Rattle.command_types.specs.Machine.{empty_state, answer_to, state_after}
+use Rattle.command_types.specs.Machine.{answer_to, state_after}
 use Rattle.command_types.specs.History.{replayed_from}
-use Rattle.recovery.specs.declared.reader.EntryReader.{EntryReader}
 use Rattle.house.specs.Executions.{told_by, executions_told}
-use Rattle.house.proofs.OpeningFacts.{ReplayedSoFar}
 
 -- one change more
 pub executions_told-push : (s : State) (n : ℕ) (front : List Entry) (entry : Entry) →
@@ -25,27 +23,23 @@ executions_told-push s n (e ∷ front) entry =
     ∙ ap (λ k. (first ++ rest) ++ told_by k last) (omega arith)
 
 -- behind none there is nothing new
-pub none_noted : (s : State) (past : List Entry) (kept : Option (List Reply)) → past ≡ [] → kept ≡ option_map (λ replies. replies ++ executions_told s 0 past) kept
-none_noted s past None none = refl
-none_noted s past (Some replies) none = ap (λ (rs : List Reply). Some rs) (sym (append-nil replies)) ∙ ap (λ (es : List Entry). Some (replies ++ executions_told s 0 es)) (sym none)
+pub none_noted : (s : State) (from : ℕ) (past : List Entry) (kept : Option (List Reply)) → past ≡ [] → kept ≡ option_map (λ replies. replies ++ executions_told s from past) kept
+none_noted s from past None none = refl
+none_noted s from past (Some replies) none = ap (λ (rs : List Reply). Some rs) (sym (append-nil replies)) ∙ ap (λ (es : List Entry). Some (replies ++ executions_told s from es)) (sym none)
 
-module _ (s : State) (past more : List Entry) (entry : Entry) (answer : Answer) (n : ℕ) where
-  both_noted : (before : Option (List Reply)) → executions_told s 0 more ≡ executions_told s 0 past ++ told_by n answer →
-      option_map (λ replies. replies ++ told_by n answer) (option_map (λ replies. replies ++ executions_told s 0 past) before) ≡ option_map (λ replies. replies ++ executions_told s 0 more) before
+module _ (s : State) (from : ℕ) (past more : List Entry) (entry : Entry) (answer : Answer) (n : ℕ) where
+  both_noted : (before : Option (List Reply)) → executions_told s from more ≡ executions_told s from past ++ told_by n answer →
+      option_map (λ replies. replies ++ told_by n answer) (option_map (λ replies. replies ++ executions_told s from past) before) ≡ option_map (λ replies. replies ++ executions_told s from more) before
   both_noted None is = refl
-  both_noted (Some replies) is = ap (λ (rs : List Reply). Some rs) (append_assoc replies (executions_told s 0 past) (told_by n answer) ∙ ap (λ (rs : List Reply). replies ++ rs) (sym is))
+  both_noted (Some replies) is = ap (λ (rs : List Reply). Some rs) (append_assoc replies (executions_told s from past) (told_by n answer) ∙ ap (λ (rs : List Reply). replies ++ rs) (sym is))
 
   -- the reply to one more change was noted
-  pub one_noted : (now : State) (before kept after : Option (List Reply)) → kept ≡ option_map (λ replies. replies ++ executions_told s 0 past) before →
-      after ≡ option_map (λ replies. replies ++ told_by n answer) kept → more ≡ past ++ entry ∷ [] → now ≡ replayed_from s past → answer ≡ answer_to now entry.ask → n ≡ length past + 1 →
-      after ≡ option_map (λ replies. replies ++ executions_told s 0 more) before
+  pub one_noted : (now : State) (before kept after : Option (List Reply)) → kept ≡ option_map (λ replies. replies ++ executions_told s from past) before →
+      after ≡ option_map (λ replies. replies ++ told_by n answer) kept → more ≡ past ++ entry ∷ [] → now ≡ replayed_from s past → answer ≡ answer_to now entry.ask → n ≡ from + length past + 1 →
+      after ≡ option_map (λ replies. replies ++ executions_told s from more) before
   one_noted now before kept after was noted grown here answers count =
       let told : answer_to (replayed_from s past) entry.ask ≡ answer = ap (λ (t : State). answer_to t entry.ask) (sym here) ∙ sym answers in
-      let at : 0 + length past + 1 ≡ n = omega (arith, count) in
-      let is : executions_told s 0 more ≡ executions_told s 0 past ++ told_by n answer =
-      ap (executions_told s 0) grown ∙ executions_told-push s 0 past entry ∙ (λ i. executions_told s 0 past ++ told_by (at i) (told i)) in
+      let at : from + length past + 1 ≡ n = sym count in
+      let is : executions_told s from more ≡ executions_told s from past ++ told_by n answer =
+      ap (executions_told s from) grown ∙ executions_told-push s from past entry ∙ (λ i. executions_told s from past ++ told_by (at i) (told i)) in
       noted ∙ ap (option_map (λ replies. replies ++ told_by n answer)) was ∙ both_noted before is
-
--- the machine is where the entries so far lead from the first state
-pub so_far_state : (s : State) (file : List ℕ) (reader : EntryReader) (now : State) (entries : List Entry) → s ≡ empty_state s.roster → ReplayedSoFar s file reader now entries → now ≡ replayed_from s entries
-so_far_state s file reader now entries empty f = f.replayed.same ∙ ap (λ (t : State). replayed_from t entries) (ap empty_state f.roster ∙ sym empty)

@@ -1,5 +1,6 @@
 pub mod JournalFacts
 pub mod StoringFacts
+pub mod GoingFacts
 pub mod StopFacts
 pub mod ToldFacts
 pub mod CallingFacts

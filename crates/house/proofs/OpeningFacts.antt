@@ -1,35 +1,40 @@
 -- What is found on a disk when a house is opened on it.
-use Rattle.std.proofs.Common.{◌≡◌, inl, inr, ⊎_elim, ℕ, ◌+◌, ◌≤◌, ◌<◌, ◌^◌, List, [], ◌∷◌, ◌++◌, length, take, drop, map, Option, Some, None, is_some, refl, sym, ◌∙◌, subst, ap, arith, append_assoc, length-append}
+use Rattle.std.specs.List.{AllZip, flat_map}
+use Rattle.std.proofs.Common.{◌≡◌, inl, inr, ⊎_elim, ℕ, suc, ◌+◌, ◌≤◌, ◌<◌, List, [], ◌∷◌, ◌++◌, length, take, drop, map, Option, Some, None, is_some, refl, sym, ◌∙◌, subst, ap, arith, append_assoc, length-append}
 use Rattle.std.proofs.lemmas.Bool.{false≢true}
-use Rattle.std.proofs.lemmas.List.{append-nil, map-append, drop_all, take_all}
+use Rattle.std.proofs.lemmas.List.{append-nil, map-append, length-map, drop_all, take_all}
 use Rattle.command_types.specs.declared.ask.Entry.{Entry}
+use Rattle.command_types.specs.declared.figures.Start.{Start}
 use Rattle.command_types.specs.declared.figures.JournalFigures.{JournalFigures}
 use Rattle.command_types.specs.declared.figures.State.{State}
 use Rattle.command_types.specs.Machine.{empty_state, state_after}
-use Rattle.command_types.specs.History.{IsAcceptedIn, IsLegalFrom, replayed_from}
+use Rattle.command_types.specs.History.{History, IsAcceptedIn, IsLegal, IsLegalFrom, longer, replayed_from}
 use Rattle.command_types.specs.Roster.{Rows}
 use Rattle.command_types.specs.Sizes.{frames_size}
-use Rattle.outside.specs.Disk.{History, IsSettled, moment}
+use Rattle.outside.specs.Disk.{IsSettled, moment}
+use Rattle.outside.specs.Disk as disks
+use Rattle.journal_core.specs.Holds.{header, limit, frame, Holds}
 use Rattle.journal_core.specs.Moments.{LeavesOnly}
+use Rattle.journal_core.specs.Walk.{placed}
 use Rattle.journal_core.proofs.MomentFacts.{started}
 use Rattle.recovery.specs.declared.entries.Entries.{Entries}
 use Rattle.recovery.specs.declared.entries.EntryAt.{EntryAt}
 use Rattle.recovery.specs.declared.fault.RecoverFault.{RecoverFault}
 use Rattle.recovery.specs.declared.fault.RecoverFault.TheVariants as recovers
-use Rattle.recovery.specs.StandsFor.{StandsFor}
+use Rattle.recovery.specs.StandsFor.{SpellAll, first_start, first_history, StandsFor}
 use Rattle.recovery.specs.declared.reader.EntryReader.{EntryReader}
-use Rattle.recovery.specs.Reading.{file_of, entries_in, bytes_left, IsRead, HasRead, AreLeft, IsNext, FindsEntries, FindsFault as FindsReadFault}
-use Rattle.recovery.proofs.EntryFacts.{one_list_of_entries, stands_for_none}
-use Rattle.cycle_states.specs.PlainDesk.{IsReplayed}
+use Rattle.recovery.specs.Reading.{file_of, entries_in, SpellsAt, IsRead, HasRead, AreLeft, IsNext, FindsEntries, FindsFault as FindsReadFault}
+use Rattle.recovery.proofs.EntryFacts.{one_history, stands_for_none}
+use Rattle.cycle_states.specs.Replayed.{history_from, IsReplayed}
 use Rattle.cycle_states.proofs.DeskFacts.{replayed_more}
-use Rattle.cycle_states.proofs.MachineFacts.{roster_after}
 use Rattle.house.specs.declared.fault.OpenFault.{OpenFault}
 use Rattle.house.specs.declared.fault.OpenFault.TheVariants.{Damaged, DiskFault, Memory}
 use Rattle.house.specs.Faults.{fault_of_reading}
-use Rattle.house.specs.Storing.{AreStored, AreOnDisk, moment_of, ContentStandsFor}
+use Rattle.house.specs.Storing.{AreStored, AreOnDisk, NeverGoBack, moment_of, ContentStandsFor}
 use Rattle.house.specs.House.{IsHouse, house_of}
 use Rattle.house.specs.Opening.{IsFirstRefused, IsDamaged, TellsTrue, IsOnlyFault, IsReplayFault, FindsFault}
 use Rattle.house.proofs.JournalFacts.{read_stand, read_one_way}
+use Rattle.house.proofs.GoingFacts.{back_first, none_kept}
 use Rattle.house.proofs.StoringFacts.{stored_leaves, on_disk_first, moments_rise, tells_on}
 
 abbrev entry_of : EntryAt → Entry
@@ -59,22 +64,40 @@ pub record FrontRead (list : List EntryAt) (reader : EntryReader) (entries : Lis
   pub same : entries ≡ map entry_of front
   pub left : AreLeft reader others
 
--- The machine has made the entries so far of those that the file stands for. There are no more than bytes were read.
-pub record ReplayedSoFar (s : State) (file : List ℕ) (reader : EntryReader) (now : State) (entries : List Entry) : Type 0 where
-  pub replayed : IsReplayed now entries
-  pub roster : now.roster ≡ s.roster
-  pub few : length entries + bytes_left reader < 2 ^ 63
-  pub read : (list : List EntryAt) → IsRead file list → FrontRead list reader entries
+-- The machine has made the changes so far of those that the file stands for, which are those of a history with this base.
+pub record ReplayedSoFar (base : Start) (file : List ℕ) (reader : EntryReader) (now : State) (h : History) : Type 0 where
+  pub replayed : IsReplayed now h
+  pub begins : h.base ≡ base
+  pub read : (list : List EntryAt) → IsRead file list → FrontRead list reader h.entries
 
-module _ (s : State) (file : List ℕ) where
-  pub so_far_none : (reader : EntryReader) (entries : List Entry) → s ≡ empty_state s.roster → entries ≡ [] → bytes_left reader < 2 ^ 63
-      → ((list : List EntryAt) → IsRead file list → AreLeft reader list) → ReplayedSoFar s file reader s entries
-  so_far_none reader entries empty none few all = record {
-    replayed = subst (λ (es : List Entry). IsReplayed s es) (sym none) (record { same = empty; legal = tt });
-    roster = refl;
-    few = omega (arith, few, ap length none);
-    read = λ list is. record { front = []; others = list; split = refl; same = none; left = all list is };
-  }
+-- a file has few records
+frames_long : (records : List (List ℕ)) → length records ≤ length (flat_map frame records)
+frames_long [] = omega arith
+frames_long (r ∷ records) = omega (arith, length-append (frame r) (flat_map frame records), frames_long records)
+
+placed_long : (place : ℕ) (records : List (List ℕ)) (list : List EntryAt) → AllZip SpellsAt (placed place records) list → length records ≡ length list
+placed_long place [] [] zip = refl
+placed_long place [] (x ∷ list) zip = absurd zip
+placed_long place (r ∷ records) [] zip = absurd zip
+placed_long place (r ∷ records) (x ∷ list) (here, rest) = ap suc (placed_long (place + (5 + length r)) records list rest)
+
+few_held : (file : List ℕ) (records : List (List ℕ)) → Holds file records → length records < limit
+few_held file records (inl (short, none)) = omega (arith, ap length none)
+few_held file records (inr (long, journal)) = omega (arith, journal.within, length-append header (flat_map frame records), frames_long records)
+
+pub read_few : (file : List ℕ) (list : List EntryAt) → IsRead file list → length list < limit
+read_few file list read = omega (arith, few_held file read.0 read.1, placed_long 8 read.0 list read.2)
+
+module _ (base : Start) (file : List ℕ) where
+  pub so_far_none : (reader : EntryReader) (now : State) (h : History) → h ≡ history_from base.position base.state [] → now ≡ base.state
+      → ((list : List EntryAt) → IsRead file list → AreLeft reader list) → ReplayedSoFar base file reader now h
+  so_far_none reader now h none here all =
+      subst (λ (x : History). ReplayedSoFar base file reader now x) (sym none)
+      (record {
+        replayed = record { same = here; legal = tt };
+        begins = refl;
+        read = λ list is. record { front = []; others = list; split = refl; same = refl; left = all list is };
+      })
 
   next_read : (list : List EntryAt) (reader next : EntryReader) (x : EntryAt) (entries more : List Entry) (f : FrontRead list reader entries) → more ≡ entries ++ x.entry ∷ [] → IsNext f.others next (Some x) → FrontRead list next more
   next_read list reader next x entries more f grown n = record {
@@ -85,48 +108,54 @@ module _ (s : State) (file : List ℕ) where
     left = n.2;
   }
 
-  pub so_far_more : (reader next : EntryReader) (now after : State) (entries more : List Entry) (x : EntryAt) (entry : Entry) → ReplayedSoFar s file reader now entries → bytes_left next < bytes_left reader
-      → ((list : List EntryAt) → AreLeft reader list → IsNext list next (Some x)) → entry ≡ x.entry → IsAcceptedIn now x.entry → after ≡ state_after now x.entry.ask → more ≡ entries ++ entry ∷ []
-      → ReplayedSoFar s file next after more
-  so_far_more reader next now after entries more x entry f shorter here is accepted on grown =
-      let literal : more ≡ entries ++ x.entry ∷ [] = grown ∙ ap (λ (e : Entry). entries ++ e ∷ []) is in
-      record {
-        replayed = replayed_more now after entries more x.entry f.replayed on literal accepted.0 accepted.1;
-        roster = ap (λ (t : State). t.roster) on ∙ roster_after now x.entry.ask ∙ f.roster;
-        few = omega (arith, f.few, shorter, ap length literal, length-append entries (x.entry ∷ []));
-        read = λ list read. let g = f.read list read in next_read list reader next x entries more g literal (here g.others g.left);
-      }
+  pub so_far_more : (reader next : EntryReader) (now after : State) (h more : History) (x : EntryAt) (entry : Entry) → ReplayedSoFar base file reader now h
+      → ((list : List EntryAt) → AreLeft reader list → IsNext list next (Some x)) → entry ≡ x.entry → IsAcceptedIn now x.entry → after ≡ state_after now x.entry.ask → more ≡ longer h (entry ∷ [])
+      → ReplayedSoFar base file next after more
+  so_far_more reader next now after h more x entry f here is accepted on grown =
+      let literal : more ≡ longer h (x.entry ∷ []) = grown ∙ ap (λ (e : Entry). longer h (e ∷ [])) is in
+      subst (λ (m : History). ReplayedSoFar base file next after m) (sym literal)
+      (record {
+        replayed = replayed_more now after h (h.entries ++ x.entry ∷ []) x.entry f.replayed on refl accepted.0 accepted.1;
+        begins = f.begins;
+        read = λ list read. let g = f.read list read in next_read list reader next x h.entries (h.entries ++ x.entry ∷ []) g refl (here g.others g.left);
+      })
 
-  -- there is room for one more
-  pub so_far_room : (reader next : EntryReader) (now : State) (entries : List Entry) → ReplayedSoFar s file reader now entries → bytes_left next < bytes_left reader → length entries + 1 < 2 ^ 63
-  so_far_room reader next now entries f shorter = omega (arith, f.few, shorter)
+  -- there are few so far
+  pub so_far_few : (list : List EntryAt) (reader : EntryReader) (now : State) (h : History) → IsRead file list → ReplayedSoFar base file reader now h → length h.entries < limit
+  so_far_few list reader now h read f =
+      let g = f.read list read in
+      omega (arith, read_few file list read, ap length g.split, length-append g.front g.others, ap length g.same, length-map g.front entry_of)
+
+  -- the machine is where the changes so far lead
+  pub so_far_state : (reader : EntryReader) (now : State) (h : History) → ReplayedSoFar base file reader now h → now ≡ replayed_from base.state h.entries
+  so_far_state reader now h f = f.replayed.same ∙ ap (λ (b : Start). replayed_from b.state h.entries) f.begins
 
   -- the fault of the next change is that of all
-  pub so_far_fault : (list : List EntryAt) (reader next : EntryReader) (now : State) (entries : List Entry) (x : EntryAt) (fault : OpenFault) → s ≡ empty_state s.roster → ReplayedSoFar s file reader now entries → IsRead file list
-      → ((l : List EntryAt) → AreLeft reader l → IsNext l next (Some x)) → IsReplayFault now (x ∷ []) fault → IsReplayFault s list fault
-  so_far_fault list reader next now entries x fault empty f read here told =
+  pub so_far_fault : (list : List EntryAt) (reader next : EntryReader) (now : State) (h : History) (x : EntryAt) (fault : OpenFault) → ReplayedSoFar base file reader now h → IsRead file list
+      → ((l : List EntryAt) → AreLeft reader l → IsNext l next (Some x)) → IsReplayFault now (x ∷ []) fault → IsReplayFault base.state list fault
+  so_far_fault list reader next now h x fault f read here told =
+      let s = base.state in
       let g = f.read list read in
       let n = here g.others g.left in
-      let begins : empty_state now.roster ≡ s = ap empty_state f.roster ∙ sym empty in
-      let there : now ≡ replayed_from s (map entry_of g.front) = f.replayed.same ∙ ap (λ (t : State). replayed_from t entries) begins ∙ ap (replayed_from s) g.same in
-      let legal : IsLegalFrom s (map entry_of g.front) = subst (λ (es : List Entry). IsLegalFrom s es) g.same (subst (λ (t : State). IsLegalFrom t entries) begins f.replayed.legal) in
+      let there : now ≡ replayed_from s (map entry_of g.front) = so_far_state reader now h f ∙ ap (replayed_from s) g.same in
+      let legal : IsLegalFrom s (map entry_of g.front) = subst (λ (es : List Entry). IsLegalFrom s es) g.same (subst (λ (b : Start). IsLegalFrom b.state h.entries) f.begins f.replayed.legal) in
       let told_there : IsReplayFault (replayed_from s (map entry_of g.front)) (x ∷ []) fault = subst (λ (t : State). IsReplayFault t (x ∷ []) fault) there told in
       subst (λ (l : List EntryAt). IsReplayFault s l fault) (sym (g.split ∙ ap (λ (l : List EntryAt). g.front ++ l) n.1))
       (fault_behind s g.front (x ∷ n.0) fault legal (fault_before (replayed_from s (map entry_of g.front)) x n.0 fault told_there))
 
   -- where none is left, they are all
-  pub so_far_all : (list : List EntryAt) (reader next : EntryReader) (now : State) (entries : List Entry) → ReplayedSoFar s file reader now entries → IsRead file list
-      → ((l : List EntryAt) → AreLeft reader l → IsNext l next None) → entries ≡ entries_in list
-  so_far_all list reader next now entries f read here =
+  pub so_far_all : (list : List EntryAt) (reader next : EntryReader) (now : State) (h : History) → ReplayedSoFar base file reader now h → IsRead file list
+      → ((l : List EntryAt) → AreLeft reader l → IsNext l next None) → h.entries ≡ entries_in list
+  so_far_all list reader next now h f read here =
       let g = f.read list read in
       let whole : list ≡ g.front = g.split ∙ ap (λ (l : List EntryAt). g.front ++ l) (here g.others g.left) ∙ append-nil g.front in
       g.same ∙ ap (map entry_of) (sym whole)
 
   -- reading on fails for want of memory alone
-  pub so_far_memory : (list : List EntryAt) (reader : EntryReader) (now : State) (entries : List Entry) (fault : RecoverFault) → ReplayedSoFar s file reader now entries → IsRead file list
-      → ((l : List EntryAt) → AreLeft reader l → fault ≡ recovers.Memory) → IsReplayFault s list (fault_of_reading fault)
-  so_far_memory list reader now entries fault f read here =
-      let g = f.read list read in subst (λ (e : RecoverFault). IsReplayFault s list (fault_of_reading e)) (sym (here g.others g.left)) tt
+  pub so_far_memory : (list : List EntryAt) (reader : EntryReader) (now : State) (h : History) (fault : RecoverFault) → ReplayedSoFar base file reader now h → IsRead file list
+      → ((l : List EntryAt) → AreLeft reader l → fault ≡ recovers.Memory) → IsReplayFault base.state list (fault_of_reading fault)
+  so_far_memory list reader now h fault f read here =
+      let g = f.read list read in subst (λ (e : RecoverFault). IsReplayFault base.state list (fault_of_reading e)) (sym (here g.others g.left)) tt
 
 -- ---- one damage
 
@@ -144,7 +173,7 @@ refused_illegal s (x ∷ xs) place (inr a) legal = refused_illegal (state_after 
 
 module _ (roster : Rows) (file : List ℕ) (list : List EntryAt) (read : IsRead file list) where
   other_damage : (place other : ℕ) → IsFirstRefused (empty_state roster) list place → IsDamaged roster file other → other ≡ place
-  other_damage place other bad (inl damaged) = absurd (stands_for_none file other (entries_in list) damaged (read_stand file list read))
+  other_damage place other bad (inl damaged) = absurd (stands_for_none file other (first_history roster (entries_in list)) damaged (read_stand roster file list read))
   other_damage place other bad (inr refused) =
       same_refused (empty_state roster) list other place
       (subst (λ (l : List EntryAt). IsFirstRefused (empty_state roster) l other) (read_one_way file refused.0 list refused.1 read) refused.2) bad
@@ -155,60 +184,64 @@ module _ (roster : Rows) (file : List ℕ) (list : List EntryAt) (read : IsRead 
     inr (list, read, bad),
     (
       λ other is. other_damage place other bad is,
-      λ entries stands legal. refused_illegal (empty_state roster) list place bad
-          (subst (λ (l : List Entry). IsLegalFrom (empty_state roster) l) (one_list_of_entries file entries (entries_in list) stands (read_stand file list read)) legal),
+      λ h same stands legal. refused_illegal (empty_state roster) list place bad
+          (subst IsLegal (one_history file h (first_history roster (entries_in list)) same stands (read_stand roster file list read)) legal),
     ),
   )
   replay_told DiskFault bad = absurd bad
   replay_told Memory bad = (tt, tt)
 
-pub replay_fault : (roster : Rows) (o : Option History) (e : Entries) (fault : OpenFault) → HasRead e → FindsEntries o e → ((list : List EntryAt) → IsRead (file_of e) list → IsReplayFault (empty_state roster) list fault) → FindsFault roster o fault
+pub replay_fault : (roster : Rows) (o : Option disks.History) (e : Entries) (fault : OpenFault) → HasRead e → FindsEntries o e → ((list : List EntryAt) → IsRead (file_of e) list → IsReplayFault (empty_state roster) list fault) → FindsFault roster o fault
 replay_fault roster None e fault read finds bad = tt
 replay_fault roster (Some h) e fault read finds bad = replay_told roster h.content read.0 (finds read.0 read.1) fault (bad read.0 read.1)
 
 -- the history that was replayed is the one for which the content stands
-pub replay_stands : (o : Option History) (e : Entries) (entries : List Entry) → HasRead e → FindsEntries o e → ((list : List EntryAt) → IsRead (file_of e) list → entries ≡ entries_in list) → ContentStandsFor o entries
-replay_stands None e entries read finds those = tt
-replay_stands (Some h) e entries read finds those =
-    subst (λ (es : List Entry). StandsFor h.content es) (sym (those read.0 read.1)) (read_stand h.content read.0 (finds read.0 read.1))
+pub replay_stands : (roster : Rows) (o : Option disks.History) (e : Entries) (h : History) → HasRead e → FindsEntries o e → h.base ≡ first_start roster
+    → ((list : List EntryAt) → IsRead (file_of e) list → h.entries ≡ entries_in list) → ContentStandsFor o h
+replay_stands roster None e h read finds begins those = tt
+replay_stands roster (Some disk) e h read finds begins those =
+    let stands = read_stand roster disk.content read.0 (finds read.0 read.1) in
+    let own : roster ≡ h.base.state.roster = sym (ap (λ (b : Start). b.state.roster) begins) in
+    (stands.0, stands.1, subst (λ (es : List Entry). SpellAll stands.0 es) (sym (those read.0 read.1)) stands.2, begins ∙ ap first_start own)
 
 -- the fault of reading
-reading_told : (roster : Rows) (h : History) (fault : RecoverFault) → FindsReadFault (Some h) fault → TellsTrue roster h.content (fault_of_reading fault) × IsOnlyFault roster h.content (fault_of_reading fault)
+reading_told : (roster : Rows) (h : disks.History) (fault : RecoverFault) → FindsReadFault (Some h) fault → TellsTrue roster h.content (fault_of_reading fault) × IsOnlyFault roster h.content (fault_of_reading fault)
 reading_told roster h (recovers.Damaged place) finds = (
   inl finds.0,
   (
-    λ other. ⊎_elim (λ damaged. finds.1.0 other damaged) (λ refused. absurd (finds.1.1 (entries_in refused.0) (read_stand h.content refused.0 refused.1))),
-    λ entries stands legal. finds.1.1 entries stands,
+    λ other. ⊎_elim (λ damaged. finds.1.0 other damaged) (λ refused. absurd (finds.1.1 (first_history roster (entries_in refused.0)) (read_stand roster h.content refused.0 refused.1))),
+    λ past same stands legal. finds.1.1 past stands,
   ),
 )
 reading_told roster h recovers.DiskFault finds = (tt, tt)
 reading_told roster h recovers.Memory finds = (tt, tt)
 
-pub reading_fault : (roster : Rows) (o : Option History) (fault : RecoverFault) → FindsReadFault o fault → FindsFault roster o (fault_of_reading fault)
+pub reading_fault : (roster : Rows) (o : Option disks.History) (fault : RecoverFault) → FindsReadFault o fault → FindsFault roster o (fault_of_reading fault)
 reading_fault roster None fault finds = tt
 reading_fault roster (Some h) fault finds = reading_told roster h fault finds
 
 -- ---- the disk at the opening
 
 -- where nothing is written, a crash leaves what stands for the same
-pub still_standing : (o after : Option History) (entries : List Entry) → after ≡ o → IsSettled o → ContentStandsFor o entries → LeavesOnly o after (λ image. StandsFor image entries)
-still_standing None after entries same settled stands = same
-still_standing (Some h) after entries same settled stands =
-    subst (λ (a : Option History). LeavesOnly (Some h) a (λ image. StandsFor image entries)) (sym same)
-    (started h (λ image. StandsFor image entries) (λ image now. subst (λ (f : List ℕ). StandsFor f entries) (sym (settled image now)) stands))
+pub still_standing : (o after : Option disks.History) (h : History) → after ≡ o → IsSettled o → ContentStandsFor o h → LeavesOnly o after (λ image. StandsFor image h)
+still_standing None after h same settled stands = same
+still_standing (Some disk) after h same settled stands =
+    subst (λ (a : Option disks.History). LeavesOnly (Some disk) a (λ image. StandsFor image h)) (sym same)
+    (started disk (λ image. StandsFor image h) (λ image now. subst (λ (f : List ℕ). StandsFor f h) (sym (settled image now)) stands))
 
 -- the house of what was recovered, whose journal was started
-pub opened_house : (s : State) (entries : List Entry) (opening size : ℕ) (journal : JournalFigures) (o now : Option History) (count : ℕ) → IsReplayed s entries → opening ≡ length entries → journal.size ≡ size → journal.faults ≡ count
-    → journal.first ≡ take opening entries → journal.first_moment ≡ moment_of o → journal.moment ≡ moment_of now → journal.tells ≡ is_some o → size ≡ 9 + frames_size entries
-    → LeavesOnly o now (λ image. StandsFor image entries) → AreStored now size entries → IsHouse s size (house_of s entries opening journal None now count)
-opened_house s entries opening size journal o now count replayed all same_size same_count first first_moment moment tells bytes leaves stored =
+pub opened_house : (s : State) (h : History) (opening size : ℕ) (journal : JournalFigures) (o now : Option disks.History) (count : ℕ) → IsReplayed s h → opening ≡ length h.entries → journal.size ≡ size → journal.faults ≡ count
+    → journal.first ≡ take opening h.entries → journal.first_moment ≡ moment_of o → journal.moment ≡ moment_of now → journal.tells ≡ is_some o → size ≡ 9 + frames_size h.entries
+    → LeavesOnly o now (λ image. StandsFor image h) → AreStored now size h → IsHouse s size (house_of h opening journal None now count)
+opened_house s h opening size journal o now count replayed all same_size same_count first first_moment moment tells bytes leaves stored =
+    let entries = h.entries in
     let those : journal.first ≡ entries = first ∙ take_all opening entries (omega (arith, all)) in
     let nothing : frames_size (drop opening entries) ≡ 0 = ap frames_size (drop_all opening entries (omega (arith, all))) in
     let sized : size ≡ journal.size + frames_size (drop opening entries) = omega (arith, same_size, nothing) in
-    let on : AreOnDisk (moment_of o) (length entries) now size entries None = on_disk_first o now size entries leaves stored in
-    let later : moment_of o ≤ moment_of now = moments_rise o now (λ image. StandsFor image entries) leaves in
-    let here : AreOnDisk journal.first_moment opening now size entries None =
-    subst (λ (n : ℕ). AreOnDisk journal.first_moment n now size entries None) (sym all) (subst (λ (t : ℕ). AreOnDisk t (length entries) now size entries None) (sym first_moment) on) in
+    let on : AreOnDisk (moment_of o) (length entries) now size h None = on_disk_first o now size h leaves stored in
+    let later : moment_of o ≤ moment_of now = moments_rise o now (λ image. StandsFor image h) leaves in
+    let here : AreOnDisk journal.first_moment opening now size h None =
+    subst (λ (n : ℕ). AreOnDisk journal.first_moment n now size h None) (sym all) (subst (λ (t : ℕ). AreOnDisk t (length entries) now size h None) (sym first_moment) on) in
     record {
       replayed = replayed;
       sized = sized;
@@ -217,10 +250,14 @@ opened_house s entries opening size journal o now count replayed all same_size s
         opened = omega (arith, all);
         first = first;
         size = same_size ∙ bytes ∙ ap (λ (es : List Entry). 9 + frames_size es) (sym those);
-        tells = tells_on o now (λ image. StandsFor image entries) leaves ∙ sym tells;
-        on_disk = subst (λ (n : ℕ). AreOnDisk journal.first_moment opening now n entries None) sized here;
+        tells = tells_on o now (λ image. StandsFor image h) leaves ∙ sym tells;
+        on_disk = subst (λ (n : ℕ). AreOnDisk journal.first_moment opening now n h None) sized here;
         moments = (omega (arith, first_moment, moment, later), omega (arith, moment));
-        leaves = λ _. stored_leaves now size entries stored;
+        leaves = λ _. stored_leaves now size h stored;
+        kept_legal = replayed.legal;
+        leaves_kept = none_kept now h (stored_leaves now size h stored);
+        never_back = subst (λ (n : ℕ). NeverGoBack journal.first_moment n now h None) (sym all)
+            (subst (λ (t : ℕ). NeverGoBack t (length entries) now h None) (sym first_moment) (back_first o now h leaves));
         counted = omega (arith, same_count);
         stopped = λ never. absurd (false≢true never);
       };

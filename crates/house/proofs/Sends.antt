@@ -1,52 +1,12 @@
 -- A house may go to another thread where its disk may.
 use denote.RattleType.{RattleType}
 use denote.Param.Send.{IsSend, owning_send, sendable}
-use denote.Param.SendFields.{declared_send}
 use Rattle.std.proofs.Crossing.{crosses}
 use Rattle.outside.specs.declared.disk.Disk.{Ghosts}
-use Rattle.network_laws.specs.contracts.problem.Problem as Problem
-use Rattle.network_laws.specs.contracts.solution.Solution as Solution
-use Rattle.command_types.specs.contracts.roster.Roster as Roster
-use Rattle.command_types.specs.contracts.ask.What as What
-use Rattle.command_types.specs.contracts.ask.Ask as Ask
-use Rattle.command_types.specs.contracts.ask.Entry as Entry
-use Rattle.product_book.specs.contracts.book.Book as Book
-use Rattle.tolerance_sets.specs.contracts.tolerances.Tolerances as Tolerances
-use Rattle.cycle_states.specs.contracts.machine.cycle.Cycle as Cycle
-use Rattle.cycle_states.specs.contracts.machine.Machine as Machine
+use Rattle.cycle_states.proofs.Sends.{machine_send, entry_send}
 use Rattle.house.specs.contracts.past.Log as Log
 use Rattle.house.specs.contracts.past.Past as Past
 use Rattle.house.specs.contracts.house.House as House
-
-roster_send : IsSend Roster.the_row
-roster_send = search (sendable, crosses) depth 60
-
-book_send : IsSend Book.the_row
-book_send = search (sendable, crosses) depth 60
-
-tolerances_send : IsSend Tolerances.the_row
-tolerances_send = search (sendable, crosses) depth 60
-
-problem_send : IsSend Problem.the_row
-problem_send = search (sendable, crosses) depth 60
-
-solution_send : IsSend Solution.the_row
-solution_send = search (sendable, crosses) depth 60
-
-cycle_send : IsSend Cycle.the_row
-cycle_send = search (problem_send, solution_send, sendable, crosses) depth 60 fits 100000
-
-machine_send : IsSend Machine.the_row
-machine_send = search (roster_send, book_send, tolerances_send, cycle_send, sendable, crosses) depth 60
-
-what_send : IsSend What.the_row
-what_send = search (solution_send, sendable, crosses) depth 200 fits 100000
-
-ask_send : IsSend Ask.the_row
-ask_send = declared_send Ask.the_type (search (sendable, crosses) depth 60, (what_send, tt))
-
-entry_send : IsSend Entry.the_row
-entry_send = declared_send Entry.the_type (search (sendable, crosses) depth 60, (ask_send, tt))
 
 -- a log owns nothing
 log_send : IsSend Log.the_row

@@ -2,36 +2,38 @@
 use Rattle.std.proofs.Common.{◌≡◌, inl, inr, ⊎_elim, ℕ, ◌≤◌, List, [], ◌∷◌, ◌++◌, length, Option, Some, None, is_some, refl, sym, ◌∙◌, subst, ap, arith, append_assoc, length-append}
 use Rattle.std.proofs.lemmas.List.{append-nil}
 use Rattle.command_types.specs.declared.ask.Entry.{Entry}
-use Rattle.outside.specs.Disk.{History, may_leave}
+use Rattle.command_types.specs.History.{History, longer}
+use Rattle.outside.specs.Disk.{may_leave}
+use Rattle.outside.specs.Disk as disks
 use Rattle.journal_core.specs.Moments.{LeavesOnly}
 use Rattle.journal_core.proofs.MomentFacts.{started}
 use Rattle.recovery.specs.StandsFor.{StandsFor}
-use Rattle.house.specs.Storing.{IsStored, AreStored, StandsForEither, StandsForFront, AreOnDisk, moment_of, LeavesEntries}
+use Rattle.house.specs.Storing.{IsStored, AreStored, StandsForEither, StandsForFront, AreOnDisk, moment_of, LeavesHistory}
 use Rattle.house.proofs.JournalFacts.{stored_stand}
 
 -- ---- a stored history
 
 -- what a crash now leaves stands for it
-left_now : (h : History) (size : ℕ) (entries : List Entry) → IsStored h size entries → (image : List ℕ) → may_leave h.now image → StandsFor image entries
-left_now h size entries stored image now = subst (λ (file : List ℕ). StandsFor file entries) (sym (stored.1.0 image now)) (stored_stand h size entries stored)
+left_now : (disk : disks.History) (size : ℕ) (h : History) → IsStored disk size h → (image : List ℕ) → may_leave disk.now image → StandsFor image h
+left_now disk size h stored image now = subst (λ (file : List ℕ). StandsFor file h) (sym (stored.1.0 image now)) (stored_stand disk size h stored)
 
-pub stored_leaves : (o : Option History) (size : ℕ) (entries : List Entry) → AreStored o size entries → LeavesEntries o entries
-stored_leaves None size entries stored = tt
-stored_leaves (Some h) size entries stored = left_now h size entries stored
+pub stored_leaves : (o : Option disks.History) (size : ℕ) (h : History) → AreStored o size h → LeavesHistory o h
+stored_leaves None size h stored = tt
+stored_leaves (Some disk) size h stored = left_now disk size h stored
 
 -- where nothing is done, a crash leaves only what stands for it
-pub still : (o : Option History) (size : ℕ) (entries : List Entry) (entry : Entry) → AreStored o size entries → LeavesOnly o o (StandsForEither entries entry)
-still None size entries entry stored = refl
-still (Some h) size entries entry stored = started h (StandsForEither entries entry) (λ image now. inl (left_now h size entries stored image now))
+pub still : (o : Option disks.History) (size : ℕ) (h : History) (entry : Entry) → AreStored o size h → LeavesOnly o o (StandsForEither h entry)
+still None size h entry stored = refl
+still (Some disk) size h entry stored = started disk (StandsForEither h entry) (λ image now. inl (left_now disk size h stored image now))
 
 -- ---- since the opening
 
-module _ (opening : ℕ) (entries : List Entry) (within : opening ≤ length entries) where
-  -- all entries are a front
-  front_all : (image : List ℕ) → StandsFor image entries → StandsForFront opening entries image
-  front_all image stands = record { front = entries; back = []; split = sym (append-nil entries); long = within; stands = stands }
+module _ (opening : ℕ) (h : History) (within : opening ≤ length h.entries) where
+  -- all changes are a front
+  front_all : (image : List ℕ) → StandsFor image h → StandsForFront opening h image
+  front_all image stands = record { front = h.entries; back = []; split = sym (append-nil h.entries); long = within; stands = stands }
 
-  front_more : (more : List Entry) (image : List ℕ) → StandsForFront opening entries image → StandsForFront opening (entries ++ more) image
+  front_more : (more : List Entry) (image : List ℕ) → StandsForFront opening h image → StandsForFront opening (longer h more) image
   front_more more image f = record {
     front = f.front;
     back = f.back ++ more;
@@ -40,25 +42,25 @@ module _ (opening : ℕ) (entries : List Entry) (within : opening ≤ length ent
     stands = f.stands;
   }
 
-  front_one_more : (entry : Entry) (image : List ℕ) → StandsFor image (entries ++ entry ∷ []) → StandsForFront opening (entries ++ entry ∷ []) image
+  front_one_more : (entry : Entry) (image : List ℕ) → StandsFor image (longer h (entry ∷ [])) → StandsForFront opening (longer h (entry ∷ [])) image
   front_one_more entry image stands = record {
-    front = entries ++ entry ∷ [];
+    front = h.entries ++ entry ∷ [];
     back = [];
-    split = sym (append-nil (entries ++ entry ∷ []));
-    long = omega (arith, within, length-append entries (entry ∷ []));
+    split = sym (append-nil (h.entries ++ entry ∷ []));
+    long = omega (arith, within, length-append h.entries (entry ∷ []));
     stands = stands;
   }
 
-  more_of_either : (entry : Entry) (image : List ℕ) → StandsForEither entries entry image → StandsForFront opening (entries ++ entry ∷ []) image
+  more_of_either : (entry : Entry) (image : List ℕ) → StandsForEither h entry image → StandsForFront opening (longer h (entry ∷ [])) image
   more_of_either entry image = ⊎_elim (λ without. front_more (entry ∷ []) image (front_all image without)) (λ with_it. front_one_more entry image with_it)
 
   module _ (since : ℕ) where
     -- after a change that was made
-    pub on_disk_more : (o after : Option History) (size next : ℕ) (entry : Entry) → AreOnDisk since opening o size entries None → LeavesOnly o after (StandsForEither entries entry)
-        → AreStored after next (entries ++ entry ∷ []) → AreOnDisk since opening after next (entries ++ entry ∷ []) None
-    on_disk_more None after size next entry on leaves stored = subst (λ (a : Option History). AreOnDisk since opening a next (entries ++ entry ∷ []) None) (sym leaves) tt
-    on_disk_more (Some h) None size next entry on leaves stored = absurd leaves
-    on_disk_more (Some h) (Some k) size next entry on leaves stored = record {
+    pub on_disk_more : (o after : Option disks.History) (size next : ℕ) (entry : Entry) → AreOnDisk since opening o size h None → LeavesOnly o after (StandsForEither h entry)
+        → AreStored after next (longer h (entry ∷ [])) → AreOnDisk since opening after next (longer h (entry ∷ [])) None
+    on_disk_more None after size next entry on leaves stored = subst (λ (a : Option disks.History). AreOnDisk since opening a next (longer h (entry ∷ [])) None) (sym leaves) tt
+    on_disk_more (Some disk) None size next entry on leaves stored = absurd leaves
+    on_disk_more (Some disk) (Some later) size next entry on leaves stored = record {
       later = omega (arith, on.later, leaves.later);
       stored = λ none. stored;
       each = λ image left. inl (⊎_elim
@@ -68,11 +70,11 @@ module _ (opening : ℕ) (entries : List Entry) (within : opening ≤ length ent
     }
 
     -- after one on which the disk failed
-    pub on_disk_broken : (o after : Option History) (size : ℕ) (entry : Entry) → AreOnDisk since opening o size entries None → LeavesOnly o after (StandsForEither entries entry)
-        → AreOnDisk since opening after size entries (Some entry)
-    on_disk_broken None after size entry on leaves = subst (λ (a : Option History). AreOnDisk since opening a size entries (Some entry)) (sym leaves) tt
-    on_disk_broken (Some h) None size entry on leaves = absurd leaves
-    on_disk_broken (Some h) (Some k) size entry on leaves = record {
+    pub on_disk_broken : (o after : Option disks.History) (size : ℕ) (entry : Entry) → AreOnDisk since opening o size h None → LeavesOnly o after (StandsForEither h entry)
+        → AreOnDisk since opening after size h (Some entry)
+    on_disk_broken None after size entry on leaves = subst (λ (a : Option disks.History). AreOnDisk since opening a size h (Some entry)) (sym leaves) tt
+    on_disk_broken (Some disk) None size entry on leaves = absurd leaves
+    on_disk_broken (Some disk) (Some later) size entry on leaves = record {
       later = omega (arith, on.later, leaves.later);
       stored = λ none. absurd cc;
       each = λ image left. ⊎_elim
@@ -82,29 +84,29 @@ module _ (opening : ℕ) (entries : List Entry) (within : opening ≤ length ent
     }
 
 -- at the opening
-pub on_disk_first : (o after : Option History) (size : ℕ) (entries : List Entry) → LeavesOnly o after (λ image. StandsFor image entries) → AreStored after size entries
-    → AreOnDisk (moment_of o) (length entries) after size entries None
-on_disk_first None after size entries leaves stored = subst (λ (a : Option History). AreOnDisk 0 (length entries) a size entries None) (sym leaves) tt
-on_disk_first (Some h) None size entries leaves stored = absurd leaves
-on_disk_first (Some h) (Some k) size entries leaves stored = record {
+pub on_disk_first : (o after : Option disks.History) (size : ℕ) (h : History) → LeavesOnly o after (λ image. StandsFor image h) → AreStored after size h
+    → AreOnDisk (moment_of o) (length h.entries) after size h None
+on_disk_first None after size h leaves stored = subst (λ (a : Option disks.History). AreOnDisk 0 (length h.entries) a size h None) (sym leaves) tt
+on_disk_first (Some disk) None size h leaves stored = absurd leaves
+on_disk_first (Some disk) (Some later) size h leaves stored = record {
   later = leaves.later;
   stored = λ none. stored;
-  each = λ image left. inl (front_all (length entries) entries (omega arith) image (leaves.each image left));
+  each = λ image left. inl (front_all (length h.entries) h (omega arith) image (leaves.each image left));
 }
 
 -- a house in which no entry was kept has its history on the disk
-pub stored_now : (since opening : ℕ) (o : Option History) (size : ℕ) (entries : List Entry) → AreOnDisk since opening o size entries None → AreStored o size entries
-stored_now since opening None size entries on = tt
-stored_now since opening (Some h) size entries on = on.stored refl
+pub stored_now : (since opening : ℕ) (o : Option disks.History) (size : ℕ) (h : History) → AreOnDisk since opening o size h None → AreStored o size h
+stored_now since opening None size h on = tt
+stored_now since opening (Some disk) size h on = on.stored refl
 
 -- a disk goes on as it is: it tells what it holds, or nothing
-pub tells_on : (o after : Option History) (P : List ℕ → Type 0) → LeavesOnly o after P → is_some after ≡ is_some o
-tells_on None after P leaves = ap (λ (x : Option History). is_some x) leaves
-tells_on (Some h) None P leaves = absurd leaves
-tells_on (Some h) (Some k) P leaves = refl
+pub tells_on : (o after : Option disks.History) (P : List ℕ → Type 0) → LeavesOnly o after P → is_some after ≡ is_some o
+tells_on None after P leaves = ap (λ (x : Option disks.History). is_some x) leaves
+tells_on (Some disk) None P leaves = absurd leaves
+tells_on (Some disk) (Some later) P leaves = refl
 
 -- no moment comes again
-pub moments_rise : (o after : Option History) (P : List ℕ → Type 0) → LeavesOnly o after P → moment_of o ≤ moment_of after
+pub moments_rise : (o after : Option disks.History) (P : List ℕ → Type 0) → LeavesOnly o after P → moment_of o ≤ moment_of after
 moments_rise None after P leaves = omega arith
-moments_rise (Some h) None P leaves = absurd leaves
-moments_rise (Some h) (Some k) P leaves = leaves.later
+moments_rise (Some disk) None P leaves = absurd leaves
+moments_rise (Some disk) (Some later) P leaves = leaves.later

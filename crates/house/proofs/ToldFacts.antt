@@ -14,9 +14,9 @@ use Rattle.command_types.specs.Told.{IsTold, journal_size, house_refusals}
 use Rattle.house.specs.House.{HouseView, figures_of, is_stopped, bytes_of}
 
 -- the journal's bytes at the history's end
-bytes_told : (v : HouseView) → v.history.base.position ≡ 0 → journal_size (figures_of v) v.journal v.history.entries ≡ bytes_of v
-bytes_told v zero_base =
-    let e : v.opening - v.history.base.position ≡ v.opening = omega (arith, zero_base) in
+bytes_told : (v : HouseView) → journal_size (figures_of v) v.journal v.history.entries ≡ bytes_of v
+bytes_told v =
+    let e : v.history.base.position + v.opening - v.history.base.position ≡ v.opening = omega arith in
     ap (λ (n : ℕ). v.journal.size + frames_size (drop n v.history.entries)) e
 
 pub first_full : (size n : ℕ) (before after : Bool) (ask : Ask) → nat_lt journal_limit (size + frame_size ask) ≡ true → first_of (house_refusals size n before after ask) ≡ Some (JournalFull size)
@@ -31,9 +31,9 @@ pub first_failed : (size n : ℕ) (ask : Ask) → nat_lt journal_limit (size + f
 first_failed size n ask room = ap (λ (t : Bool). first_of ((t, JournalFull size) ∷ (false, Stopped n) ∷ (true, DiskFault) ∷ [])) room
 
 -- a change that the machine accepts, and the journal refuses
-pub told_by_journal : (v : HouseView) (seat : ℕ) (ask : Ask) (reply : Reply) (after : Bool) (refusal : Refusal) → v.history.base.position ≡ 0 → reply.at ≡ end_of v.history → IsTrue (is_recorded ask.what (answer_to (replayed v.history) ask))
+pub told_by_journal : (v : HouseView) (seat : ℕ) (ask : Ask) (reply : Reply) (after : Bool) (refusal : Refusal) → reply.at ≡ end_of v.history → IsTrue (is_recorded ask.what (answer_to (replayed v.history) ask))
     → first_of (house_refusals (bytes_of v) reply.at (is_stopped v) after ask) ≡ Some refusal → reply.answer ≡ No refusal → IsTold (figures_of v) (is_stopped v) after v.history seat ask reply
-told_by_journal v seat ask reply after refusal zero_base place change first same = record {
+told_by_journal v seat ask reply after refusal place change first same = record {
   front = v.history.entries;
   back = [];
   split = sym (append-nil v.history.entries);
@@ -41,7 +41,7 @@ told_by_journal v seat ask reply after refusal zero_base place change first same
   one = inr (inr (inl (record {
     change = change;
     refusal = refusal;
-    first = ap (λ (n : ℕ). first_of (house_refusals n reply.at (is_stopped v) after ask)) (bytes_told v zero_base) ∙ first;
+    first = ap (λ (n : ℕ). first_of (house_refusals n reply.at (is_stopped v) after ask)) (bytes_told v) ∙ first;
     same = same;
   })));
 }

@@ -28,7 +28,7 @@ pub record Calls (old new : HouseView) (seat : ℕ) (ask : Ask) (reply : Reply) 
   -- all is as it was, unless the change was made or the disk failed
   pub same : IsTrue (not (is_recorded ask.what reply.answer || is_disk_fault reply.answer)) → new ≡ old
   -- what a crash at any moment of the call leaves stands for the history from before it, or for that with the one entry
-  pub any_moment : is_stopped old ≡ false → LeavesOnly old.disk new.disk (StandsForEither old.history.entries (record { seat = seat; ask = ask }))
+  pub any_moment : is_stopped old ≡ false → LeavesOnly old.disk new.disk (StandsForEither old.history (record { seat = seat; ask = ask }))
   -- a fault is told only where the count rose, and keeps its entry
   pub counted : old.faults ≤ new.faults
   pub failed : IsTrue (is_disk_fault reply.answer) → Rose old.faults new.faults × (new.kept ≡ Some (record { seat = seat; ask = ask }))

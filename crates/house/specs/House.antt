@@ -6,12 +6,12 @@ use Rattle.command_types.specs.declared.figures.JournalFigures.{JournalFigures}
 use Rattle.command_types.specs.declared.figures.State.{State}
 use Rattle.command_types.specs.History.{History, IsLegal}
 use Rattle.command_types.specs.Sizes.{frames_size}
-use Rattle.cycle_states.specs.PlainDesk.{history_of, IsReplayed}
+use Rattle.cycle_states.specs.Replayed.{IsReplayed}
 use Rattle.outside.specs.Disk as disks
 use Rattle.outside.specs.Faults.{Rose}
-use Rattle.house.specs.Storing.{AreOnDisk, moment_of, LeavesEntries}
+use Rattle.house.specs.Storing.{with_kept, AreOnDisk, moment_of, LeavesHistory, LeavesKept, NeverGoBack}
 
--- A house's history, how long it was at the opening and what the journal was then, the entry that was kept where a disk fault
+-- A house's history, how many changes it had at the opening and what the journal was then, the entry that was kept where a disk fault
 -- stopped the house, the disk, and the count of its faults.
 pub record HouseView : Type 0 where
   pub history : History
@@ -23,7 +23,7 @@ pub record HouseView : Type 0 where
 
 -- what it was when it was made
 abbrev pub figures_of : HouseView → Figures
-figures_of v = record { base = v.history.base; opening = v.opening; journal = Some v.journal }
+figures_of v = record { base = v.history.base; opening = v.history.base.position + v.opening; journal = Some v.journal }
 
 -- a disk fault stopped it
 abbrev pub is_stopped : HouseView → Bool
@@ -42,22 +42,26 @@ pub record Keeps (v : HouseView) : Type 0 where
   -- a disk that told what it holds tells it still
   pub tells : is_some v.disk ≡ v.journal.tells
   -- the same holds of the moments since the opening, which are among these
-  pub on_disk : AreOnDisk v.journal.first_moment v.opening v.disk (bytes_of v) v.history.entries v.kept
+  pub on_disk : AreOnDisk v.journal.first_moment v.opening v.disk (bytes_of v) v.history v.kept
   pub moments : (v.journal.first_moment ≤ v.journal.moment) × (v.journal.moment ≤ moment_of v.disk)
-  pub leaves : v.kept ≡ None → LeavesEntries v.disk v.history.entries
+  pub leaves : v.kept ≡ None → LeavesHistory v.disk v.history
+  -- what was kept could have been made, and a stopped house has its history on the disk still, perhaps with this
+  pub kept_legal : IsLegal (with_kept v.history v.kept)
+  pub leaves_kept : LeavesKept v.disk v.history v.kept
+  pub never_back : NeverGoBack v.journal.first_moment v.opening v.disk v.history v.kept
   pub counted : v.journal.faults ≤ v.faults
   pub stopped : is_stopped v ≡ true → Rose v.journal.faults v.faults
 
 -- and besides: the machine is where the history leads, and the journal has its bytes
 pub record IsHouse (state : State) (size : ℕ) (v : HouseView) : Type 0 where
-  pub replayed : IsReplayed state v.history.entries
+  pub replayed : IsReplayed state v.history
   pub sized : size ≡ bytes_of v
   pub keeps : Keeps v
 
--- a house of these parts: the machine's state, the entries, and what it was when it was made
-abbrev pub house_of : State → List Entry → ℕ → JournalFigures → Option Entry → Option disks.History → ℕ → HouseView
-house_of state entries opening journal kept disk faults = record {
-  history = history_of state entries;
+-- a house of these parts: its history, and what it was when it was made
+abbrev pub house_of : History → ℕ → JournalFigures → Option Entry → Option disks.History → ℕ → HouseView
+house_of history opening journal kept disk faults = record {
+  history = history;
   opening = opening;
   journal = journal;
   kept = kept;

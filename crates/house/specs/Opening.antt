@@ -1,16 +1,14 @@
 -- What opening a house finds.
 use Rattle.std.specs.Prelude.{◌≡◌, ◌⊎◌, ℕ, ◌+◌, ◌≤◌, List, [], ◌∷◌, length, Option, Some, None, is_some}
-use Rattle.command_types.specs.declared.ask.Entry.{Entry}
 use Rattle.command_types.specs.declared.figures.State.{State}
 use Rattle.command_types.specs.Machine.{empty_state, state_after}
-use Rattle.command_types.specs.History.{IsAcceptedIn, IsLegalFrom}
+use Rattle.command_types.specs.History.{History, IsAcceptedIn, IsLegal}
 use Rattle.command_types.specs.Roster.{Rows}
 use Rattle.command_types.specs.Sizes.{frames_size}
-use Rattle.cycle_states.specs.PlainDesk.{history_of}
-use Rattle.outside.specs.Disk.{History}
+use Rattle.outside.specs.Disk as disks
 use Rattle.recovery.specs.declared.entries.EntryAt.{EntryAt}
 use Rattle.recovery.specs.declared.fault.RecoverFault.TheVariants as recovers
-use Rattle.recovery.specs.StandsFor.{StandsFor}
+use Rattle.recovery.specs.StandsFor.{first_start, StandsFor}
 use Rattle.recovery.specs.Reading.{IsRead, IsFault}
 use Rattle.house.specs.declared.fault.OpenFault.{OpenFault}
 use Rattle.house.specs.declared.fault.OpenFault.TheVariants.{Damaged, DiskFault, Memory}
@@ -23,12 +21,12 @@ IsFirstRefused s [] place = ⊥
 IsFirstRefused s (x ∷ xs) place =
     ((¬ IsAcceptedIn s x.entry) × (place ≡ x.at)) ⊎ (IsAcceptedIn s x.entry × IsFirstRefused (state_after s x.entry.ask) xs place)
 
--- the file stands for entries, and the first of them that is not accepted at its place has its gate at this one
+-- entries are read of the file, and the first of them that is not accepted at its place has its gate at this one
 abbrev pub IsRefused : Rows → List ℕ → ℕ → Type 0
 IsRefused roster file place = (list : List EntryAt) × IsRead file list × IsFirstRefused (empty_state roster) list place
 
--- The file stands for no legal history: it stands for no entries, and is damaged at this place as recovery tells, or it
--- stands for some of which one is not accepted at its place.
+-- The file stands for no legal history: it stands for none, and is damaged at this place as recovery tells, or one of the entries
+-- that are read of it is not accepted at its place.
 abbrev pub IsDamaged : Rows → List ℕ → ℕ → Type 0
 IsDamaged roster file place = IsFault file (recovers.Damaged place) ⊎ IsRefused roster file place
 
@@ -42,7 +40,7 @@ TellsTrue roster file Memory = Unit {0}
 abbrev pub IsOnlyFault : Rows → List ℕ → OpenFault → Type 0
 IsOnlyFault roster file (Damaged place) =
     ((other : ℕ) → IsDamaged roster file other → other ≡ place)
-    × ((entries : List Entry) → StandsFor file entries → IsLegalFrom (empty_state roster) entries → ⊥)
+    × ((h : History) → h.base.state.roster ≡ roster → StandsFor file h → IsLegal h → ⊥)
 IsOnlyFault roster file DiskFault = Unit {0}
 IsOnlyFault roster file Memory = Unit {0}
 
@@ -55,21 +53,21 @@ IsReplayFault s xs Memory = Unit {0}
 
 -- Each fact below says nothing where the disk tells nothing.
 
--- the disk's content stands for no history that is legal for the roster
-abbrev pub StandsForNone : Rows → Option History → Type 0
-StandsForNone roster disk = (entries : List Entry) → ContentStandsFor disk entries → IsLegalFrom (empty_state roster) entries → ⊥
+-- the disk's content stands for no legal history of the roster
+abbrev pub StandsForNone : Rows → Option disks.History → Type 0
+StandsForNone roster disk = (h : History) → h.base.state.roster ≡ roster → ContentStandsFor disk h → IsLegal h → ⊥
 
 -- the fault tells true, and is the only one
-abbrev pub FindsFault : Rows → Option History → OpenFault → Type 0
+abbrev pub FindsFault : Rows → Option disks.History → OpenFault → Type 0
 FindsFault roster None fault = Unit {0}
-FindsFault roster (Some h) fault = TellsTrue roster h.content fault × IsOnlyFault roster h.content fault
+FindsFault roster (Some disk) fault = TellsTrue roster disk.content fault × IsOnlyFault roster disk.content fault
 
 -- A house just opened with this roster on this disk, whose count of faults was this: its history is the one for which the
 -- content stands.
-pub record IsOpened (roster : Rows) (disk : Option History) (count : ℕ) (v : HouseView) : Type 0 where
-  pub base : v.history.base ≡ (history_of (empty_state roster) []).base
+pub record IsOpened (roster : Rows) (disk : Option disks.History) (count : ℕ) (v : HouseView) : Type 0 where
+  pub base : v.history.base ≡ first_start roster
   pub opening : v.opening ≡ length v.history.entries
-  pub stands : ContentStandsFor disk v.history.entries
+  pub stands : ContentStandsFor disk v.history
   pub running : v.kept ≡ None
   pub size : v.journal.size ≡ 9 + frames_size v.history.entries
   pub tells : v.journal.tells ≡ is_some disk

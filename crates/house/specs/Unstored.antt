@@ -4,7 +4,7 @@ use Rattle.command_types.specs.declared.ask.Entry.{Entry}
 use Rattle.house.specs.declared.storing.Unstored.{Unstored}
 use Rattle.house.specs.declared.storing.Unstored.TheVariants.{Memory, Failed}
 
--- a fault of the disk has this cause, and hands this entry back
+-- where the disk failed, this is so, and the entry is handed back
 abbrev pub Tells : Entry → Type 0 → Unstored → Type 0
 Tells entry cause Memory = Unit {0}
 Tells entry cause (Failed e) = (e ≡ entry) × cause

@@ -33,7 +33,7 @@ impl<D: Disk> House<D> {
         ensures calls { Calls self.old self.new entry.seat entry.ask result }
         ensures short { end_of self.new.history < 2 ^ 63 }
     {
-        let at = self.past.count();
+        let at = self.past.length();
         if !self.journal.fits(length(&entry)) {
             let size = self.journal.bytes();
             return refused(at, Refusal::JournalFull { size });
@@ -64,7 +64,7 @@ impl<D: Disk> House<D> {
         ensures calls { Calls self.old self.new seat ask result }
         ensures short { end_of self.new.history < 2 ^ 63 }
     {
-        let at = self.past.count();
+        let at = self.past.length();
         let answer = match self.machine.answer(&ask) {
             Ok(answer) => answer,
             Err(_) => return refused(at, Refusal::Memory),

@@ -10,7 +10,7 @@ use std::alloc::Global;
 use std::marker::Model;
 use std::snapshot::Snapshot;
 
-/// A machine, the number of its accepted changes, and the journal that keeps them. Each change is on the disk before it is
+/// A machine, the history of its accepted changes, and the journal that keeps them. Each change is on the disk before it is
 /// answered. After a fault of the disk it makes no change any more, and is to be opened again.
 #[derive(Drop)]
 pub struct House<D: Disk> {
@@ -34,10 +34,10 @@ impl<D: Disk> Model for House<D> {
 
     ghost Value = { HouseView };
 
-    ghost view = { λ h. house_of h.machine.state h.past h.opening (journal_of (size_of h.opened.value) (D.fault_count (disk_of h.opened.value)) (D.history h.taken.value) (D.history (disk_of h.opened.value)) (take h.opening h.past)) h.kept (D.history (disk_of h.journal)) (D.fault_count (disk_of h.journal)) };
+    ghost view = { λ h. house_of h.past h.opening (journal_of (size_of h.opened.value) (D.fault_count (disk_of h.opened.value)) (D.history h.taken.value) (D.history (disk_of h.opened.value)) (take h.opening h.past.entries)) h.kept (D.history (disk_of h.journal)) (D.fault_count (disk_of h.journal)) };
 
     ghost invariant = { λ h. IsHouse h.machine.state (size_of h.journal)
-        (house_of h.machine.state h.past h.opening (journal_of (size_of h.opened.value) (D.fault_count (disk_of h.opened.value)) (D.history h.taken.value) (D.history (disk_of h.opened.value)) (take h.opening h.past)) h.kept (D.history (disk_of h.journal)) (D.fault_count (disk_of h.journal))) };
+        (house_of h.past h.opening (journal_of (size_of h.opened.value) (D.fault_count (disk_of h.opened.value)) (D.history h.taken.value) (D.history (disk_of h.opened.value)) (take h.opening h.past.entries)) h.kept (D.history (disk_of h.journal)) (D.fault_count (disk_of h.journal))) };
 }
 
 impl<D: Disk> House<D> {
@@ -62,7 +62,7 @@ impl<D: Disk> House<D> {
     {
         // A roster's members say that it keeps its limits.
         let _members = self.machine.roster().members();
-        self.past.count()
+        self.past.length()
     }
 
     /// The disk, given back. It takes no memory.

@@ -2,17 +2,17 @@
 ghost use Rattle.std.specs.Prelude.{◌≡◌, ◌≢◌, ◌+◌, ◌≤◌, List, [], ◌∷◌, ◌++◌, option_map, IfOk, IfErr, OnOk, Err};
 ghost use Rattle.command_types.specs.declared.ask.Entry.{Entry};
 ghost use Rattle.command_types.specs.Machine.{empty_state, state_after, answer_to};
-ghost use Rattle.command_types.specs.History.{IsAcceptedIn};
+ghost use Rattle.command_types.specs.History.{History, IsAcceptedIn};
 ghost use Rattle.command_types.specs.Sizes.{frames_size};
-ghost use Rattle.cycle_states.specs.PlainDesk.{IsReplayed};
+ghost use Rattle.cycle_states.specs.Replayed.{base_at, IsReplayed, IsSmall};
 ghost use Rattle.cycle_states.specs.Machine.{IsYoung};
 ghost use Rattle.outside.specs.Disk.{IsSettled};
 ghost use Rattle.outside.specs.Faults.{Rose};
 ghost use Rattle.journal_core.specs.Moments.{LeavesOnly};
 ghost use Rattle.journal_core.specs.Walk.{EndsAt};
 ghost use Rattle.recovery.specs.declared.entries.EntryAt.{EntryAt};
-ghost use Rattle.recovery.specs.StandsFor.{StandsFor};
-ghost use Rattle.recovery.specs.Reading.{file_of, entries_in, IsRead};
+ghost use Rattle.recovery.specs.StandsFor.{first_start, StandsFor};
+ghost use Rattle.recovery.specs.Reading.{file_of, entries_in, IsRead, HasRead};
 ghost use Rattle.house.specs.declared.fault.OpenFault.TheVariants.{DiskFault};
 ghost use Rattle.house.specs.Opening.{IsReplayFault, StandsForNone, FindsFault, IsOpened};
 ghost use Rattle.house.specs.Storing.{ContentStandsFor};
@@ -45,50 +45,54 @@ fn accept(machine: &mut Machine, item: EntryAt) -> Result<(Entry, Answer), OpenF
     Ok(machine.commit(ready))
 }
 
-// Has a machine that made no change yet make those that were read, one after another, if it accepts each at its place. The
-// replies that tell an execution are noted behind those that were.
+// Has a machine make the changes that were read, one after another, if it accepts each at its place. They are those of a
+// history that begins at this position with the machine as it is. The replies that tell an execution are noted behind those
+// that were.
 fn replay(
     alloc: Global,
     machine: &mut Machine,
+    position: u64,
     read: &Entries,
     executions: &mut Executions,
 ) -> Result<Past, OpenFault>
-    requires { machine.old.state ≡ empty_state machine.old.state.roster }
-    ensures entries { (list : List EntryAt) → IsRead (file_of read.now) list → IfOk result (λ past. past ≡ entries_in list) }
+    requires small { IsSmall (base_at position machine.old.state) }
+    requires read { HasRead read.now }
+    ensures base { IfOk result (λ past. past.base ≡ base_at position machine.old.state) }
+    ensures entries { (list : List EntryAt) → IsRead (file_of read.now) list → IfOk result (λ past. past.entries ≡ entries_in list) }
     ensures replayed { IfOk result (λ past. IsReplayed machine.new.state past) }
-    ensures roster { OnOk result (machine.new.state.roster ≡ machine.old.state.roster) }
-    ensures told { IfOk result (λ past. told_of executions.new ≡ option_map (λ replies. replies ++ executions_told machine.old.state 0 past) (told_of executions.old)) }
+    ensures told { IfOk result (λ past. told_of executions.new ≡ option_map (λ replies. replies ++ executions_told machine.old.state position past.entries) (told_of executions.old)) }
     ensures fault { (list : List EntryAt) → IsRead (file_of read.now) list → IfErr result (IsReplayFault machine.old.state list) }
 {
-    let mut past = Past::new();
+    let mut past = Past::at(machine, position);
     let mut reader = read.reader();
     while let Some(item) = reader.next(alloc)? {
         let (entry, answer) = accept(machine, item)?;
         past.push(&entry);
-        executions.note(past.count(), answer)?;
+        executions.note(past.length(), answer)?;
     }
     Ok(past)
 }
 
-// The machine of this roster after the changes that were read, if it accepts each at its place, and the changes.
+// The machine of this roster after the changes that were read, if it accepts each at its place, and its history.
 fn restore(
     alloc: Global,
     roster: Roster,
     read: &Entries,
     executions: &mut Executions,
 ) -> Result<(Machine, Past), OpenFault>
-    ensures entries { (list : List EntryAt) → IsRead (file_of read.now) list → IfOk result (λ r. r.1 ≡ entries_in list) }
+    requires read { HasRead read.now }
+    ensures base { IfOk result (λ r. r.1.base ≡ first_start roster) }
+    ensures entries { (list : List EntryAt) → IsRead (file_of read.now) list → IfOk result (λ r. r.1.entries ≡ entries_in list) }
     ensures replayed { IfOk result (λ r. IsReplayed r.0.state r.1) }
-    ensures roster { IfOk result (λ r. r.0.state.roster ≡ roster) }
-    ensures told { IfOk result (λ r. told_of executions.new ≡ option_map (λ replies. replies ++ executions_told (empty_state roster) 0 r.1) (told_of executions.old)) }
+    ensures told { IfOk result (λ r. told_of executions.new ≡ option_map (λ replies. replies ++ executions_told (empty_state roster) 0 r.1.entries) (told_of executions.old)) }
     ensures fault { (list : List EntryAt) → IsRead (file_of read.now) list → IfErr result (IsReplayFault (empty_state roster) list) }
 {
     let mut machine = Machine::new(alloc, roster)?;
-    let past = replay(alloc, &mut machine, read, executions)?;
+    let past = replay(alloc, &mut machine, 0, read, executions)?;
     Ok((machine, past))
 }
 
-/// What is read of a disk: the machine after its changes, the changes, the place where its journal goes on, and the
+/// What is read of a disk: the machine after its changes, their history, the place where its journal goes on, and the
 /// executions, where they were to be kept.
 #[derive(Drop)]
 pub struct Recovered {
@@ -109,10 +113,10 @@ pub fn recover_noting<D: Disk>(
 ) -> Result<Recovered, OpenFault>
     ensures stands { IfOk result (λ r. ContentStandsFor (D.history disk.old) r.past) }
     ensures replayed { IfOk result (λ r. IsReplayed r.machine.state r.past) }
-    ensures roster { IfOk result (λ r. r.machine.state.roster ≡ roster) }
+    ensures base { IfOk result (λ r. r.past.base ≡ first_start roster) }
     ensures ends { IfOk result (λ r. EndsAt (D.history disk.old) r.end) }
-    ensures size { IfOk result (λ r. r.end ≡ 9 + frames_size r.past) }
-    ensures told { IfOk result (λ r. told_of r.executions ≡ option_map (λ replies. replies ++ executions_told (empty_state roster) 0 r.past) (told_of executions)) }
+    ensures size { IfOk result (λ r. r.end ≡ 9 + frames_size r.past.entries) }
+    ensures told { IfOk result (λ r. told_of r.executions ≡ option_map (λ replies. replies ++ executions_told (empty_state roster) 0 r.past.entries) (told_of executions)) }
     ensures fault { IfErr result (FindsFault roster (D.history disk.old)) }
     ensures same { D.history disk.new ≡ D.history disk.old }
     ensures never_falls { D.fault_count disk.old ≤ D.fault_count disk.new }
@@ -140,9 +144,9 @@ pub(crate) struct Reopened {
 fn recover<D: Disk>(alloc: Global, roster: Roster, disk: &mut D) -> Result<Reopened, OpenFault>
     ensures stands { IfOk result (λ r. ContentStandsFor (D.history disk.old) r.past) }
     ensures replayed { IfOk result (λ r. IsReplayed r.machine.state r.past) }
-    ensures roster { IfOk result (λ r. r.machine.state.roster ≡ roster) }
+    ensures base { IfOk result (λ r. r.past.base ≡ first_start roster) }
     ensures ends { IfOk result (λ r. EndsAt (D.history disk.old) r.end) }
-    ensures size { IfOk result (λ r. r.end ≡ 9 + frames_size r.past) }
+    ensures size { IfOk result (λ r. r.end ≡ 9 + frames_size r.past.entries) }
     ensures fault { IfErr result (FindsFault roster (D.history disk.old)) }
     ensures same { D.history disk.new ≡ D.history disk.old }
     ensures never_falls { D.fault_count disk.old ≤ D.fault_count disk.new }
@@ -168,11 +172,11 @@ impl<D: Disk> House<D> {
         requires { IsSettled (D.history disk) }
         ensures opened { IfOk result (λ house. IsOpened roster (D.history disk) (D.fault_count disk) house) }
         ensures keeps { IfOk result (λ house. Keeps house) }
-        ensures any_moment { (entries : List Entry) → ContentStandsFor (D.history disk) entries → IfOk result (λ house. LeavesOnly (D.history disk) house.disk (λ image. StandsFor image entries)) }
+        ensures any_moment { (h : History) → ContentStandsFor (D.history disk) h → IfOk result (λ house. LeavesOnly (D.history disk) house.disk (λ image. StandsFor image h)) }
         ensures fault { IfErr result (λ e. FindsFault roster (D.history disk) e.0) }
         ensures same { IfErr result (λ e. e.0 ≢ DiskFault → D.history e.1 ≡ D.history disk) }
         ensures untouched { StandsForNone roster (D.history disk) → IfErr result (λ e. D.history e.1 ≡ D.history disk) }
-        ensures any_moment_failed { (entries : List Entry) → ContentStandsFor (D.history disk) entries → IfErr result (λ e. LeavesOnly (D.history disk) (D.history e.1) (λ image. StandsFor image entries)) }
+        ensures any_moment_failed { (h : History) → ContentStandsFor (D.history disk) h → IfErr result (λ e. LeavesOnly (D.history disk) (D.history e.1) (λ image. StandsFor image h)) }
         ensures never_falls { IfErr result (λ e. D.fault_count disk ≤ D.fault_count e.1) }
         ensures failed { IfErr result (λ e. e.0 ≡ DiskFault → Rose (D.fault_count disk) (D.fault_count e.1)) }
     {

@@ -1,10 +1,14 @@
-//! The changes that a house has made. Contracts see all of them; at run time there is their number alone.
+//! The history of a house. Contracts see all of it; at run time there is where it begins, and the number of its changes.
 ghost use Rattle.std.specs.Prelude.{◌≡◌, ◌<◌, ◌+◌, ◌^◌, [], ◌∷◌, ◌++◌, List, length};
 ghost use Rattle.std.specs.Borrow.{ftrue};
 ghost use Rattle.command_types.specs.declared.ask.Entry.{Entry};
+ghost use Rattle.command_types.specs.History.{end_of, longer};
+ghost use Rattle.cycle_states.specs.Replayed.{base_at, history_from, IsSmall};
 
 use command_types::Entry;
+use cycle_states::Machine;
 use std::marker::Model;
+use std::snapshot::Snapshot;
 
 /// A list that contracts alone read. It has no bytes, and what is asked of it does nothing.
 #[derive(Drop)]
@@ -32,47 +36,67 @@ impl Log {
     }
 }
 
-/// The changes that were made, of which only the number is kept.
+/// A history, from any base on. Contracts see all of it; at run time there are the position of its base and the number of its
+/// changes.
 #[derive(Drop)]
 pub struct Past {
+    // The machine at its base, for contracts alone.
+    begun: Snapshot<Machine>,
+    // The position of its base.
+    position: u64,
     log: Log,
     count: u64,
 }
 
 impl Model for Past {
-    ghost use Rattle.std.specs.Prelude.{◌≡◌, ◌<◌, ◌^◌, List, length};
-    ghost use Rattle.command_types.specs.declared.ask.Entry.{Entry};
+    ghost use Rattle.std.specs.Prelude.{◌≡◌, ◌<◌, ◌^◌, length};
+    ghost use Rattle.command_types.specs.History.{History};
+    ghost use Rattle.cycle_states.specs.Replayed.{base_at, history_from, IsSmall};
 
-    ghost Value = { List Entry };
+    ghost Value = { History };
 
-    ghost view = { λ p. p.log.items };
+    ghost view = { λ p. history_from p.position p.begun.value.state p.log.items };
 
-    ghost invariant = { λ p. (p.count ≡ length p.log.items) × (p.count < 2 ^ 63) };
+    ghost invariant = { λ p. IsSmall (base_at p.position p.begun.value.state) × (p.count ≡ length p.log.items) × (p.count < 2 ^ 62) };
 }
 
 impl Past {
-    /// No changes.
-    pub(crate) fn new() -> Past
-        ensures { result ≡ [] }
+    /// The history that begins at this position with the machine as it is.
+    pub(crate) fn at(machine: &Machine, position: u64) -> Past
+        requires { IsSmall (base_at position machine.now.state) }
+        ensures { result ≡ history_from position machine.now.state [] }
     {
         Past {
+            begun: Snapshot::of(machine),
+            position,
             log: Log::new(),
             count: 0,
         }
     }
 
-    /// How many there are.
+    /// How many changes it has, fewer than 2^62.
     pub fn count(&self) -> u64
-        ensures count { result ≡ length self.now }
-        ensures short { result < 2 ^ 63 }
+        ensures count { result ≡ length self.now.entries }
+        ensures few { length self.now.entries < 2 ^ 62 }
+        ensures small { IsSmall self.now.base }
     {
         self.count
     }
 
-    /// Puts one behind the others.
+    /// The position of its end: that of its base, and how many changes it has.
+    pub fn length(&self) -> u64
+        ensures length { result ≡ end_of self.now }
+        ensures few { length self.now.entries < 2 ^ 62 }
+        ensures small { IsSmall self.now.base }
+        ensures short { result < 2 ^ 63 }
+    {
+        self.position + self.count
+    }
+
+    /// Puts a change behind the others.
     pub(crate) fn push(&mut self, entry: &Entry)
-        requires { length self.old + 1 < 2 ^ 63 }
-        ensures { self.new ≡ self.old ++ entry.now ∷ [] }
+        requires { length self.old.entries + 1 < 2 ^ 62 }
+        ensures { self.new ≡ longer self.old (entry.now ∷ []) }
     {
         self.log = Log::with(&self.log, entry);
         self.count += 1;

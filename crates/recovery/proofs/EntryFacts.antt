@@ -5,9 +5,12 @@ use Rattle.std.proofs.lemmas.List.Concat.{flat_map-cons}
 use Rattle.std.proofs.lemmas.List.Sums.{sum_by-cons}
 use Rattle.std.specs.List.{AllZip, flat_map}
 use Rattle.command_types.specs.declared.ask.Entry.{Entry}
+use Rattle.command_types.specs.declared.figures.Start.{Start}
+use Rattle.command_types.specs.History.{History}
+use Rattle.command_types.specs.Roster.{Rows}
 use Rattle.command_types.specs.Sizes.{frame_size, frames_size}
 use Rattle.command_types.specs.Spelling.{Spells}
-use Rattle.outside.specs.Disk.{History}
+use Rattle.outside.specs.Disk as disks
 use Rattle.journal_core.specs.Holds.{header, frame, end_of, Holds}
 use Rattle.journal_core.specs.Records.{AreAhead, IsNext}
 use Rattle.journal_core.specs.Walk.{bytes_of as walked_bytes, placed, IsWalked, FindsRecords, FindsFault as FindsWalkFault}
@@ -18,9 +21,9 @@ use Rattle.journal_core.proofs.JournalFacts.{length-frame}
 use Rattle.journal_core.proofs.OneReading.{one_list, one_place, not_both}
 use Rattle.record_codec.proofs.RecordReading.{unique}
 use Rattle.record_codec.proofs.SizeFacts.{fields_change, spelling_length}
-use Rattle.recovery.specs.StandsFor.{SpellAll, StandsFor, IsFirstBad, IsUnreadable}
+use Rattle.recovery.specs.StandsFor.{SpellAll, first_start, first_history, StandsFor, IsFirstBad, IsUnreadable}
 use Rattle.recovery.specs.Reading.{file_of, entries_in, SpellsAt, AreSpelled, IsFaultAmong, IsRead, HasRead, AreLeft, IsNext as IsNextOf, IsFault, IsOnlyFault, FindsEntries, GivesOnly, FindsFault}
-use Rattle.recovery.specs.Laws.{FilesStandForOneList}
+use Rattle.recovery.specs.Laws.{FilesStandForOneHistory}
 use Rattle.recovery.specs.Faults.{fault_of_walk}
 use Rattle.recovery.specs.declared.entries.Entries.{Entries}
 use Rattle.recovery.specs.declared.entries.EntryAt.{EntryAt}
@@ -49,9 +52,17 @@ same_entries (r ∷ records) [] b s t = absurd s
 same_entries (r ∷ records) (x ∷ a) [] s t = absurd t
 same_entries (r ∷ records) (x ∷ a) (y ∷ b) s t = ap (λ (e : Entry). e ∷ a) (unique r x y s.0 t.0) ∙ ap (λ (l : List Entry). y ∷ l) (same_entries records a b s.1 t.1)
 
-pub one_list_of_entries : FilesStandForOneList
+-- a file's histories have the same changes,
+pub one_list_of_entries : (file : List ℕ) (a b : History) → StandsFor file a → StandsFor file b → a.entries ≡ b.entries
 one_list_of_entries file a b s t =
-    same_entries t.0 a b (subst (λ (l : List (List ℕ)). SpellAll l a) (one_list file s.0 t.0 s.1 t.1) s.2) t.2
+    same_entries t.0 a.entries b.entries (subst (λ (l : List (List ℕ)). SpellAll l a.entries) (one_list file s.0 t.0 s.1 t.1) s.2) t.2
+
+-- and those of one roster begin where it does
+pub one_history : FilesStandForOneHistory
+one_history file a b roster s t =
+    let base : a.base ≡ b.base = s.3 ∙ ap first_start roster ∙ sym t.3 in
+    ap (λ (start : Start). record { base = start; entries = a.entries }) base
+    ∙ ap (λ (es : List Entry). record { base = b.base; entries = es }) (one_list_of_entries file a b s t)
 
 -- the first bad record is one
 same_first : (rs : List Placed) (p q : ℕ) → IsFirstBad rs p → IsFirstBad rs q → p ≡ q
@@ -72,10 +83,10 @@ unreadable_at : (file : List ℕ) (p q : ℕ) → IsUnreadable file p → IsUnre
 unreadable_at file p q a b =
     same_first (placed 8 b.0) p q (subst (λ (l : List (List ℕ)). IsFirstBad (placed 8 l) p) (one_list file a.0 b.0 a.1 b.1) a.2) b.2
 
-unreadable_stands_for_none : (file : List ℕ) (place : ℕ) (entries : List Entry) → IsUnreadable file place → StandsFor file entries → ⊥
-unreadable_stands_for_none file place entries bad s =
+unreadable_stands_for_none : (file : List ℕ) (place : ℕ) (h : History) → IsUnreadable file place → StandsFor file h → ⊥
+unreadable_stands_for_none file place h bad s =
     let same : s.0 ≡ bytes_of (placed 8 bad.0) = one_list file s.0 bad.0 s.1 bad.1 ∙ sym (bytes_of-placed 8 bad.0) in
-    none_spelled (placed 8 bad.0) place entries bad.2 (subst (λ (l : List (List ℕ)). SpellAll l entries) same s.2)
+    none_spelled (placed 8 bad.0) place h.entries bad.2 (subst (λ (l : List (List ℕ)). SpellAll l h.entries) same s.2)
 
 only_place : (file : List ℕ) (p q : ℕ) → IsFault file (Damaged p) → IsFault file (Damaged q) → q ≡ p
 only_place file p q (inl a) (inl b) = one_place file q p b a
@@ -83,12 +94,12 @@ only_place file p q (inl a) (inr b) = absurd (not_both file b.0 p b.1 a)
 only_place file p q (inr a) (inl b) = absurd (not_both file a.0 q a.1 b)
 only_place file p q (inr a) (inr b) = unreadable_at file q p b a
 
-pub stands_for_none : (file : List ℕ) (place : ℕ) (entries : List Entry) → IsFault file (Damaged place) → StandsFor file entries → ⊥
-stands_for_none file place entries (inl damaged) s = not_both file s.0 place s.1 damaged
-stands_for_none file place entries (inr bad) s = unreadable_stands_for_none file place entries bad s
+pub stands_for_none : (file : List ℕ) (place : ℕ) (h : History) → IsFault file (Damaged place) → StandsFor file h → ⊥
+stands_for_none file place h (inl damaged) s = not_both file s.0 place s.1 damaged
+stands_for_none file place h (inr bad) s = unreadable_stands_for_none file place h bad s
 
 only_fault : (file : List ℕ) (fault : RecoverFault) → IsFault file fault → IsOnlyFault file fault
-only_fault file (Damaged place) told = (λ other is. only_place file place other told is, λ entries s. stands_for_none file place entries told s)
+only_fault file (Damaged place) told = (λ other is. only_place file place other told is, λ h s. stands_for_none file place h told s)
 only_fault file DiskFault told = tt
 only_fault file Memory told = tt
 
@@ -101,9 +112,9 @@ spell_all (r ∷ rs) [] is = absurd is
 spell_all (r ∷ rs) (x ∷ xs) is = (is.0.1, spell_all rs xs is.1)
 
 -- what is read of a file is what it stands for
-pub read_stand : (file : List ℕ) (list : List EntryAt) → IsRead file list → StandsFor file (entries_in list)
-read_stand file list read =
-    (read.0, read.1, subst (λ (l : List (List ℕ)). SpellAll l (entries_in list)) (bytes_of-placed 8 read.0) (spell_all (placed 8 read.0) list read.2))
+pub read_stand : (roster : Rows) (file : List ℕ) (list : List EntryAt) → IsRead file list → StandsFor file (first_history roster (entries_in list))
+read_stand roster file list read =
+    (read.0, read.1, subst (λ (l : List (List ℕ)). SpellAll l (entries_in list)) (bytes_of-placed 8 read.0) (spell_all (placed 8 read.0) list read.2), refl)
 
 same_items : (rs : List Placed) (xs ys : List EntryAt) → AllZip SpellsAt rs xs → AllZip SpellsAt rs ys → xs ≡ ys
 same_items [] [] [] s t = refl
@@ -128,24 +139,24 @@ told_of file DiskFault records holds bad = tt
 told_of file Memory records holds bad = tt
 
 -- what is read of the bytes that a walk read is read of the content
-pub found_of : (o : Option History) (e : Entries) → FindsRecords o e.walked → FindsEntries o e
+pub found_of : (o : Option disks.History) (e : Entries) → FindsRecords o e.walked → FindsEntries o e
 found_of None e finds = tt
 found_of (Some h) e finds = λ list read. (read.0, finds.0 read.0 read.1, read.2)
 
 -- the fault of their records
-pub fault_among : (o : Option History) (w : Walked) (records : List (List ℕ)) (fault : RecoverFault) → Holds (walked_bytes w) records → FindsRecords o w → IsFaultAmong (placed 8 records) fault → FindsFault o fault
+pub fault_among : (o : Option disks.History) (w : Walked) (records : List (List ℕ)) (fault : RecoverFault) → Holds (walked_bytes w) records → FindsRecords o w → IsFaultAmong (placed 8 records) fault → FindsFault o fault
 fault_among None w records fault holds finds bad = tt
 fault_among (Some h) w records fault holds finds bad =
     let told = told_of h.content fault records (finds.0 records holds) bad in
     (told, only_fault h.content fault told)
 
 -- a walk's fault
-walk_told : (h : History) (fault : WalkFault) → FindsWalkFault (Some h) fault → IsFault h.content (fault_of_walk fault)
+walk_told : (h : disks.History) (fault : WalkFault) → FindsWalkFault (Some h) fault → IsFault h.content (fault_of_walk fault)
 walk_told h (walks.Damaged place) finds = inl finds.0
 walk_told h walks.DiskFault finds = tt
 walk_told h walks.Memory finds = tt
 
-pub fault_of : (o : Option History) (fault : WalkFault) → FindsWalkFault o fault → FindsFault o (fault_of_walk fault)
+pub fault_of : (o : Option disks.History) (fault : WalkFault) → FindsWalkFault o fault → FindsFault o (fault_of_walk fault)
 fault_of None fault finds = tt
 fault_of (Some h) fault finds =
     let told : IsFault h.content (fault_of_walk fault) = walk_told h fault finds in (told, only_fault h.content (fault_of_walk fault) told)
@@ -178,17 +189,19 @@ has_read e walked spelled =
 
 -- ---- the answer is the only one
 
-pub only_of : (o : Option History) (e : Entries) → HasRead e → FindsEntries o e → GivesOnly o (Ok e)
+pub only_of : (o : Option disks.History) (e : Entries) → HasRead e → FindsEntries o e → GivesOnly o (Ok e)
 only_of None e read finds = tt
-only_of (Some h) e read finds = λ entries s.
-    let same : entries_in read.0 ≡ entries = one_list_of_entries h.content (entries_in read.0) entries (read_stand h.content read.0 (finds read.0 read.1)) s in
-    subst (λ (l : List Entry). StandsFor (file_of e) l) same (read_stand (file_of e) read.0 read.1)
+only_of (Some disk) e read finds = λ h s.
+    let roster = h.base.state.roster in
+    let same : first_history roster (entries_in read.0) ≡ h =
+    one_history disk.content (first_history roster (entries_in read.0)) h refl (read_stand roster disk.content read.0 (finds read.0 read.1)) s in
+    subst (StandsFor (file_of e)) same (read_stand roster (file_of e) read.0 read.1)
 
-pub only_fault_of : (o : Option History) (fault : RecoverFault) → FindsFault o fault → GivesOnly o (Err fault)
+pub only_fault_of : (o : Option disks.History) (fault : RecoverFault) → FindsFault o fault → GivesOnly o (Err fault)
 only_fault_of None fault told = tt
-only_fault_of (Some h) (Damaged place) told = λ entries s. told.1.1 entries s
-only_fault_of (Some h) DiskFault told = λ entries s. tt
-only_fault_of (Some h) Memory told = λ entries s. tt
+only_fault_of (Some disk) (Damaged place) told = λ h s. told.1.1 h s
+only_fault_of (Some disk) DiskFault told = λ h s. tt
+only_fault_of (Some disk) Memory told = λ h s. tt
 
 -- ---- the loop
 

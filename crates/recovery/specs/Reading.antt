@@ -2,9 +2,10 @@
 use Rattle.std.specs.Prelude.{◌≡◌, ◌⊎◌, ℕ, ◌+◌, List, [], ◌∷◌, length, map, Option, Some, None, Result, Ok, Err}
 use Rattle.command_types.specs.declared.ask.Entry.{Entry}
 use Rattle.std.specs.List.{AllZip}
+use Rattle.command_types.specs.History.{History}
 use Rattle.command_types.specs.Sizes.{frames_size}
 use Rattle.command_types.specs.Spelling.{Spells}
-use Rattle.outside.specs.Disk.{History}
+use Rattle.outside.specs.Disk as disks
 use Rattle.journal_core.specs.Holds.{Holds}
 use Rattle.journal_core.specs.Records.{AreAhead}
 use Rattle.journal_core.specs.Walk.{placed, bytes_of, IsDamaged}
@@ -69,32 +70,32 @@ IsFault file (Damaged place) = IsDamaged file place ⊎ IsUnreadable file place
 IsFault file DiskFault = Unit {0}
 IsFault file Memory = Unit {0}
 
--- no other damage can be told of the file, and it stands for no entries
+-- no other damage can be told of the file, and it stands for no history
 abbrev pub IsOnlyFault : List ℕ → RecoverFault → Type 0
-IsOnlyFault file (Damaged place) = ((other : ℕ) → IsFault file (Damaged other) → other ≡ place) × ((entries : List Entry) → StandsFor file entries → ⊥)
+IsOnlyFault file (Damaged place) = ((other : ℕ) → IsFault file (Damaged other) → other ≡ place) × ((h : History) → StandsFor file h → ⊥)
 IsOnlyFault file DiskFault = Unit {0}
 IsOnlyFault file Memory = Unit {0}
 
--- the answer is a file that stands for these entries, or the disk failed, or there was no memory
-abbrev pub IsAnswer : Result Entries RecoverFault → List Entry → Type 0
-IsAnswer (Ok e) entries = StandsFor (file_of e) entries
-IsAnswer (Err (Damaged place)) entries = ⊥
-IsAnswer (Err DiskFault) entries = Unit {0}
-IsAnswer (Err Memory) entries = Unit {0}
+-- the answer is a file that stands for this history, or the disk failed, or there was no memory
+abbrev pub IsAnswer : Result Entries RecoverFault → History → Type 0
+IsAnswer (Ok e) h = StandsFor (file_of e) h
+IsAnswer (Err (Damaged place)) h = ⊥
+IsAnswer (Err DiskFault) h = Unit {0}
+IsAnswer (Err Memory) h = Unit {0}
 
 -- Each fact below says nothing where the disk tells nothing.
 
 -- what is read of the file is read of the disk's content
-abbrev pub FindsEntries : Option History → Entries → Type 0
+abbrev pub FindsEntries : Option disks.History → Entries → Type 0
 FindsEntries None e = Unit {0}
-FindsEntries (Some h) e = (list : List EntryAt) → IsRead (file_of e) list → IsRead h.content list
+FindsEntries (Some disk) e = (list : List EntryAt) → IsRead (file_of e) list → IsRead disk.content list
 
--- whatever entries the disk's content stands for are the answer
-abbrev pub GivesOnly : Option History → Result Entries RecoverFault → Type 0
+-- whatever history the disk's content stands for is the answer
+abbrev pub GivesOnly : Option disks.History → Result Entries RecoverFault → Type 0
 GivesOnly None answer = Unit {0}
-GivesOnly (Some h) answer = (entries : List Entry) → StandsFor h.content entries → IsAnswer answer entries
+GivesOnly (Some disk) answer = (h : History) → StandsFor disk.content h → IsAnswer answer h
 
 -- the fault tells true, and is the only one
-abbrev pub FindsFault : Option History → RecoverFault → Type 0
+abbrev pub FindsFault : Option disks.History → RecoverFault → Type 0
 FindsFault None fault = Unit {0}
-FindsFault (Some h) fault = IsFault h.content fault × IsOnlyFault h.content fault
+FindsFault (Some disk) fault = IsFault disk.content fault × IsOnlyFault disk.content fault

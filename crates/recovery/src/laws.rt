@@ -1,7 +1,7 @@
-//! The law on the entries of files, the contract of a function that does nothing.
-ghost use Rattle.recovery.specs.Laws.{FilesStandForOneList};
+//! The law on the histories of files, the contract of a function that does nothing.
+ghost use Rattle.recovery.specs.Laws.{FilesStandForOneHistory};
 
-/// No file stands for two lists of entries.
-pub fn files_stand_for_one_list()
-    ensures { FilesStandForOneList }
+/// No file stands for two histories of one roster.
+pub fn files_stand_for_one_history()
+    ensures { FilesStandForOneHistory }
 {}

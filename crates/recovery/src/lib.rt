@@ -9,6 +9,6 @@ mod reading;
 
 pub use entries::{Entries, EntryAt};
 pub use fault::RecoverFault;
-pub use laws::files_stand_for_one_list;
+pub use laws::files_stand_for_one_history;
 pub use reader::EntryReader;
 pub use reading::read_entries;

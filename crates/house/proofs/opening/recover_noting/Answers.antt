@@ -24,7 +24,7 @@ returns-in_err-machine-clause-fault g c =
 
 pub returns-clause-stands : goal.returns-clause-stands
 returns-clause-stands g c =
-    replay_stands (g.D.Disk.history c.args.disk.now) c.in_ok-read.read c.in_ok-machine.past c.in_ok-read.ensures.read c.in_ok-read.ensures.found c.in_ok-machine.ensures.entries
+    replay_stands c.args.roster (g.D.Disk.history c.args.disk.now) c.in_ok-read.read c.in_ok-machine.past c.in_ok-read.ensures.read c.in_ok-read.ensures.found c.in_ok-machine.ensures.base c.in_ok-machine.ensures.entries
 
 pub returns-clause-size : goal.returns-clause-size
 returns-clause-size g c =

@@ -1,8 +1,12 @@
-use Rattle.std.proofs.Common.{◌≡◌, Err, IfErr, rules, sym, subst}
+use Rattle.std.proofs.Common.{◌≡◌, Err, IfErr, rules, sym, subst, arith}
 use Rattle.command_types.specs.declared.figures.State.{State}
 use Rattle.command_types.specs.Machine.{empty_state}
+use Rattle.cycle_states.specs.Replayed.{base_at, IsSmall}
 use Rattle.house.specs.Opening.{IsReplayFault}
 use Rattle.house.proofs.opening.restore.Goals as goal
+
+pub replay-requires-clause-small : goal.replay-requires-clause-small
+replay-requires-clause-small c = subst (λ (s : State). IsSmall (base_at 0 s)) (sym c.in_ok-machine.ensures) (record { position = omega arith; cycle = omega arith; version = omega arith })
 
 pub returns-in_err-past-clause-fault : goal.returns-in_err-past-clause-fault
 returns-in_err-past-clause-fault c = λ list read.

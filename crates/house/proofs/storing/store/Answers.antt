@@ -1,6 +1,8 @@
 use Rattle.journal_core.specs.Journal.{disk_of, size_of}
 use Rattle.house.proofs.StoringFacts.{still}
-use Rattle.house.proofs.JournalFacts.{append_adds, append_leaves}
+use Rattle.house.proofs.JournalFacts.{append_adds, append_leaves, append_yet}
+use Rattle.journal_core.proofs.MomentFacts.{yet_none}
+use Rattle.recovery.specs.StandsFor.{StandsFor}
 use Rattle.house.proofs.storing.store.Goals as goal
 
 pub returns-in_err-frame-clause-any_moment : goal.returns-in_err-frame-clause-any_moment
@@ -23,3 +25,17 @@ pub returns-clause-any_moment : goal.returns-clause-any_moment
 returns-clause-any_moment g c =
     append_leaves (g.D.Disk.history (disk_of c.args.journal.now)) (g.D.Disk.history (disk_of c.append.new.self)) (size_of c.args.journal.now)
     c.args.past.now c.in_ok-frame.frame c.args.entry c.in_ok-frame.ensures.spells c.append.ensures.any_moment
+
+pub returns-in_err-frame-clause-yet : goal.returns-in_err-frame-clause-yet
+returns-in_err-frame-clause-yet g c = λ stored. yet_none (g.D.Disk.history (disk_of c.args.journal.now)) (λ image. StandsFor image c.args.past.now)
+
+pub returns-in_err-ready-clause-yet : goal.returns-in_err-ready-clause-yet
+returns-in_err-ready-clause-yet g c = λ stored. yet_none (g.D.Disk.history (disk_of c.args.journal.now)) (λ image. StandsFor image c.args.past.now)
+
+pub returns-in-Ok-clause-yet : goal.returns-in-Ok-clause-yet
+returns-in-Ok-clause-yet g c =
+    append_yet (g.D.Disk.history (disk_of c.args.journal.now)) (g.D.Disk.history (disk_of c.append.new.self)) (size_of c.args.journal.now) c.args.past.now c.append.ensures.last
+
+pub returns-clause-yet : goal.returns-clause-yet
+returns-clause-yet g c =
+    append_yet (g.D.Disk.history (disk_of c.args.journal.now)) (g.D.Disk.history (disk_of c.append.new.self)) (size_of c.args.journal.now) c.args.past.now c.append.ensures.last
