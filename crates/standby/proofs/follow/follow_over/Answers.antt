@@ -1,0 +1,24 @@
+use Rattle.house.proofs.CallingFacts.{none_of}
+use Rattle.standby.proofs.FollowFacts.{follows_start}
+use Rattle.standby.proofs.TurnFacts.{goes_to, ends_later}
+use Rattle.standby.proofs.follow.follow_over.Goals as goal
+
+pub loop-end-init : goal.loop-end-init
+loop-end-init g c =
+    let runs = none_of c.args.house.now.kept c.requires.runs in
+    let f = follows_start c.args.house.now _ _ c.length-length.ensures.keeps runs in record {
+      runs = runs;
+      follows = record { follows = f.0; whole = λ is. f.1 };
+    }
+
+pub loop-end-preserved : goal.loop-end-preserved
+loop-end-preserved g c = record {
+  runs = c.in-None.ensures.goes_on.0;
+  follows = goes_to c.args.house.now c.loop-end.house c.turn.new.house _ _ _ _ _ _ _ c.loop-end.invariant.follows c.in-None.ensures.follows;
+}
+
+pub returns-in-Some : goal.returns-in-Some
+returns-in-Some g c = record {
+  follows = goes_to c.args.house.now c.loop-end.house c.turn.new.house _ _ _ _ _ _ _ c.loop-end.invariant.follows c.in-Some.ensures.follows;
+  ends = ends_later c.args.house.now c.loop-end.house c.turn.new.house c.in-Some.end c.loop-end.invariant.follows.follows.counted c.in-Some.ensures.ends;
+}

@@ -1,0 +1,13 @@
+use Rattle.std.proofs.Common.{◌≡◌, ◌-◌, ◌^◌, None}
+use Rattle.command_types.specs.History.{end_of}
+use Rattle.standby.specs.Following.{FollowsTo}
+use Rattle.standby.proofs.follow.follow_over.Given as goal
+
+abbrev pub invariant-loop-end : goal.invariant-loop-end
+invariant-loop-end g l = record {
+  runs : l.house.kept ≡ None;
+  follows : FollowsTo l.fn.house l.house (g.P.Peer.said l.fn.peer) (g.P.Peer.said l.peer) (g.P.Peer.heard l.fn.peer) (g.P.Peer.heard l.peer) None;
+}
+
+abbrev pub decreases-loop-end : goal.decreases-loop-end
+decreases-loop-end g l = 2 ^ 63 - end_of l.house.history

@@ -1,0 +1,6 @@
+pub mod Lists
+pub mod Link
+pub mod Laws
+pub mod Sent
+pub mod Following
+pub mod Log
