@@ -78,7 +78,7 @@ HALVES = [
 ]
 
 IDLE = 9
-"""The descriptors of a service with four seats that serves nobody; each connection has two more."""
+"""The descriptors of a service with four seats that serves nobody; each connection has one more."""
 
 NO_ADDRESSES = ["", "127.0.0.1", "127.0.0.1:", "127.0.0.1:65536", "127.0.0.1:x", "203.0.113.1:7000", "no.invalid:7000"]
 
@@ -227,9 +227,9 @@ class BadInput(InService):
                 self.assert_member_is_served()
         self.assert_all_are_served()
         end = time.monotonic() + 30
-        while self.descriptors() != IDLE + 2 and time.monotonic() < end:
+        while self.descriptors() != IDLE + 1 and time.monotonic() < end:
             time.sleep(0.01)
-        self.assertEqual(self.descriptors(), IDLE + 2)
+        self.assertEqual(self.descriptors(), IDLE + 1)
         self.assertEqual(self.records(), [])
 
     def descriptors(self) -> int:

@@ -39,6 +39,7 @@ TYPED: list[tuple[list[str], list[str]]] = [
     (["compress-client", "--connect", ""], []),
     (["compress-client", "--connect", "127.0.0.1:7000", "rost"], ["roster.csv"]),
     (["compress-wait-ready", ""], []),
+    (["compress-wait-ready", "-"], ["--seats"]),
     (["compress-client", "--program", "hub-r"], ["hub-roster.csv"]),
     (["compress-client", "--program", "x", "--raw", "hub-r"], ["hub-roster.csv"]),
     (["compress-report", "--product", "P", "hub-r"], ["hub-roster.csv"]),
@@ -174,14 +175,18 @@ class UnitServes(InService):
         made = run(["make", "-s", "-C", PACKAGING, "install", f"PREFIX={root}", f"PROGRAM={self.program}"])
         self.assertEqual(made, Ran(0, b"", b""))
         unit = root / "lib/systemd/system/delkwoan.service"
-        values = {"CREDENTIALS_DIRECTORY": credentials, "STATE_DIRECTORY": state, "ADDRESS": self.address}
+        (defaults,) = settings_of(unit, "Environment")
+        values: dict[str, object] = dict(setting.split("=", 1) for setting in defaults.split())
+        values |= {"CREDENTIALS_DIRECTORY": credentials, "STATE_DIRECTORY": state, "ADDRESS": self.address}
 
-        def words(name: str) -> list[str]:
-            (line,) = settings_of(unit, name)
-            return [re.sub(r"\$\{(\w+)\}", lambda found: str(values[found[1]]), word) for word in line.split()]
+        def commands(name: str) -> list[list[str]]:
+            lines = [line.removeprefix("-").split() for line in settings_of(unit, name)]
+            return [[re.sub(r"\$\{(\w+)\}", lambda found: str(values[found[1]]), word) for word in line] for line in lines]
 
-        self.service = subprocess.Popen(words("ExecStart"), stdout=subprocess.PIPE, stderr=subprocess.PIPE)
-        self.assertEqual(run(words("ExecStartPost")), Ran(0, b"", b""))
+        (start,) = commands("ExecStart")
+        self.service = subprocess.Popen(start, stdout=subprocess.PIPE, stderr=subprocess.PIPE)
+        for command in commands("ExecStartPost"):
+            self.assertEqual(run(command), Ran(0, b"", b""))
         self.assertEqual([path.name for path in state.iterdir()], ["journal"])
         self.service.terminate()
         self.assertEqual(self.service.communicate(timeout=30), (b"", b""))

@@ -1,6 +1,6 @@
 //! Disks in memory and of a file.
 
-use outside::{Disk, FileDisk, MemoryDisk};
+use outside::{Access, Disk, FileDisk, MemoryDisk};
 use std::alloc::{AllocError, Global};
 use std::fs;
 use std::test::Fail;
@@ -68,7 +68,9 @@ const OTHER: &str = "outside_file_disk/other";
 /// Whether a disk of the file, which is not there, makes it with the first write, and keeps another one out as long as it
 /// has it.
 fn is_made(rt: HostRuntime, again: &mut FileDisk<HostRuntime>) -> bool {
-    let mut disk = FileDisk::new(rt);
+    let Ok(mut disk) = FileDisk::new(rt, Access::Write) else {
+        return false;
+    };
     disk.attach(FILE).is_ok()
         && disk.length() == Ok(0)
         && fs::metadata(&rt, FILE).is_err()
@@ -98,7 +100,9 @@ fn is_cut(again: &mut FileDisk<HostRuntime>, into: &mut [u8]) -> bool {
 
 /// Whether a file that another program makes and fills in between is left alone.
 fn is_left_alone(rt: HostRuntime) -> bool {
-    let mut late = FileDisk::new(rt);
+    let Ok(mut late) = FileDisk::new(rt, Access::Write) else {
+        return false;
+    };
     late.attach(OTHER).is_ok()
         && fs::write(&rt, OTHER, b"F").is_ok()
         && late.write_at(0, b"ABCDE").is_err()
@@ -109,12 +113,88 @@ fn is_left_alone(rt: HostRuntime) -> bool {
 fn what_was_written_is_read_when_the_file_is_opened_again(rt: HostRuntime) -> Result<(), Fail> {
     let _ = fs::remove_dir_all(&rt, FOLDER);
     fs::create_dir(&rt, FOLDER)?;
-    let mut again = FileDisk::new(rt);
+    let mut again = FileDisk::new(rt, Access::Write)?;
     let mut into = [0; 8];
     assert!(rt; is_made(rt, &mut again));
     assert!(rt; is_read_and_cut(&mut again, &mut into));
     assert!(rt; is_cut(&mut again, &mut into));
     assert!(rt; is_left_alone(rt));
     fs::remove_dir_all(&rt, FOLDER)?;
+    Ok(())
+}
+
+// No regular file: a folder, and devices of which one gives bytes without end.
+const NO_FILES: &[&str] = &["/", "/dev/null", "/dev/zero"];
+
+fn attaches_to_no(disk: &mut FileDisk<HostRuntime>, names: &[&str]) -> bool {
+    names.iter().all(|name| disk.attach(name).is_err())
+}
+
+#[test]
+fn a_disk_is_attached_to_regular_files_alone(rt: HostRuntime) -> Result<(), Fail> {
+    for access in [Access::Write, Access::Read] {
+        let mut disk = FileDisk::new(rt, access)?;
+        let is_refused = attaches_to_no(&mut disk, NO_FILES);
+        assert!(rt; is_refused && disk.faults() == 3);
+    }
+    Ok(())
+}
+
+const READ_FOLDER: &str = "outside_read_disk";
+
+const READ_FILE: &str = "outside_read_disk/journal";
+
+// What a disk that only reads tells as the length of a file of five bytes.
+const FIVE_AND_ROOM: u64 = 8_388_613;
+
+// Whether a disk that only reads sees a writer's file, what was added behind the length that it told included.
+fn reads_beside(
+    reader: &mut FileDisk<HostRuntime>,
+    writer: &mut FileDisk<HostRuntime>,
+    into: &mut [u8],
+) -> bool {
+    reader.attach(READ_FILE).is_ok()
+        && reader.length() == Ok(0)
+        && reader.read(0, into) == Ok(0)
+        && writer.attach(READ_FILE).is_ok()
+        && writer.write_at(0, b"ABCDE").is_ok()
+        && reader.attach(READ_FILE).is_ok()
+        && reader.length() == Ok(FIVE_AND_ROOM)
+        && writer.write_at(5, b"F").is_ok()
+        && reader.read(1, into) == Ok(5)
+        && &*into == b"BCDEF\0\0\0".as_slice()
+}
+
+// Whether it changes nothing, and each try is a fault.
+fn only_reads(reader: &mut FileDisk<HostRuntime>) -> bool {
+    reader.write_at(0, b"X").is_err()
+        && reader.cut(1).is_err()
+        && reader.sync().is_err()
+        && reader.faults() == 3
+}
+
+// Whether a read fails that comes to the end of what it told, since the file may have grown beyond.
+fn grows_too_far(
+    reader: &mut FileDisk<HostRuntime>,
+    writer: &mut FileDisk<HostRuntime>,
+    into: &mut [u8],
+) -> bool {
+    writer.write_at(FIVE_AND_ROOM, b"Z").is_ok()
+        && reader.read(FIVE_AND_ROOM - 8, into).is_err()
+        && reader.length() == Ok(FIVE_AND_ROOM + 8_388_609)
+        && reader.read(FIVE_AND_ROOM - 7, into) == Ok(8)
+}
+
+#[test]
+fn a_disk_that_only_reads_reads_beside_a_writer(rt: HostRuntime) -> Result<(), Fail> {
+    let _ = fs::remove_dir_all(&rt, READ_FOLDER);
+    fs::create_dir(&rt, READ_FOLDER)?;
+    let mut reader = FileDisk::new(rt, Access::Read)?;
+    let mut writer = FileDisk::new(rt, Access::Write)?;
+    let mut into = [0; 8];
+    assert!(rt; reads_beside(&mut reader, &mut writer, &mut into));
+    assert!(rt; only_reads(&mut reader));
+    assert!(rt; grows_too_far(&mut reader, &mut writer, &mut into));
+    fs::remove_dir_all(&rt, READ_FOLDER)?;
     Ok(())
 }

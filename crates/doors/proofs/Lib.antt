@@ -1,3 +1,4 @@
 pub mod ListFacts
 pub mod PlanFacts
 pub mod DoorFacts
+pub mod PlannedFacts

@@ -14,10 +14,10 @@ Told a b = (((a == b) ≡ true) × (a ≡ b)) ⊎ (((a == b) ≡ false) × (a �
 pick : {T : Type 0} (b : Bool) (x y : T) → b ≡ true → (if b then x else y) ≡ x
 pick b x y is = rw is refl
 
-pass : {T : Type 0} (b : Bool) (x y : T) → b ≡ false → (if b then x else y) ≡ y
+pub pass : {T : Type 0} (b : Bool) (x y : T) → b ≡ false → (if b then x else y) ≡ y
 pass b x y is = rw is refl
 
-unlike : (a b : ℕ) → Told a b → a ≢ b → (a == b) ≡ false
+pub unlike : (a b : ℕ) → Told a b → a ≢ b → (a == b) ≡ false
 unlike a b (inl (t, e)) ne = absurd (ne e)
 unlike a b (inr (f, n)) ne = f
 

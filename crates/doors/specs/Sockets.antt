@@ -4,7 +4,7 @@ use Rattle.doors.specs.declared.socket_door.SocketDoor.{SocketDoor}
 use Rattle.doors.specs.declared.socket_listener.SocketListener.{SocketListener}
 
 -- how many calls of a door failed
-abbrev pub accept_faults : {L Stream : Type 0} → SocketDoor L Stream → ℕ
+abbrev pub accept_faults : {R L Stream : Type 0} → SocketDoor R L Stream → ℕ
 accept_faults d = d.faults
 
 -- how many calls of a listener failed, and how many doors came back of which a call had failed

@@ -51,8 +51,10 @@ Returns (Some v) after (Some flow) (Some taken) input_faults output_faults =
     })
 Returns (Some v) after flow taken input_faults output_faults = Unit {0}
 
--- a listener: how many of its doors are not back yet, and what became of the connections of those that were taken back, in order
+-- a listener: the address at which it listens, the bytes of each connection that is to come to the next doors that it hands out, the first being 0, how many of its doors are not back yet, and what became of the connections of those that were taken back, in order
 pub record Doors : Type 0 where
+  pub address : Option (List ℕ)
+  pub planned : ℕ → List (List ℕ)
   pub lent : ℕ
   pub back : List Visits
 
@@ -61,13 +63,23 @@ abbrev pub IsLent : Option Doors → Type 0
 IsLent None = Unit {0}
 IsLent (Some d) = 1 ≤ d.lent
 
--- A door is handed out.
-abbrev pub Lends : Option Doors → Option Doors → Type 0
-Lends None after = after ≡ None
-Lends (Some d) after = after ≡ Some (record { lent = d.lent + 1; back = d.back })
+-- The listener listens at this address from now on.
+abbrev pub Binds : List ℕ → Option Doors → Option Doors → Type 0
+Binds address None after = after ≡ None
+Binds address (Some d) after = after ≡ Some (record d { address = Some address })
+
+-- these connections are to come to a door
+abbrev pub IsPlanned : List (List ℕ) → Option Visits → Type 0
+IsPlanned inputs None = Unit {0}
+IsPlanned inputs (Some v) = v.coming ≡ inputs
+
+-- The next door is handed out, to which the connections come that were planned for it.
+abbrev pub Lends : Option Doors → Option Doors → Option Visits → Type 0
+Lends None after door = after ≡ None
+Lends (Some d) after door = (after ≡ Some (record d { planned = λ n. d.planned (n + 1); lent = d.lent + 1 })) × IsPlanned (d.planned 0) door
 
 -- A door that tells this is taken back. Of one that tells nothing, what became of its connections stands there all the same.
 abbrev pub TakesBack : Option Doors → Option Doors → Option Visits → Type 0
 TakesBack None after door = after ≡ None
-TakesBack (Some d) after (Some visits) = after ≡ Some (record { lent = d.lent - 1; back = d.back ++ visits ∷ [] })
-TakesBack (Some d) after None = (visits : Visits) × (after ≡ Some (record { lent = d.lent - 1; back = d.back ++ visits ∷ [] }))
+TakesBack (Some d) after (Some visits) = after ≡ Some (record d { lent = d.lent - 1; back = d.back ++ visits ∷ [] })
+TakesBack (Some d) after None = (visits : Visits) × (after ≡ Some (record d { lent = d.lent - 1; back = d.back ++ visits ∷ [] }))

@@ -2,7 +2,7 @@
 
 ghost use Rattle.std.specs.Prelude.{◌≡◌, ℕ, ◌≤◌, ◌<◌, Option, IfOk, OnOk, OnErr, Err};
 ghost use Rattle.outside.specs.Faults.{Rose};
-ghost use Rattle.doors.specs.Visits.{Doors, IsNew, IsLent, Lends, TakesBack};
+ghost use Rattle.doors.specs.Visits.{Doors, Binds, IsNew, IsLent, Lends, TakesBack};
 
 use crate::door::Door;
 use outside::Trouble;
@@ -20,14 +20,15 @@ pub trait Listener {
 
     /// Listens at this address from now on.
     fn bind(&mut self, address: &str) -> Result<(), Trouble>
-        ensures same { doors self.new ≡ doors self.old }
+        ensures binds { OnOk result (Binds address.now (doors self.old) (doors self.new)) }
+        ensures nothing { OnErr result (doors self.new ≡ doors self.old) }
         ensures never_falls { faults self.old ≤ faults self.new }
         ensures failed { result ≡ Err Trouble.Failed → Rose (faults self.old) (faults self.new) };
 
     /// A new door for the connections to that address. It gave none yet, and no call of it failed.
     fn door(&mut self) -> Result<Self::Door, Trouble>
         ensures new { IfOk result (λ d. IsNew (Self.Door.visits d) × (Self.Door.faults d ≡ 0)) }
-        ensures lends { OnOk result (Lends (doors self.old) (doors self.new)) }
+        ensures lends { IfOk result (λ d. Lends (doors self.old) (doors self.new) (Self.Door.visits d)) }
         ensures nothing { OnErr result (doors self.new ≡ doors self.old) }
         ensures never_falls { faults self.old ≤ faults self.new }
         ensures failed { result ≡ Err Trouble.Failed → Rose (faults self.old) (faults self.new) };
@@ -38,4 +39,10 @@ pub trait Listener {
         ensures returns { TakesBack (doors self.old) (doors self.new) (Self.Door.visits door) }
         ensures never_falls { faults self.old ≤ faults self.new }
         ensures failed { 0 < Self.Door.faults door → Rose (faults self.old) (faults self.new) };
+
+    /// Says for how many seconds a call of a connection's streams may wait before it fails, at the doors that are handed out
+    /// from now on; none: without end.
+    fn set_idle(&mut self, seconds: Option<u64>)
+        ensures same { doors self.new ≡ doors self.old }
+        ensures uncounted { faults self.new ≡ faults self.old };
 }

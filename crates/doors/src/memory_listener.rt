@@ -2,9 +2,9 @@
 
 ghost use Rattle.std.specs.Prelude.{◌≡◌, ◌≢◌, ℕ, ◌≤◌, ◌<◌, [], ◌∷◌, ◌++◌, length, slice_index_or, IsErr, IsTrue, ◌↔◌, IfOk, OnOk, OnErr, IfSome, Err, Some, None};
 ghost use Rattle.outside.specs.Faults.{Rose};
-ghost use Rattle.doors.specs.Visits.{IsNew, IsLent, Lends, TakesBack};
+ghost use Rattle.doors.specs.Visits.{Binds, IsNew, IsLent, Lends, TakesBack};
 ghost use Rattle.doors.specs.MemoryDoor.{empty_door, IsFresh, visits_by, with_connection, with_failing};
-ghost use Rattle.doors.specs.MemoryListener.{IsPlaceOf, empty_hall, door_at, with_door, doors_by, next_call_fails, hall_after_fault, hall_after_call, hall_after_door, hall_after_return, ChangesDoor, KeepsDoors};
+ghost use Rattle.doors.specs.MemoryListener.{IsPlaceOf, empty_hall, door_at, with_door, doors_by, next_call_fails, hall_after_fault, hall_after_call, hall_after_bind, hall_after_door, hall_after_return, ChangesDoor, KeepsDoors};
 ghost use Rattle.outside.specs.declared.trouble.Trouble.TheVariants as trouble;
 ghost use Rattle.doors.specs.declared.planned_door.PlannedDoor.{PlannedDoor};
 
@@ -18,11 +18,12 @@ use std::marker::Model;
 use std::mem;
 
 /// A listener in memory, with what is to come to each of its doors. Its doors are counted from 0 as they are handed
-/// out. Those of its calls fail that it is told to. Contracts see it as the doors to be handed out, the number of doors
-/// handed out, of those that are not back, the doors taken back, the number of its calls, the calls that fail and its
-/// count of faults.
+/// out. Those of its calls fail that it is told to. Contracts see it as the address at which it listens, the doors to be
+/// handed out, the number of doors handed out, of those that are not back, the doors taken back, the number of its calls,
+/// the calls that fail and its count of faults.
 #[derive(Drop)]
 pub struct MemoryListener {
+    address: Option<Vec<u8>>,
     planned: Vec<PlannedDoor>,
     handed: u64,
     lent: usize,
@@ -35,13 +36,13 @@ pub struct MemoryListener {
 }
 
 impl Model for MemoryListener {
-    ghost use Rattle.std.specs.Prelude.{ℕ, ◌+◌, ◌≤◌, length, vec_capacity};
+    ghost use Rattle.std.specs.Prelude.{ℕ, ◌+◌, ◌≤◌, length, option_map, vec_capacity};
     ghost use Rattle.doors.specs.MemoryDoor.{IsUnused};
     ghost use Rattle.doors.specs.MemoryListener.{MemoryHall, door_at};
 
     ghost Value = { MemoryHall };
 
-    ghost view = { λ m. record { planned = m.planned.items; handed = m.handed; lent = m.lent; back = m.back.items; calls = m.calls; failing = m.failing.items; faults = m.faults } };
+    ghost view = { λ m. record { address = option_map (λ address. address.items) m.address; planned = m.planned.items; handed = m.handed; lent = m.lent; back = m.back.items; calls = m.calls; failing = m.failing.items; faults = m.faults } };
 
     ghost invariant = { λ m. (length m.back.items + m.lent ≤ vec_capacity m.back) × ((n : ℕ) → IsUnused (door_at m.planned.items n)) };
 }
@@ -96,6 +97,7 @@ impl MemoryListener {
         ensures { result ≡ empty_hall }
     {
         MemoryListener {
+            address: None,
             planned: Vec::new(alloc),
             handed: 0,
             lent: 0,
@@ -155,29 +157,35 @@ impl Listener for MemoryListener {
 
     ghost faults = { λ m. m.faults };
 
-    /// Listens at any address, exactly where this call is none of those that fail.
-    fn bind(&mut self, _address: &str) -> Result<(), Trouble>
-        ensures same { Some (doors_by self.new) ≡ Some (doors_by self.old) }
+    /// Listens at any address, where this call is none of those that fail. It takes memory for the address.
+    fn bind(&mut self, address: &str) -> Result<(), Trouble>
+        ensures binds { OnOk result (Binds address.now (Some (doors_by self.old)) (Some (doors_by self.new))) }
+        ensures nothing { OnErr result (Some (doors_by self.new) ≡ Some (doors_by self.old)) }
         ensures never_falls { self.old.faults ≤ self.new.faults }
         ensures failed { result ≡ Err trouble.Failed → Rose self.old.faults self.new.faults }
 
         // Exactly this, besides what each listener promises.
-        ensures fails { IsErr result ↔ IsTrue (next_call_fails self.old) }
-        ensures fault { OnErr result (self.new ≡ hall_after_fault self.old) }
-        ensures after { OnOk result (self.new ≡ hall_after_call self.old) }
+        ensures fails { result ≡ Err trouble.Failed ↔ IsTrue (next_call_fails self.old) }
+        ensures fault { result ≡ Err trouble.Failed → self.new ≡ hall_after_fault self.old }
+        ensures refused { result ≡ Err trouble.Memory → self.new ≡ hall_after_call self.old }
+        ensures after { OnOk result (self.new ≡ hall_after_bind self.old address.now) }
     {
         self.calls = self.calls.saturating_add(1);
         if self.failing.contains(&self.calls) {
             self.faults = self.faults.saturating_add(1);
             return Err(Trouble::Failed);
         }
+        let Ok(address) = address.as_bytes().to_vec(self.alloc) else {
+            return Err(Trouble::Memory);
+        };
+        self.address = Some(address);
         Ok(())
     }
 
     /// Hands out the next door, with the room that it needs when it is taken back.
     fn door(&mut self) -> Result<MemoryDoor, Trouble>
         ensures new { IfOk result (λ d. IsNew (Some (visits_by d)) × (d.faults ≡ 0)) }
-        ensures lends { OnOk result (Lends (Some (doors_by self.old)) (Some (doors_by self.new))) }
+        ensures lends { IfOk result (λ d. Lends (Some (doors_by self.old)) (Some (doors_by self.new)) (Some (visits_by d))) }
         ensures nothing { OnErr result (Some (doors_by self.new) ≡ Some (doors_by self.old)) }
         ensures never_falls { self.old.faults ≤ self.new.faults }
         ensures failed { result ≡ Err trouble.Failed → Rose self.old.faults self.new.faults }
@@ -198,12 +206,15 @@ impl Listener for MemoryListener {
         let Some(lent) = self.lent.checked_add(1) else {
             return Err(Trouble::Memory);
         };
+        let Some(handed) = self.handed.checked_add(1) else {
+            return Err(Trouble::Memory);
+        };
         if self.back.reserve(lent).is_err() {
             return Err(Trouble::Memory);
         }
         let door = take_planned(&mut self.planned, self.alloc, self.handed);
         self.lent = lent;
-        self.handed = self.handed.saturating_add(1);
+        self.handed = handed;
         Ok(door)
     }
 
@@ -223,4 +234,13 @@ impl Listener for MemoryListener {
         self.lent -= 1;
         self.back.push_reserved(door);
     }
+
+    /// Changes nothing, since no call of a connection in memory waits.
+    fn set_idle(&mut self, _seconds: Option<u64>)
+        ensures same { Some (doors_by self.new) ≡ Some (doors_by self.old) }
+        ensures uncounted { self.new.faults ≡ self.old.faults }
+
+        // Exactly this, besides what each listener promises.
+        ensures unchanged { self.new ≡ self.old }
+    {}
 }

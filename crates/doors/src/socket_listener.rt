@@ -2,14 +2,16 @@
 
 ghost use Rattle.std.specs.Prelude.{◌≡◌, ◌≤◌, ◌<◌, IfOk, OnOk, OnErr, Err, Option, None};
 ghost use Rattle.outside.specs.Faults.{Rose, one_more};
-ghost use Rattle.doors.specs.Visits.{Doors, IsNew, Lends};
+ghost use Rattle.doors.specs.Visits.{Doors, Binds, IsNew, Lends};
 ghost use Rattle.doors.specs.Sockets.{accept_faults, listen_faults};
 ghost use Rattle.outside.specs.declared.trouble.Trouble.TheVariants as trouble;
 
 use crate::listener::Listener;
 use crate::socket_door::{SocketDoor, trouble_of};
 use outside::Trouble;
+use std::alloc::AllocGlobal;
 use std::net::{Net, TcpListener, TcpStream};
+use std::time::{Clock, Duration};
 
 /// A listener at one socket, which its doors share. It counts the calls that failed and the doors of which a call had
 /// failed, and tells nothing of connections.
@@ -17,6 +19,7 @@ use std::net::{Net, TcpListener, TcpStream};
 pub struct SocketListener<'a, R: Net<Listener = TcpListener, Stream = TcpStream>> {
     rt: &'a R,
     socket: Option<TcpListener>,
+    idle: Option<Duration>,
     faults: u64,
 }
 
@@ -28,6 +31,7 @@ impl<'a, R: Net<Listener = TcpListener, Stream = TcpStream>> SocketListener<'a, 
         SocketListener {
             rt,
             socket: None,
+            idle: None,
             faults: 0,
         }
     }
@@ -52,10 +56,11 @@ impl<'a, R: Net<Listener = TcpListener, Stream = TcpStream>> SocketListener<'a, 
     }
 }
 
-impl<'a, R: Net<Listener = TcpListener, Stream = TcpStream>> Listener for SocketListener<'a, R> {
+impl<'a, R: Net<Listener = TcpListener, Stream = TcpStream> + Clock + AllocGlobal + Sync> Listener
+    for SocketListener<'a, R> {
     ghost use Rattle.doors.specs.Sockets.{listen_faults};
 
-    type Door = SocketDoor<TcpListener>;
+    type Door = SocketDoor<'a, R, TcpListener>;
 
     ghost doors = { λ s. None };
 
@@ -63,6 +68,8 @@ impl<'a, R: Net<Listener = TcpListener, Stream = TcpStream>> Listener for Socket
 
     /// Listens at a host's name or address and a port, as `127.0.0.1:7000`.
     fn bind(&mut self, address: &str) -> Result<(), Trouble>
+        ensures binds { OnOk result (Binds address.now None None) }
+        ensures nothing { OnErr result (◌≡◌ {A = Option Doors} None None) }
         ensures never_falls { listen_faults self.old ≤ listen_faults self.new }
         ensures failed { result ≡ Err trouble.Failed → Rose (listen_faults self.old) (listen_faults self.new) }
 
@@ -85,9 +92,9 @@ impl<'a, R: Net<Listener = TcpListener, Stream = TcpStream>> Listener for Socket
     }
 
     /// A door at the socket. It fails where nothing is listened at yet, and where the system does.
-    fn door(&mut self) -> Result<SocketDoor<TcpListener>, Trouble>
+    fn door(&mut self) -> Result<SocketDoor<'a, R, TcpListener>, Trouble>
         ensures new { IfOk result (λ d. IsNew None × (accept_faults d ≡ 0)) }
-        ensures lends { OnOk result (Lends None None) }
+        ensures lends { IfOk result (λ d. Lends None None None) }
         ensures nothing { OnErr result (◌≡◌ {A = Option Doors} None None) }
         ensures never_falls { listen_faults self.old ≤ listen_faults self.new }
         ensures failed { result ≡ Err trouble.Failed → Rose (listen_faults self.old) (listen_faults self.new) }
@@ -96,7 +103,7 @@ impl<'a, R: Net<Listener = TcpListener, Stream = TcpStream>> Listener for Socket
         ensures fault { result ≡ Err trouble.Failed → listen_faults self.new ≡ one_more (listen_faults self.old) }
     {
         match self.shared_socket() {
-            Ok(socket) => Ok(SocketDoor::new(socket)),
+            Ok(socket) => Ok(SocketDoor::new(self.rt, self.rt.alloc(), socket, self.idle)),
             Err(Trouble::Memory) => Err(Trouble::Memory),
             Err(Trouble::Failed) => {
                 self.faults = self.faults.saturating_add(1);
@@ -106,12 +113,18 @@ impl<'a, R: Net<Listener = TcpListener, Stream = TcpStream>> Listener for Socket
     }
 
     /// Lets the door go. The socket listens on.
-    fn take_back(&mut self, door: SocketDoor<TcpListener>)
+    fn take_back(&mut self, door: SocketDoor<'a, R, TcpListener>)
         ensures never_falls { listen_faults self.old ≤ listen_faults self.new }
-        ensures failed { 0 < accept_faults door → Rose (listen_faults self.old) (listen_faults self.new) }
+        ensures failed { 0 < accept_faults door.entry → Rose (listen_faults self.old) (listen_faults self.new) }
     {
         if door.has_failed() {
             self.faults = self.faults.saturating_add(1);
         }
+    }
+
+    fn set_idle(&mut self, seconds: Option<u64>)
+        ensures uncounted { listen_faults self.new ≡ listen_faults self.old }
+    {
+        self.idle = seconds.map(Duration::from_secs);
     }
 }

@@ -2,23 +2,35 @@
 ghost use Rattle.std.specs.Prelude.{◌≡◌, ℕ, ◌+◌, ◌≤◌, length, None, Ok, IfOk, OnOk, OnErr};
 ghost use Rattle.outside.specs.Faults.{Rose, one_more};
 
-use crate::{Disk, Failed};
-use std::alloc::AllocGlobal;
-use std::fs::{File, OpenOptions, TryLockError};
+use crate::system_file::{cut_to, length_of, make, open, read_from};
+use crate::{Access, Disk, Failed};
+use std::alloc::{AllocError, AllocGlobal};
+use std::fs::File;
 use std::io::{self, ErrorKind};
 use std::os::unix::fs::FileExt;
-use std::path::Path;
 use std::rt::Files;
 
-/// A disk over the file that it is attached to, which it locks against other programs as long as it has it. A missing file
-/// is an empty one: the first write makes it, and syncs its folder.
+/// A disk over the regular file that it is attached to. A missing file is an empty one, and any other kind of file a fault.
+///
+/// A disk that writes locks its file against other programs as long as it has it; the first write makes a file that is
+/// missing, and syncs its folder. For a disk that only reads, each write, cut and sync is a fault. As its length it tells
+/// 8,388,608 bytes more than its file has, so that a read from the front on finds room for what another program adds until
+/// it ends, and fails where there is more.
 #[derive(Drop)]
 pub struct FileDisk<R: Files<File = File> + AllocGlobal + Drop> {
     rt: R,
+    access: Access,
     name: String,
     file: Option<File>,
+    told: u64,
     faults: u64,
 }
+
+// The most bytes that a name has which the system takes.
+const LONGEST_NAME: usize = 4095;
+
+// How many bytes another program may add between a look at the length and the end of a read.
+const ROOM_TO_GROW: u64 = 8_388_608;
 
 // What a call of the system answered, with its fault counted.
 fn counted<T: Drop>(faults: &mut u64, answer: io::Result<T>) -> Result<T, Failed>
@@ -36,109 +48,50 @@ fn counted<T: Drop>(faults: &mut u64, answer: io::Result<T>) -> Result<T, Failed
     }
 }
 
-// Keeps other programs from the file, until it is closed; fails where another one has it.
-fn lock(file: &File) -> io::Result<()> {
-    match file.try_lock() {
-        Ok(()) => Ok(()),
-        Err(TryLockError::WouldBlock) => Err(io::Error::from(ErrorKind::WouldBlock)),
-        Err(TryLockError::Error(error)) => Err(error),
+// Keeps a name where there is room for it, so that no memory is taken.
+fn keep(kept: &mut String, name: &str) -> io::Result<()> {
+    if name.len() > kept.capacity() {
+        return Err(io::Error::from(ErrorKind::InvalidFilename));
     }
+    kept.clear();
+    kept.push_str(name)?;
+    Ok(())
 }
 
-// The file of this name, locked, with all of its bytes on the disk, if there is one.
-fn open<R: Files<File = File>>(rt: &R, name: &str) -> io::Result<Option<File>> {
-    match OpenOptions::new().read(true).write(true).open(rt, name) {
-        Ok(file) => {
-            lock(&file)?;
-            file.sync_all()?;
-            Ok(Some(file))
-        }
-        Err(error) => {
-            if error.kind() == ErrorKind::NotFound {
-                return Ok(None);
-            }
-            Err(error)
-        }
-    }
-}
-
-// The name, and the file that it names, if there is one.
-fn attached<R: Files<File = File> + AllocGlobal>(
-    rt: &R,
-    name: &str,
-) -> io::Result<(String, Option<File>)> {
-    let file = open(rt, name)?;
-    Ok((String::from_str(rt.alloc(), name)?, file))
-}
-
-fn length_of(file: &File) -> io::Result<u64> {
-    Ok(file.metadata()?.len())
-}
-
-// Makes the file of this name, locks it, and syncs its folder. Fails where another program has made and filled it since.
-fn make<R: Files<File = File>>(rt: &R, name: &str) -> io::Result<File> {
-    let file = OpenOptions::new()
-        .read(true)
-        .write(true)
-        .create(true)
-        .open(rt, name)?;
-    lock(&file)?;
-    if file.metadata()?.len() > 0 {
-        return Err(io::Error::from(ErrorKind::AlreadyExists));
-    }
-    let folder = match Path::new(name).parent() {
-        Some(folder) => folder.as_str(),
-        None => "/",
-    };
-    let folder = if folder.is_empty() { "." } else { folder };
-    File::open(rt, folder)?.sync_all()?;
-    Ok(file)
-}
-
-// Reads from a place on until the room is full or the file ends.
-fn read_from(file: &File, at: u64, into: &mut [u8]) -> io::Result<usize>
+// Reads from a place on a file that may grow meanwhile, and fails where it grew beyond the length that was told.
+fn read_growing(file: &File, told: u64, at: u64, into: &mut [u8]) -> io::Result<usize>
     ensures { IfOk result (λ n. n ≤ length into.old) }
 {
-    let mut done = 0;
-    for _ in 0..u64::MAX {
-        let place = at.saturating_add(done as u64);
-        if done >= into.len() || place > i64::MAX as u64 {
-            break;
-        }
-        match file.read_at(&mut into[done..], place) {
-            Ok(0) => break,
-            Ok(n) => done += n,
-            Err(error) => {
-                if error.kind() != ErrorKind::Interrupted {
-                    return Err(error);
-                }
-            }
-        }
+    let count = read_from(file, at, into)?;
+    if count > 0 && at.saturating_add(count as u64) >= told {
+        return Err(io::Error::from(ErrorKind::ResourceBusy));
     }
-    Ok(done)
-}
-
-// Cuts a file that is longer.
-fn cut_to(file: &File, length: u64) -> io::Result<()> {
-    if length < file.metadata()?.len() {
-        file.set_len(length)?;
-    }
-    Ok(())
+    Ok(count)
 }
 
 impl<R: Files<File = File> + AllocGlobal + Drop> FileDisk<R> {
     ghost use Rattle.outside.specs.FileDisk.{file_faults};
 
-    /// A disk that is attached to no file yet.
-    pub fn new(rt: R) -> FileDisk<R>
-        ensures { file_faults result ≡ 0 }
+    /// A disk that is attached to no file yet. It takes the memory for a file's name, and no call takes more.
+    pub fn new(rt: R, access: Access) -> Result<FileDisk<R>, AllocError>
+        ensures { IfOk result (λ d. file_faults d ≡ 0) }
     {
-        let name = String::new(rt.alloc());
-        FileDisk {
+        let name = String::with_capacity(rt.alloc(), LONGEST_NAME)?;
+        Ok(FileDisk {
             rt,
+            access,
             name,
             file: None,
+            told: 0,
             faults: 0,
+        })
+    }
+
+    // What comes of a change, before it is begun: a fault where the disk only reads.
+    fn may_write(&self) -> io::Result<()> {
+        match self.access {
+            Access::Write => Ok(()),
+            Access::Read => Err(io::Error::from(ErrorKind::PermissionDenied)),
         }
     }
 }
@@ -156,16 +109,17 @@ impl<R: Files<File = File> + AllocGlobal + Send + Drop> Disk for FileDisk<R> {
         self.faults
     }
 
-    /// Opens the file, if there is one, and syncs it.
+    /// Opens the file, if there is one; one that is to be written is locked and synced.
     fn attach(&mut self, name: &str) -> Result<(), Failed>
         ensures never_falls { file_faults self.old ≤ file_faults self.new }
         ensures failed { OnErr result (Rose (file_faults self.old) (file_faults self.new)) }
         ensures no_fault { OnOk result (file_faults self.new ≡ file_faults self.old) }
         ensures fault { OnErr result (file_faults self.new ≡ one_more (file_faults self.old)) }
     {
-        let answer = attached(&self.rt, name);
-        let (name, file) = counted(&mut self.faults, answer)?;
-        self.name = name;
+        let opened = open(&self.rt, name, self.access);
+        let file = counted(&mut self.faults, opened)?;
+        let kept = keep(&mut self.name, name);
+        counted(&mut self.faults, kept)?;
         self.file = file;
         Ok(())
     }
@@ -180,7 +134,12 @@ impl<R: Files<File = File> + AllocGlobal + Send + Drop> Disk for FileDisk<R> {
             Some(file) => length_of(file),
             None => Ok(0),
         };
-        counted(&mut self.faults, answer)
+        let length = counted(&mut self.faults, answer)?;
+        self.told = match (self.access, &self.file) {
+            (Access::Read, Some(_)) => length.saturating_add(ROOM_TO_GROW),
+            _ => length,
+        };
+        Ok(self.told)
     }
 
     fn read(&mut self, at: u64, into: &mut [u8]) -> Result<usize, Failed>
@@ -190,9 +149,10 @@ impl<R: Files<File = File> + AllocGlobal + Send + Drop> Disk for FileDisk<R> {
         ensures no_fault { OnOk result (file_faults self.new ≡ file_faults self.old) }
         ensures fault { OnErr result (file_faults self.new ≡ one_more (file_faults self.old)) }
     {
-        let answer = match &self.file {
-            Some(file) => read_from(file, at, into),
-            None => Ok(0),
+        let answer = match (&self.file, self.access) {
+            (Some(file), Access::Write) => read_from(file, at, into),
+            (Some(file), Access::Read) => read_growing(file, self.told, at, into),
+            (None, _) => Ok(0),
         };
         counted(&mut self.faults, answer)
     }
@@ -204,6 +164,8 @@ impl<R: Files<File = File> + AllocGlobal + Send + Drop> Disk for FileDisk<R> {
         ensures no_fault { OnOk result (file_faults self.new ≡ file_faults self.old) }
         ensures fault { OnErr result (file_faults self.new ≡ one_more (file_faults self.old)) }
     {
+        let may_write = self.may_write();
+        counted(&mut self.faults, may_write)?;
         if self.file.is_none() {
             let made = make(&self.rt, self.name.as_str());
             let file = counted(&mut self.faults, made)?;
@@ -222,6 +184,8 @@ impl<R: Files<File = File> + AllocGlobal + Send + Drop> Disk for FileDisk<R> {
         ensures no_fault { OnOk result (file_faults self.new ≡ file_faults self.old) }
         ensures fault { OnErr result (file_faults self.new ≡ one_more (file_faults self.old)) }
     {
+        let may_write = self.may_write();
+        counted(&mut self.faults, may_write)?;
         let answer = match &self.file {
             Some(file) => cut_to(file, length),
             None => Ok(()),
@@ -235,6 +199,8 @@ impl<R: Files<File = File> + AllocGlobal + Send + Drop> Disk for FileDisk<R> {
         ensures no_fault { OnOk result (file_faults self.new ≡ file_faults self.old) }
         ensures fault { OnErr result (file_faults self.new ≡ one_more (file_faults self.old)) }
     {
+        let may_write = self.may_write();
+        counted(&mut self.faults, may_write)?;
         let answer = match &self.file {
             Some(file) => file.sync_data(),
             None => Ok(()),

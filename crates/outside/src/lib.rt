@@ -2,6 +2,7 @@
 //! the disk that keeps its journal, and the gate that its workers pass.
 #![tactic(auto)]
 
+pub mod access;
 pub mod disk;
 pub mod failed;
 pub mod file_disk;
@@ -14,9 +15,11 @@ pub mod memory_source;
 pub mod sink;
 pub mod source;
 pub mod streams;
+mod system_file;
 pub mod system_files;
 pub mod trouble;
 
+pub use access::Access;
 pub use disk::Disk;
 pub use failed::Failed;
 pub use file_disk::FileDisk;

@@ -1,5 +1,5 @@
 use Rattle.std.proofs.Common.{◌≡◌, ◌≤◌, length}
-use Rattle.outside.proofs.file_disk.read_from.Given as goal
+use Rattle.outside.proofs.system_file.read_from.Given as goal
 
 abbrev pub invariant-loop : goal.invariant-loop
 invariant-loop l = record { same_room : length l.into ≡ length l.initial.into; within : l.done ≤ length l.into }
