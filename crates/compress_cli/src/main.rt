@@ -1,13 +1,9 @@
 //! The program: the service over the system's files, streams and sockets.
 #![tactic(auto)]
 
-mod read_disk;
-
-use crate::read_disk::ReadDisk;
 use compress_server::run;
 use doors::SocketListener;
-use outside::sink::write_all;
-use outside::{FileDisk, StreamSink, StreamSource, SystemFiles};
+use outside::{Access, FileDisk, Sink, StreamSink, StreamSource, SystemFiles, write_all};
 use parallel_solver::OpenGate;
 use std::alloc::AllocGlobal;
 use std::env::Env;
@@ -39,63 +35,47 @@ fn fill_standard<R: Files<File = File> + AllocGlobal>(rt: &R) -> io::Result<Vec<
     Ok(taken)
 }
 
-// Whether the words ask for a replay.
-fn is_replay(words: &[String]) -> bool {
+// What the disk of the journal may do: a replay only reads, so that it can tell of a journal that another program has.
+fn access_of(words: &[String]) -> Access {
     match words {
-        [name, ..] => name.as_str() == "replay",
-        [] => false,
+        [name, ..] if name.as_str() == "replay" => Access::Read,
+        _ => Access::Write,
     }
+}
+
+// Writes a line to the errors, and answers the status.
+fn told(errors: &mut impl Sink, status: u8, line: &[u8]) -> ExitCode {
+    let _ = write_all(errors, line);
+    ExitCode::from(status)
 }
 
 fn main(rt: HostRuntime) -> ExitCode {
     let mut errors = StreamSink::new(rt.stderr());
     let Ok(_standard) = fill_standard(&rt) else {
-        let _ = write_all(&mut errors, b"file fault\n");
-        return ExitCode::from(11);
+        return told(&mut errors, 11, b"file fault\n");
     };
-    let mut files = SystemFiles::new(&rt);
-    let mut input = StreamSource::new(rt.stdin());
-    let mut output = StreamSink::new(rt.stdout());
-    match words(&rt) {
-        // A replay writes nothing, and reads a journal that another program has.
-        Ok(words) if is_replay(&words) => {
-            let (status, _disk) = run(
-                &rt,
-                rt.alloc(),
-                &words,
-                &mut files,
-                &mut input,
-                &mut output,
-                &mut errors,
-                ReadDisk::new(rt),
-                &mut SocketListener::new(&rt),
-                &OpenGate,
-            );
-            ExitCode::from(status)
-        }
-        Ok(words) => {
-            let (status, _disk) = run(
-                &rt,
-                rt.alloc(),
-                &words,
-                &mut files,
-                &mut input,
-                &mut output,
-                &mut errors,
-                FileDisk::new(rt),
-                &mut SocketListener::new(&rt),
-                &OpenGate,
-            );
-            ExitCode::from(status)
-        }
+    let words = match words(&rt) {
+        Ok(words) => words,
         // A word that is no text is out of form.
         Err(error) if error.kind() == io::ErrorKind::InvalidData => {
-            let _ = write_all(&mut errors, b"bad words\n");
-            ExitCode::from(2)
+            return told(&mut errors, 2, b"bad words\n");
         }
-        Err(_) => {
-            let _ = write_all(&mut errors, b"memory\n");
-            ExitCode::from(9)
-        }
-    }
+        Err(_) => return told(&mut errors, 9, b"memory\n"),
+    };
+    let Ok(disk) = FileDisk::new(rt, access_of(&words)) else {
+        return told(&mut errors, 9, b"memory\n");
+    };
+    let (status, _disk) = run(
+        &rt,
+        rt.alloc(),
+        &words,
+        &mut SystemFiles::new(&rt),
+        &mut StreamSource::new(rt.stdin()),
+        &mut StreamSink::new(rt.stdout()),
+        &mut errors,
+        disk,
+        &mut SocketListener::new(&rt),
+        &OpenGate,
+    );
+    ExitCode::from(status)
 }

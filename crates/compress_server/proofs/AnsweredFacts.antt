@@ -2,8 +2,8 @@
 use Rattle.std.proofs.Common.{◌≡◌, ◌⊎◌, ℕ, ◌+◌, Bool, true, false, List, [], ◌∷◌, Option, Some, None, refl, sym, subst, ap, inl, inr, arith}
 use Rattle.doors.specs.Visits.{Visits}
 use Rattle.outside.specs.Faults.{Rose}
+use Rattle.outside.specs.Files.{Folder}
 use Rattle.outside.specs.Flow.{Flow}
-use Rattle.command_types.specs.declared.file_fault.FileFault.{FileFault}
 use Rattle.command_types.specs.Lines.{cut_of, lines_of}
 use Rattle.command_types.specs.History.{end_of}
 use Rattle.command_types.specs.Roster.{Rows, IsRoster}
@@ -19,15 +19,17 @@ use Rattle.compress_server.specs.declared.load.LoadFault.{LoadFault}
 use Rattle.compress_server.specs.declared.load.LoadFault.TheVariants.{Files, Faulty, Memory as NoMemory}
 use Rattle.compress_server.specs.declared.ending.End.{End}
 use Rattle.compress_server.specs.declared.ending.End.TheVariants.{Done, No, BadWords, Unloaded, Damaged, DiskFault, Stopped, ListenerFault, SourceFault, SinkFault, Limit, Memory}
-use Rattle.compress_server.specs.Answered.{AnswersInput, ScriptsAreAnswered, IsSeatAnswered, AreSeatsAnswered, IsUnasked, AnswersDoors, ServicesAreAnswered}
+use Rattle.compress_server.specs.Answered.{AnswersInput, ScriptsAreAnswered, IsSeatAnswered, AreSeatsAnswered, AnswersDoors, ServicesAreAnswered}
+use Rattle.compress_server.specs.Complete.{HasFault, IsFormFault}
 use Rattle.compress_server.specs.Ending.{IsFault, IsCounted, JournalRuns, ScriptRuns, ServeRuns, OverRoster}
-use Rattle.compress_server.specs.Files.{SaysRoster, IsRosterFault, ReadBeforeRoster}
+use Rattle.compress_server.specs.Files.{SaysRoster, ReadBeforeRoster}
 use Rattle.compress_server.specs.Housed.{DiskState, OverHouse, OpeningFails}
 use Rattle.compress_server.specs.Run.{at_first, IsReplied, IsWhole, IsAtLimit}
 use Rattle.compress_server.specs.Seen.{ListenerState, Seen, World}
-use Rattle.compress_server.specs.Serve.{ServiceSize, SeatRun, seat_at, final_of, IsSeatAt, AreSeats}
+use Rattle.compress_server.specs.Serve.{ServicePlan, SeatRun, seat_at, final_of, IsSeatAt, AreSeats, IsUnasked}
 use Rattle.compress_server.specs.Telling.{TellsEnd}
-use Rattle.compress_server.proofs.ServiceFacts.{lends_none}
+use Rattle.compress_server.specs.Words.{Form}
+use Rattle.compress_server.proofs.ServiceFacts.{none_asked}
 
 -- what can't be true is false
 held_false : (b : Bool) → (b ≡ true → ⊥) → b ≡ false
@@ -84,12 +86,13 @@ module _ (v w : HouseView) (runs : is_stopped w ≡ false) (opened flow : Option
     took = r.took;
   }
 
--- a file that could not be had, where none failed and none has a fault: there was no memory
-unloaded_status : (P : FileRole → FileFault → Type 0) (Q : FileRole → Type 0) (files input output : Type 0) (begun taken : Option (List ℕ)) (errors then_errors : ℕ) (fault : LoadFault) (status : ℕ) →
-    IsFault P Q fault → IsCounted files input output (Unloaded fault) → TellsEnd begun taken errors then_errors (Unloaded fault) status → (files → ⊥) → ((role : FileRole) (f : FileFault) → P role f → ⊥) → status ≡ 9
-unloaded_status P Q files input output begun taken errors then_errors (Files role) status is counted told held right = absurd (held counted)
-unloaded_status P Q files input output begun taken errors then_errors (Faulty role f) status is counted told held right = absurd (right role f is)
-unloaded_status P Q files input output begun taken errors then_errors NoMemory status is counted told held right = told.0
+-- a file that could not be had, where none failed: it has a fault, or there was no memory
+unloaded_status : (folder : Option Folder) (form : Form) (Q : FileRole → Type 0) (files input output : Type 0) (begun taken : Option (List ℕ)) (errors then_errors : ℕ) (fault : LoadFault) (status : ℕ) →
+    IsFault (IsFormFault folder form) Q fault → IsCounted files input output (Unloaded fault) → TellsEnd begun taken errors then_errors (Unloaded fault) status → (files → ⊥) → ((status ≡ 3) × HasFault folder form) ⊎ ((status ≡ 7) ⊎ (status ≡ 9))
+unloaded_status folder form Q files input output begun taken errors then_errors (Files role) status is counted told held = absurd (held counted)
+unloaded_status folder form Q files input output begun taken errors then_errors (Faulty role f) status is counted (inl told) held = inl (told.0, (role, f, is))
+unloaded_status folder form Q files input output begun taken errors then_errors (Faulty role f) status is counted (inr told) held = inr (inr told.0)
+unloaded_status folder form Q files input output begun taken errors then_errors NoMemory status is counted told held = inr (inr told.0)
 
 -- the status of a damaged journal, or 9, where there is no memory to tell it
 damaged_status : (begun taken : Option (List ℕ)) (errors then_errors place status : ℕ) → TellsEnd begun taken errors then_errors (Damaged place) status → (status ≡ 7) ⊎ (status ≡ 9)
@@ -121,27 +124,28 @@ journal_answered rows before after files input output Limit status no_input no_o
     inr (inl (told.0, (v, w, housed, limit_answered v w runs before.input.flow after.input.flow before.seen.output.taken after.seen.output.taken limit)))
 journal_answered rows before after files input output Memory status no_input no_output no_disk r counted told = inr (inr (inr told.0))
 
-with_roster : (before after : World) (roster : List ℕ) (status : ℕ) (rows : Rows) → SaysRoster before.files.folder roster rows → IsRoster rows →
+with_roster : (before after : World) (roster : List ℕ) (status : ℕ) (faulty : Type 0) (rows : Rows) → SaysRoster before.files.folder roster rows → IsRoster rows →
     ((status ≡ 0) × OverIt rows before after false) ⊎ (((status ≡ 8) × OverIt rows before after true) ⊎ ((status ≡ 7) ⊎ (status ≡ 9))) →
-    ((status ≡ 0) × AnswersInput roster before after false) ⊎ (((status ≡ 8) × AnswersInput roster before after true) ⊎ ((status ≡ 7) ⊎ (status ≡ 9)))
-with_roster before after roster status rows says are (inl (done, over)) = inl (done, (rows, says, are, over))
-with_roster before after roster status rows says are (inr (inl (limit, over))) = inr (inl (limit, (rows, says, are, over)))
-with_roster before after roster status rows says are (inr (inr other)) = inr (inr other)
+    ((status ≡ 0) × AnswersInput roster before after false) ⊎ (((status ≡ 8) × AnswersInput roster before after true) ⊎ (faulty ⊎ ((status ≡ 7) ⊎ (status ≡ 9))))
+with_roster before after roster status faulty rows says are (inl (done, over)) = inl (done, (rows, says, are, over))
+with_roster before after roster status faulty rows says are (inr (inl (limit, over))) = inr (inl (limit, (rows, says, are, over)))
+with_roster before after roster status faulty rows says are (inr (inr other)) = inr (inr (inr other))
 
-script_answered : (roster : List ℕ) (before after : World) (status : ℕ) (end : End) (files input output : Type 0) →
+script_answered : (roster journal : List ℕ) (workers : ℕ) (before after : World) (status : ℕ) (end : End) (files input output : Type 0) →
     ScriptRuns before.files.folder roster before.input.flow after.input.flow before.seen.output.taken after.seen.output.taken before.seen.disk after.seen.disk end →
     IsCounted files input output end → TellsEnd before.errors.taken after.errors.taken before.errors.faults after.errors.faults end status →
-    (files → ⊥) → (input → ⊥) → (output → ⊥) → (Rose before.seen.disk.faults after.seen.disk.faults → ⊥) → ((role : FileRole) (f : FileFault) → IsRosterFault before.files.folder roster role f → ⊥) →
-    ((status ≡ 0) × AnswersInput roster before after false) ⊎ (((status ≡ 8) × AnswersInput roster before after true) ⊎ ((status ≡ 7) ⊎ (status ≡ 9)))
-script_answered roster before after status end files input output (inl (fault, e, unread, unwritten, kept, is)) counted told no_files no_input no_output no_disk right =
+    (files → ⊥) → (input → ⊥) → (output → ⊥) → (Rose before.seen.disk.faults after.seen.disk.faults → ⊥) →
+    ((status ≡ 0) × AnswersInput roster before after false) ⊎ (((status ≡ 8) × AnswersInput roster before after true)
+    ⊎ (((status ≡ 3) × HasFault before.files.folder (Form.Script roster journal workers)) ⊎ ((status ≡ 7) ⊎ (status ≡ 9))))
+script_answered roster journal workers before after status end files input output (inl (fault, e, unread, unwritten, kept, is)) counted told no_files no_input no_output no_disk =
     let told_so = subst (λ x. TellsEnd before.errors.taken after.errors.taken before.errors.faults after.errors.faults x status) e told in
-    inr (inr (inr (unloaded_status (IsRosterFault before.files.folder roster) ReadBeforeRoster files input output before.errors.taken after.errors.taken before.errors.faults after.errors.faults fault status is (subst (λ x. IsCounted files input output x) e counted) told_so no_files right)))
-script_answered roster before after status end files input output (inr (rows, says, are, runs)) counted told no_files no_input no_output no_disk right =
-    with_roster before after roster status rows says are (journal_answered rows before after files input output end status no_input no_output no_disk runs counted told)
+    inr (inr (unloaded_status before.files.folder (Form.Script roster journal workers) ReadBeforeRoster files input output before.errors.taken after.errors.taken before.errors.faults after.errors.faults fault status is (subst (λ x. IsCounted files input output x) e counted) told_so no_files))
+script_answered roster journal workers before after status end files input output (inr (rows, says, are, runs)) counted told no_files no_input no_output no_disk =
+    with_roster before after roster status _ rows says are (journal_answered rows before after files input output end status no_input no_output no_disk runs counted told)
 
 pub scripts_are_answered : {D : Type 0} (visits : D → Option Visits) → ScriptsAreAnswered visits
 scripts_are_answered visits roster journal workers before after status ends held =
-    script_answered roster before after status ends.end _ _ _ ends.runs.1 ends.counted ends.tells held.files_held held.input_held held.output_held held.disk_held held.right
+    script_answered roster journal workers before after status ends.end _ _ _ ends.runs.1 ends.counted ends.tells held.files_held held.input_held held.output_held held.disk_held
 
 -- ---- a service
 
@@ -153,13 +157,6 @@ module _ (most : ℕ) (lock : LockId) (v w : HouseView) (runs : is_stopped w ≡
   seats_answered : {D : Type 0} (visits : D → Option Visits) (number : ℕ) (seats : List (SeatRun D)) → AreSeats visits most lock v w number seats → AreSeatsAnswered visits (figures_of v) w.history number seats
   seats_answered visits number [] are = tt
   seats_answered visits number (seat ∷ seats) are = (seat_answered number (visits seat.door) seat.end are.0, seats_answered visits (number + 1) seats are.1)
-
-none_asked : {D : Type 0} (visits : D → Option Visits) (before after : World) → after.seen.listener ≡ before.seen.listener → IsUnasked visits before.seen.listener.doors after.seen.listener.doors
-none_asked visits before after same = record {
-  doors = [];
-  returned = (before.seen.listener.doors, lends_none before.seen.listener.doors, ap (λ (l : ListenerState). l.doors) same);
-  unserved = λ k other lt. absurd (omega (arith, lt));
-}
 
 -- why a house was not opened, where the disk did not fail
 opening_status : (rows : Rows) (disk left : DiskState) (begun taken : Option (List ℕ)) (errors then_errors status : ℕ) (end : End) → OpeningFails rows disk left end → TellsEnd begun taken errors then_errors end status → (Rose disk.faults left.faults → ⊥) → (status ≡ 7) ⊎ (status ≡ 9)
@@ -181,25 +178,31 @@ unbegun_status : (rose : Type 0) (begun taken : Option (List ℕ)) (errors then_
 unbegun_status rose begun taken errors then_errors status end (inl e) told held = let so = subst (λ x. TellsEnd begun taken errors then_errors x status) e told in so.0
 unbegun_status rose begun taken errors then_errors status end (inr (e, rises)) told held = absurd (held rises)
 
-module _ {D : Type 0} (visits : D → Option Visits) (size : ServiceSize) (roster : List ℕ) (before after : World) (status : ℕ) where
+module _ {D : Type 0} (visits : D → Option Visits) (roster journal address : List ℕ) (seats connections workers : ℕ) (before after : World) (status : ℕ) where
+  abbrev plan : ServicePlan
+  plan = record { address = address; seats = seats; connections = connections }
+
+  abbrev form : Form
+  form = Form.Serve roster journal address seats connections workers
+
   abbrev Answers : Type 0
   Answers =
-      (((status ≡ 7) ⊎ (status ≡ 9)) × IsUnasked visits before.seen.listener.doors after.seen.listener.doors)
+      ((((status ≡ 3) × HasFault before.files.folder form) ⊎ ((status ≡ 7) ⊎ (status ≡ 9))) × IsUnasked visits address before.seen.listener.doors after.seen.listener.doors)
       ⊎ OverRoster before.files.folder roster (λ rows. OverHouse rows before.seen.disk after.seen.disk (λ v w.
-      AnswersDoors visits size v w before.seen.listener.doors after.seen.listener.doors))
+      AnswersDoors visits plan v w before.seen.listener.doors after.seen.listener.doors))
 
-  service_answered : (end : End) (files input output : Type 0) → ServeRuns visits before.files.folder roster size before.seen after.seen end →
+  service_answered : (end : End) (files input output : Type 0) → ServeRuns visits before.files.folder roster plan before.seen after.seen end →
       IsCounted files input output end → TellsEnd before.errors.taken after.errors.taken before.errors.faults after.errors.faults end status →
-      (files → ⊥) → (Rose before.seen.disk.faults after.seen.disk.faults → ⊥) → (Rose before.seen.listener.faults after.seen.listener.faults → ⊥) → ((role : FileRole) (f : FileFault) → IsRosterFault before.files.folder roster role f → ⊥) → Answers
-  service_answered end files input output (inl (fault, e, kept, is)) counted told no_files no_disk no_listener right =
+      (files → ⊥) → (Rose before.seen.disk.faults after.seen.disk.faults → ⊥) → (Rose before.seen.listener.faults after.seen.listener.faults → ⊥) → Answers
+  service_answered end files input output (inl (fault, e, kept, is)) counted told no_files no_disk no_listener =
       let told_so = subst (λ x. TellsEnd before.errors.taken after.errors.taken before.errors.faults after.errors.faults x status) e told in
-      let nine = unloaded_status (IsRosterFault before.files.folder roster) ReadBeforeRoster files input output before.errors.taken after.errors.taken before.errors.faults after.errors.faults fault status is (subst (λ x. IsCounted files input output x) e counted) told_so no_files right in
-      inl (inr nine, none_asked visits before after (ap (λ (s : Seen). s.listener) kept))
-  service_answered end files input output (inr (rows, says, are, inl u)) counted told no_files no_disk no_listener right =
-      inl (opening_status rows before.seen.disk after.seen.disk before.errors.taken after.errors.taken before.errors.faults after.errors.faults status end u.opening told no_disk, none_asked visits before after u.listener)
-  service_answered end files input output (inr (rows, says, are, inr (v, w, housed, inl u))) counted told no_files no_disk no_listener right =
-      inl (inr (unbegun_status (Rose before.seen.listener.faults after.seen.listener.faults) before.errors.taken after.errors.taken before.errors.faults after.errors.faults status end u.why told no_listener), record { doors = u.doors; returned = u.returned; unserved = u.unserved })
-  service_answered end files input output (inr (rows, says, are, inr (v, w, housed, inr s))) counted told no_files no_disk no_listener right =
+      let why = unloaded_status before.files.folder form ReadBeforeRoster files input output before.errors.taken after.errors.taken before.errors.faults after.errors.faults fault status is (subst (λ x. IsCounted files input output x) e counted) told_so no_files in
+      inl (why, none_asked visits address before.seen.listener.doors after.seen.listener.doors (ap (λ (s : Seen). s.listener.doors) kept))
+  service_answered end files input output (inr (rows, says, are, inl u)) counted told no_files no_disk no_listener =
+      inl (inr (opening_status rows before.seen.disk after.seen.disk before.errors.taken after.errors.taken before.errors.faults after.errors.faults status end u.opening told no_disk), none_asked visits address before.seen.listener.doors after.seen.listener.doors (ap (λ (l : ListenerState). l.doors) u.listener))
+  service_answered end files input output (inr (rows, says, are, inr (v, w, housed, inl u))) counted told no_files no_disk no_listener =
+      inl (inr (inr (unbegun_status (Rose before.seen.listener.faults after.seen.listener.faults) before.errors.taken after.errors.taken before.errors.faults after.errors.faults status end u.why told no_listener)), u.unasked)
+  service_answered end files input output (inr (rows, says, are, inr (v, w, housed, inr s))) counted told no_files no_disk no_listener =
       let runs : is_stopped w ≡ false = held_false (is_stopped w) (λ stops. no_disk (housed.stopped stops)) in
       inr (
         rows,
@@ -211,13 +214,14 @@ module _ {D : Type 0} (visits : D → Option Visits) (size : ServiceSize) (roste
           housed,
           record {
             seats = s.seats;
-            count = s.served.count;
+            served = s.served;
             returned = s.returned;
-            answered = seats_answered size.connections s.served.lock v w runs visits 1 s.seats s.served.each;
+            given = s.given;
+            answered = seats_answered connections s.served.lock v w runs visits 1 s.seats s.served.each;
           },
         ),
       )
 
 pub services_are_answered : {D : Type 0} (visits : D → Option Visits) → ServicesAreAnswered visits
 services_are_answered visits roster journal address seats connections workers before after status ends held =
-    service_answered visits (record { seats = seats; connections = connections }) roster before after status ends.end _ _ _ ends.runs.1 ends.counted ends.tells held.files_held held.disk_held held.listener_held held.right
+    service_answered visits roster journal address seats connections workers before after status ends.end _ _ _ ends.runs.1 ends.counted ends.tells held.files_held held.disk_held held.listener_held

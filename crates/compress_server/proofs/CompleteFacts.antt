@@ -5,7 +5,6 @@ use Rattle.outside.specs.Faults.{Rose}
 use Rattle.outside.specs.Files.{Folder}
 use Rattle.outside.specs.Flow.{Flow}
 use Rattle.command_types.specs.Roster.{Rows}
-use Rattle.command_types.specs.declared.file_fault.FileFault.{FileFault}
 use Rattle.command_types.specs.History.{end_of}
 use Rattle.house.specs.House.{HouseView, is_stopped}
 use Rattle.compress_server.specs.declared.load.FileRole.{FileRole}
@@ -14,6 +13,7 @@ use Rattle.compress_server.specs.declared.load.LoadFault.TheVariants.{Files, Fau
 use Rattle.compress_server.specs.declared.ending.End.{End}
 use Rattle.compress_server.specs.declared.ending.End.TheVariants.{Done, No, BadWords, Unloaded, Damaged, DiskFault, Stopped, ListenerFault, SourceFault, SinkFault, Limit, Memory}
 use Rattle.compress_server.specs.Complete.{IsUndisturbed, IsCheck, IsScript, HasJournal, IsAnswered, IsFormFault, AnswersWhatItCan}
+use Rattle.compress_server.specs.Files.{ReadBeforeRoster, ReadBeforeMarket, ReadBeforeCheck}
 use Rattle.compress_server.specs.Ending.{IsFault, JournalRuns, CheckRuns, SolveRuns, GenRuns, Runs, IsCounted}
 use Rattle.compress_server.specs.Housed.{DiskState, OpeningFails}
 use Rattle.compress_server.specs.Replay.{ReplayEnds}
@@ -23,156 +23,157 @@ use Rattle.compress_server.specs.Telling.{TellsEnd}
 use Rattle.compress_server.specs.Words.{Market, Form}
 
 -- the ends that are left
-IsAnswer : Form → End → Type 0
-IsAnswer form Done = Unit {0}
-IsAnswer form No = IsCheck form
-IsAnswer form BadWords = ⊥
-IsAnswer form (Unloaded (Files role)) = ⊥
-IsAnswer form (Unloaded (Faulty role fault)) = ⊥
-IsAnswer form (Unloaded NoMemory) = Unit {0}
-IsAnswer form (Damaged place) = HasJournal form
-IsAnswer form DiskFault = ⊥
-IsAnswer form Stopped = ⊥
-IsAnswer form ListenerFault = ⊥
-IsAnswer form SourceFault = ⊥
-IsAnswer form SinkFault = ⊥
-IsAnswer form Limit = IsScript form
-IsAnswer form Memory = Unit {0}
+IsAnswer : Option Folder → Form → End → Type 0
+IsAnswer folder form Done = Unit {0}
+IsAnswer folder form No = IsCheck form
+IsAnswer folder form BadWords = ⊥
+IsAnswer folder form (Unloaded (Files role)) = ⊥
+IsAnswer folder form (Unloaded (Faulty role fault)) = IsFormFault folder form role fault
+IsAnswer folder form (Unloaded NoMemory) = Unit {0}
+IsAnswer folder form (Damaged place) = HasJournal form
+IsAnswer folder form DiskFault = ⊥
+IsAnswer folder form Stopped = ⊥
+IsAnswer folder form ListenerFault = ⊥
+IsAnswer folder form SourceFault = ⊥
+IsAnswer folder form SinkFault = ⊥
+IsAnswer folder form Limit = IsScript form
+IsAnswer folder form Memory = Unit {0}
 
 -- a status of an end that is left
-status_answered : (form : Form) (told then_told : Option (List ℕ)) (errors then_errors : ℕ) (end : End) (status : ℕ) → TellsEnd told then_told errors then_errors end status → IsAnswer form end → IsAnswered form status
+status_answered : (folder : Option Folder) (form : Form) (told then_told : Option (List ℕ)) (errors then_errors : ℕ) (end : End) (status : ℕ) → TellsEnd told then_told errors then_errors end status → IsAnswer folder form end → IsAnswered folder form status
 unfolding IsAnswer
-status_answered form told then_told errors then_errors Done status t a = inl t.0
-status_answered form told then_told errors then_errors No status t a = inr (inl (t.0, a))
-status_answered form told then_told errors then_errors BadWords status t a = absurd a
-status_answered form told then_told errors then_errors (Unloaded (Files role)) status t a = absurd a
-status_answered form told then_told errors then_errors (Unloaded (Faulty role fault)) status t a = absurd a
-status_answered form told then_told errors then_errors (Unloaded NoMemory) status t a = inr (inr (inr (inr t.0)))
-status_answered form told then_told errors then_errors (Damaged place) status (inl t) a = inr (inr (inl (t.0, a)))
-status_answered form told then_told errors then_errors (Damaged place) status (inr t) a = inr (inr (inr (inr t.0)))
-status_answered form told then_told errors then_errors DiskFault status t a = absurd a
-status_answered form told then_told errors then_errors Stopped status t a = absurd a
-status_answered form told then_told errors then_errors ListenerFault status t a = absurd a
-status_answered form told then_told errors then_errors SourceFault status t a = absurd a
-status_answered form told then_told errors then_errors SinkFault status t a = absurd a
-status_answered form told then_told errors then_errors Limit status t a = inr (inr (inr (inl (t.0, a))))
-status_answered form told then_told errors then_errors Memory status t a = inr (inr (inr (inr t.0)))
+status_answered folder form told then_told errors then_errors Done status t a = inl t.0
+status_answered folder form told then_told errors then_errors No status t a = inr (inl (t.0, a))
+status_answered folder form told then_told errors then_errors BadWords status t a = absurd a
+status_answered folder form told then_told errors then_errors (Unloaded (Files role)) status t a = absurd a
+status_answered folder form told then_told errors then_errors (Unloaded (Faulty role fault)) status (inl t) a = inr (inr (inl (t.0, (role, fault, a))))
+status_answered folder form told then_told errors then_errors (Unloaded (Faulty role fault)) status (inr t) a = inr (inr (inr (inr (inr t.0))))
+status_answered folder form told then_told errors then_errors (Unloaded NoMemory) status t a = inr (inr (inr (inr (inr t.0))))
+status_answered folder form told then_told errors then_errors (Damaged place) status (inl t) a = inr (inr (inr (inl (t.0, a))))
+status_answered folder form told then_told errors then_errors (Damaged place) status (inr t) a = inr (inr (inr (inr (inr t.0))))
+status_answered folder form told then_told errors then_errors DiskFault status t a = absurd a
+status_answered folder form told then_told errors then_errors Stopped status t a = absurd a
+status_answered folder form told then_told errors then_errors ListenerFault status t a = absurd a
+status_answered folder form told then_told errors then_errors SourceFault status t a = absurd a
+status_answered folder form told then_told errors then_errors SinkFault status t a = absurd a
+status_answered folder form told then_told errors then_errors Limit status t a = inr (inr (inr (inr (inl (t.0, a)))))
+status_answered folder form told then_told errors then_errors Memory status t a = inr (inr (inr (inr (inr t.0))))
 
--- a file that could not be had: what is left is want of memory
-load_answered : (form : Form) (P : FileRole → FileFault → Type 0) (Q : FileRole → Type 0) (files input output : Type 0) (fault : LoadFault) →
-    IsFault P Q fault → IsCounted files input output (Unloaded fault) → (files → ⊥) → ((role : FileRole) (f : FileFault) → P role f → ⊥) → IsAnswer form (Unloaded fault)
+-- a file that could not be had: what is left is its fault and want of memory
+load_answered : (folder : Option Folder) (form : Form) (Q : FileRole → Type 0) (files input output : Type 0) (fault : LoadFault) →
+    IsFault (IsFormFault folder form) Q fault → IsCounted files input output (Unloaded fault) → (files → ⊥) → IsAnswer folder form (Unloaded fault)
 unfolding IsAnswer
-load_answered form P Q files input output (Files role) is counted held right = absurd (held counted)
-load_answered form P Q files input output (Faulty role f) is counted held right = absurd (right role f is)
-load_answered form P Q files input output NoMemory is counted held right = tt
+load_answered folder form Q files input output (Files role) is counted held = absurd (held counted)
+load_answered folder form Q files input output (Faulty role f) is counted held = is
+load_answered folder form Q files input output NoMemory is counted held = tt
 
 -- the same of an end that is such a fault
-unloaded_answered : (form : Form) (P : FileRole → FileFault → Type 0) (Q : FileRole → Type 0) (files input output : Type 0) (end : End) (fault : LoadFault) → end ≡ Unloaded fault →
-    IsFault P Q fault → IsCounted files input output end → (files → ⊥) → ((role : FileRole) (f : FileFault) → P role f → ⊥) → IsAnswer form end
-unloaded_answered form P Q files input output end fault e is counted held right =
+unloaded_answered : (folder : Option Folder) (form : Form) (Q : FileRole → Type 0) (files input output : Type 0) (end : End) (fault : LoadFault) → end ≡ Unloaded fault →
+    IsFault (IsFormFault folder form) Q fault → IsCounted files input output end → (files → ⊥) → IsAnswer folder form end
+unloaded_answered folder form Q files input output end fault e is counted held =
     let C : End → Type 0 = λ x. IsCounted files input output x in
-    let A : End → Type 0 = λ x. IsAnswer form x in
-    subst A (sym e) (load_answered form P Q files input output fault is (subst C e counted) held right)
+    let A : End → Type 0 = λ x. IsAnswer folder form x in
+    subst A (sym e) (load_answered folder form Q files input output fault is (subst C e counted) held)
 
 -- a script over its disk
-journal_answered : (roster journal : List ℕ) (workers : ℕ) (rows : Rows) (opened flow : Option Flow) (begun taken : Option (List ℕ)) (disk left : DiskState) (files input output : Type 0) (end : End) →
-    JournalRuns rows opened flow begun taken disk left end → IsCounted files input output end → (input → ⊥) → (output → ⊥) → (Rose disk.faults left.faults → ⊥) → IsAnswer (Form.Script roster journal workers) end
+journal_answered : (folder : Option Folder) (roster journal : List ℕ) (workers : ℕ) (rows : Rows) (opened flow : Option Flow) (begun taken : Option (List ℕ)) (disk left : DiskState) (files input output : Type 0) (end : End) →
+    JournalRuns rows opened flow begun taken disk left end → IsCounted files input output end → (input → ⊥) → (output → ⊥) → (Rose disk.faults left.faults → ⊥) → IsAnswer folder (Form.Script roster journal workers) end
 unfolding IsAnswer
-journal_answered roster journal workers rows opened flow begun taken disk left files input output Done r counted no_input no_output no_disk = tt
-journal_answered roster journal workers rows opened flow begun taken disk left files input output No r counted no_input no_output no_disk = absurd r
-journal_answered roster journal workers rows opened flow begun taken disk left files input output BadWords r counted no_input no_output no_disk = absurd r
-journal_answered roster journal workers rows opened flow begun taken disk left files input output (Unloaded fault) r counted no_input no_output no_disk = absurd r
-journal_answered roster journal workers rows opened flow begun taken disk left files input output (Damaged place) r counted no_input no_output no_disk = tt
-journal_answered roster journal workers rows opened flow begun taken disk left files input output DiskFault (same, kept, unopened, rose) counted no_input no_output no_disk = absurd (no_disk rose)
-journal_answered roster journal workers rows opened flow begun taken disk left files input output Stopped (over, rose) counted no_input no_output no_disk = absurd (no_disk rose)
-journal_answered roster journal workers rows opened flow begun taken disk left files input output ListenerFault r counted no_input no_output no_disk = absurd r
-journal_answered roster journal workers rows opened flow begun taken disk left files input output SourceFault r counted no_input no_output no_disk = absurd (no_input counted)
-journal_answered roster journal workers rows opened flow begun taken disk left files input output SinkFault r counted no_input no_output no_disk = absurd (no_output counted)
-journal_answered roster journal workers rows opened flow begun taken disk left files input output Limit r counted no_input no_output no_disk = tt
-journal_answered roster journal workers rows opened flow begun taken disk left files input output Memory r counted no_input no_output no_disk = tt
+journal_answered folder roster journal workers rows opened flow begun taken disk left files input output Done r counted no_input no_output no_disk = tt
+journal_answered folder roster journal workers rows opened flow begun taken disk left files input output No r counted no_input no_output no_disk = absurd r
+journal_answered folder roster journal workers rows opened flow begun taken disk left files input output BadWords r counted no_input no_output no_disk = absurd r
+journal_answered folder roster journal workers rows opened flow begun taken disk left files input output (Unloaded fault) r counted no_input no_output no_disk = absurd r
+journal_answered folder roster journal workers rows opened flow begun taken disk left files input output (Damaged place) r counted no_input no_output no_disk = tt
+journal_answered folder roster journal workers rows opened flow begun taken disk left files input output DiskFault (same, kept, unopened, rose) counted no_input no_output no_disk = absurd (no_disk rose)
+journal_answered folder roster journal workers rows opened flow begun taken disk left files input output Stopped (over, rose) counted no_input no_output no_disk = absurd (no_disk rose)
+journal_answered folder roster journal workers rows opened flow begun taken disk left files input output ListenerFault r counted no_input no_output no_disk = absurd r
+journal_answered folder roster journal workers rows opened flow begun taken disk left files input output SourceFault r counted no_input no_output no_disk = absurd (no_input counted)
+journal_answered folder roster journal workers rows opened flow begun taken disk left files input output SinkFault r counted no_input no_output no_disk = absurd (no_output counted)
+journal_answered folder roster journal workers rows opened flow begun taken disk left files input output Limit r counted no_input no_output no_disk = tt
+journal_answered folder roster journal workers rows opened flow begun taken disk left files input output Memory r counted no_input no_output no_disk = tt
 
 -- a check
 check_answered : (folder : Option Folder) (market : Market) (proposal : List ℕ) (begun taken : Option (List ℕ)) (files input output : Type 0) (end : End) →
-    CheckRuns folder market proposal begun taken end → IsCounted files input output end → (files → ⊥) → (output → ⊥) → ((role : FileRole) (f : FileFault) → IsFormFault folder (Form.Check market proposal) role f → ⊥) → IsAnswer (Form.Check market proposal) end
+    CheckRuns folder market proposal begun taken end → IsCounted files input output end → (files → ⊥) → (output → ⊥) → IsAnswer folder (Form.Check market proposal) end
 unfolding IsAnswer
-check_answered folder market proposal begun taken files input output Done r counted no_files no_output right = tt
-check_answered folder market proposal begun taken files input output No r counted no_files no_output right = tt
-check_answered folder market proposal begun taken files input output BadWords r counted no_files no_output right = absurd r
-check_answered folder market proposal begun taken files input output (Unloaded fault) r counted no_files no_output right = load_answered (Form.Check market proposal) _ _ files input output fault r.1 counted no_files right
-check_answered folder market proposal begun taken files input output (Damaged place) r counted no_files no_output right = absurd r
-check_answered folder market proposal begun taken files input output DiskFault r counted no_files no_output right = absurd r
-check_answered folder market proposal begun taken files input output Stopped r counted no_files no_output right = absurd r
-check_answered folder market proposal begun taken files input output ListenerFault r counted no_files no_output right = absurd r
-check_answered folder market proposal begun taken files input output SourceFault r counted no_files no_output right = absurd r
-check_answered folder market proposal begun taken files input output SinkFault r counted no_files no_output right = absurd (no_output counted)
-check_answered folder market proposal begun taken files input output Limit r counted no_files no_output right = absurd r
-check_answered folder market proposal begun taken files input output Memory r counted no_files no_output right = tt
+check_answered folder market proposal begun taken files input output Done r counted no_files no_output = tt
+check_answered folder market proposal begun taken files input output No r counted no_files no_output = tt
+check_answered folder market proposal begun taken files input output BadWords r counted no_files no_output = absurd r
+check_answered folder market proposal begun taken files input output (Unloaded fault) r counted no_files no_output = load_answered folder (Form.Check market proposal) (ReadBeforeCheck folder market) files input output fault r.1 counted no_files
+check_answered folder market proposal begun taken files input output (Damaged place) r counted no_files no_output = absurd r
+check_answered folder market proposal begun taken files input output DiskFault r counted no_files no_output = absurd r
+check_answered folder market proposal begun taken files input output Stopped r counted no_files no_output = absurd r
+check_answered folder market proposal begun taken files input output ListenerFault r counted no_files no_output = absurd r
+check_answered folder market proposal begun taken files input output SourceFault r counted no_files no_output = absurd r
+check_answered folder market proposal begun taken files input output SinkFault r counted no_files no_output = absurd (no_output counted)
+check_answered folder market proposal begun taken files input output Limit r counted no_files no_output = absurd r
+check_answered folder market proposal begun taken files input output Memory r counted no_files no_output = tt
 
 -- a solve
 solve_answered : (folder : Option Folder) (market : Market) (workers : ℕ) (begun taken : Option (List ℕ)) (files input output : Type 0) (end : End) →
-    SolveRuns folder market begun taken end → IsCounted files input output end → (files → ⊥) → (output → ⊥) → ((role : FileRole) (f : FileFault) → IsFormFault folder (Form.Solve market workers) role f → ⊥) → IsAnswer (Form.Solve market workers) end
+    SolveRuns folder market begun taken end → IsCounted files input output end → (files → ⊥) → (output → ⊥) → IsAnswer folder (Form.Solve market workers) end
 unfolding IsAnswer
-solve_answered folder market workers begun taken files input output Done r counted no_files no_output right = tt
-solve_answered folder market workers begun taken files input output No r counted no_files no_output right = absurd r
-solve_answered folder market workers begun taken files input output BadWords r counted no_files no_output right = absurd r
-solve_answered folder market workers begun taken files input output (Unloaded fault) r counted no_files no_output right = load_answered (Form.Solve market workers) _ _ files input output fault r.1 counted no_files right
-solve_answered folder market workers begun taken files input output (Damaged place) r counted no_files no_output right = absurd r
-solve_answered folder market workers begun taken files input output DiskFault r counted no_files no_output right = absurd r
-solve_answered folder market workers begun taken files input output Stopped r counted no_files no_output right = absurd r
-solve_answered folder market workers begun taken files input output ListenerFault r counted no_files no_output right = absurd r
-solve_answered folder market workers begun taken files input output SourceFault r counted no_files no_output right = absurd r
-solve_answered folder market workers begun taken files input output SinkFault r counted no_files no_output right = absurd (no_output counted)
-solve_answered folder market workers begun taken files input output Limit r counted no_files no_output right = absurd r
-solve_answered folder market workers begun taken files input output Memory r counted no_files no_output right = tt
+solve_answered folder market workers begun taken files input output Done r counted no_files no_output = tt
+solve_answered folder market workers begun taken files input output No r counted no_files no_output = absurd r
+solve_answered folder market workers begun taken files input output BadWords r counted no_files no_output = absurd r
+solve_answered folder market workers begun taken files input output (Unloaded fault) r counted no_files no_output = load_answered folder (Form.Solve market workers) (ReadBeforeMarket folder market) files input output fault r.1 counted no_files
+solve_answered folder market workers begun taken files input output (Damaged place) r counted no_files no_output = absurd r
+solve_answered folder market workers begun taken files input output DiskFault r counted no_files no_output = absurd r
+solve_answered folder market workers begun taken files input output Stopped r counted no_files no_output = absurd r
+solve_answered folder market workers begun taken files input output ListenerFault r counted no_files no_output = absurd r
+solve_answered folder market workers begun taken files input output SourceFault r counted no_files no_output = absurd r
+solve_answered folder market workers begun taken files input output SinkFault r counted no_files no_output = absurd (no_output counted)
+solve_answered folder market workers begun taken files input output Limit r counted no_files no_output = absurd r
+solve_answered folder market workers begun taken files input output Memory r counted no_files no_output = tt
 
 -- a gen, which reads nothing
-gen_answered : (number workers : ℕ) (begun taken : Option (List ℕ)) (files input output : Type 0) (end : End) → GenRuns number begun taken end → IsCounted files input output end → (output → ⊥) → IsAnswer (Form.Gen number workers) end
+gen_answered : (folder : Option Folder) (number workers : ℕ) (begun taken : Option (List ℕ)) (files input output : Type 0) (end : End) → GenRuns number begun taken end → IsCounted files input output end → (output → ⊥) → IsAnswer folder (Form.Gen number workers) end
 unfolding IsAnswer
-gen_answered number workers begun taken files input output Done r counted no_output = tt
-gen_answered number workers begun taken files input output No r counted no_output = absurd r
-gen_answered number workers begun taken files input output BadWords r counted no_output = absurd r
-gen_answered number workers begun taken files input output (Unloaded fault) r counted no_output = absurd r
-gen_answered number workers begun taken files input output (Damaged place) r counted no_output = absurd r
-gen_answered number workers begun taken files input output DiskFault r counted no_output = absurd r
-gen_answered number workers begun taken files input output Stopped r counted no_output = absurd r
-gen_answered number workers begun taken files input output ListenerFault r counted no_output = absurd r
-gen_answered number workers begun taken files input output SourceFault r counted no_output = absurd r
-gen_answered number workers begun taken files input output SinkFault r counted no_output = absurd (no_output counted)
-gen_answered number workers begun taken files input output Limit r counted no_output = absurd r
-gen_answered number workers begun taken files input output Memory r counted no_output = tt
+gen_answered folder number workers begun taken files input output Done r counted no_output = tt
+gen_answered folder number workers begun taken files input output No r counted no_output = absurd r
+gen_answered folder number workers begun taken files input output BadWords r counted no_output = absurd r
+gen_answered folder number workers begun taken files input output (Unloaded fault) r counted no_output = absurd r
+gen_answered folder number workers begun taken files input output (Damaged place) r counted no_output = absurd r
+gen_answered folder number workers begun taken files input output DiskFault r counted no_output = absurd r
+gen_answered folder number workers begun taken files input output Stopped r counted no_output = absurd r
+gen_answered folder number workers begun taken files input output ListenerFault r counted no_output = absurd r
+gen_answered folder number workers begun taken files input output SourceFault r counted no_output = absurd r
+gen_answered folder number workers begun taken files input output SinkFault r counted no_output = absurd (no_output counted)
+gen_answered folder number workers begun taken files input output Limit r counted no_output = absurd r
+gen_answered folder number workers begun taken files input output Memory r counted no_output = tt
 
 -- a replay over its disk
-replay_answered : (roster journal : List ℕ) (rows : Rows) (begun taken : Option (List ℕ)) (disk left : DiskState) (files input output : Type 0) (end : End) →
-    ReplayEnds rows disk left begun taken end → IsCounted files input output end → (output → ⊥) → (Rose disk.faults left.faults → ⊥) → IsAnswer (Form.Replay roster journal) end
+replay_answered : (folder : Option Folder) (roster journal : List ℕ) (rows : Rows) (begun taken : Option (List ℕ)) (disk left : DiskState) (files input output : Type 0) (end : End) →
+    ReplayEnds rows disk left begun taken end → IsCounted files input output end → (output → ⊥) → (Rose disk.faults left.faults → ⊥) → IsAnswer folder (Form.Replay roster journal) end
 unfolding IsAnswer
-replay_answered roster journal rows begun taken disk left files input output Done r counted no_output no_disk = tt
-replay_answered roster journal rows begun taken disk left files input output No r counted no_output no_disk = absurd r
-replay_answered roster journal rows begun taken disk left files input output BadWords r counted no_output no_disk = absurd r
-replay_answered roster journal rows begun taken disk left files input output (Unloaded fault) r counted no_output no_disk = absurd r
-replay_answered roster journal rows begun taken disk left files input output (Damaged place) r counted no_output no_disk = tt
-replay_answered roster journal rows begun taken disk left files input output DiskFault (kept, rose) counted no_output no_disk = absurd (no_disk rose)
-replay_answered roster journal rows begun taken disk left files input output Stopped r counted no_output no_disk = absurd r
-replay_answered roster journal rows begun taken disk left files input output ListenerFault r counted no_output no_disk = absurd r
-replay_answered roster journal rows begun taken disk left files input output SourceFault r counted no_output no_disk = absurd r
-replay_answered roster journal rows begun taken disk left files input output SinkFault r counted no_output no_disk = absurd (no_output counted)
-replay_answered roster journal rows begun taken disk left files input output Limit r counted no_output no_disk = absurd r
-replay_answered roster journal rows begun taken disk left files input output Memory r counted no_output no_disk = tt
+replay_answered folder roster journal rows begun taken disk left files input output Done r counted no_output no_disk = tt
+replay_answered folder roster journal rows begun taken disk left files input output No r counted no_output no_disk = absurd r
+replay_answered folder roster journal rows begun taken disk left files input output BadWords r counted no_output no_disk = absurd r
+replay_answered folder roster journal rows begun taken disk left files input output (Unloaded fault) r counted no_output no_disk = absurd r
+replay_answered folder roster journal rows begun taken disk left files input output (Damaged place) r counted no_output no_disk = tt
+replay_answered folder roster journal rows begun taken disk left files input output DiskFault (kept, rose) counted no_output no_disk = absurd (no_disk rose)
+replay_answered folder roster journal rows begun taken disk left files input output Stopped r counted no_output no_disk = absurd r
+replay_answered folder roster journal rows begun taken disk left files input output ListenerFault r counted no_output no_disk = absurd r
+replay_answered folder roster journal rows begun taken disk left files input output SourceFault r counted no_output no_disk = absurd r
+replay_answered folder roster journal rows begun taken disk left files input output SinkFault r counted no_output no_disk = absurd (no_output counted)
+replay_answered folder roster journal rows begun taken disk left files input output Limit r counted no_output no_disk = absurd r
+replay_answered folder roster journal rows begun taken disk left files input output Memory r counted no_output no_disk = tt
 
 -- a service whose house was not opened
-unhoused_answered : (roster journal address : List ℕ) (seats connections workers : ℕ) (rows : Rows) (disk left : DiskState) (end : End) → OpeningFails rows disk left end → (Rose disk.faults left.faults → ⊥) → IsAnswer (Form.Serve roster journal address seats connections workers) end
+unhoused_answered : (folder : Option Folder) (roster journal address : List ℕ) (seats connections workers : ℕ) (rows : Rows) (disk left : DiskState) (end : End) → OpeningFails rows disk left end → (Rose disk.faults left.faults → ⊥) → IsAnswer folder (Form.Serve roster journal address seats connections workers) end
 unfolding IsAnswer
-unhoused_answered roster journal address seats connections workers rows disk left Done r no_disk = absurd r
-unhoused_answered roster journal address seats connections workers rows disk left No r no_disk = absurd r
-unhoused_answered roster journal address seats connections workers rows disk left BadWords r no_disk = absurd r
-unhoused_answered roster journal address seats connections workers rows disk left (Unloaded fault) r no_disk = absurd r
-unhoused_answered roster journal address seats connections workers rows disk left (Damaged place) r no_disk = tt
-unhoused_answered roster journal address seats connections workers rows disk left DiskFault (unopened, rose) no_disk = absurd (no_disk rose)
-unhoused_answered roster journal address seats connections workers rows disk left Stopped r no_disk = absurd r
-unhoused_answered roster journal address seats connections workers rows disk left ListenerFault r no_disk = absurd r
-unhoused_answered roster journal address seats connections workers rows disk left SourceFault r no_disk = absurd r
-unhoused_answered roster journal address seats connections workers rows disk left SinkFault r no_disk = absurd r
-unhoused_answered roster journal address seats connections workers rows disk left Limit r no_disk = absurd r
-unhoused_answered roster journal address seats connections workers rows disk left Memory r no_disk = tt
+unhoused_answered folder roster journal address seats connections workers rows disk left Done r no_disk = absurd r
+unhoused_answered folder roster journal address seats connections workers rows disk left No r no_disk = absurd r
+unhoused_answered folder roster journal address seats connections workers rows disk left BadWords r no_disk = absurd r
+unhoused_answered folder roster journal address seats connections workers rows disk left (Unloaded fault) r no_disk = absurd r
+unhoused_answered folder roster journal address seats connections workers rows disk left (Damaged place) r no_disk = tt
+unhoused_answered folder roster journal address seats connections workers rows disk left DiskFault (unopened, rose) no_disk = absurd (no_disk rose)
+unhoused_answered folder roster journal address seats connections workers rows disk left Stopped r no_disk = absurd r
+unhoused_answered folder roster journal address seats connections workers rows disk left ListenerFault r no_disk = absurd r
+unhoused_answered folder roster journal address seats connections workers rows disk left SourceFault r no_disk = absurd r
+unhoused_answered folder roster journal address seats connections workers rows disk left SinkFault r no_disk = absurd r
+unhoused_answered folder roster journal address seats connections workers rows disk left Limit r no_disk = absurd r
+unhoused_answered folder roster journal address seats connections workers rows disk left Memory r no_disk = tt
 
 -- the output's count rose where the line was not written whole
 count_rose : (before after : OutputState) (line : List ℕ) (written : Bool) → IsWritten before after line written → written ≡ false → Rose before.faults after.faults
@@ -180,60 +181,60 @@ count_rose before after line true w e = absurd (cc e)
 count_rose before after line false w e = w.1
 
 -- a service whose seats served
-seats_answered : (roster journal address : List ℕ) (seats connections workers : ℕ) (no_memory door_fault stopped written : Bool) →
-    (stopped ≡ true → ⊥) → (written ≡ false → ⊥) → (service_end no_memory door_fault stopped written ≡ ListenerFault → ⊥) → IsAnswer (Form.Serve roster journal address seats connections workers) (service_end no_memory door_fault stopped written)
+seats_answered : (folder : Option Folder) (roster journal address : List ℕ) (seats connections workers : ℕ) (no_memory door_fault stopped written : Bool) →
+    (stopped ≡ true → ⊥) → (written ≡ false → ⊥) → (door_fault ≡ true → ⊥) → IsAnswer folder (Form.Serve roster journal address seats connections workers) (service_end no_memory door_fault stopped written)
 unfolding IsAnswer
-seats_answered roster journal address seats connections workers true door_fault stopped written no_stop no_cut no_door = tt
-seats_answered roster journal address seats connections workers false true stopped written no_stop no_cut no_door = absurd (no_door refl)
-seats_answered roster journal address seats connections workers false false true written no_stop no_cut no_door = absurd (no_stop refl)
-seats_answered roster journal address seats connections workers false false false true no_stop no_cut no_door = tt
-seats_answered roster journal address seats connections workers false false false false no_stop no_cut no_door = absurd (no_cut refl)
+seats_answered folder roster journal address seats connections workers true door_fault stopped written no_stop no_cut no_door = tt
+seats_answered folder roster journal address seats connections workers false true stopped written no_stop no_cut no_door = absurd (no_door refl)
+seats_answered folder roster journal address seats connections workers false false true written no_stop no_cut no_door = absurd (no_stop refl)
+seats_answered folder roster journal address seats connections workers false false false true no_stop no_cut no_door = tt
+seats_answered folder roster journal address seats connections workers false false false false no_stop no_cut no_door = absurd (no_cut refl)
 
 -- a service whose seats could not begin
-unbegun_answered : (roster journal address : List ℕ) (seats connections workers : ℕ) (before after : ℕ) (end : End) →
-    ((end ≡ Memory) ⊎ ((end ≡ ListenerFault) × Rose before after)) → (Rose before after → ⊥) → IsAnswer (Form.Serve roster journal address seats connections workers) end
+unbegun_answered : (folder : Option Folder) (roster journal address : List ℕ) (seats connections workers : ℕ) (before after : ℕ) (end : End) →
+    ((end ≡ Memory) ⊎ ((end ≡ ListenerFault) × Rose before after)) → (Rose before after → ⊥) → IsAnswer folder (Form.Serve roster journal address seats connections workers) end
 unfolding IsAnswer
-unbegun_answered roster journal address seats connections workers before after end (inl e) held = let A : End → Type 0 = λ x. IsAnswer (Form.Serve roster journal address seats connections workers) x in subst A (sym e) tt
-unbegun_answered roster journal address seats connections workers before after end (inr (e, rose)) held = absurd (held rose)
+unbegun_answered folder roster journal address seats connections workers before after end (inl e) held = let A : End → Type 0 = λ x. IsAnswer folder (Form.Serve roster journal address seats connections workers) x in subst A (sym e) tt
+unbegun_answered folder roster journal address seats connections workers before after end (inr (e, rose)) held = absurd (held rose)
 
 -- a service over its house
 served_answered : {D : Type 0} (visits : D → Option Visits) (roster journal address : List ℕ) (seats connections workers : ℕ) (before after : World) (v w : HouseView) (end : End) →
     (is_stopped w ≡ true → Rose before.seen.disk.faults after.seen.disk.faults) →
-    HouseServes visits (record { seats = seats; connections = connections }) v w before.seen.output after.seen.output before.seen.listener after.seen.listener end →
-    IsUndisturbed (Form.Serve roster journal address seats connections workers) before after → IsAnswer (Form.Serve roster journal address seats connections workers) end
+    HouseServes visits (record { address = address; seats = seats; connections = connections }) v w before.seen.output after.seen.output before.seen.listener after.seen.listener end →
+    IsUndisturbed before after → IsAnswer before.files.folder (Form.Serve roster journal address seats connections workers) end
 served_answered visits roster journal address seats connections workers before after v w end stops (inl u) held =
-    unbegun_answered roster journal address seats connections workers before.seen.listener.faults after.seen.listener.faults end u.why held.listener_held
+    unbegun_answered before.files.folder roster journal address seats connections workers before.seen.listener.faults after.seen.listener.faults end u.why held.listener_held
 served_answered visits roster journal address seats connections workers before after v w end stops (inr s) held =
-    let A : End → Type 0 = λ x. IsAnswer (Form.Serve roster journal address seats connections workers) x in
-    subst A (sym s.told) (seats_answered roster journal address seats connections workers _ _ (is_stopped w) s.written
-    (λ e. held.disk_held (stops e)) (λ e. held.output_held (count_rose before.seen.output after.seen.output (history_line (end_of w.history)) s.written s.wrote e)) (λ e. held.listener_held (s.counted (s.told ∙ e))))
+    let A : End → Type 0 = λ x. IsAnswer before.files.folder (Form.Serve roster journal address seats connections workers) x in
+    subst A (sym s.told) (seats_answered before.files.folder roster journal address seats connections workers _ _ (is_stopped w) s.written
+    (λ e. held.disk_held (stops e)) (λ e. held.output_held (count_rose before.seen.output after.seen.output (history_line (end_of w.history)) s.written s.wrote e)) (λ e. held.listener_held (s.counted e)))
 
 -- the end of any form
 end_answered : {D : Type 0} (visits : D → Option Visits) (form : Form) (before after : World) (end : End) →
     Runs visits before.files.folder (Some form) before.input.flow after.input.flow before.seen after.seen end →
     IsCounted (Rose before.files.faults after.files.faults) (Rose before.input.faults after.input.faults) (Rose before.seen.output.faults after.seen.output.faults) end →
-    IsUndisturbed form before after → IsAnswer form end
+    IsUndisturbed before after → IsAnswer before.files.folder form end
 end_answered visits (Form.Script roster journal workers) before after end (same, inl (fault, e, unread, unwritten, kept, is)) counted held =
-    unloaded_answered (Form.Script roster journal workers) _ _ _ _ _ end fault e is counted held.files_held held.right
+    unloaded_answered before.files.folder (Form.Script roster journal workers) ReadBeforeRoster _ _ _ end fault e is counted held.files_held
 end_answered visits (Form.Script roster journal workers) before after end (same, inr (rows, says, are, runs)) counted held =
-    journal_answered roster journal workers rows before.input.flow after.input.flow _ _ _ _ _ _ _ end runs counted held.input_held held.output_held held.disk_held
+    journal_answered before.files.folder roster journal workers rows before.input.flow after.input.flow _ _ _ _ _ _ _ end runs counted held.input_held held.output_held held.disk_held
 end_answered visits (Form.Serve roster journal address seats connections workers) before after end (same, inl (fault, e, kept, is)) counted held =
-    unloaded_answered (Form.Serve roster journal address seats connections workers) _ _ _ _ _ end fault e is counted held.files_held held.right
+    unloaded_answered before.files.folder (Form.Serve roster journal address seats connections workers) ReadBeforeRoster _ _ _ end fault e is counted held.files_held
 end_answered visits (Form.Serve roster journal address seats connections workers) before after end (same, inr (rows, says, are, inl u)) counted held =
-    unhoused_answered roster journal address seats connections workers rows before.seen.disk after.seen.disk end u.opening held.disk_held
+    unhoused_answered before.files.folder roster journal address seats connections workers rows before.seen.disk after.seen.disk end u.opening held.disk_held
 end_answered visits (Form.Serve roster journal address seats connections workers) before after end (same, inr (rows, says, are, inr (v, w, housed, serves))) counted held =
     served_answered visits roster journal address seats connections workers before after v w end housed.stopped serves held
 end_answered visits (Form.Check market proposal) before after end (same, only, runs) counted held =
-    check_answered before.files.folder market proposal _ _ _ _ _ end runs counted held.files_held held.output_held held.right
+    check_answered before.files.folder market proposal _ _ _ _ _ end runs counted held.files_held held.output_held
 end_answered visits (Form.Solve market workers) before after end (same, only, runs) counted held =
-    solve_answered before.files.folder market workers _ _ _ _ _ end runs counted held.files_held held.output_held held.right
+    solve_answered before.files.folder market workers _ _ _ _ _ end runs counted held.files_held held.output_held
 end_answered visits (Form.Gen number workers) before after end (same, only, runs) counted held =
-    gen_answered number workers _ _ _ _ _ end runs counted held.output_held
+    gen_answered before.files.folder number workers _ _ _ _ _ end runs counted held.output_held
 end_answered visits (Form.Replay roster journal) before after end (unread, same, inl (fault, e, unwritten, kept, is)) counted held =
-    unloaded_answered (Form.Replay roster journal) _ _ _ _ _ end fault e is counted held.files_held held.right
+    unloaded_answered before.files.folder (Form.Replay roster journal) ReadBeforeRoster _ _ _ end fault e is counted held.files_held
 end_answered visits (Form.Replay roster journal) before after end (unread, same, inr (rows, says, are, (kept, ends))) counted held =
-    replay_answered roster journal rows before.seen.output.taken after.seen.output.taken before.seen.disk after.seen.disk (Rose before.files.faults after.files.faults) (Rose before.input.faults after.input.faults) (Rose before.seen.output.faults after.seen.output.faults) end ends counted held.output_held held.disk_held
+    replay_answered before.files.folder roster journal rows before.seen.output.taken after.seen.output.taken before.seen.disk after.seen.disk (Rose before.files.faults after.files.faults) (Rose before.input.faults after.input.faults) (Rose before.seen.output.faults after.seen.output.faults) end ends counted held.output_held held.disk_held
 
 pub answers_what_it_can : {D : Type 0} (visits : D → Option Visits) → AnswersWhatItCan visits
 answers_what_it_can visits form before after status ends held =
-    status_answered form before.errors.taken after.errors.taken before.errors.faults after.errors.faults ends.end status ends.tells (end_answered visits form before after ends.end ends.runs ends.counted held)
+    status_answered before.files.folder form before.errors.taken after.errors.taken before.errors.faults after.errors.faults ends.end status ends.tells (end_answered visits form before after ends.end ends.runs ends.counted held)

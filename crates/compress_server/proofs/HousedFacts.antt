@@ -1,27 +1,29 @@
 -- What a script comes to over its disk.
-use Rattle.std.proofs.Common.{◌≡◌, ◌∙◌, ◌⊎◌, inr, refl, sym, subst, ap, ℕ, ◌≤◌, Bool, true, false, List, Option, Some, None, is_some, arith}
-use Rattle.outside.specs.Disk.{History, IsSettled}
+use Rattle.std.proofs.Common.{◌≡◌, ◌∙◌, ◌⊎◌, inr, refl, sym, subst, ap, ℕ, ◌+◌, ◌≤◌, Bool, true, false, List, Option, Some, None, is_some, arith}
+use Rattle.outside.specs.Disk.{IsSettled}
+use Rattle.outside.specs.Disk as disks
 use Rattle.outside.specs.Faults.{Rose}
 use Rattle.outside.specs.Flow.{Flow}
 use Rattle.journal_core.specs.Moments.{LeavesOnly}
 use Rattle.recovery.specs.StandsFor.{StandsFor}
 use Rattle.command_types.specs.declared.ask.Entry.{Entry}
-use Rattle.command_types.specs.declared.figures.Base.{Base}
+use Rattle.command_types.specs.declared.figures.Start.{Start}
 use Rattle.command_types.specs.declared.figures.Figures.{Figures}
 use Rattle.command_types.specs.declared.figures.JournalFigures.{JournalFigures}
-use Rattle.command_types.specs.History.{end_of}
-use Rattle.command_types.specs.Machine.{empty_state}
+use Rattle.command_types.specs.declared.figures.State.{State}
+use Rattle.command_types.specs.History.{History, end_of}
 use Rattle.command_types.specs.Roster.{Rows, IsRoster}
+use Rattle.cycle_laws.specs.Histories.{IsMarketBase}
+use Rattle.cycle_laws.proofs.Market.{empty_begins_markets}
 use Rattle.house.specs.House.{HouseView, figures_of, is_stopped, bytes_of, Keeps}
 use Rattle.house.specs.Opening.{IsOpened, FindsFault, StandsForNone}
 use Rattle.house.specs.declared.fault.OpenFault.{OpenFault}
 use Rattle.house.specs.declared.fault.OpenFault.TheVariants as opens
-use Rattle.house.specs.Storing.{ContentStandsFor, AreOnDisk, LeavesEntries, StandsForFront, StandsForKept, moment_of}
+use Rattle.house.specs.Storing.{ContentStandsFor, AreOnDisk, LeavesHistory, LeavesKept, StandsForFront, StandsForKept, NeverGoBack, moment_of}
 use Rattle.house.proofs.JournalFacts.{stored_stand}
 use Rattle.house.proofs.OpeningFacts.{still_standing}
 use Rattle.session.specs.declared.serve.SessionEnd.{SessionEnd}
 use Rattle.session.specs.declared.serve.SessionEnd.TheVariants.{Ended, SourceFault, SinkFault, Limit, Memory}
-use Rattle.compress_server.specs.declared.ending.End.TheVariants as script
 use Rattle.compress_server.specs.Housed.{DiskState, disk_of, AtAnyMoment, IsHoused, IsUnopened, IsDamaged}
 use Rattle.compress_server.specs.Script.{ScriptEnds, script_end}
 use Rattle.compress_server.specs.Ending.{JournalRuns}
@@ -29,37 +31,37 @@ use Rattle.compress_server.proofs.EndFacts.{rose_later}
 use Rattle.compress_server.proofs.CycleFacts.{keeps_laws}
 
 -- a disk on which nothing was written
-pub unopened_still : (rows : Rows) (o now : Option History) (n m : ℕ) → now ≡ o → IsSettled o → IsUnopened rows (disk_of o n) (disk_of now m)
+pub unopened_still : (rows : Rows) (o now : Option disks.History) (n m : ℕ) → now ≡ o → IsSettled o → IsUnopened rows (disk_of o n) (disk_of now m)
 unopened_still rows o now n m same settled = record {
-  any_moment = λ entries stands. still_standing o now entries same settled stands;
+  any_moment = λ h stands. still_standing o now h same settled stands;
   untouched = λ none. same;
 }
 
 -- ---- what a house keeps, of its disk
 
-content_stands : (since opening : ℕ) (o : Option History) (size : ℕ) (entries : List Entry) (kept : Option Entry) → AreOnDisk since opening o size entries kept → kept ≡ None → ContentStandsFor o entries
-content_stands since opening None size entries kept on none = tt
-content_stands since opening (Some h) size entries kept on none = stored_stand h size entries (on.stored none)
+content_stands : (since opening : ℕ) (o : Option disks.History) (size : ℕ) (h : History) (kept : Option Entry) → AreOnDisk since opening o size h kept → kept ≡ None → ContentStandsFor o h
+content_stands since opening None size h kept on none = tt
+content_stands since opening (Some disk) size h kept on none = stored_stand disk size h (on.stored none)
 
-moments_left : (o : Option History) (opening : ℕ) (now : Option History) (size : ℕ) (entries : List Entry) (kept : Option Entry) → is_some now ≡ is_some o → AreOnDisk (moment_of o) opening now size entries kept
-    → AtAnyMoment o now (λ image. StandsForFront opening entries image ⊎ StandsForKept entries kept image)
-moments_left None opening None size entries kept tells on = refl
-moments_left None opening (Some k) size entries kept tells on = absurd cc
-moments_left (Some h) opening None size entries kept tells on = absurd cc
-moments_left (Some h) opening (Some k) size entries kept tells on = (on.later, on.each)
+moments_left : (o : Option disks.History) (opening : ℕ) (now : Option disks.History) (size : ℕ) (h : History) (kept : Option Entry) → is_some now ≡ is_some o → AreOnDisk (moment_of o) opening now size h kept
+    → AtAnyMoment o now (λ image. StandsForFront opening h image ⊎ StandsForKept h kept image)
+moments_left None opening None size h kept tells on = refl
+moments_left None opening (Some later) size h kept tells on = absurd cc
+moments_left (Some disk) opening None size h kept tells on = absurd cc
+moments_left (Some disk) opening (Some later) size h kept tells on = (on.later, on.each)
 
 abbrev journal_in : JournalFigures → Option JournalFigures → JournalFigures
 journal_in other None = other
 journal_in other (Some journal) = journal
 
 -- A house was opened with these rows on a disk, and came back with the same figures.
-module _ (rows : Rows) (o now : Option History) (before count : ℕ) (roster : IsRoster rows) (v w : HouseView) (is : IsOpened rows o before v)
+module _ (rows : Rows) (o now : Option disks.History) (before count : ℕ) (roster : IsRoster rows) (v w : HouseView) (is : IsOpened rows o before v)
     (first : Keeps v) (last : Keeps w) (figures : figures_of w ≡ figures_of v) (disk : now ≡ w.disk) (faults : count ≡ w.faults) where
   same_journal : w.journal ≡ v.journal
   same_journal = ap (λ (f : Figures). journal_in w.journal f.journal) figures
 
   same_opening : w.opening ≡ v.opening
-  same_opening = ap (λ (f : Figures). f.opening) figures
+  same_opening = omega (arith, ap (λ (f : Figures). f.opening) figures, ap (λ (f : Figures). f.base.position) figures)
 
   since : w.journal.first_moment ≡ moment_of o
   since = ap (λ (j : JournalFigures). j.first_moment) same_journal ∙ is.first_moment
@@ -67,15 +69,21 @@ module _ (rows : Rows) (o now : Option History) (before count : ℕ) (roster : I
   tells_now : is_some w.disk ≡ is_some o
   tells_now = last.tells ∙ ap (λ (j : JournalFigures). j.tells) same_journal ∙ is.tells
 
-  on_disk : AreOnDisk (moment_of o) v.opening w.disk (bytes_of w) w.history.entries w.kept
-  on_disk = subst (λ n. AreOnDisk (moment_of o) n w.disk (bytes_of w) w.history.entries w.kept) same_opening
-      (subst (λ n. AreOnDisk n w.opening w.disk (bytes_of w) w.history.entries w.kept) since last.on_disk)
+  on_disk : AreOnDisk (moment_of o) v.opening w.disk (bytes_of w) w.history w.kept
+  on_disk = subst (λ n. AreOnDisk (moment_of o) n w.disk (bytes_of w) w.history w.kept) same_opening
+      (subst (λ n. AreOnDisk n w.opening w.disk (bytes_of w) w.history w.kept) since last.on_disk)
 
-  left_at_any_moment : AtAnyMoment o w.disk (λ image. StandsForFront v.opening w.history.entries image ⊎ StandsForKept w.history.entries w.kept image)
-  left_at_any_moment = moments_left o v.opening w.disk (bytes_of w) w.history.entries w.kept tells_now on_disk
+  left_at_any_moment : AtAnyMoment o w.disk (λ image. StandsForFront v.opening w.history image ⊎ StandsForKept w.history w.kept image)
+  left_at_any_moment = moments_left o v.opening w.disk (bytes_of w) w.history w.kept tells_now on_disk
 
-  same_base : w.history.base.state ≡ empty_state rows
-  same_base = ap (λ (f : Figures). f.base.state) figures ∙ ap (λ (b : Base). b.state) is.base
+  goes_on : NeverGoBack (moment_of o) v.opening w.disk w.history w.kept
+  goes_on = subst (λ n. NeverGoBack (moment_of o) n w.disk w.history w.kept) same_opening
+      (subst (λ n. NeverGoBack n w.opening w.disk w.history w.kept) since last.never_back)
+
+  market_base : IsMarketBase rows w.history.base.state
+  market_base =
+      subst (λ (s : State). IsMarketBase rows s) (sym (ap (λ (f : Figures). f.base.state) figures ∙ ap (λ (b : Start). b.state) is.base))
+      (empty_begins_markets rows roster.few_members roster.few_products)
 
   faults_rose : is_stopped w ≡ true → Rose before count
   faults_rose stopped =
@@ -89,27 +97,30 @@ module _ (rows : Rows) (o now : Option History) (before count : ℕ) (roster : I
     figures = figures;
     legal_first = first.legal;
     legal = last.legal;
-    stands = λ none. subst (λ (d : Option History). ContentStandsFor d w.history.entries) (sym disk) (content_stands w.journal.first_moment w.opening w.disk (bytes_of w) w.history.entries w.kept last.on_disk none);
-    leaves = λ none. subst (λ (d : Option History). LeavesEntries d w.history.entries) (sym disk) (last.leaves none);
-    any_moment = subst (λ (d : Option History). AtAnyMoment o d (λ image. StandsForFront v.opening w.history.entries image ⊎ StandsForKept w.history.entries w.kept image)) (sym disk) left_at_any_moment;
+    stands = λ none. subst (λ (d : Option disks.History). ContentStandsFor d w.history) (sym disk) (content_stands w.journal.first_moment w.opening w.disk (bytes_of w) w.history w.kept last.on_disk none);
+    leaves = λ none. subst (λ (d : Option disks.History). LeavesHistory d w.history) (sym disk) (last.leaves none);
+    kept_legal = last.kept_legal;
+    leaves_kept = subst (λ (d : Option disks.History). LeavesKept d w.history w.kept) (sym disk) last.leaves_kept;
+    never_back = subst (λ (d : Option disks.History). NeverGoBack (moment_of o) v.opening d w.history w.kept) (sym disk) goes_on;
+    any_moment = subst (λ (d : Option disks.History). AtAnyMoment o d (λ image. StandsForFront v.opening w.history image ⊎ StandsForKept w.history w.kept image)) (sym disk) left_at_any_moment;
     stopped = faults_rose;
-    cycles = keeps_laws rows w.history roster same_base last.legal;
+    cycles = keeps_laws rows w.history market_base last.legal;
   }
 
 -- A house was asked for with a copy of the rows, on the disk once it was attached, which changes nothing.
-module _ (rows copy : Rows) (o mid : Option History) (before after : ℕ) (copied : copy ≡ rows) (same : mid ≡ o) (never_fell : before ≤ after) where
+module _ (rows copy : Rows) (o mid : Option disks.History) (before after : ℕ) (copied : copy ≡ rows) (same : mid ≡ o) (never_fell : before ≤ after) where
   -- none was opened
-  pub unopened_later : (now : Option History) (n m : ℕ) → ((entries : List Entry) → ContentStandsFor mid entries → LeavesOnly mid now (λ image. StandsFor image entries))
+  pub unopened_later : (now : Option disks.History) (n m : ℕ) → ((h : History) → ContentStandsFor mid h → LeavesOnly mid now (λ image. StandsFor image h))
       → (StandsForNone copy mid → now ≡ mid) → IsUnopened rows (disk_of o n) (disk_of now m)
   unopened_later now n m any untouched = record {
-    any_moment = λ entries stands. subst (λ (d : Option History). LeavesOnly d now (λ image. StandsFor image entries)) same (any entries (subst (λ (d : Option History). ContentStandsFor d entries) (sym same) stands));
-    untouched = λ none. untouched (subst (λ (d : Option History). StandsForNone copy d) (sym same) (subst (λ (r : Rows). StandsForNone r o) (sym copied) none)) ∙ same;
+    any_moment = λ h stands. subst (λ (d : Option disks.History). LeavesOnly d now (λ image. StandsFor image h)) same (any h (subst (λ (d : Option disks.History). ContentStandsFor d h) (sym same) stands));
+    untouched = λ none. untouched (subst (λ (d : Option disks.History). StandsForNone copy d) (sym same) (subst (λ (r : Rows). StandsForNone r o) (sym copied) none)) ∙ same;
   }
 
   -- it is damaged
-  pub damaged_later : (now : Option History) (n m : ℕ) (fault : OpenFault) (place : ℕ) → fault ≡ opens.Damaged place → FindsFault copy mid fault → IsUnopened rows (disk_of o n) (disk_of now m) → now ≡ mid → IsDamaged rows (disk_of o n) (disk_of now m) place
+  pub damaged_later : (now : Option disks.History) (n m : ℕ) (fault : OpenFault) (place : ℕ) → fault ≡ opens.Damaged place → FindsFault copy mid fault → IsUnopened rows (disk_of o n) (disk_of now m) → now ≡ mid → IsDamaged rows (disk_of o n) (disk_of now m) place
   damaged_later now n m fault place is found unopened stays = record {
-    found = subst (λ (r : Rows). FindsFault r o (opens.Damaged place)) copied (subst (λ (d : Option History). FindsFault copy d (opens.Damaged place)) same (subst (λ (f : OpenFault). FindsFault copy mid f) is found));
+    found = subst (λ (r : Rows). FindsFault r o (opens.Damaged place)) copied (subst (λ (d : Option disks.History). FindsFault copy d (opens.Damaged place)) same (subst (λ (f : OpenFault). FindsFault copy mid f) is found));
     unopened = unopened;
     same = stays ∙ same;
   }
@@ -119,24 +130,22 @@ module _ (rows copy : Rows) (o mid : Option History) (before after : ℕ) (copie
   opened_later v is = record {
     base = (subst (λ (r : Rows). IsOpened r mid after v) copied is).base;
     opening = is.opening;
-    stands = subst (λ (d : Option History). ContentStandsFor d v.history.entries) same is.stands;
+    stands = subst (λ (d : Option disks.History). ContentStandsFor d v.history) same is.stands;
     running = is.running;
     size = is.size;
-    tells = is.tells ∙ ap (λ (d : Option History). is_some d) same;
-    first_moment = is.first_moment ∙ ap (λ (d : Option History). moment_of d) same;
+    tells = is.tells ∙ ap (λ (d : Option disks.History). is_some d) same;
+    first_moment = is.first_moment ∙ ap (λ (d : Option disks.History). moment_of d) same;
     moment = is.moment;
     counted = (omega (arith, never_fell, is.counted.0), is.counted.1);
   }
 
 -- A house that was just opened: its history ends where it was opened, it has the rows, and it runs.
-module _ (rows : Rows) (o : Option History) (count : ℕ) (v : HouseView) (is : IsOpened rows o count v) where
-  pub at_opening : end_of v.history ≡ v.opening
-  at_opening =
-      let start : v.history.base.position ≡ 0 = ap (λ (b : Base). b.position) is.base in
-      omega (arith, start, is.opening)
+module _ (rows : Rows) (o : Option disks.History) (count : ℕ) (v : HouseView) (is : IsOpened rows o count v) where
+  pub at_opening : end_of v.history ≡ (figures_of v).opening
+  at_opening = ap (λ n. v.history.base.position + n) (sym is.opening)
 
   pub has_rows : v.history.base.state.roster ≡ rows
-  has_rows = ap (λ (b : Base). b.state.roster) is.base
+  has_rows = ap (λ (b : Start). b.state.roster) is.base
 
   pub runs_yet : is_stopped v ≡ false
   runs_yet = ap (λ (k : Option Entry). is_some k) is.running

@@ -9,7 +9,6 @@ pub mod PlaceFacts
 pub mod ServiceFacts
 pub mod StatusFacts
 pub mod CompleteFacts
-pub mod PlanFacts
 pub mod StatementFacts
 pub mod ReplayFacts
 pub mod AnsweredFacts

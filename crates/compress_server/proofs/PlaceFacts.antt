@@ -1,12 +1,13 @@
 -- Places whose doors go back to their listener one after another.
-use Rattle.std.proofs.Common.{◌≡◌, ◌∙◌, ◌⊎◌, inl, inr, refl, sym, subst, ap, ℕ, ◌+◌, ◌<◌, ◌≤◌, Bool, true, false, List, [], ◌∷◌, length, map, Option, Some, None, arith}
-use Rattle.std.specs.Prelude.{nat_lt, ◌||◌}
+use Rattle.std.proofs.Common.{◌≡◌, ◌∙◌, ◌⊎◌, inl, inr, refl, sym, subst, ap, ℕ, suc, ◌+◌, ◌<◌, ◌≤◌, Bool, true, false, List, [], ◌∷◌, length, map, Option, Some, None, arith}
+use Rattle.std.specs.Prelude.{nat_lt, slice_index_or, ◌++◌, ◌||◌}
 use Rattle.std.specs.List.{list_any}
 use Rattle.std.proofs.lemmas.Bool.{ltb-true, ltb-false}
 use Rattle.outside.specs.Faults.{Rose}
-use Rattle.doors.specs.Visits.{Visits, Doors, IsLent, Lends, TakesBack}
+use Rattle.doors.specs.Visits.{Visits, Doors, Binds, IsLent, Lends, TakesBack}
 use Rattle.seats.specs.declared.place.Place.{Place}
-use Rattle.compress_server.specs.Serve.{LendsMany, AreLent, TakesBackAll}
+use Rattle.compress_server.specs.Runs.{ArePlanned, runs_of}
+use Rattle.compress_server.specs.Serve.{SeatRun, LendsMany, AreLent, IsPlannedAt, HasGiven, HasGivenAt, HasGivenSince, HaveGiven, TakesBackAll}
 
 -- a count that rose has risen later too
 pub rose_stays : (before mid after : ℕ) → before ≤ mid → mid ≤ after → Rose before mid → Rose before after
@@ -86,14 +87,62 @@ module _ {D In Out : Type 0} (visits : D → Option Visits) (faults : D → ℕ)
       rose_of (inr rose) = rose
   all_counted before now was is all (x ∷ rest) f none any = absurd (omega (arith, none))
 
--- one more door was handed out
-pub lends_more : (n : ℕ) (before mid after : Option Doors) → LendsMany n before mid → Lends mid after → LendsMany (n + 1) before after
-lends_more n None mid after many one = none_of mid many one
+one_behind : (d : Doors) (n : ℕ) → ◌≡◌ {A = ℕ → List (List ℕ)} (λ k. d.planned ((k + 1) + n)) (λ k. d.planned (k + (n + 1)))
+one_behind d n = λ i k. ap d.planned (further k) i
   where
-    none_of : (mid : Option Doors) → mid ≡ None → Lends mid after → after ≡ None
+    further : (k : ℕ) → (k + 1) + n ≡ k + (n + 1)
+    further k = omega arith
+
+-- one more door was handed out
+pub lends_more : (n : ℕ) (before mid after : Option Doors) (door : Option Visits) → LendsMany n before mid → Lends mid after door → LendsMany (n + 1) before after
+lends_more n None mid after door many one = none_of mid many one
+  where
+    none_of : (mid : Option Doors) → mid ≡ None → Lends mid after door → after ≡ None
     none_of None e one = one
     none_of (Some d) e one = absurd cc
-lends_more n (Some d) mid after many one = subst (λ (m : Option Doors). Lends m after → LendsMany (n + 1) (Some d) after) (sym many) (λ lends. lends ∙ ap (λ k. Some (record { lent = k; back = d.back })) (omega arith)) one
+lends_more n (Some d) mid after door many one =
+    subst (λ (m : Option Doors). Lends m after door → LendsMany (n + 1) (Some d) after) (sym many)
+    (λ lends. lends.0 ∙ (λ i. Some (record d { planned = one_behind d n i; lent = more i }))) one
+  where
+    more : (d.lent + n) + 1 ≡ d.lent + (n + 1)
+    more = omega arith
+
+-- it has what was to come to it
+pub lends_planned : (n : ℕ) (before mid after : Option Doors) (door : Option Visits) → LendsMany n before mid → Lends mid after door → IsPlannedAt before (0 + n) door
+lends_planned n None mid after door many one = tt
+lends_planned n (Some d) mid after door many one = subst (λ (m : Option Doors). Lends m after door → IsPlannedAt (Some d) (0 + n) door) (sym many) (λ lends. lends.1) one
+
+-- a door gave of what was to come to it, where it gave of what was to come to it as it was
+given_here : (doors : Option Doors) (k : ℕ) (old new : Option Visits) → IsPlannedAt doors k old → HasGivenSince old new → HasGivenAt doors k new
+given_here None k old new is since = tt
+given_here (Some d) k None new is since = subst (λ (v : Option Visits). HasGiven (d.planned k) v) (sym since) tt
+given_here (Some d) k (Some v) new is since = subst (λ (inputs : List (List ℕ)). HasGiven inputs new) is since
+
+module _ {D In Out : Type 0} (visits : D → Option Visits) (doors : Option Doors) where
+  -- one more place whose door has what was to come to it
+  pub planned_more : (k : ℕ) (places : List (Place D In Out)) (place : Place D In Out) → ArePlanned visits doors k places → IsPlannedAt doors (k + length places) (visits place.door) → ArePlanned visits doors k (places ++ place ∷ [])
+  planned_more k [] place are is = (subst (λ n. IsPlannedAt doors n (visits place.door)) (omega arith) is, tt)
+  planned_more k (first ∷ places) place are is = (are.0, planned_more (k + 1) places place are.1 (subst (λ n. IsPlannedAt doors n (visits place.door)) (omega arith) is))
+
+  -- each seat's door gave of what was to come to it
+  pub have_given : (k : ℕ) (old new : List (Place D In Out)) → length new ≡ length old → ArePlanned visits doors k old →
+      ((j : ℕ) (other : Place D In Out) → j < length old → HasGivenSince (visits (slice_index_or old j other).door) (visits (slice_index_or new j other).door)) → HaveGiven visits doors k (runs_of new)
+  have_given k old [] same are each = tt
+  have_given k [] (n ∷ new) same are each = absurd (omega (arith, same))
+  have_given k (o ∷ old) (n ∷ new) same are each = (
+    given_here doors k (visits o.door) (visits n.door) are.0 (each 0 o (omega arith)),
+    have_given (k + 1) old new (omega (arith, same)) are.1 (λ j other lt. each (suc j) other (omega (arith, lt))),
+  )
+
+module _ {D : Type 0} (visits : D → Option Visits) (doors : Option Doors) where
+  -- what was to come to a listener's doors is so whatever address it listens at
+  pub bound_given : (address : List ℕ) (bound : Option Doors) → Binds address doors bound → (k : ℕ) (seats : List (SeatRun D)) → HaveGiven visits bound k seats → HaveGiven visits doors k seats
+  bound_given address bound binds k [] have = tt
+  bound_given address bound binds k (seat ∷ seats) have = (at_here doors bound binds have.0, bound_given address bound binds (k + 1) seats have.1)
+    where
+      at_here : (doors bound : Option Doors) → Binds address doors bound → HasGivenAt bound k (visits seat.door) → HasGivenAt doors k (visits seat.door)
+      at_here None bound binds given = tt
+      at_here (Some d) bound binds given = subst (λ (b : Option Doors). HasGivenAt b k (visits seat.door) → HasGivenAt (Some d) k (visits seat.door)) (sym binds) (λ g. g) given
 
 -- as many are lent as were handed out
 pub lent_of : (n : ℕ) (before after : Option Doors) → LendsMany n before after → AreLent n after

@@ -11,17 +11,20 @@ use Rattle.command_types.specs.declared.answer.Reply.{Reply}
 use Rattle.command_types.specs.declared.ask.Entry.{Entry}
 use Rattle.command_types.specs.declared.ask.What.{What}
 use Rattle.command_types.specs.declared.ask.What.TheVariants.{Post}
+use Rattle.command_types.specs.declared.figures.Start.{Start}
 use Rattle.command_types.specs.declared.figures.State.{State}
 use Rattle.command_types.specs.declared.plan.PlanRow.{PlanRow}
 use Rattle.command_types.specs.declared.trade.TradeRow.{TradeRow}
 use Rattle.command_types.specs.Roster.{Rows}
 use Rattle.command_types.specs.Books.{listed_below}
 use Rattle.command_types.specs.CycleSteps.{rows_of_member}
-use Rattle.command_types.specs.History.{History, IsLegal, IsLegalFrom, end_of, replayed_from}
+use Rattle.command_types.specs.History.{History, IsLegal, IsLegalFrom, end_of, replayed, replayed_from}
 use Rattle.command_types.specs.Machine.{answer_to, empty_state}
 use Rattle.command_types.specs.Plans.{thawed, thawed_row}
 use Rattle.command_types.specs.Details.{lines_text, trade_line}
-use Rattle.cycle_states.specs.PlainDesk.{history_of, IsReplayed}
+use Rattle.cycle_states.specs.Replayed.{IsReplayed}
+use Rattle.recovery.specs.StandsFor.{first_start}
+use Rattle.cycle_states.proofs.DeskFacts.{roster_replayed}
 use Rattle.trade_history.specs.Book.{IsClosedBase, Book, book_from, own_rows, execution_row, executions_from}
 use Rattle.trade_history.specs.Laws.{is_execution, execution_answer, TellsExecution, ExecutesAfter}
 use Rattle.trade_history.specs.Search.{Execution, execution_at}
@@ -40,7 +43,7 @@ use Rattle.compress_server.specs.Told.{rows_told, reply_told, end_text, told_tex
 use Rattle.compress_server.specs.Replay.{rows_text, execution_line, replay_text, IsKept, JournalReplays}
 use Rattle.compress_server.specs.Housed.{disk_of}
 use Rattle.compress_server.specs.declared.ending.End.TheVariants.{Done, Damaged, SinkFault}
-use Rattle.compress_server.proofs.PlanFacts.{posted_empty}
+use Rattle.trade_history.proofs.PlanFacts.{posted_empty}
 
 -- ---- lines
 
@@ -77,7 +80,7 @@ none_told : (position : ℕ) (answer : Answer) (b : Bool) → is_execution answe
 none_told position answer true is e = cc
 none_told position answer false is e = refl
 
-module _ (h : History) (closed : IsClosedBase h.base.state) (legal : IsLegal h) (start : h.base.position ≡ 0) where
+module _ (h : History) (closed : IsClosedBase h.base.state) (legal : IsLegal h) where
   abbrev s : State
   s = h.base.state
 
@@ -118,15 +121,13 @@ module _ (h : History) (closed : IsClosedBase h.base.state) (legal : IsLegal h) 
 
   -- the replies that told an execution have the lines of the executions
   abbrev AreTold : List Entry → Type 0
-  AreTold front = lines_text reply_told (executions_told s 0 front) ≡ lines_text execution_line (executions_from h.base front)
+  AreTold front = lines_text reply_told (executions_told s h.base.position front) ≡ lines_text execution_line (executions_from h.base front)
 
   one_more : (front : List Entry) (entry : Entry) (back : List Entry) → h.entries ≡ front ++ entry ∷ back → AreTold front → AreTold (front ++ entry ∷ [])
   one_more front entry back split told =
-      let place : 0 + length front + 1 ≡ h.base.position + length front + 1 = omega (arith, start) in
       let line = lines_text reply_told (told_by (h.base.position + length front + 1) (answer_to (replayed_from s front) entry.ask)) in
-      ap (lines_text reply_told) (executions_told-push s 0 front entry)
-      ∙ lines-append reply_told (executions_told s 0 front) (told_by (0 + length front + 1) (answer_to (replayed_from s front) entry.ask))
-      ∙ ap (λ k. lines_text reply_told (executions_told s 0 front) ++ lines_text reply_told (told_by k (answer_to (replayed_from s front) entry.ask))) place
+      ap (lines_text reply_told) (executions_told-push s h.base.position front entry)
+      ∙ lines-append reply_told (executions_told s h.base.position front) (told_by (h.base.position + length front + 1) (answer_to (replayed_from s front) entry.ask))
       ∙ ap (λ text. text ++ line) told
       ∙ sym (one front entry back split (found_here front entry back split) refl)
 
@@ -141,13 +142,7 @@ module _ (h : History) (closed : IsClosedBase h.base.state) (legal : IsLegal h) 
 
 -- ---- the whole text
 
-module _ (rows : Rows) (entries : List Entry) (legal : IsLegalFrom (empty_state rows) entries) (now : State) (is : now ≡ replayed_from (empty_state rows) entries) (roster : now.roster ≡ rows) where
-  abbrev h : History
-  h = history_of (empty_state rows) entries
-
-  closed_base : IsClosedBase (empty_state rows)
-  closed_base = record { phase = refl; free = refl; numbered = tt }
-
+module _ (rows : Rows) (h : History) (closed_base : IsClosedBase h.base.state) (legal : IsLegal h) (now : State) (is : now ≡ replayed h) (roster : now.roster ≡ rows) where
   abbrev lines_of : Rows → ℕ → List TradeRow → List ℕ
   lines_of roster member own = member_text roster member (length own) ++ lines_text (trade_line roster) own
 
@@ -159,37 +154,36 @@ module _ (rows : Rows) (entries : List Entry) (legal : IsLegalFrom (empty_state 
       ∙ sym (λ i. member_text rows member (length-map own thawed_row i) ++ lines-thawed rows own i)
       ∙ ap (lines_of rows member) same
 
-  pub text_told : (executions : List Reply) → executions ≡ executions_told (empty_state rows) 0 entries → told_text now (length entries) executions ≡ replay_text rows h
+  pub text_told : (executions : List Reply) → executions ≡ executions_told h.base.state h.base.position h.entries → told_text now (end_of h) executions ≡ replay_text rows h
   text_told executions told =
       let members : length now.roster.members ≡ length rows.members = ap (λ (r : Rows). length r.members) roster in
-      let lines : lines_text reply_told executions ≡ lines_text execution_line (executions_from h.base h.entries) = ap (lines_text reply_told) told ∙ executions_are_told h closed_base legal refl in
-      let ends : length entries ≡ end_of h = omega arith in
-      (λ i. listed_below (members i) (λ member. own_told member i) ++ (lines i ++ end_text (ends i)))
+      let lines : lines_text reply_told executions ≡ lines_text execution_line (executions_from h.base h.entries) = ap (lines_text reply_told) told ∙ executions_are_told h closed_base legal in
+      (λ i. listed_below (members i) (λ member. own_told member i) ++ (lines i ++ end_text (end_of h)))
 
 -- what was read of a disk, for these rows, is what it keeps
-pub replay_told : (rows : Rows) (o : Option disks.History) (read : Recovered) → ContentStandsFor o read.past → IsReplayed read.machine.state read.past → read.machine.state.roster ≡ rows
-    → told_of read.executions ≡ option_map (λ replies. replies ++ executions_told (empty_state rows) 0 read.past) (Some [])
+pub replay_told : (rows : Rows) (o : Option disks.History) (read : Recovered) → ContentStandsFor o read.past → IsReplayed read.machine.state read.past → read.past.base ≡ first_start rows
+    → told_of read.executions ≡ option_map (λ replies. replies ++ executions_told (empty_state rows) 0 read.past.entries) (Some [])
     → (h : History) × IsKept rows o h × (recovered_text read ≡ replay_text rows h)
-replay_told rows o read stands replayed roster told =
-    let entries = read.past in
-    let begins : empty_state read.machine.state.roster ≡ empty_state rows = ap empty_state roster in
-    let legal : IsLegalFrom (empty_state rows) entries = subst (λ (t : State). IsLegalFrom t entries) begins replayed.legal in
-    let is : read.machine.state ≡ replayed_from (empty_state rows) entries = replayed.same ∙ ap (λ (t : State). replayed_from t entries) begins in
-    let executions : unwrap_or (told_of read.executions) [] ≡ executions_told (empty_state rows) 0 entries = ap (λ o. unwrap_or o []) told in
-    (history_of (empty_state rows) entries, record { base = refl; legal = legal; stands = stands }, text_told rows entries legal read.machine.state is roster (unwrap_or (told_of read.executions) []) executions)
+replay_told rows o read stands replayed base told =
+    let h = read.past in
+    let closed : IsClosedBase h.base.state = subst (λ (b : Start). IsClosedBase b.state) (sym base) (record { phase = refl; free = refl; numbered = tt }) in
+    let roster : read.machine.state.roster ≡ rows = roster_replayed read.machine.state h replayed ∙ ap (λ (b : Start). b.state.roster) base in
+    let executions : unwrap_or (told_of read.executions) [] ≡ executions_told h.base.state h.base.position h.entries =
+    ap (λ o. unwrap_or o []) told ∙ ap (λ (b : Start). executions_told b.state b.position h.entries) (sym base) in
+    (h, record { base = base; legal = replayed.legal; stands = stands }, text_told rows h closed replayed.legal read.machine.state replayed.same roster (unwrap_or (told_of read.executions) []) executions)
 
 -- ---- how a replay ends, over a disk that was attached, which changes nothing
 module _ (rows : Rows) (o mid now : Option disks.History) (before after : ℕ) (same : mid ≡ o) (stays : now ≡ mid) (begun taken : Option (List ℕ)) where
-  module _ (read : Recovered) (text : List ℕ) (stands : ContentStandsFor mid read.past) (replayed : IsReplayed read.machine.state read.past) (roster : read.machine.state.roster ≡ rows)
-      (told : told_of read.executions ≡ option_map (λ replies. replies ++ executions_told (empty_state rows) 0 read.past) (Some [])) (is : text ≡ recovered_text read) where
+  module _ (read : Recovered) (text : List ℕ) (stands : ContentStandsFor mid read.past) (replayed : IsReplayed read.machine.state read.past) (base : read.past.base ≡ first_start rows)
+      (told : told_of read.executions ≡ option_map (λ replies. replies ++ executions_told (empty_state rows) 0 read.past.entries) (Some [])) (is : text ≡ recovered_text read) where
     pub replays : Takes begun taken text → JournalReplays rows (disk_of o before) (disk_of now after) begun taken Done
     replays takes =
-        let k = replay_told rows o read (subst (λ (d : Option disks.History). ContentStandsFor d read.past) same stands) replayed roster told in
+        let k = replay_told rows o read (subst (λ (d : Option disks.History). ContentStandsFor d read.past) same stands) replayed base told in
         (stays ∙ same, (k.0, k.1, subst (λ t. Takes begun taken t) (is ∙ k.2) takes))
 
     pub replays_front : TakesFront begun taken text → JournalReplays rows (disk_of o before) (disk_of now after) begun taken SinkFault
     replays_front takes =
-        let k = replay_told rows o read (subst (λ (d : Option disks.History). ContentStandsFor d read.past) same stands) replayed roster told in
+        let k = replay_told rows o read (subst (λ (d : Option disks.History). ContentStandsFor d read.past) same stands) replayed base told in
         (stays ∙ same, (k.0, k.1, subst (λ t. TakesFront begun taken t) (is ∙ k.2) takes))
 
   pub replay_damaged : (fault : OpenFault) (place : ℕ) → fault ≡ opens.Damaged place → FindsFault rows mid fault → taken ≡ begun → JournalReplays rows (disk_of o before) (disk_of now after) begun taken (Damaged place)

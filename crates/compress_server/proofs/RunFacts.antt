@@ -148,7 +148,7 @@ seat_stays start opened flow begun taken now Limit (bytes, gives, size, (r, open
 seat_stays start opened flow begun taken now Memory (same, none_taken, there) = ap (λ (s : Sight). s.seat) there
 
 -- what a lock tells of the house that it gives back
-pub closed_on : (v w : HouseView) (pass : Pass) → end_of v.history ≡ v.opening → passes.seat_of pass ≡ 0 → passes.figures_of pass ≡ figures_of v → figures_of w ≡ passes.figures_of pass → passes.Continues w.history (passes.seen pass)
+pub closed_on : (v w : HouseView) (pass : Pass) → end_of v.history ≡ (figures_of v).opening → passes.seat_of pass ≡ 0 → passes.figures_of pass ≡ figures_of v → figures_of w ≡ passes.figures_of pass → passes.Continues w.history (passes.seen pass)
     → passes.StandsFor pass (passes.seat_of pass)
     → ((n : ℕ) → passes.StandsFor pass n → entries_of_seat w.history n (figures_of w).opening ≡ passes.made_by n pass)
     → ((n : ℕ) → 2 ^ 32 ≤ n + passes.may_split pass → entries_of_seat w.history n (figures_of w).opening ≡ [])

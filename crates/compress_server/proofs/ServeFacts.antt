@@ -1,5 +1,5 @@
 -- What a service says of its seats, and of the line that it writes.
-use Rattle.std.proofs.Common.{◌≡◌, ◌∙◌, refl, sym, subst, ap, ℕ, suc, ◌+◌, ◌<◌, ◌≤◌, Bool, true, false, List, [], ◌∷◌, ◌++◌, length, slice_index_or, Option, Some, None, arith}
+use Rattle.std.proofs.Common.{◌≡◌, ◌∙◌, refl, sym, subst, ap, ℕ, suc, ◌+◌, ◌<◌, ◌≤◌, Bool, true, false, List, [], ◌∷◌, ◌++◌, length, map, slice_index_or, Option, Some, None, arith}
 use Rattle.std.specs.Prelude.{codes, decimal, OnOk, OnErr, Result, Ok, Err}
 use Rattle.std.specs.Result.{is_ok, is_err}
 use Rattle.outside.specs.Faults.{Rose}
@@ -13,8 +13,9 @@ use Rattle.session.specs.Serving.{Sight, of_pass}
 use Rattle.session.proofs.PendingFacts.{says_then_flushed, says_whole, front_waiting, front_more}
 use Rattle.seats.specs.declared.place.Place.{Place}
 use Rattle.seats.specs.declared.seat.SeatEnd.{SeatEnd}
-use Rattle.seats.specs.Final.{AreServed, HasServed, seated}
-use Rattle.compress_server.specs.Serve.{seat_at, final_of, IsSeatAt, AreSeats, history_line, IsWritten}
+use Rattle.seats.specs.Final.{Final, AreServed, HasServed, seated}
+use Rattle.seats.specs.Sessions.{input_of}
+use Rattle.compress_server.specs.Serve.{seat_at, final_of, IsSeatAt, AreSeats, HasGivenSince, history_line, IsWritten}
 use Rattle.compress_server.specs.Seen.{OutputState}
 use Rattle.compress_server.specs.Runs.{runs_of}
 
@@ -53,6 +54,14 @@ module _ (most_visits : ℕ) (lock : passes.LockId) (v w : HouseView) (number : 
 
   pub seat_stands : (start : Sight) (old new : Option Visits) (end : SeatEnd) → start ≡ first_seen lock v number → IsNew old → HasServed (final_of w) start old new most_visits end → IsSeatAt most_visits lock v w number new end
   seat_stands start old new end is fresh served = stands old new end fresh (subst (λ (s : Sight). HasServed (final_of w) s old new most_visits end) is served)
+
+-- a new door that a seat worked at gave of what was to come to it
+pub given_since : (final : Final) (start : Sight) (old new : Option Visits) (most_visits : ℕ) (end : SeatEnd) → IsNew old → HasServed final start old new most_visits end → HasGivenSince old new
+given_since final start None new most_visits end fresh served = served
+given_since final start (Some o) None most_visits end fresh served = absurd served
+given_since final start (Some o) (Some n) most_visits end fresh (visits, next, served) =
+    let back : n.back ≡ visits = next.back ∙ ap (λ (vs : List Visit). vs ++ visits) fresh.1 in
+    subst (λ (vs : List Visit). o.coming ≡ map input_of vs ++ n.coming) (sym back) next.given
 
 none_more : (n : ℕ) → 0 + n ≡ n
 none_more n = omega arith

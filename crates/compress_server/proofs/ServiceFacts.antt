@@ -9,7 +9,7 @@ use Rattle.std.proofs.lemmas.List.Elements.{All-map}
 use Rattle.outside.specs.Faults.{Rose}
 use Rattle.outside.specs.declared.trouble.Trouble.{Trouble}
 use Rattle.outside.specs.declared.trouble.Trouble.TheVariants as trouble
-use Rattle.doors.specs.Visits.{Visits, Doors, IsNew}
+use Rattle.doors.specs.Visits.{Visits, Doors, Binds, IsNew}
 use Rattle.house.specs.House.{HouseView}
 use Rattle.seats.specs.declared.place.Place.{Place}
 use Rattle.seats.specs.declared.seat.SeatEnd.{SeatEnd}
@@ -18,11 +18,7 @@ use Rattle.compress_server.specs.declared.ending.End.{End}
 use Rattle.compress_server.specs.declared.ending.End.TheVariants.{ListenerFault, Memory}
 use Rattle.compress_server.specs.Seen.{OutputState, ListenerState}
 use Rattle.compress_server.specs.Runs.{run_of, runs_of}
-use Rattle.compress_server.specs.Serve.{SeatRun, LendsMany, TakesBackAll, Returned, IsUnbegun, had_door_fault, service_end, trouble_end}
-
-pub lends_none : (doors : Option Doors) → LendsMany 0 doors doors
-lends_none None = refl
-lends_none (Some d) = ap (λ n. Some (record { lent = n; back = d.back })) (omega arith)
+use Rattle.compress_server.specs.Serve.{SeatRun, LendsMany, TakesBackAll, Returned, IsUnasked, IsUnbegun, had_door_fault, service_end, trouble_end}
 
 -- a vector whose elements were all written anew has the new ones
 pub written_anew : {P : Type 0} (n : ℕ) (new old : List P) → length new ≡ n → take n (new ++ drop (length new) old) ≡ new
@@ -34,16 +30,13 @@ why_trouble trouble.Failed end rose is failed = inr (is, failed refl)
 why_trouble trouble.Memory end rose is failed = inl is
 
 -- no door was handed out
-pub unbegun_at_once : {D : Type 0} (visits : D → Option Visits) (v : HouseView) (output : OutputState) (listener listener' : ListenerState) (end : End) → listener'.doors ≡ listener.doors →
-    (end ≡ Memory) ⊎ ((end ≡ ListenerFault) × Rose listener.faults listener'.faults) → IsUnbegun visits v v output output listener listener' end
-unbegun_at_once visits v output listener listener' end same why = record {
-  same = refl;
-  none_written = refl;
-  doors = [];
-  returned = (listener.doors, lends_none listener.doors, same);
-  unserved = λ k other lt. absurd (omega (arith, lt));
-  why = why;
-}
+pub none_asked : {D : Type 0} (visits : D → Option Visits) (address : List ℕ) (before after : Option Doors) → after ≡ before → IsUnasked visits address before after
+none_asked visits address before after same = record { doors = []; returned = inl (refl, same); unserved = λ k other lt. absurd (omega (arith, lt)) }
+
+pub unbegun_at_once : {D : Type 0} (visits : D → Option Visits) (address : List ℕ) (v : HouseView) (output : OutputState) (listener listener' : ListenerState) (end : End) → listener'.doors ≡ listener.doors →
+    (end ≡ Memory) ⊎ ((end ≡ ListenerFault) × Rose listener.faults listener'.faults) → IsUnbegun visits address v v output output listener listener' end
+unbegun_at_once visits address v output listener listener' end same why =
+    record { same = refl; none_written = refl; unasked = none_asked visits address listener.doors listener'.doors same; why = why }
 
 fault_end : (end : SeatEnd) → had_door_fault end ≡ true → end ≡ seat_end.DoorFault
 fault_end seat_end.Over e = absurd cc
@@ -64,15 +57,17 @@ module _ {D In Out : Type 0} (visits : D → Option Visits) where
   door_of place = place.door
 
   -- the doors at these places were handed out, and went back
-  pub unbegun_back : (v w : HouseView) (output : OutputState) (listener listener' : ListenerState) (mid : Option Doors) (places : List (Place D In Out)) (end : End) → w ≡ v → LendsMany (length places) listener.doors mid →
+  pub unbegun_back : (address : List ℕ) (v w : HouseView) (output : OutputState) (listener listener' : ListenerState) (bound mid : Option Doors) (places : List (Place D In Out)) (end : End) → w ≡ v → Binds address listener.doors bound → LendsMany (length places) bound mid →
       TakesBackAll visits mid listener'.doors (map (λ (place : Place D In Out). place.door) places) → All (λ (place : Place D In Out). IsNew (visits place.door)) places →
-      (end ≡ Memory) ⊎ ((end ≡ ListenerFault) × Rose listener.faults listener'.faults) → IsUnbegun visits v w output output listener listener' end
-  unbegun_back v w output listener listener' mid places end same lends takes fresh why = record {
+      (end ≡ Memory) ⊎ ((end ≡ ListenerFault) × Rose listener.faults listener'.faults) → IsUnbegun visits address v w output output listener listener' end
+  unbegun_back address v w output listener listener' bound mid places end same binds lends takes fresh why = record {
     same = same;
     none_written = refl;
-    doors = map (λ (place : Place D In Out). place.door) places;
-    returned = (mid, subst (λ n. LendsMany n listener.doors mid) (sym (length-map places (λ (place : Place D In Out). place.door))) lends, takes);
-    unserved = All-map (λ (door : D). IsNew (visits door)) (λ (place : Place D In Out). place.door) places fresh;
+    unasked = record {
+      doors = map (λ (place : Place D In Out). place.door) places;
+      returned = inr (bound, mid, binds, subst (λ n. LendsMany n bound mid) (sym (length-map places (λ (place : Place D In Out). place.door))) lends, takes);
+      unserved = All-map (λ (door : D). IsNew (visits door)) (λ (place : Place D In Out). place.door) places fresh;
+    };
     why = why;
   }
 
@@ -80,11 +75,13 @@ module _ {D In Out : Type 0} (visits : D → Option Visits) where
   same_doors : (places : List (Place D In Out)) → map (λ (seat : SeatRun D). seat.door) (runs_of places) ≡ map (λ (place : Place D In Out). place.door) places
   same_doors places = map-map (λ (seat : SeatRun D). seat.door) (λ (place : Place D In Out). run_of place) places
 
-  pub seats_returned : (before mid after : Option Doors) (n : ℕ) (places : List (Place D In Out)) → length places ≡ n → LendsMany n before mid → TakesBackAll visits mid after (map (λ (place : Place D In Out). place.door) places) →
-      Returned visits before after (map (λ (seat : SeatRun D). seat.door) (runs_of places))
-  seats_returned before mid after n places many lends takes = (
+  pub seats_returned : (address : List ℕ) (before bound mid after : Option Doors) (n : ℕ) (places : List (Place D In Out)) → length places ≡ n → Binds address before bound → LendsMany n bound mid → TakesBackAll visits mid after (map (λ (place : Place D In Out). place.door) places) →
+      Returned visits address before after (map (λ (seat : SeatRun D). seat.door) (runs_of places))
+  seats_returned address before bound mid after n places many binds lends takes = (
+    bound,
     mid,
-    subst (λ k. LendsMany k before mid) (sym (ap length (same_doors places) ∙ (length-map places (λ (place : Place D In Out). place.door) ∙ many))) lends,
+    binds,
+    subst (λ k. LendsMany k bound mid) (sym (ap length (same_doors places) ∙ (length-map places (λ (place : Place D In Out). place.door) ∙ many))) lends,
     subst (λ (ds : List D). TakesBackAll visits mid after ds) (sym (same_doors places)) takes,
   )
 
@@ -101,11 +98,3 @@ module _ {D In Out : Type 0} (visits : D → Option Visits) where
       or_either (had_door_fault place.end) (list_any (λ (p : Place D In Out). had_door_fault p.end) places) (nat_lt 0 (faults place.door)) (list_any (λ (p : Place D In Out). nat_lt 0 (faults p.door)) places) any
       (λ e. lt_true (faults place.door) (each 0 place (omega arith) (fault_end place.end e)))
       (some_failed faults places (λ k other lt. each (suc k) other (omega (arith, lt))))
-
--- a service ended for a door's fault only where there was one
-pub fault_told : (no_memory door_fault stopped written : Bool) → service_end no_memory door_fault stopped written ≡ ListenerFault → door_fault ≡ true
-fault_told true door_fault stopped written e = absurd cc
-fault_told false true stopped written e = refl
-fault_told false false true written e = absurd cc
-fault_told false false false true e = absurd cc
-fault_told false false false false e = absurd cc

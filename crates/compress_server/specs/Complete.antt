@@ -19,45 +19,40 @@ IsFormFault folder (Form.Solve market workers) = IsMarketFault folder market
 IsFormFault folder (Form.Gen number workers) = λ role fault. ⊥
 IsFormFault folder (Form.Replay roster journal) = IsRosterFault folder roster
 
--- No count rose, and no file of the form has a fault.
-pub record IsUndisturbed (form : Form) (before after : World) : Type 0 where
+-- a file of the form has a fault, and those that are read before it have none
+abbrev pub HasFault : Option Folder → Form → Type 0
+HasFault folder form = (role : FileRole) × (fault : FileFault) × IsFormFault folder form role fault
+
+-- no count rose
+pub record IsUndisturbed (before after : World) : Type 0 where
   pub files_held : Rose before.files.faults after.files.faults → ⊥
   pub input_held : Rose before.input.faults after.input.faults → ⊥
   pub output_held : Rose before.seen.output.faults after.seen.output.faults → ⊥
   pub disk_held : Rose before.seen.disk.faults after.seen.disk.faults → ⊥
   pub listener_held : Rose before.seen.listener.faults after.seen.listener.faults → ⊥
-  pub right : (role : FileRole) (fault : FileFault) → IsFormFault before.files.folder form role fault → ⊥
 
 abbrev pub IsCheck : Form → Type 0
-IsCheck (Form.Script roster journal workers) = ⊥
-IsCheck (Form.Serve roster journal address seats connections workers) = ⊥
 IsCheck (Form.Check market proposal) = Unit {0}
-IsCheck (Form.Solve market workers) = ⊥
-IsCheck (Form.Gen number workers) = ⊥
-IsCheck (Form.Replay roster journal) = ⊥
+IsCheck other = ⊥
 
 abbrev pub IsScript : Form → Type 0
 IsScript (Form.Script roster journal workers) = Unit {0}
-IsScript (Form.Serve roster journal address seats connections workers) = ⊥
-IsScript (Form.Check market proposal) = ⊥
-IsScript (Form.Solve market workers) = ⊥
-IsScript (Form.Gen number workers) = ⊥
-IsScript (Form.Replay roster journal) = ⊥
+IsScript other = ⊥
 
 abbrev pub HasJournal : Form → Type 0
 HasJournal (Form.Script roster journal workers) = Unit {0}
 HasJournal (Form.Serve roster journal address seats connections workers) = Unit {0}
-HasJournal (Form.Check market proposal) = ⊥
-HasJournal (Form.Solve market workers) = ⊥
-HasJournal (Form.Gen number workers) = ⊥
 HasJournal (Form.Replay roster journal) = Unit {0}
+HasJournal other = ⊥
 
--- The work was done, or a check said no; or a journal is damaged, a script is at its limit, or there was no memory.
-abbrev pub IsAnswered : Form → ℕ → Type 0
-IsAnswered form status =
-    (status ≡ 0) ⊎ (((status ≡ 1) × IsCheck form) ⊎ (((status ≡ 7) × HasJournal form) ⊎ (((status ≡ 8) × IsScript form) ⊎ (status ≡ 9))))
+-- The work was done, or a check said no; or a file has a fault, a journal is damaged, a script is at its limit, or there was no memory.
+abbrev pub IsAnswered : Option Folder → Form → ℕ → Type 0
+IsAnswered folder form status =
+    (status ≡ 0) ⊎ (((status ≡ 1) × IsCheck form) ⊎ (((status ≡ 3) × HasFault folder form)
+    ⊎ (((status ≡ 7) × HasJournal form) ⊎ (((status ≡ 8) × IsScript form) ⊎ (status ≡ 9)))))
 
 -- a call whose words are in form, and that nothing outside disturbs, is answered
 abbrev pub AnswersWhatItCan : {D : Type 0} → (D → Option Visits) → Type 0
 AnswersWhatItCan visits =
-    (form : Form) (before after : World) (status : ℕ) → Ends visits (Some form) before after status → IsUndisturbed form before after → IsAnswered form status
+    (form : Form) (before after : World) (status : ℕ) → Ends visits (Some form) before after status → IsUndisturbed before after →
+    IsAnswered before.files.folder form status

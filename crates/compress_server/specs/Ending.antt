@@ -21,13 +21,13 @@ use Rattle.compress_server.specs.Words.{Market, Form}
 use Rattle.house.specs.House.{is_stopped}
 use Rattle.compress_server.specs.Housed.{DiskState, OverHouse, IsDamaged, IsUnopened}
 use Rattle.compress_server.specs.Files.{SaysRoster, IsRosterFault, IsMarketFault, IsCheckFault, ReadBeforeRoster, ReadBeforeMarket, ReadBeforeCheck}
-use Rattle.compress_server.specs.Run.{IsWhole, IsStopped, IsAtLimit, IsUnwritten}
+use Rattle.compress_server.specs.Run.{IsWhole, IsBrokenOff, IsAtLimit, IsUnwritten}
 use Rattle.compress_server.specs.Check.{SaysYes, SaysNo, SaysFront}
 use Rattle.compress_server.specs.Solve.{Proposes, ProposesFront}
 use Rattle.compress_server.specs.Gen.{Summarizes, SummarizesFront}
 use Rattle.compress_server.specs.Replay.{JournalReplays}
 use Rattle.compress_server.specs.Seen.{Seen, IsOnlyOutput}
-use Rattle.compress_server.specs.Serve.{ServiceSize, ServiceRuns}
+use Rattle.compress_server.specs.Serve.{ServicePlan, ServiceRuns}
 
 -- a fault among the files is the first one, and where the files failed this holds of the role
 abbrev pub IsFault : (FileRole → FileFault → Type 0) → (FileRole → Type 0) → LoadFault → Type 0
@@ -38,19 +38,16 @@ IsFault P Q NoMemory = Unit {0}
 -- by the end of a script over these rows and a disk
 abbrev pub JournalRuns : Rows → Option Flow → Option Flow → Option (List ℕ) → Option (List ℕ) → DiskState → DiskState → End → Type 0
 JournalRuns rows opened flow begun taken disk left Done = OverHouse rows disk left (λ v w. (is_stopped w ≡ false) × IsWhole v w opened flow begun taken)
-JournalRuns rows opened flow begun taken disk left No = ⊥
-JournalRuns rows opened flow begun taken disk left BadWords = ⊥
-JournalRuns rows opened flow begun taken disk left (Unloaded fault) = ⊥
 JournalRuns rows opened flow begun taken disk left (Damaged place) = (flow ≡ opened) × (taken ≡ begun) × IsDamaged rows disk left place
 JournalRuns rows opened flow begun taken disk left DiskFault = (flow ≡ opened) × (taken ≡ begun) × IsUnopened rows disk left × Rose disk.faults left.faults
 JournalRuns rows opened flow begun taken disk left Stopped =
     OverHouse rows disk left (λ v w. (is_stopped w ≡ true) × IsWhole v w opened flow begun taken) × Rose disk.faults left.faults
-JournalRuns rows opened flow begun taken disk left ListenerFault = ⊥
-JournalRuns rows opened flow begun taken disk left SourceFault = OverHouse rows disk left (λ v w. IsStopped v w opened flow begun taken)
+JournalRuns rows opened flow begun taken disk left SourceFault = OverHouse rows disk left (λ v w. IsBrokenOff v w opened flow begun taken)
 JournalRuns rows opened flow begun taken disk left SinkFault = OverHouse rows disk left (λ v w. IsUnwritten v w opened flow begun taken)
 JournalRuns rows opened flow begun taken disk left Limit = OverHouse rows disk left (λ v w. IsAtLimit v w opened flow begun taken)
 JournalRuns rows opened flow begun taken disk left Memory =
     (flow ≡ opened) × (taken ≡ begun) × (IsUnopened rows disk left ⊎ OverHouse rows disk left (λ v w. w.history ≡ v.history))
+JournalRuns rows opened flow begun taken disk left other = ⊥
 
 -- the roster's file says rows, which are those of a roster, and of which this holds
 abbrev pub OverRoster : Option Folder → List ℕ → (Rows → Type 0) → Type 0
@@ -69,72 +66,44 @@ ReplayRuns folder roster begun taken disk left end =
     ⊎ OverRoster folder roster (λ rows. JournalReplays rows disk left begun taken end)
 
 -- by the end of a check of parts that were read: the line that was written
-abbrev pub IsTold : Rows → Mode → List FileTrade → List ProposalPart → Option (List ℕ) → Option (List ℕ) → End → Type 0
-IsTold rows mode trades parts begun taken Done = IsChecked rows mode trades parts None × Takes begun taken (verdict_text rows None)
-IsTold rows mode trades parts begun taken No =
+abbrev pub IsVerdictTold : Rows → Mode → List FileTrade → List ProposalPart → Option (List ℕ) → Option (List ℕ) → End → Type 0
+IsVerdictTold rows mode trades parts begun taken Done = IsChecked rows mode trades parts None × Takes begun taken (verdict_text rows None)
+IsVerdictTold rows mode trades parts begun taken No =
     (failing : Failing) × IsChecked rows mode trades parts (Some failing) × Takes begun taken (verdict_text rows (Some failing))
-IsTold rows mode trades parts begun taken SinkFault =
+IsVerdictTold rows mode trades parts begun taken SinkFault =
     (found : Option Failing) × IsChecked rows mode trades parts found × TakesFront begun taken (verdict_text rows found)
-IsTold rows mode trades parts begun taken Memory = taken ≡ begun
-IsTold rows mode trades parts begun taken BadWords = ⊥
-IsTold rows mode trades parts begun taken (Unloaded fault) = ⊥
-IsTold rows mode trades parts begun taken (Damaged place) = ⊥
-IsTold rows mode trades parts begun taken DiskFault = ⊥
-IsTold rows mode trades parts begun taken Stopped = ⊥
-IsTold rows mode trades parts begun taken ListenerFault = ⊥
-IsTold rows mode trades parts begun taken SourceFault = ⊥
-IsTold rows mode trades parts begun taken Limit = ⊥
+IsVerdictTold rows mode trades parts begun taken Memory = taken ≡ begun
+IsVerdictTold rows mode trades parts begun taken other = ⊥
 
 -- by the end of a check
 abbrev pub CheckRuns : Option Folder → Market → List ℕ → Option (List ℕ) → Option (List ℕ) → End → Type 0
 CheckRuns folder market proposal begun taken Done = SaysYes folder begun taken market proposal
 CheckRuns folder market proposal begun taken No = SaysNo folder begun taken market proposal
-CheckRuns folder market proposal begun taken BadWords = ⊥
 CheckRuns folder market proposal begun taken (Unloaded fault) = (taken ≡ begun) × IsFault (IsCheckFault folder market proposal) (ReadBeforeCheck folder market) fault
-CheckRuns folder market proposal begun taken (Damaged place) = ⊥
-CheckRuns folder market proposal begun taken DiskFault = ⊥
-CheckRuns folder market proposal begun taken Stopped = ⊥
-CheckRuns folder market proposal begun taken ListenerFault = ⊥
-CheckRuns folder market proposal begun taken SourceFault = ⊥
 CheckRuns folder market proposal begun taken SinkFault = SaysFront folder begun taken market proposal
-CheckRuns folder market proposal begun taken Limit = ⊥
 CheckRuns folder market proposal begun taken Memory = taken ≡ begun
+CheckRuns folder market proposal begun taken other = ⊥
 
 -- by the end of a solve
 abbrev pub SolveRuns : Option Folder → Market → Option (List ℕ) → Option (List ℕ) → End → Type 0
 SolveRuns folder market begun taken Done = Proposes folder begun taken market
-SolveRuns folder market begun taken No = ⊥
-SolveRuns folder market begun taken BadWords = ⊥
 SolveRuns folder market begun taken (Unloaded fault) = (taken ≡ begun) × IsFault (IsMarketFault folder market) (ReadBeforeMarket folder market) fault
-SolveRuns folder market begun taken (Damaged place) = ⊥
-SolveRuns folder market begun taken DiskFault = ⊥
-SolveRuns folder market begun taken Stopped = ⊥
-SolveRuns folder market begun taken ListenerFault = ⊥
-SolveRuns folder market begun taken SourceFault = ⊥
 SolveRuns folder market begun taken SinkFault = ProposesFront folder begun taken market
-SolveRuns folder market begun taken Limit = ⊥
 SolveRuns folder market begun taken Memory = taken ≡ begun
+SolveRuns folder market begun taken other = ⊥
 
 -- by the end of a gen, which reads nothing
 abbrev pub GenRuns : ℕ → Option (List ℕ) → Option (List ℕ) → End → Type 0
 GenRuns number begun taken Done = Summarizes begun taken number
-GenRuns number begun taken No = ⊥
-GenRuns number begun taken BadWords = ⊥
-GenRuns number begun taken (Unloaded fault) = ⊥
-GenRuns number begun taken (Damaged place) = ⊥
-GenRuns number begun taken DiskFault = ⊥
-GenRuns number begun taken Stopped = ⊥
-GenRuns number begun taken ListenerFault = ⊥
-GenRuns number begun taken SourceFault = ⊥
 GenRuns number begun taken SinkFault = SummarizesFront begun taken number
-GenRuns number begun taken Limit = ⊥
 GenRuns number begun taken Memory = taken ≡ begun
+GenRuns number begun taken other = ⊥
 
 -- by the end of a service: the roster could not be had, and nothing else was asked; or what came over its rows
-abbrev pub ServeRuns : {D : Type 0} → (D → Option Visits) → Option Folder → List ℕ → ServiceSize → Seen → Seen → End → Type 0
-ServeRuns visits folder roster size before after end =
+abbrev pub ServeRuns : {D : Type 0} → (D → Option Visits) → Option Folder → List ℕ → ServicePlan → Seen → Seen → End → Type 0
+ServeRuns visits folder roster plan before after end =
     ((fault : LoadFault) × (end ≡ Unloaded fault) × (after ≡ before) × IsFault (IsRosterFault folder roster) ReadBeforeRoster fault)
-    ⊎ OverRoster folder roster (λ rows. ServiceRuns visits size rows before after end)
+    ⊎ OverRoster folder roster (λ rows. ServiceRuns visits plan rows before after end)
 
 -- by the end of the program: only a script reads the input, and only a service asks the listener
 abbrev pub Runs : {D : Type 0} → (D → Option Visits) → Option Folder → Option Form → Option Flow → Option Flow → Seen → Seen → End → Type 0
@@ -142,7 +111,7 @@ Runs visits folder None opened flow before after end = (end ≡ BadWords) × (fl
 Runs visits folder (Some (Form.Script roster journal workers)) opened flow before after end =
     (after.listener ≡ before.listener) × ScriptRuns folder roster opened flow before.output.taken after.output.taken before.disk after.disk end
 Runs visits folder (Some (Form.Serve roster journal address seats connections workers)) opened flow before after end =
-    (flow ≡ opened) × ServeRuns visits folder roster (record { seats = seats; connections = connections }) before after end
+    (flow ≡ opened) × ServeRuns visits folder roster (record { address = address; seats = seats; connections = connections }) before after end
 Runs visits folder (Some (Form.Check market proposal)) opened flow before after end =
     (flow ≡ opened) × IsOnlyOutput before after × CheckRuns folder market proposal before.output.taken after.output.taken end
 Runs visits folder (Some (Form.Solve market workers)) opened flow before after end =

@@ -1,7 +1,6 @@
 -- A script over its disk.
 use Rattle.std.specs.Prelude.{◌≡◌, ◌⊎◌, ℕ, ◌≤◌, true, List, Option, Some, None}
-use Rattle.command_types.specs.declared.ask.Entry.{Entry}
-use Rattle.command_types.specs.History.{IsLegal}
+use Rattle.command_types.specs.History.{History, IsLegal}
 use Rattle.command_types.specs.Roster.{Rows}
 use Rattle.outside.specs.Disk as disks
 use Rattle.outside.specs.declared.disk.Disk.{Ghosts as DiskTells}
@@ -10,9 +9,9 @@ use Rattle.journal_core.specs.Moments.{LeavesOnly}
 use Rattle.recovery.specs.StandsFor.{StandsFor}
 use Rattle.house.specs.House.{HouseView, figures_of, is_stopped}
 use Rattle.house.specs.Opening.{IsOpened, FindsFault, StandsForNone}
-use Rattle.house.specs.Storing.{ContentStandsFor, LeavesEntries, StandsForFront, StandsForKept}
+use Rattle.house.specs.Storing.{ContentStandsFor, LeavesHistory, LeavesKept, StandsForFront, StandsForKept, NeverGoBack, with_kept, moment_of}
 use Rattle.compress_server.specs.declared.ending.End.{End}
-use Rattle.compress_server.specs.declared.ending.End.TheVariants.{Done, No, BadWords, Unloaded, Damaged, DiskFault, Stopped, ListenerFault, SourceFault, SinkFault, Limit, Memory}
+use Rattle.compress_server.specs.declared.ending.End.TheVariants.{Damaged, DiskFault, Memory}
 use Rattle.compress_server.specs.Cycles.{KeepsLaws}
 use Rattle.house.specs.declared.fault.OpenFault.TheVariants as opens
 
@@ -42,16 +41,21 @@ pub record IsHoused (rows : Rows) (disk left : DiskState) (v w : HouseView) : Ty
   pub legal_first : IsLegal v.history
   pub legal : IsLegal w.history
   -- unless a fault of the disk stopped the house, the content stands for its history, and so does what a crash now leaves
-  pub stands : w.kept ≡ None → ContentStandsFor left.history w.history.entries
-  pub leaves : w.kept ≡ None → LeavesEntries left.history w.history.entries
+  pub stands : w.kept ≡ None → ContentStandsFor left.history w.history
+  pub leaves : w.kept ≡ None → LeavesHistory left.history w.history
+  -- what was kept where a fault of the disk stopped the house could have been made, and what a crash now leaves stands for all of the history, perhaps with this
+  pub kept_legal : IsLegal (with_kept w.history w.kept)
+  pub leaves_kept : LeavesKept left.history w.history w.kept
+  -- no crash of the run went back behind an earlier one
+  pub never_back : NeverGoBack (moment_of disk.history) v.opening left.history w.history w.kept
   -- what a crash at any moment of the run left stands for a front of the history, no shorter than the one at the opening, or, where a fault stopped the house, for all of it with the entry that was kept
-  pub any_moment : AtAnyMoment disk.history left.history (λ image. StandsForFront v.opening w.history.entries image ⊎ StandsForKept w.history.entries w.kept image)
+  pub any_moment : AtAnyMoment disk.history left.history (λ image. StandsForFront v.opening w.history image ⊎ StandsForKept w.history w.kept image)
   pub stopped : is_stopped w ≡ true → Rose disk.faults left.faults
   pub cycles : KeepsLaws rows w.history
 
--- No house was opened: a crash at any moment leaves what stands for the entries for which the content stood; where it stood for no legal history, it is as it was.
+-- No house was opened: a crash at any moment leaves what stands for the history for which the content stood; where it stood for no legal history, it is as it was.
 pub record IsUnopened (rows : Rows) (disk left : DiskState) : Type 0 where
-  pub any_moment : (entries : List Entry) → ContentStandsFor disk.history entries → LeavesOnly disk.history left.history (λ image. StandsFor image entries)
+  pub any_moment : (h : History) → ContentStandsFor disk.history h → LeavesOnly disk.history left.history (λ image. StandsFor image h)
   pub untouched : StandsForNone rows disk.history → left.history ≡ disk.history
 
 -- the disk's content stands for no legal history, with the one place that is told, and is as it was
@@ -65,15 +69,7 @@ abbrev pub OpeningFails : Rows → DiskState → DiskState → End → Type 0
 OpeningFails rows disk left (Damaged place) = IsDamaged rows disk left place
 OpeningFails rows disk left DiskFault = IsUnopened rows disk left × Rose disk.faults left.faults
 OpeningFails rows disk left Memory = IsUnopened rows disk left
-OpeningFails rows disk left Done = ⊥
-OpeningFails rows disk left No = ⊥
-OpeningFails rows disk left BadWords = ⊥
-OpeningFails rows disk left (Unloaded fault) = ⊥
-OpeningFails rows disk left Stopped = ⊥
-OpeningFails rows disk left ListenerFault = ⊥
-OpeningFails rows disk left SourceFault = ⊥
-OpeningFails rows disk left SinkFault = ⊥
-OpeningFails rows disk left Limit = ⊥
+OpeningFails rows disk left other = ⊥
 
 -- a house was opened, and came back, and of the two this holds
 abbrev pub OverHouse : Rows → DiskState → DiskState → (HouseView → HouseView → Type 0) → Type 0

@@ -6,16 +6,15 @@ use Rattle.outside.specs.Flow.{Takes, TakesFront}
 use Rattle.command_types.specs.Books.{listed_below}
 use Rattle.command_types.specs.Details.{lines_text, trade_line}
 use Rattle.command_types.specs.History.{History, IsLegal, end_of}
-use Rattle.command_types.specs.Machine.{empty_state}
 use Rattle.command_types.specs.Roster.{Rows}
-use Rattle.cycle_states.specs.PlainDesk.{history_of}
+use Rattle.recovery.specs.StandsFor.{first_start}
 use Rattle.trade_history.specs.Book.{ExecutionRow, own_rows, executions_of}
 use Rattle.statements.specs.Details.{member_text, execution_text}
 use Rattle.house.specs.Storing.{ContentStandsFor}
 use Rattle.house.specs.Opening.{FindsFault}
 use Rattle.house.specs.declared.fault.OpenFault.TheVariants as opens
 use Rattle.compress_server.specs.declared.ending.End.{End}
-use Rattle.compress_server.specs.declared.ending.End.TheVariants.{Done, No, BadWords, Unloaded, Damaged, DiskFault, Stopped, ListenerFault, SourceFault, SinkFault, Limit, Memory}
+use Rattle.compress_server.specs.declared.ending.End.TheVariants.{Done, Damaged, DiskFault, SinkFault, Memory}
 use Rattle.compress_server.specs.Housed.{DiskState}
 use Rattle.compress_server.specs.Told.{end_text}
 
@@ -33,9 +32,9 @@ replay_text rows h = listed_below (length rows.members) (rows_text rows h) ++ (l
 
 -- the disk's content stands for this history, which is legal for these rows
 pub record IsKept (rows : Rows) (disk : Option disks.History) (h : History) : Type 0 where
-  pub base : h.base ≡ (history_of (empty_state rows) []).base
+  pub base : h.base ≡ first_start rows
   pub legal : IsLegal h
-  pub stands : ContentStandsFor disk h.entries
+  pub stands : ContentStandsFor disk h
 
 -- the whole text of what the disk keeps was written
 abbrev pub Replays : Rows → DiskState → Option (List ℕ) → Option (List ℕ) → Type 0
@@ -48,17 +47,11 @@ ReplaysFront rows disk begun taken = (h : History) × IsKept rows disk.history h
 -- by the end of a replay over these rows and a disk: damage is told only where the content stands for no legal history, with the one place that is told
 abbrev pub ReplayEnds : Rows → DiskState → DiskState → Option (List ℕ) → Option (List ℕ) → End → Type 0
 ReplayEnds rows disk left begun taken Done = Replays rows disk begun taken
-ReplayEnds rows disk left begun taken No = ⊥
-ReplayEnds rows disk left begun taken BadWords = ⊥
-ReplayEnds rows disk left begun taken (Unloaded fault) = ⊥
 ReplayEnds rows disk left begun taken (Damaged place) = (taken ≡ begun) × FindsFault rows disk.history (opens.Damaged place)
 ReplayEnds rows disk left begun taken DiskFault = (taken ≡ begun) × Rose disk.faults left.faults
-ReplayEnds rows disk left begun taken Stopped = ⊥
-ReplayEnds rows disk left begun taken ListenerFault = ⊥
-ReplayEnds rows disk left begun taken SourceFault = ⊥
 ReplayEnds rows disk left begun taken SinkFault = ReplaysFront rows disk begun taken
-ReplayEnds rows disk left begun taken Limit = ⊥
 ReplayEnds rows disk left begun taken Memory = taken ≡ begun
+ReplayEnds rows disk left begun taken other = ⊥
 
 -- so it ended, and nothing was written to the disk
 abbrev pub JournalReplays : Rows → DiskState → DiskState → Option (List ℕ) → Option (List ℕ) → End → Type 0

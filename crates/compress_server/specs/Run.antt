@@ -51,8 +51,8 @@ abbrev pub IsOpen : HouseView → HouseView → Option (List ℕ) → Option (Li
 IsOpen v w begun taken lines = (replied : IsReplied v w begun taken lines) × (replied.session.to.over ≡ false)
 
 -- the input was read up to a fault
-abbrev pub IsStopped : HouseView → HouseView → Option Flow → Option Flow → Option (List ℕ) → Option (List ℕ) → Type 0
-IsStopped v w opened flow begun taken =
+abbrev pub IsBrokenOff : HouseView → HouseView → Option Flow → Option Flow → Option (List ℕ) → Option (List ℕ) → Type 0
+IsBrokenOff v w opened flow begun taken =
     (bytes : List ℕ) × Gives opened flow bytes × (length bytes < session_limit) × IsOpen v w begun taken (cut_of bytes).whole
 
 -- the input was read up to the session's limit

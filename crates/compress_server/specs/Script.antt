@@ -6,12 +6,12 @@ use Rattle.session.specs.declared.serve.SessionEnd.{SessionEnd}
 use Rattle.session.specs.declared.serve.SessionEnd.TheVariants.{Ended, SourceFault, SinkFault, Limit, Memory}
 use Rattle.compress_server.specs.declared.ending.End.{End}
 use Rattle.compress_server.specs.declared.ending.End.TheVariants as script
-use Rattle.compress_server.specs.Run.{IsWhole, IsStopped, IsAtLimit, IsUnwritten}
+use Rattle.compress_server.specs.Run.{IsWhole, IsBrokenOff, IsAtLimit, IsUnwritten}
 
 -- What was read and what was written, by the end of a script over the house v, which is then w.
 abbrev pub ScriptEnds : HouseView → HouseView → Option Flow → Option Flow → Option (List ℕ) → Option (List ℕ) → SessionEnd → Type 0
 ScriptEnds v w opened flow begun taken Ended = IsWhole v w opened flow begun taken
-ScriptEnds v w opened flow begun taken SourceFault = IsStopped v w opened flow begun taken
+ScriptEnds v w opened flow begun taken SourceFault = IsBrokenOff v w opened flow begun taken
 ScriptEnds v w opened flow begun taken SinkFault = IsUnwritten v w opened flow begun taken
 ScriptEnds v w opened flow begun taken Limit = IsAtLimit v w opened flow begun taken
 ScriptEnds v w opened flow begun taken Memory = (flow ≡ opened) × (taken ≡ begun) × (w.history ≡ v.history)

@@ -5,7 +5,7 @@ use Rattle.outside.specs.Faults.{Rose}
 use Rattle.outside.specs.Flow.{Takes, TakesFront}
 use Rattle.outside.specs.declared.trouble.Trouble.{Trouble}
 use Rattle.outside.specs.declared.trouble.Trouble.TheVariants as trouble
-use Rattle.doors.specs.Visits.{Visits, Doors, IsNew, TakesBack}
+use Rattle.doors.specs.Visits.{Visits, Doors, Binds, IsNew, IsPlanned, TakesBack}
 use Rattle.command_types.specs.History.{end_of, entries_of_seat}
 use Rattle.command_types.specs.Roster.{Rows}
 use Rattle.cycle_lock.specs.Passes.{LockId, Continues}
@@ -14,13 +14,15 @@ use Rattle.session.specs.Serving.{Seat}
 use Rattle.seats.specs.declared.seat.SeatEnd.{SeatEnd}
 use Rattle.seats.specs.declared.seat.SeatEnd.TheVariants as seat_end
 use Rattle.seats.specs.Final.{Final, AreServed}
+use Rattle.seats.specs.Sessions.{input_of}
 use Rattle.compress_server.specs.declared.ending.End.{End}
 use Rattle.compress_server.specs.declared.ending.End.TheVariants.{Done, ListenerFault, Stopped, SinkFault, Memory}
 use Rattle.compress_server.specs.Housed.{OverHouse, OpeningFails}
 use Rattle.compress_server.specs.Seen.{OutputState, ListenerState, Seen}
 
--- how many seats serve, and how many connections each of them at most
-pub record ServiceSize : Type 0 where
+-- at which address a service listens, how many seats serve, and how many connections each of them at most
+pub record ServicePlan : Type 0 where
+  pub address : List ℕ
   pub seats : ℕ
   pub connections : ℕ
 
@@ -82,12 +84,32 @@ IsWritten before after line false = TakesFront before.taken after.taken line × 
 -- so many doors of a listener were handed out
 abbrev pub LendsMany : ℕ → Option Doors → Option Doors → Type 0
 LendsMany n None after = after ≡ None
-LendsMany n (Some doors) after = after ≡ Some (record { lent = doors.lent + n; back = doors.back })
+LendsMany n (Some doors) after = after ≡ Some (record doors { planned = λ k. doors.planned (k + n); lent = doors.lent + n })
 
 -- so many doors of a listener at least are not back yet
 abbrev pub AreLent : ℕ → Option Doors → Type 0
 AreLent n None = Unit {0}
 AreLent n (Some doors) = n ≤ doors.lent
+
+-- What is to come to this door is what was to come to the listener's with this number. It says nothing of a listener, or of a door, that tells nothing.
+abbrev pub IsPlannedAt : Option Doors → ℕ → Option Visits → Type 0
+IsPlannedAt None k door = Unit {0}
+IsPlannedAt (Some doors) k door = IsPlanned (doors.planned k) door
+
+-- Of the connections that were to come to a door, it gave the first, which were given back, and the others are still to come.
+abbrev pub HasGiven : List (List ℕ) → Option Visits → Type 0
+HasGiven inputs None = Unit {0}
+HasGiven inputs (Some door) = inputs ≡ map input_of door.back ++ door.coming
+
+-- of those that were to come to the listener's door with this number
+abbrev pub HasGivenAt : Option Doors → ℕ → Option Visits → Type 0
+HasGivenAt None k door = Unit {0}
+HasGivenAt (Some doors) k door = HasGiven (doors.planned k) door
+
+-- of those that were to come to the door as it was; one that told nothing goes on so
+abbrev pub HasGivenSince : Option Visits → Option Visits → Type 0
+HasGivenSince None after = after ≡ None
+HasGivenSince (Some before) after = HasGiven before.coming after
 
 -- a seat's door when it was taken back, and how the seat ended
 pub record SeatRun (D : Type 0) : Type 0 where
@@ -106,9 +128,21 @@ module _ {D : Type 0} (visits : D → Option Visits) where
   TakesBackAll before after [] = after ≡ before
   TakesBackAll before after (door ∷ doors) = (mid : Option Doors) × TakesBack before mid (visits door) × TakesBackAll mid after doors
 
-  -- from before to after, these doors were handed out and taken back, in order
-  abbrev pub Returned : Option Doors → Option Doors → List D → Type 0
-  Returned before after doors = (mid : Option Doors) × LendsMany (length doors) before mid × TakesBackAll mid after doors
+  -- from before to after, the listener listened at this address, and these doors were handed out and taken back, in order
+  abbrev pub Returned : List ℕ → Option Doors → Option Doors → List D → Type 0
+  Returned address before after doors =
+      (bound : Option Doors) × (mid : Option Doors) × Binds address before bound × LendsMany (length doors) bound mid × TakesBackAll mid after doors
+
+  -- The listener is as it was, or it listened at this address. The doors that it handed out, if any, came back and had given no connection.
+  pub record IsUnasked (address : List ℕ) (before after : Option Doors) : Type 0 where
+    pub doors : List D
+    pub returned : ((doors ≡ []) × (after ≡ before)) ⊎ Returned address before after doors
+    pub unserved : All (λ (door : D). IsNew (visits door)) doors
+
+  -- the same of the doors of these seats, the first of which has the listener's door with this number, and the next the one behind it
+  abbrev pub HaveGiven : Option Doors → ℕ → List (SeatRun D) → Type 0
+  HaveGiven doors k [] = Unit {0}
+  HaveGiven doors k (seat ∷ seats) = HasGivenAt doors k (visits seat.door) × HaveGiven doors (k + 1) seats
 
   -- these seats, the first with this number and the next with the one above, each of which may serve so many connections, are what came of the house v, which is then w
   abbrev pub AreSeats : ℕ → LockId → HouseView → HouseView → ℕ → List (SeatRun D) → Type 0
@@ -116,39 +150,39 @@ module _ {D : Type 0} (visits : D → Option Visits) where
   AreSeats most_visits lock v w number (seat ∷ seats) = IsSeatAt most_visits lock v w number (visits seat.door) seat.end × AreSeats most_visits lock v w (number + 1) seats
 
   -- So many seats served beside one another, over the house v, which is then w. Its history has grown, and each new entry is of one of them.
-  pub record HaveServed (size : ServiceSize) (v w : HouseView) (seats : List (SeatRun D)) : Type 0 where
-    pub count : length seats ≡ size.seats
+  pub record HaveServed (plan : ServicePlan) (v w : HouseView) (seats : List (SeatRun D)) : Type 0 where
+    pub count : length seats ≡ plan.seats
     pub goes_on : Continues w.history v.history
-    pub others : (n : ℕ) → size.seats < n → entries_of_seat w.history n (end_of v.history) ≡ []
+    pub others : (n : ℕ) → plan.seats < n → entries_of_seat w.history n (end_of v.history) ≡ []
     pub none : entries_of_seat w.history 0 (end_of v.history) ≡ []
     pub lock : LockId
-    pub each : AreSeats size.connections lock v w 1 seats
+    pub each : AreSeats plan.connections lock v w 1 seats
 
-  -- The seats could not begin, and the history is what it was. Doors that were handed out are back, and none was asked for a connection.
-  pub record IsUnbegun (v w : HouseView) (output output' : OutputState) (listener listener' : ListenerState) (end : End) : Type 0 where
+  -- The seats could not begin, and the history is what it was. No door was asked for a connection.
+  pub record IsUnbegun (address : List ℕ) (v w : HouseView) (output output' : OutputState) (listener listener' : ListenerState) (end : End) : Type 0 where
     pub same : w ≡ v
     pub none_written : output' ≡ output
-    pub doors : List D
-    pub returned : Returned listener.doors listener'.doors doors
-    pub unserved : All (λ (door : D). IsNew (visits door)) doors
+    pub unasked : IsUnasked address listener.doors listener'.doors
     pub why : (end ≡ Memory) ⊎ ((end ≡ ListenerFault) × Rose listener.faults listener'.faults)
 
-  -- The seats served, the line of the history's length was written, and the doors were taken back.
-  pub record IsService (size : ServiceSize) (v w : HouseView) (output output' : OutputState) (listener listener' : ListenerState) (end : End) : Type 0 where
+  -- The listener listened at the address, the seats served, each what was to come to its door, the line of the history's length was written, and the doors were taken back. Where a door failed, the listener's count rose.
+  pub record IsService (plan : ServicePlan) (v w : HouseView) (output output' : OutputState) (listener listener' : ListenerState) (end : End) : Type 0 where
     pub seats : List (SeatRun D)
-    pub served : HaveServed size v w seats
-    pub returned : Returned listener.doors listener'.doors (map (λ (seat : SeatRun D). seat.door) seats)
+    pub served : HaveServed plan v w seats
+    pub returned : Returned plan.address listener.doors listener'.doors (map (λ (seat : SeatRun D). seat.door) seats)
+    pub given : HaveGiven listener.doors 0 seats
     pub written : Bool
     pub wrote : IsWritten output output' (history_line (end_of w.history)) written
     pub told : end ≡ service_end (list_any (λ seat. had_no_memory seat.end) seats) (list_any (λ seat. had_door_fault seat.end) seats) (is_stopped w) written
-    pub counted : end ≡ ListenerFault → Rose listener.faults listener'.faults
+    pub counted : list_any (λ seat. had_door_fault seat.end) seats ≡ true → Rose listener.faults listener'.faults
 
   -- by the end of a service over a house that was just opened
-  abbrev pub HouseServes : ServiceSize → HouseView → HouseView → OutputState → OutputState → ListenerState → ListenerState → End → Type 0
-  HouseServes size v w output output' listener listener' end = IsUnbegun v w output output' listener listener' end ⊎ IsService size v w output output' listener listener' end
+  abbrev pub HouseServes : ServicePlan → HouseView → HouseView → OutputState → OutputState → ListenerState → ListenerState → End → Type 0
+  HouseServes plan v w output output' listener listener' end =
+      IsUnbegun plan.address v w output output' listener listener' end ⊎ IsService plan v w output output' listener listener' end
 
   -- by the end of a service over these rows
-  abbrev pub ServiceRuns : ServiceSize → Rows → Seen → Seen → End → Type 0
-  ServiceRuns size rows before after end =
+  abbrev pub ServiceRuns : ServicePlan → Rows → Seen → Seen → End → Type 0
+  ServiceRuns plan rows before after end =
       IsUnhoused rows before after end
-      ⊎ OverHouse rows before.disk after.disk (λ v w. HouseServes size v w before.output after.output before.listener after.listener end)
+      ⊎ OverHouse rows before.disk after.disk (λ v w. HouseServes plan v w before.output after.output before.listener after.listener end)

@@ -6,6 +6,7 @@ use Rattle.command_types.specs.declared.answer.Reply.{Reply}
 use Rattle.command_types.specs.declared.figures.State.{State}
 use Rattle.command_types.specs.Books.{listed_below}
 use Rattle.command_types.specs.CycleSteps.{rows_of_member}
+use Rattle.command_types.specs.History.{end_of}
 use Rattle.command_types.specs.Details.{lines_text, trade_line}
 use Rattle.statements.specs.Details.{member_text, execution_text}
 use Rattle.house.specs.declared.opening.Recovered.{Recovered}
@@ -36,4 +37,4 @@ told_text s entries executions = listed_below (length s.roster.members) (rows_to
 
 -- all that is told of what was read of a disk
 abbrev pub recovered_text : Recovered → List ℕ
-recovered_text read = told_text read.machine.state (length read.past) (unwrap_or (told_of read.executions) [])
+recovered_text read = told_text read.machine.state (end_of read.past) (unwrap_or (told_of read.executions) [])

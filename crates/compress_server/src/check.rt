@@ -6,7 +6,7 @@ ghost use Rattle.trade_file.specs.TradeFile.{AreFileTrades};
 ghost use Rattle.dual_certificate.specs.Parts.{AreParts};
 ghost use Rattle.compress_server.specs.Words.{read_market};
 ghost use Rattle.compress_server.specs.declared.load.FileRole.{FileRole as Role};
-ghost use Rattle.compress_server.specs.Ending.{IsTold, CheckRuns};
+ghost use Rattle.compress_server.specs.Ending.{IsVerdictTold, CheckRuns};
 
 use crate::ending::End;
 use crate::load::{LoadFault, load_proposal, load_roster, load_trades};
@@ -29,7 +29,7 @@ fn tell_verdict<K: Sink>(
 ) -> End
     requires trades { AreFileTrades roster.now trades.now }
     requires parts { AreParts roster.now parts.now }
-    ensures told { IsTold roster.now mode trades.now parts.now (K.taken output.old) (K.taken output.new) result }
+    ensures told { IsVerdictTold roster.now mode trades.now parts.now (K.taken output.old) (K.taken output.new) result }
     ensures sink_fault { result ≡ End.SinkFault → Rose (K.faults output.old) (K.faults output.new) }
 {
     let Ok(failing) = check(alloc, roster, mode, trades, parts) else {

@@ -5,21 +5,21 @@ ghost use Rattle.compress_server.specs.Statuses.{StatusesTellTheEnd};
 
 use doors::Listener;
 
-/// A status tells how the program ended: each comes of its own ends alone, and want of memory also where there was none for
-/// the line of an end.
+/// The status that is told of an end is the end's, or that of want of memory where there was none for its line.
 pub fn statuses_tell_the_end()
     ensures { StatusesTellTheEnd }
 {}
 
-/// Where the words are in form, no file of the form has a fault and nothing outside fails, the status is 0; or 1 of a check, 7 of a
-/// journal that is damaged, 8 of a script at its limit, or 9.
+/// Where the words are in form and nothing outside fails, the status is 0; or 1 of a check, 3 where a file of the form has a fault, 7
+/// of a journal that is damaged, 8 of a script at its limit, or 9.
 pub fn answers_what_it_can<L: Listener>()
     ensures { AnswersWhatItCan L.Door.visits }
 {}
 
-/// Under the same premises every line of a script, unless the status is 7 or 9, and of each connection of a service, but one whose
+/// Under the same premises every line of a script, unless the status is 3, 7 or 9, and of each connection of a service, but one whose
 /// session found no memory at its start, is answered up to an accepted BYE or the session's limit: by the machine at a position
-/// of the one history, for a full journal, or for want of memory. No answer tells that the desk is stopped.
+/// of the one history, for a full journal, or for want of memory. No answer tells that the desk is stopped. A service's connections
+/// are those that were to come to its doors; at 3, 7 and 9 none may have been asked for.
 pub fn every_line_is_answered<L: Listener>()
     ensures scripts { ScriptsAreAnswered L.Door.visits }
     ensures services { ServicesAreAnswered L.Door.visits }

@@ -4,6 +4,7 @@ ghost use Rattle.std.specs.Prelude.{◌≡◌, ◌≤◌, nat_lt, true, [], All,
 ghost use Rattle.std.specs.List.{list_any};
 ghost use Rattle.outside.specs.Faults.{Rose};
 ghost use Rattle.doors.specs.Visits.{IsNew};
+ghost use Rattle.compress_server.specs.Runs.{ArePlanned};
 ghost use Rattle.compress_server.specs.Serve.{LendsMany, AreLent, TakesBackAll, had_no_memory, had_door_fault};
 
 use doors::{Door, Listener};
@@ -21,6 +22,7 @@ pub fn take_places<L: Listener>(
     requires room { count ≤ vec_capacity places.old }
     ensures lends { LendsMany (length places.new.items) (L.doors listener.old) (L.doors listener.new) }
     ensures new { All (λ place. IsNew (L.Door.visits place.door) × (L.Door.faults place.door ≡ 0)) places.new.items }
+    ensures planned { ArePlanned L.Door.visits (L.doors listener.old) 0 places.new.items }
     ensures all { OnOk result (length places.new.items ≡ count) }
     ensures never_falls { L.faults listener.old ≤ L.faults listener.new }
     ensures failed { result ≡ Err Trouble.Failed → Rose (L.faults listener.old) (L.faults listener.new) }

@@ -11,7 +11,7 @@ ghost use Rattle.command_types.specs.CycleSteps.{rows_of_member};
 ghost use Rattle.command_types.specs.Details.{lines_text, trade_line};
 ghost use Rattle.command_types.specs.Roster.{IsRoster};
 ghost use Rattle.cycle_states.specs.Machine.{IsYoung};
-ghost use Rattle.cycle_states.specs.PlainDesk.{IsReplayed};
+ghost use Rattle.cycle_states.specs.Replayed.{IsReplayed};
 ghost use Rattle.statements.specs.Details.{row_text};
 ghost use Rattle.compress_server.specs.declared.load.FileRole.{FileRole as Role};
 ghost use Rattle.compress_server.specs.Ending.{ReplayRuns};
@@ -143,13 +143,13 @@ fn text_of(alloc: Global, read: &Recovered) -> Result<Vec<u8>, AllocError>
     requires { IsReplayed read.now.machine.state read.now.past }
     ensures { IfOk result (λ text. text.items ≡ recovered_text read.now) }
 {
-    let entries = read.past.count();
+    let length = read.past.length();
     let mut text = Vec::new(alloc);
     push_members(&mut text, &read.machine)?;
     if let Some(replies) = &read.executions.replies {
         push_replies(&mut text, read.machine.roster(), replies)?;
     }
-    push_end(&mut text, entries)?;
+    push_end(&mut text, length)?;
     Ok(text)
 }
 

@@ -65,7 +65,7 @@ impl<'a, R: Threads + Wait + Sync, G: Gate> Script<'a, R, G> {
         input: &mut S,
         output: &mut K,
     ) -> (SessionEnd, House<D>)
-        requires opened { end_of house.history ≡ house.opening }
+        requires opened { end_of house.history ≡ (figures_of house).opening }
         requires roster { self.now.roster.now ≡ house.history.base.state.roster }
         requires running { is_stopped house ≡ false }
         ensures ends { ScriptEnds house result.1 (S.flow input.old) (S.flow input.new) (K.taken output.old) (K.taken output.new) result.0 }

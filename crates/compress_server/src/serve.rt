@@ -14,9 +14,10 @@ ghost use Rattle.house.specs.House.{figures_of, is_stopped};
 ghost use Rattle.compress_server.specs.declared.load.FileRole.{FileRole as Role};
 ghost use Rattle.compress_server.specs.Seen.{output_by, listener_by, seen_by};
 ghost use Rattle.doors.specs.Visits.{IsNew};
-ghost use Rattle.compress_server.specs.Serve.{IsWritten, history_line, had_no_memory, had_door_fault, trouble_end, service_end, HaveServed, HouseServes};
+ghost use Rattle.seats.specs.Places.{EachPlace};
+ghost use Rattle.compress_server.specs.Serve.{HasGivenSince, IsWritten, history_line, had_no_memory, had_door_fault, trouble_end, service_end, HaveServed, HouseServes};
 ghost use Rattle.compress_server.specs.Ending.{ServeRuns};
-ghost use Rattle.compress_server.specs.Runs.{runs_of, size_of};
+ghost use Rattle.compress_server.specs.Runs.{runs_of, plan_of};
 
 use crate::count::Count;
 use crate::ending::End;
@@ -93,13 +94,14 @@ impl<'a, R: Threads + Wait + Sync, G: Gate> Seating<'a, R, G> {
         house: House<D>,
         places: &mut [Place<C>],
     ) -> Result<House<D>, House<D>>
-        requires opened { end_of house.history ≡ house.opening }
+        requires opened { end_of house.history ≡ (figures_of house).opening }
         requires roster { self.now.roster.now ≡ house.history.base.state.roster }
         requires running { is_stopped house ≡ false }
         requires count { length places.old ≡ self.now.words.now.seats.value }
         requires new { All (λ place. IsNew (C.visits place.door) × (C.faults place.door ≡ 0)) places.old }
-        ensures served { IfOk result (λ w. HaveServed C.visits (size_of self.now.words.now) house w (runs_of places.new)) }
+        ensures served { IfOk result (λ w. HaveServed C.visits (plan_of self.now.words.now) house w (runs_of places.new)) }
         ensures figures { IfOk result (λ w. figures_of w ≡ figures_of house) }
+        ensures given { OnOk result (EachPlace (λ k old new. HasGivenSince (C.visits old.door) (C.visits new.door)) places.old places.new) }
         ensures counted { OnOk result (All (λ place. place.end ≡ SeatEnd.DoorFault → 0 < C.faults place.door) places.new) }
         ensures refused { IfErr result (λ w. w ≡ house) }
         ensures untouched { OnErr result (places.new ≡ places.old) }
@@ -127,11 +129,11 @@ impl<'a, R: Threads + Wait + Sync, G: Gate> Seating<'a, R, G> {
         listener: &mut L,
         output: &mut K,
     ) -> (End, House<D>)
-        requires opened { end_of house.history ≡ house.opening }
+        requires opened { end_of house.history ≡ (figures_of house).opening }
         requires roster { self.now.roster.now ≡ house.history.base.state.roster }
         requires running { is_stopped house ≡ false }
         ensures serves { let doors = listener_by L.doors L.faults in
-            HouseServes L.Door.visits (size_of self.now.words.now) house result.1
+            HouseServes L.Door.visits (plan_of self.now.words.now) house result.1
             (output_by K.Sink output.old) (output_by K.Sink output.new) (doors listener.old) (doors listener.new) result.0 }
         ensures figures { figures_of result.1 ≡ figures_of house }
     {
@@ -183,7 +185,7 @@ pub fn run_serve<R: Threads + Wait + Sync, F: Files, K: Sink, D: Disk + Send, L:
 ) -> (End, D)
     requires { IsSettled (D.history disk) }
     ensures runs { let seen = seen_by K.Sink D.Disk L.doors L.faults in
-        ServeRuns L.Door.visits (F.folder files.old) words.now.roster.now (size_of words.now)
+        ServeRuns L.Door.visits (F.folder files.old) words.now.roster.now (plan_of words.now)
         (seen output.old disk listener.old) (seen output.new result.1 listener.new) result.0 }
     ensures stays { F.folder files.new ≡ F.folder files.old }
     ensures sink_fault { result.0 ≡ End.SinkFault → Rose (K.faults output.old) (K.faults output.new) }

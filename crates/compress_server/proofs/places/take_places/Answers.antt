@@ -1,8 +1,9 @@
 use Rattle.std.proofs.Common.{rules, arith, ◌≡◌, ◌∙◌, sym, subst, ap, ◌+◌, [], ◌∷◌, ◌++◌, length, All, length-append}
 use Rattle.std.proofs.lemmas.List.Elements.{All-push}
 use Rattle.doors.specs.Visits.{IsNew}
-use Rattle.compress_server.specs.Serve.{LendsMany}
-use Rattle.compress_server.proofs.PlaceFacts.{lends_more}
+use Rattle.compress_server.specs.Serve.{LendsMany, IsPlannedAt}
+use Rattle.compress_server.specs.Runs.{ArePlanned}
+use Rattle.compress_server.proofs.PlaceFacts.{lends_more, lends_planned, planned_more}
 use Rattle.compress_server.proofs.places.take_places.Goals as goal
 
 pub loop-init : goal.loop-init
@@ -35,7 +36,11 @@ loop-preserved g c =
       counted = longer ∙ ap (λ n. n + 1) inv.counted;
       room = search rules;
       lends = subst (λ n. LendsMany n (g.L.Listener.doors c.args.listener.now) (g.L.Listener.doors c.door.new.self)) (sym longer)
-          (lends_more (length places) (g.L.Listener.doors c.args.listener.now) (g.L.Listener.doors c.loop.listener) (g.L.Listener.doors c.door.new.self) inv.lends c.in_ok-door.ensures.lends);
+          (lends_more (length places) (g.L.Listener.doors c.args.listener.now) (g.L.Listener.doors c.loop.listener) (g.L.Listener.doors c.door.new.self) (g.L.Door.Door.visits c.in_ok-door.door) inv.lends c.in_ok-door.ensures.lends);
+      planned = subst (λ ps. ArePlanned g.L.Door.Door.visits (g.L.Listener.doors c.args.listener.now) 0 ps) (sym pushed)
+          (planned_more g.L.Door.Door.visits (g.L.Listener.doors c.args.listener.now) 0 places place inv.planned
+          (subst (λ d. IsPlannedAt (g.L.Listener.doors c.args.listener.now) (0 + length places) (g.L.Door.Door.visits d)) (sym c.new.ensures)
+          (lends_planned (length places) (g.L.Listener.doors c.args.listener.now) (g.L.Listener.doors c.loop.listener) (g.L.Listener.doors c.door.new.self) (g.L.Door.Door.visits c.in_ok-door.door) inv.lends c.in_ok-door.ensures.lends)));
       new = subst (λ ps. All (λ p. IsNew (g.L.Door.Door.visits p.door) × (g.L.Door.Door.faults p.door ≡ 0)) ps) (sym pushed)
           (All-push (λ p. IsNew (g.L.Door.Door.visits p.door) × (g.L.Door.Door.faults p.door ≡ 0)) places place inv.new fresh);
       faults = omega (arith, inv.faults, c.door.ensures.never_falls);

@@ -1,5 +1,5 @@
 use Rattle.std.proofs.Common.{Err, ◌≡◌, ◌∙◌, inl, inr, refl, sym, subst, ap, true, ◌++◌, take, drop, length, map, All, arith}
-use Rattle.std.specs.Prelude.{nat_lt}
+use Rattle.std.specs.Prelude.{nat_lt, slice_index_or, ◌<◌}
 use Rattle.std.specs.List.{list_any}
 use Rattle.std.proofs.lemmas.List.{length-map}
 use Rattle.outside.specs.Faults.{Rose}
@@ -7,18 +7,18 @@ use Rattle.doors.specs.Visits.{IsNew}
 use Rattle.compress_server.specs.Seen.{output_of, listener_of}
 use Rattle.compress_server.specs.declared.ending.End.TheVariants.{Memory}
 use Rattle.compress_server.specs.Runs.{run_of, runs_of}
-use Rattle.compress_server.specs.Serve.{IsWritten, history_line, LendsMany, AreLent, TakesBackAll, had_no_memory, had_door_fault, service_end}
+use Rattle.compress_server.specs.Serve.{IsWritten, history_line, AreLent, HasGivenSince, TakesBackAll, had_no_memory, had_door_fault, service_end}
 use Rattle.compress_server.proofs.EndFacts.{rose_later}
-use Rattle.compress_server.proofs.PlaceFacts.{rose_stays, lent_of}
-use Rattle.compress_server.proofs.ServiceFacts.{unbegun_at_once, unbegun_back, written_anew, seats_returned, any_run, some_failed, fault_told, why_trouble}
+use Rattle.compress_server.proofs.PlaceFacts.{rose_stays, lent_of, have_given, bound_given}
+use Rattle.compress_server.proofs.ServiceFacts.{unbegun_at_once, unbegun_back, written_anew, seats_returned, any_run, some_failed, why_trouble}
 use Rattle.compress_server.proofs.serve.Seating.serve_at.Goals as goal
 
 pub returns-in_default-clause-serves : goal.returns-in_default-clause-serves
-returns-in_default-clause-serves g c = inl (unbegun_at_once g.L.Door.Door.visits c.args.house _ _ _ _ refl (inl refl))
+returns-in_default-clause-serves g c = inl (unbegun_at_once g.L.Door.Door.visits c.args.self.now.words.now.address.now c.args.house _ _ _ _ refl (inl refl))
 
 pub returns-in-Err-clause-serves : goal.returns-in-Err-clause-serves
 returns-in-Err-clause-serves g c =
-    inl (unbegun_at_once g.L.Door.Door.visits c.args.house _ _ _ _ c.in-Err.ensures.same
+    inl (unbegun_at_once g.L.Door.Door.visits c.args.self.now.words.now.address.now c.args.house _ _ _ _ c.in-Err.ensures.nothing
     (why_trouble c.in-Err.trouble c.end_of_trouble.result (Rose (g.L.Listener.faults c.args.listener.now) (g.L.Listener.faults c.bind.new.self)) c.end_of_trouble.ensures
     (λ e. c.in-Err.ensures.failed (ap (λ t. Err t) e))))
 
@@ -26,8 +26,7 @@ pub returns-in-Err-take_places-clause-serves : goal.returns-in-Err-take_places-c
 returns-in-Err-take_places-clause-serves g c =
     let faults = g.L.Listener.faults in
     let told = c.in-Err-take_places.ensures in
-    let lends = subst (λ d. LendsMany (length c.take_places.new.places.items) d (g.L.Listener.doors c.take_places.new.listener)) c.in_default-bind.ensures.same told.lends in
-    inl (unbegun_back g.L.Door.Door.visits c.args.house c.args.house (output_of (g.K.Sink.taken c.args.output.now) (g.K.Sink.faults c.args.output.now)) (listener_of (g.L.Listener.doors c.args.listener.now) (faults c.args.listener.now)) (listener_of (g.L.Listener.doors c.give_back.new.listener) (faults c.give_back.new.listener)) (g.L.Listener.doors c.take_places.new.listener) c.take_places.new.places.items c.end_of_trouble-in-Err-take_places.result refl lends c.give_back.ensures.returned (λ k other lt. (told.new k other lt).0)
+    inl (unbegun_back g.L.Door.Door.visits c.args.self.now.words.now.address.now c.args.house c.args.house (output_of (g.K.Sink.taken c.args.output.now) (g.K.Sink.faults c.args.output.now)) (listener_of (g.L.Listener.doors c.args.listener.now) (faults c.args.listener.now)) (listener_of (g.L.Listener.doors c.give_back.new.listener) (faults c.give_back.new.listener)) (g.L.Listener.doors c.bind.new.self) (g.L.Listener.doors c.take_places.new.listener) c.take_places.new.places.items c.end_of_trouble-in-Err-take_places.result refl c.in_default-bind.ensures.binds told.lends c.give_back.ensures.returned (λ k other lt. (told.new k other lt).0)
     (why_trouble c.in-Err-take_places.trouble c.end_of_trouble-in-Err-take_places.result (Rose (faults c.args.listener.now) (faults c.give_back.new.listener)) c.end_of_trouble-in-Err-take_places.ensures
     (λ e. rose_stays (faults c.args.listener.now) (faults c.take_places.new.listener) (faults c.give_back.new.listener) (omega (arith, c.in_default-bind.ensures.never_falls, told.never_falls)) c.give_back.ensures.never_falls
     (rose_later (faults c.args.listener.now) (faults c.bind.new.self) (faults c.take_places.new.listener) c.in_default-bind.ensures.never_falls (told.failed (ap (λ t. Err t) e))))))
@@ -44,7 +43,6 @@ returns-in-Ok-serve_house-clause-serves g c =
     let told = c.in_default-take_places.ensures in
     let out = c.in-Ok-serve_house.ensures in
     let back = c.give_back-in-Ok-serve_house.ensures in
-    let lends = subst (λ d. LendsMany (length c.take_places.new.places.items) d (g.L.Listener.doors c.take_places.new.listener)) c.in_default-bind.ensures.same told.lends in
     let begun = output_of (g.K.Sink.taken c.args.output.now) (g.K.Sink.faults c.args.output.now) in
     let taken = output_of (g.K.Sink.taken c.tell_history-written.new.output) (g.K.Sink.faults c.tell_history-written.new.output) in
     let old = c.take_places.new.places in
@@ -57,15 +55,18 @@ returns-in-Ok-serve_house-clause-serves g c =
     inr (record {
       seats = _;
       served = out.served;
-      returned = seats_returned visits _ _ _ (length old.items) places (count ∙ sym told.all) lends taken_back;
+      returned = seats_returned visits c.args.self.now.words.now.address.now _ _ _ _ (length old.items) places (count ∙ sym told.all) c.in_default-bind.ensures.binds told.lends taken_back;
+      given = bound_given visits (g.L.Listener.doors c.args.listener.now) c.args.self.now.words.now.address.now (g.L.Listener.doors c.bind.new.self) c.in_default-bind.ensures.binds 0 (runs_of places)
+          (have_given visits (g.L.Listener.doors c.bind.new.self) 0 old.items places (count ∙ sym told.all) told.planned
+          (λ k other lt. subst (λ ps. HasGivenSince (visits (slice_index_or ps k other).door) (visits (slice_index_or places k other).door)) c.deref_mut.ensures.value (out.given k other (subst (λ ps. k < length ps) (sym c.deref_mut.ensures.value) lt))));
       written = c.tell_history-written.result;
       wrote = subst (λ n. IsWritten begun taken (history_line n) c.tell_history-written.result) c.length.ensures.length c.tell_history-written.ensures;
       told = ended ∙ (ap (λ b. service_end b (list_any (λ place. had_door_fault place.end) places) c.is_stopped.result c.tell_history-written.result) (any_run visits had_no_memory places)
           ∙ (ap (λ b. service_end (list_any (λ seat. had_no_memory seat.end) (runs_of places)) b c.is_stopped.result c.tell_history-written.result) (any_run visits had_door_fault places)
           ∙ ap (λ b. service_end (list_any (λ seat. had_no_memory seat.end) (runs_of places)) (list_any (λ seat. had_door_fault seat.end) (runs_of places)) b c.tell_history-written.result) c.is_stopped.ensures.stopped));
-      counted = λ e.
+      counted = λ any.
           rose_later (faults c.args.listener.now) (faults c.take_places.new.listener) (faults c.give_back-in-Ok-serve_house.new.listener) (omega (arith, c.in_default-bind.ensures.never_falls, told.never_falls))
-          (failed (some_failed visits g.L.Door.Door.faults places out.counted (fault_told _ _ _ _ (sym ended ∙ e))));
+          (failed (some_failed visits g.L.Door.Door.faults places out.counted (any_run visits had_door_fault places ∙ any)));
     })
 
 -- the places are those that were taken
@@ -81,10 +82,9 @@ give_back-requires-in-Err-serve_house-clause-lent g c κs within =
 pub returns-in-Err-serve_house-clause-serves : goal.returns-in-Err-serve_house-clause-serves
 returns-in-Err-serve_house-clause-serves g c =
     let told = c.in_default-take_places.ensures in
-    let lends = subst (λ d. LendsMany (length c.take_places.new.places.items) d (g.L.Listener.doors c.take_places.new.listener)) c.in_default-bind.ensures.same told.lends in
     let old = c.take_places.new.places in
     let places = c.serve_house.new.places in
     let same : places ≡ old.items = c.in-Err-serve_house.ensures.untouched ∙ c.deref_mut.ensures.value in
     let anew : take old.len (places ++ drop (length places) old.items) ≡ old.items = written_anew old.len places old.items (ap length same ∙ sym old.ok.0) ∙ same in
     let taken_back = subst (λ ps. TakesBackAll g.L.Door.Door.visits (g.L.Listener.doors c.take_places.new.listener) (g.L.Listener.doors c.give_back-in-Err-serve_house.new.listener) (map (λ place. place.door) ps)) anew c.give_back-in-Err-serve_house.ensures.returned in
-    inl (unbegun_back g.L.Door.Door.visits c.args.house c.in-Err-serve_house.house (output_of (g.K.Sink.taken c.args.output.now) (g.K.Sink.faults c.args.output.now)) (listener_of (g.L.Listener.doors c.args.listener.now) (g.L.Listener.faults c.args.listener.now)) (listener_of (g.L.Listener.doors c.give_back-in-Err-serve_house.new.listener) (g.L.Listener.faults c.give_back-in-Err-serve_house.new.listener)) (g.L.Listener.doors c.take_places.new.listener) c.take_places.new.places.items Memory c.in-Err-serve_house.ensures.refused lends taken_back (λ k other lt. (told.new k other lt).0) (inl refl))
+    inl (unbegun_back g.L.Door.Door.visits c.args.self.now.words.now.address.now c.args.house c.in-Err-serve_house.house (output_of (g.K.Sink.taken c.args.output.now) (g.K.Sink.faults c.args.output.now)) (listener_of (g.L.Listener.doors c.args.listener.now) (g.L.Listener.faults c.args.listener.now)) (listener_of (g.L.Listener.doors c.give_back-in-Err-serve_house.new.listener) (g.L.Listener.faults c.give_back-in-Err-serve_house.new.listener)) (g.L.Listener.doors c.bind.new.self) (g.L.Listener.doors c.take_places.new.listener) c.take_places.new.places.items Memory c.in-Err-serve_house.ensures.refused c.in_default-bind.ensures.binds told.lends taken_back (λ k other lt. (told.new k other lt).0) (inl refl))

@@ -10,7 +10,8 @@ use Rattle.session.specs.Serving.{of_pass}
 use Rattle.seats.specs.Final.{seated}
 use Rattle.seats.proofs.VisitFacts.{rose_from_none}
 use Rattle.compress_server.specs.Runs.{run_of}
-use Rattle.compress_server.proofs.ServeFacts.{seats_of, seat_stands, seated_at}
+use Rattle.compress_server.specs.Serve.{final_of}
+use Rattle.compress_server.proofs.ServeFacts.{seats_of, seat_stands, seated_at, given_since}
 use Rattle.compress_server.proofs.serve.Seating.serve_house.Goals as goal
 
 -- ---- the house may go to another thread, as its disk may
@@ -41,6 +42,9 @@ returns-clause-served g c =
           let there : k < length c.args.places.now = omega (arith, lt, same) in
           seat_stands most (lock_of pass) v w (k + 1) (seated (of_pass pass) (k + 1)) _ _ _ (seated_at v pass (k + 1) e.figures e.seen (e.stop ∙ c.requires.running)) (c.requires.new k other there).0 (done.seats k other there).served);
     }
+
+pub returns-clause-given : goal.returns-clause-given
+returns-clause-given g c = λ k other there. given_since (final_of c.serve.result) (seated (of_pass c.in-Ok.lock.1) (k + 1)) _ _ _ _ (c.requires.new k other there).0 (c.serve.ensures.seats k other there).served
 
 pub returns-clause-counted : goal.returns-clause-counted
 returns-clause-counted g c = λ k other lt is.
