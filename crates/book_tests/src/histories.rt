@@ -2,15 +2,18 @@
 
 ghost use Rattle.std.specs.Prelude.{◌≡◌, List, [], ◌∷◌};
 ghost use Rattle.command_types.specs.declared.trade.TradeState.TheVariants.{Live, Ended};
+ghost use Rattle.command_types.specs.Folds.{folded};
+ghost use Rattle.command_types.specs.History.{end_of};
 ghost use Rattle.trade_history.specs.Book.{executions_of};
 ghost use Rattle.trade_history.specs.Examples.{ring_compressed, ring_waiting, ring_with_later_trade, ring_broken, ring_declined, chain_unchanged, chain_compressed, lines_of};
 
 use std::test::Fail;
 use trade_history::{
     answers_tell_executions, begun_limits_stand, empty_is_closed, executions_are_listed,
-    others_are_not_listed, others_change_one_row, own_rows_are_the_historys, plans_execute_whole,
-    positions_are_changes, search_finds_executions, trades_are_the_historys,
-    trades_follow_at_each_position, versions_are_posted_once,
+    executions_stay_in_folds, folds_are_closed, folds_go_on, others_are_not_listed,
+    others_change_one_row, own_rows_are_the_historys, plans_execute_whole, positions_are_changes,
+    search_finds_executions, trades_are_the_historys, trades_follow_at_each_position,
+    trades_stay_in_folds, versions_are_posted_once,
 };
 
 fn the_last_vote_executes()
@@ -20,6 +23,12 @@ fn the_last_vote_executes()
         ∷ record { number = 2; seller = 1; buyer = 2; amount = 10; state = Ended }
         ∷ record { number = 3; seller = 2; buyer = 0; amount = 10; state = Ended }
         ∷ [] }
+{}
+
+fn a_fold_keeps_the_trades_and_no_execution()
+    ensures place { end_of (folded ring_compressed) ≡ 12 }
+    ensures executions { executions_of (folded ring_compressed) ≡ [] }
+    ensures trades { lines_of (folded ring_compressed) ≡ lines_of ring_compressed }
 {}
 
 fn a_missing_vote_executes_nothing()
@@ -69,6 +78,7 @@ fn a_plan_cuts_ends_and_makes()
 #[test]
 fn small_histories_execute_as_written(_rt: HostRuntime) -> Result<(), Fail> {
     the_last_vote_executes();
+    a_fold_keeps_the_trades_and_no_execution();
     a_missing_vote_executes_nothing();
     a_later_trade_stays();
     an_ended_trade_stops_the_execution();
@@ -93,5 +103,9 @@ fn the_laws_can_be_called(_rt: HostRuntime) -> Result<(), Fail> {
     trades_follow_at_each_position();
     versions_are_posted_once();
     begun_limits_stand();
+    folds_go_on();
+    folds_are_closed();
+    trades_stay_in_folds();
+    executions_stay_in_folds();
     Ok(())
 }

@@ -3,12 +3,17 @@
 
 ghost use Rattle.std.specs.Prelude.{◌≡◌, List, [], ◌∷◌, pos, negsuc};
 ghost use Rattle.command_types.specs.declared.answer.Answer.TheVariants.{Executed, Nothing};
+ghost use Rattle.command_types.specs.Folds.{folded};
 ghost use Rattle.command_types.specs.History.{IsLegal};
 ghost use Rattle.trade_history.specs.Examples.{three_dealers, ring_compressed, ring_with_later_trade};
-ghost use Rattle.cycle_laws.specs.Histories.{IsMarketHistory};
+ghost use Rattle.cycle_laws.specs.Histories.{IsMarketBase, IsMarketHistory};
 ghost use Rattle.cycle_laws.specs.Examples.{chain_in_hybrid, chain_in_conservative, nets_after, gross_after, answers_after};
 
-use cycle_laws::{executions_follow_the_posting, nets_stay_at_executions, postings_are_least};
+use cycle_laws::{
+    empty_begins_markets, empty_is_writable, executions_follow_the_posting, folds_are_writable,
+    folds_begin_markets, nets_stay_at_executions, postings_are_least, writable_comes_back,
+    writable_fits,
+};
 use std::test::Fail;
 
 fn a_ring_falls_to_nothing()
@@ -51,7 +56,8 @@ fn these_histories_are_legal()
 {}
 
 fn the_laws_have_a_history()
-    ensures { IsMarketHistory three_dealers chain_in_hybrid }
+    ensures first { IsMarketHistory three_dealers chain_in_hybrid }
+    ensures later { IsMarketBase three_dealers (folded chain_in_hybrid).base.state }
 {}
 
 #[test]
@@ -70,5 +76,11 @@ fn the_laws_can_be_called(_rt: HostRuntime) -> Result<(), Fail> {
     nets_stay_at_executions();
     postings_are_least();
     executions_follow_the_posting();
+    empty_begins_markets();
+    folds_begin_markets();
+    empty_is_writable();
+    folds_are_writable();
+    writable_fits();
+    writable_comes_back();
     Ok(())
 }

@@ -19,8 +19,8 @@ use noted::NotedDesk;
 use std::alloc::Global;
 use std::sync::Wait;
 use std::test::Fail;
-use std::thread::{Threads, join};
-use threads::{gather, many, split_off, work};
+use std::thread::Threads;
+use threads::{both, gather, split_off, work};
 
 fn noted_desk(alloc: Global) -> Result<NotedDesk, Fail>
     ensures { IfOk result (λ desk. end_of desk.desk ≡ 0) }
@@ -76,25 +76,8 @@ fn two_threads<R: Threads + Wait + Sync>(rt: &R, alloc: Global) -> Result<bool, 
     let Ok((turns, mut pass)) = Turns::new(alloc, noted_desk(alloc)?) else {
         return Ok(false);
     };
-    let mut other = turns.split(&mut pass);
-    let shared = &turns;
-    let ((mut pass, one), (other, two)) = join(
-        rt,
-        || -> (Pass, u64)
-            requires { IsPassOf shared.now pass }
-            ensures { IsPassOf shared.entry.now result.0 }
-        {
-            let done = many(rt, shared, &mut pass, 2000);
-            (pass, done)
-        },
-        || -> (Pass, u64)
-            requires { IsPassOf shared.now other }
-            ensures { IsPassOf shared.entry.now result.0 }
-        {
-            let done = many(rt, shared, &mut other, 2000);
-            (other, done)
-        },
-    );
+    let other = turns.split(&mut pass);
+    let ((mut pass, one), (other, two)) = both(rt, &turns, pass, other, 2000);
     turns.join(&mut pass, other);
     let desk = turns.close(rt, pass);
     let noted = are_in_turn(&desk.notes, 0, 2000) && are_in_turn(&desk.notes, 1, 2000);

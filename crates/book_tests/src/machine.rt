@@ -1,23 +1,16 @@
 //! The desk over three dealers, their operator and one product: rows of commands, each with its party, the position of
-//! its reply and its answer.
+//! its reply and its answer. What lines of a session show stands in transcripts.
 
 pub mod answers;
-mod broken;
 pub mod commands;
-mod cycles;
-mod drafts;
-mod greetings;
-mod postings;
-mod refusals;
 mod starts;
-mod trades;
-mod votes;
+mod unsaid;
 pub mod words;
 
 ghost use Rattle.std.specs.Prelude.{◌≡◌, IfOk};
 ghost use Rattle.command_types.specs.History.{end_of};
 
-use crate::market::{three_dealers, with_customer};
+use crate::market::three_dealers;
 use answers::{Told, is_told};
 use command_types::{Ask, Desk};
 use commands::{Said, command_of};
@@ -56,23 +49,6 @@ pub fn goes(alloc: Global, desk: &mut PlainDesk, rows: &[Row]) -> Result<bool, F
     Ok(true)
 }
 
-/// The same where nobody has greeted, at the start of the history.
-pub fn goes_unnamed(
-    alloc: Global,
-    desk: &mut PlainDesk,
-    rows: &[(Said, Told)],
-) -> Result<bool, Fail> {
-    for (said, told) in rows {
-        let Some(what) = command_of(alloc, *said)? else {
-            return Ok(false);
-        };
-        if !is_answered(desk, Ask { by: None, what }, 0, *told) {
-            return Ok(false);
-        }
-    }
-    Ok(true)
-}
-
 fn goes_all(alloc: Global, desk: &mut PlainDesk, tables: &[&[Row]]) -> Result<bool, Fail> {
     for rows in tables {
         if !goes(alloc, desk, rows)? {
@@ -85,12 +61,5 @@ fn goes_all(alloc: Global, desk: &mut PlainDesk, tables: &[&[Row]]) -> Result<bo
 /// Whether a desk of the three dealers answers the rows of these tables so, one after the other.
 pub fn plays(alloc: Global, tables: &[&[Row]]) -> Result<bool, Fail> {
     let mut desk = empty_desk(alloc)?;
-    goes_all(alloc, &mut desk, tables)
-}
-
-/// The same where the customer D is a member too.
-pub fn plays_with_customer(alloc: Global, tables: &[&[Row]]) -> Result<bool, Fail> {
-    let machine = Machine::new(alloc, with_customer(alloc)?)?;
-    let mut desk = PlainDesk::new(alloc, machine);
     goes_all(alloc, &mut desk, tables)
 }

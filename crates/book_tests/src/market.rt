@@ -1,4 +1,4 @@
-//! The dealers A, B and C, the customer D and their operator with one product, and networks between the dealers.
+//! The dealers A, B and C and their operator with one product, and networks between the dealers.
 
 ghost use Rattle.std.specs.Prelude.{◌≡◌, [], ◌∷◌, IfOk, IsTrue, All, length};
 ghost use Rattle.units_core.specs.Name.{is_name};
@@ -64,17 +64,6 @@ pub fn three_dealers(alloc: Global) -> Result<Roster, AllocError>
     Ok(Roster::new(members, products, Some(operator())))
 }
 
-/// The same roster with a fourth member, the customer D.
-pub fn with_customer(alloc: Global) -> Result<Roster, AllocError> {
-    let a = member(named(b"A"), Role::Dealer, named(b"KA"));
-    let b = member(named(b"B"), Role::Dealer, named(b"KB"));
-    let c = member(named(b"C"), Role::Dealer, named(b"KC"));
-    let d = member(named(b"D"), Role::Customer, named(b"KD"));
-    let members = Vec::from_array(alloc, [a, b, c, d])?;
-    let products = Vec::from_array(alloc, [product()?])?;
-    Ok(Roster::new(members, products, Some(operator())))
-}
-
 /// A row: seller, buyer and amount.
 pub type Owed = (MemberNo, MemberNo, u64);
 
@@ -106,12 +95,6 @@ fn of_two(alloc: Global) -> Result<Solution, Fail> {
     Ok(Solution::new(Network::from_rows(2, Vec::new(alloc))?, potentials))
 }
 
-// No amounts between four members.
-fn of_four(alloc: Global) -> Result<Solution, Fail> {
-    let potentials = Vec::from_array(alloc, [0, 0, 0, 0])?;
-    Ok(Solution::new(Network::from_rows(4, Vec::new(alloc))?, potentials))
-}
-
 /// A solution that is posted. Where potentials are not told, they are 0.
 #[derive(Clone, Copy)]
 pub enum Posted {
@@ -119,15 +102,7 @@ pub enum Posted {
     Empty,
     /// No amounts between two members.
     OfTwo,
-    /// No amounts between four members.
-    OfFour,
-    /// 4 in each pair of the ring, with potentials of 1 for B and C.
-    EvenRing,
-    /// The same with a potential of 2 for B.
-    SteepRing,
-    /// The chain as it is: what A owes B and B owes C, with potentials of 2 for A and 1 for B.
-    WholeChain,
-    /// The chain as it is, with potentials that don't certify it.
+    /// The chain as it is: what A owes B and B owes C, with potentials that don't certify it.
     SlackChain,
     /// The chain's least network, with a potential of 1 for A.
     ShortChain,
@@ -141,10 +116,6 @@ pub fn solution_of(alloc: Global, posted: Posted) -> Result<Solution, Fail> {
     match posted {
         Posted::Empty => solution(alloc, [0, 0, 0], &[]),
         Posted::OfTwo => of_two(alloc),
-        Posted::OfFour => of_four(alloc),
-        Posted::EvenRing => solution(alloc, [0, 1, 1], &[(A, B, 4), (B, C, 4), (C, A, 4)]),
-        Posted::SteepRing => solution(alloc, [0, 2, 1], &[(A, B, 4), (B, C, 4), (C, A, 4)]),
-        Posted::WholeChain => solution(alloc, [2, 1, 0], &[(A, B, 10), (B, C, 7)]),
         Posted::SlackChain => solution(alloc, [0, 0, 0], &[(A, B, 10), (B, C, 7)]),
         Posted::ShortChain => solution(alloc, [1, 0, 0], &[(A, B, 3), (A, C, 7)]),
         Posted::Less => solution(alloc, [1, 0, 0], &[(A, B, 3)]),

@@ -1,9 +1,11 @@
 //! Appends, and what a crash in one leaves.
 
-ghost use Rattle.std.specs.Prelude.{◌<◌, ◌^◌, length};
+ghost use Rattle.std.specs.Prelude.{◌<◌, ◌≤◌, ◌^◌, length, Some, OnOk};
+ghost use Rattle.journal_core.specs.Journal.{disk_of, size_of, IsReady};
 
 use crate::disks::{ONE, append_to, disk_of, holds, is_walked};
-use journal_core::{Journal, walk};
+use journal_core::{Frame, Journal, walk};
+use outside::MemoryDisk;
 use std::alloc::Global;
 use std::test::Fail;
 
@@ -43,6 +45,42 @@ fn a_record_that_was_appended_is_found_after_a_crash(rt: HostRuntime) -> Result<
     let mut both = ONE_AND_AB;
     both[38] = 1;
     assert!(rt; is_appended(alloc, &ONE, b"AB", 38, &both)?);
+    Ok(())
+}
+
+/// Fills a frame with a record, and appends it.
+fn fill_and_append(
+    journal: &mut Journal<MemoryDisk>,
+    frame: &mut Frame,
+    record_bytes: &[u8],
+) -> Result<(), Fail>
+    requires ready { IsReady (Some (disk_of journal.old).history) (size_of journal.old) }
+    requires short { length record_bytes.now ≤ 64 }
+    ensures ready { OnOk result (IsReady (Some (disk_of journal.new).history) (size_of journal.new)) }
+{
+    if !journal.fits(record_bytes.len() as u64) {
+        return Err(Fail::new("the record does not fit"));
+    }
+    frame.fill(record_bytes);
+    journal.append(frame)?;
+    Ok(())
+}
+
+#[test]
+fn a_frame_is_filled_with_one_record_after_another(rt: HostRuntime) -> Result<(), Fail> {
+    let alloc = rt.alloc();
+    let mut disk = disk_of(alloc, b"")?;
+    let end = walk(alloc, &mut disk)?.end;
+    let Ok(mut journal) = Journal::start(disk, end) else {
+        return Err(Fail::new("the journal does not start"));
+    };
+    let mut frame = Frame::short(alloc)?;
+    fill_and_append(&mut journal, &mut frame, b"ABC")?;
+    fill_and_append(&mut journal, &mut frame, b"")?;
+    fill_and_append(&mut journal, &mut frame, b"D")?;
+    let mut disk = journal.end().crash();
+    let file = b"OTCJRNL1\x01\x03\0\0\0ABC\x01\0\0\0\0\x01\x01\0\0\0D\0";
+    assert!(rt; holds(&mut disk, file)?);
     Ok(())
 }
 

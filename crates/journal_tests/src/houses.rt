@@ -39,7 +39,7 @@ pub fn day(rt: &impl Abort, text: &[u8]) -> Day {
 }
 
 /// Dealers A, B and C with the keys KA, KB and KC, the operator OPS with KO, and the product P.
-fn three_dealers(alloc: Global, maturity: Day) -> Result<Roster, AllocError> {
+pub fn three_dealers(alloc: Global, maturity: Day) -> Result<Roster, AllocError> {
     let a = dealer(named(b"A"), named(b"KA"));
     let b = dealer(named(b"B"), named(b"KB"));
     let c = dealer(named(b"C"), named(b"KC"));

@@ -1,8 +1,8 @@
 //! What opening a house finds.
 
 use crate::disks::{ONE, TWO};
-use crate::houses::{content_of, disk_below, house_on, large_disk_of, opened};
-use house::OpenFault;
+use crate::houses::{content_of, day, disk_below, house_on, large_disk_of, opened, three_dealers};
+use house::{Executions, OpenFault, recover_noting};
 use outside::Disk;
 use std::alloc::Global;
 use std::process::Abort;
@@ -48,6 +48,38 @@ fn a_journal_has_its_entries_or_its_damage(rt: HostRuntime) -> Result<(), Fail> 
     ];
     for (file, answer) in cases {
         assert!(rt; answer_to(&rt, rt.alloc(), file)? == answer, "{answer:?}");
+    }
+    Ok(())
+}
+
+/// Of a disk with these bytes and no house on it: how many changes it stands for, where their history ends, and where its
+/// journal goes on; or why it stands for none.
+fn recovered_of(
+    rt: &impl Abort,
+    alloc: Global,
+    bytes: &[u8],
+) -> Result<Result<[u64; 3], OpenFault>, Fail> {
+    let roster = three_dealers(alloc, day(rt, b"2031-06-30"))?;
+    let mut disk = large_disk_of(alloc, bytes)?;
+    match recover_noting(alloc, roster, &mut disk, Executions::none(alloc)) {
+        Ok(read) => Ok(Ok([read.past.count(), read.past.length(), read.end])),
+        Err(fault) => Ok(Err(fault)),
+    }
+}
+
+#[test]
+fn a_history_is_recovered_without_a_house(rt: HostRuntime) -> Result<(), Fail> {
+    let cases = [
+        (b"".as_slice(), Ok([0, 0, 9])),
+        (ONE.as_slice(), Ok([1, 1, 39])),
+        (TWO.as_slice(), Ok([2, 2, 59])),
+        (&ONE[..30], Err(OpenFault::Damaged { offset: 8 })),
+    ];
+    for (file, answer) in cases {
+        assert!(rt;
+            recovered_of(&rt, rt.alloc(), file)? == answer,
+            "{answer:?}"
+        );
     }
     Ok(())
 }

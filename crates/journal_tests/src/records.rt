@@ -5,7 +5,7 @@ ghost use Rattle.command_types.specs.Machine.{changes};
 ghost use Rattle.command_types.specs.Spelling.{posted, most_solutions};
 
 use command_types::{Ask, Entry, Level, Mode, Side, What};
-use record_codec::{decode, encode, length};
+use record_codec::{decode, encode, encode_short, length};
 use std::alloc::{AllocError, Global};
 use std::test::Fail;
 use units_core::{Amount, Day, Name};
@@ -72,6 +72,49 @@ fn changes_of_numbers_are_written(rt: HostRuntime) -> Result<(), Fail> {
     assert!(rt; is_written(alloc, 0, b"B", What::End { trade: 1 }, &of_one_number(3))?);
     assert!(rt; is_written(alloc, 0, b"B", What::Hold { trade: 1 }, &of_one_number(4))?);
     assert!(rt; is_written(alloc, 0, b"B", What::Decline { cycle, version }, &declined)?);
+    Ok(())
+}
+
+/// Whether this party's ACCEPT from that seat has the same record without memory as with it, of this length.
+fn is_written_alike(
+    alloc: Global,
+    seat: u32,
+    by: &[u8],
+    numbers: (u64, u64),
+    size: usize,
+) -> Result<bool, Fail> {
+    let by = named(by)?;
+    let (cycle, version) = numbers;
+    let mut into = [0xff; 64];
+    let written = encode_short(seat, &by, cycle, version, &mut into);
+    let entry = Entry {
+        seat,
+        ask: Ask {
+            by: Some(by),
+            what: What::Accept { cycle, version },
+        },
+    };
+    let bytes = encode(alloc, &entry)?;
+    Ok(written == size && into.get(..size) == Some(bytes.as_slice()))
+}
+
+#[test]
+fn an_accept_is_written_without_memory(rt: HostRuntime) -> Result<(), Fail> {
+    let mut into = [0xff; 64];
+    let size = encode_short(0, &named(b"B")?, 1, 2, &mut into);
+    assert!(rt; into.get(..size) == Some(ACCEPT.as_slice()));
+    let most = (u64::MAX, u64::MAX);
+    let cases = [
+        (0, b"B".as_slice(), (1, 2), 23),
+        (1_000_000, b"MEMBER-2".as_slice(), (256, 0), 30),
+        (u32::MAX, b"ABCDEFGHIJKLMNOP".as_slice(), most, 38),
+    ];
+    for (seat, by, numbers, size) in cases {
+        assert!(rt;
+            is_written_alike(rt.alloc(), seat, by, numbers, size)?,
+            "{size}"
+        );
+    }
     Ok(())
 }
 

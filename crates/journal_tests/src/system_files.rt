@@ -2,7 +2,7 @@
 
 use crate::disks::{append_to, count_of};
 use journal_core::walk;
-use outside::{Disk, FileDisk};
+use outside::{Access, Disk, FileDisk};
 use std::fs;
 use std::test::Fail;
 
@@ -15,15 +15,15 @@ fn a_journal_over_a_file_is_found_again(rt: HostRuntime) -> Result<(), Fail> {
     let alloc = rt.alloc();
     let _ = fs::remove_dir_all(&rt, FOLDER);
     fs::create_dir(&rt, FOLDER)?;
-    let mut disk = FileDisk::new(rt);
+    let mut disk = FileDisk::new(rt, Access::Write)?;
     disk.attach(FILE)?;
     let (_, answer) = append_to(alloc, disk, b"AB")?;
     assert_eq!(rt; answer, Ok(()));
-    let mut disk = FileDisk::new(rt);
+    let mut disk = FileDisk::new(rt, Access::Write)?;
     disk.attach(FILE)?;
     let (_, answer) = append_to(alloc, disk, b"C")?;
     assert_eq!(rt; answer, Ok(()));
-    let mut disk = FileDisk::new(rt);
+    let mut disk = FileDisk::new(rt, Access::Write)?;
     disk.attach(FILE)?;
     let walked = walk(alloc, &mut disk)?;
     assert_eq!(rt; (count_of(&walked), walked.end), (2, 22));

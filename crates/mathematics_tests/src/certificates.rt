@@ -24,21 +24,23 @@ const CHAIN: [Sale; 2] = [(0, 1, 10), (1, 2, 7)];
 
 const STAR: [Sale; 4] = [(0, 4, 5), (3, 4, 5), (4, 1, 5), (4, 2, 5)];
 
-/// Whether this clash of a new network and its potentials is told first, or none.
-fn is_told(
-    alloc: Global,
-    market: Market<'_>,
-    new: &[Sale],
-    potentials: &[i32],
-    clash: Option<Clash>,
-) -> Result<bool, Fail> {
+// A new network, its potentials, and the clash that is told of them first, or none.
+type Told<'a> = (&'a [Sale], &'a [i32], Option<Clash>);
+
+/// Whether each of these is told so of a market.
+fn are_told(alloc: Global, market: Market<'_>, cases: &[Told<'_>]) -> Result<bool, Fail> {
     let limits = limits_of(alloc, market.members, market.bounds)?;
     let old = network_of(alloc, market.members, market.sales)?;
-    let new = network_of(alloc, market.members, new)?;
-    if potentials.len() != usize::from(market.members) {
-        return Ok(false);
+    for &(new, potentials, clash) in cases {
+        let new = network_of(alloc, market.members, new)?;
+        if potentials.len() != usize::from(market.members) {
+            return Ok(false);
+        }
+        if check(&limits, &old, &new, potentials) != clash {
+            return Ok(false);
+        }
     }
-    Ok(check(&limits, &old, &new, potentials) == clash)
+    Ok(true)
 }
 
 /// Whether potentials give this bound, or none.
@@ -56,94 +58,117 @@ fn has_bound(
     Ok(bound(&limits, &old, potentials) == least)
 }
 
+/// Whether each of these potentials gives its market's bound, or none.
+fn have_bounds(alloc: Global, cases: &[(Market<'_>, &[i32], Option<i128>)]) -> Result<bool, Fail> {
+    for &(market, potentials, least) in cases {
+        if !has_bound(alloc, market, potentials, least)? {
+            return Ok(false);
+        }
+    }
+    Ok(true)
+}
+
+const LEAST: &[Sale] = &[(0, 1, 4), (1, 2, 4), (2, 0, 4)];
+
+const SLACK: Option<Clash> = Some(Clash::Slack {
+    seller: 1,
+    buyer: 2,
+});
+
+const OPEN: Option<Clash> = Some(Clash::Open {
+    seller: 2,
+    buyer: 0,
+});
+
+const BELOW: Option<Clash> = Some(Clash::Below {
+    seller: 0,
+    buyer: 1,
+});
+
+const ABOVE: Option<Clash> = Some(Clash::Above {
+    seller: 1,
+    buyer: 2,
+});
+
+const NET: Option<Clash> = Some(Clash::Net { member: 0 });
+
+const OF_RING: &[Told<'static>] = &[
+    (LEAST, &[0, 2, 1], None),
+    (LEAST, &[0, 1, 1], SLACK),
+    (LEAST, &[0, 3, 2], OPEN),
+    (&[(0, 1, 3), (1, 2, 3), (2, 0, 3)], &[0, 2, 1], BELOW),
+    (&[(0, 1, 10), (1, 2, 11), (2, 1, 1)], &[0, 2, 1], ABOVE),
+    (&[(0, 1, 4), (1, 2, 5), (2, 0, 5)], &[0, 2, 1], NET),
+    (&[(0, 1, 4), (1, 2, 4), (2, 0, 3)], &[9, 2, 1], NET),
+];
+
 #[test]
 fn a_ring_with_a_floor_has_its_certificate(rt: HostRuntime) -> Result<(), Fail> {
-    let least = [(0, 1, 4), (1, 2, 4), (2, 0, 4)];
-    let slack = Clash::Slack {
-        seller: 1,
-        buyer: 2,
-    };
-    let open = Clash::Open {
-        seller: 2,
-        buyer: 0,
-    };
-    let below = Clash::Below {
-        seller: 0,
-        buyer: 1,
-    };
-    let above = Clash::Above {
-        seller: 1,
-        buyer: 2,
-    };
-    let net = Clash::Net { member: 0 };
-    let cases = [
-        (least, [0, 2, 1], None),
-        (least, [0, 1, 1], Some(slack)),
-        (least, [0, 3, 2], Some(open)),
-        ([(0, 1, 3), (1, 2, 3), (2, 0, 3)], [0, 2, 1], Some(below)),
-        ([(0, 1, 10), (1, 2, 11), (2, 1, 1)], [0, 2, 1], Some(above)),
-        ([(0, 1, 4), (1, 2, 5), (2, 0, 5)], [0, 2, 1], Some(net)),
-        ([(0, 1, 4), (1, 2, 4), (2, 0, 3)], [9, 2, 1], Some(net)),
-    ];
-    for (new, potentials, clash) in cases {
-        assert!(rt; is_told(rt.alloc(), RING, &new, &potentials, clash)?);
-    }
-    assert!(rt; has_bound(rt.alloc(), RING, &[0, 2, 1], Some(12))?);
+    let told = are_told(rt.alloc(), RING, OF_RING)?;
+    let bounded = has_bound(rt.alloc(), RING, &[0, 2, 1], Some(12))?;
+    assert!(rt; told && bounded);
     Ok(())
 }
+
+const KEPT: Market<'static> = Market {
+    members: 3,
+    sales: &CHAIN,
+    bounds: &[(0, 1, 0, Some(10)), (1, 2, 0, Some(7))],
+};
+
+const PASSED: Option<Clash> = Some(Clash::Open {
+    seller: 0,
+    buyer: 2,
+});
+
+const OF_OPEN_CHAIN: &[Told<'static>] = &[
+    (&[(0, 1, 3), (0, 2, 7)], &[1, 0, 0], None),
+    (&CHAIN, &[2, 1, 0], PASSED),
+];
 
 #[test]
 fn a_chain_is_least_until_its_pairs_may_grow(rt: HostRuntime) -> Result<(), Fail> {
-    let alloc = rt.alloc();
-    let kept = Market {
-        members: 3,
-        sales: &CHAIN,
-        bounds: &[(0, 1, 0, Some(10)), (1, 2, 0, Some(7))],
-    };
-    let pairs = unbounded(alloc, 3)?;
+    let pairs = unbounded(rt.alloc(), 3)?;
     let open = Market {
         bounds: &pairs,
-        ..kept
+        ..KEPT
     };
-    let shortened = [(0, 1, 3), (0, 2, 7)];
-    let clash = Clash::Open {
-        seller: 0,
-        buyer: 2,
-    };
-    let cases = [
-        (kept, CHAIN, [2, 1, 0], None, Some(17)),
-        (open, shortened, [1, 0, 0], None, Some(10)),
-        (open, CHAIN, [2, 1, 0], Some(clash), None),
+    let bounds: [(Market<'_>, &[i32], Option<i128>); 3] = [
+        (KEPT, &[2, 1, 0], Some(17)),
+        (open, &[1, 0, 0], Some(10)),
+        (open, &[2, 1, 0], None),
     ];
-    for (market, new, potentials, clash, least) in cases {
-        assert!(rt; is_told(alloc, market, &new, &potentials, clash)?);
-        assert!(rt; has_bound(alloc, market, &potentials, least)?);
-    }
+    let kept = are_told(rt.alloc(), KEPT, &[(&CHAIN, &[2, 1, 0], None)])?;
+    let told = are_told(rt.alloc(), open, OF_OPEN_CHAIN)?;
+    let bounded = have_bounds(rt.alloc(), &bounds)?;
+    assert!(rt; kept && told && bounded);
     Ok(())
 }
 
+const STEPS: &[i32] = &[1, 0, 0, 1, 0];
+
+const BACK: Option<Clash> = Some(Clash::Slack {
+    seller: 4,
+    buyer: 1,
+});
+
+const OF_STAR: &[Told<'static>] = &[
+    (&[(0, 1, 5), (3, 2, 5)], STEPS, None),
+    (&[(0, 2, 5), (3, 1, 5)], STEPS, None),
+    (&STAR, STEPS, BACK),
+];
+
 #[test]
 fn five_dealers_have_two_least_networks(rt: HostRuntime) -> Result<(), Fail> {
-    let alloc = rt.alloc();
-    let pairs = unbounded(alloc, 5)?;
+    let pairs = unbounded(rt.alloc(), 5)?;
     let market = Market {
         members: 5,
         sales: &STAR,
         bounds: &pairs,
     };
-    let clash = Clash::Slack {
-        seller: 4,
-        buyer: 1,
-    };
-    let cases = [
-        ([(0, 1, 5), (3, 2, 5)].as_slice(), None),
-        ([(0, 2, 5), (3, 1, 5)].as_slice(), None),
-        (STAR.as_slice(), Some(clash)),
-    ];
-    for (new, clash) in cases {
-        assert!(rt; is_told(alloc, market, new, &[1, 0, 0, 1, 0], clash)?);
-    }
-    assert!(rt; has_bound(alloc, market, &[1, 0, 0, 1, 0], Some(10))?);
+    let told = are_told(rt.alloc(), market, OF_STAR)?;
+    let bounded = has_bound(rt.alloc(), market, STEPS, Some(10))?;
+    assert!(rt; told && bounded);
     Ok(())
 }
 
@@ -218,14 +243,12 @@ fn a_bound_may_pass_64_bits(rt: HostRuntime) -> Result<(), Fail> {
     let spread = 4_294_967_295;
     let all = u64::MAX as i128;
     let costs = (spread + 1) * all - (spread - 1) * all;
-    let cases = [
-        (none, ends, Some(spread * MOST as i128)),
-        (narrow, ends, Some(MOST as i128)),
-        (widest, ends, None),
-        (widest, turned, Some(costs - spread * MOST as i128)),
+    let cases: [(Market<'_>, &[i32], Option<i128>); 4] = [
+        (none, &ends, Some(spread * MOST as i128)),
+        (narrow, &ends, Some(MOST as i128)),
+        (widest, &ends, None),
+        (widest, &turned, Some(costs - spread * MOST as i128)),
     ];
-    for (market, potentials, least) in cases {
-        assert!(rt; has_bound(rt.alloc(), market, &potentials, least)?);
-    }
+    assert!(rt; have_bounds(rt.alloc(), &cases)?);
     Ok(())
 }

@@ -65,15 +65,30 @@ fn are_least<R: Threads + Sync + AllocGlobal>(
     Ok(true)
 }
 
+const DEALERS: &[u8] =
+    b"name,role,key\nA,dealer,KA\nB,dealer,KB\nC,dealer,KC\nP,product,2031-06-30\n";
+
+const WITH_CUSTOMER: &[u8] =
+    b"name,role,key\nA,dealer,KA\nB,dealer,KB\nC,customer,KC\nP,product,2031-06-30\n";
+
+const CASES: &[(&[u8], Mode, Growing)] = &[
+    (DEALERS, Mode::Conservative, Growing::Nobody),
+    (WITH_CUSTOMER, Mode::Hybrid, Growing::AAndB),
+    (DEALERS, Mode::Hybrid, Growing::All),
+    (WITH_CUSTOMER, Mode::Free, Growing::All),
+];
+
+fn all_are_least<R: Threads + Sync + AllocGlobal>(rt: &R) -> Result<bool, Fail> {
+    for &(parties, mode, growing) in CASES {
+        if !are_least(rt, parties, mode, growing)? {
+            return Ok(false);
+        }
+    }
+    Ok(true)
+}
+
 #[test]
 fn no_network_of_three_members_has_less_gross(rt: HostRuntime) -> Result<(), Fail> {
-    let dealers =
-        b"name,role,key\nA,dealer,KA\nB,dealer,KB\nC,dealer,KC\nP,product,2031-06-30\n".as_slice();
-    let with_customer =
-        b"name,role,key\nA,dealer,KA\nB,dealer,KB\nC,customer,KC\nP,product,2031-06-30\n".as_slice();
-    assert!(rt; are_least(&rt, dealers, Mode::Conservative, Growing::Nobody)?);
-    assert!(rt; are_least(&rt, with_customer, Mode::Hybrid, Growing::AAndB)?);
-    assert!(rt; are_least(&rt, dealers, Mode::Hybrid, Growing::All)?);
-    assert!(rt; are_least(&rt, with_customer, Mode::Free, Growing::All)?);
+    assert!(rt; all_are_least(&rt)?);
     Ok(())
 }

@@ -71,8 +71,7 @@ fn suits(solution: &Solution, members: &[&[u16]], least: &[Sale]) -> bool {
     has_rows(solution.network(), least)
 }
 
-/// Whether a market has these parts, and these rows are its solution, both where the parts' solutions are put together and
-/// where the market is solved as a whole.
+/// Whether a market has these parts, and these rows are its solution where the parts' solutions are put together.
 fn is_solved_apart<R: Threads + Sync + AllocGlobal>(
     rt: &R,
     market: Market<'_>,
@@ -84,13 +83,23 @@ fn is_solved_apart<R: Threads + Sync + AllocGlobal>(
     let parts = split(rt.alloc(), problem.limits(), problem.network())?;
     let solutions = solve_all(rt, rt.alloc(), 2, parts.problems(), &solver, &OpenGate)?;
     let merged = merge(rt.alloc(), &parts, problem.network().members(), &solutions)?;
-    let mut problems = Vec::new(rt.alloc());
-    problems.push(problem)?;
+    Ok(are_parts(&parts, members) && suits(&merged, members, least))
+}
+
+/// Whether these rows are the solution of a market that is solved as a whole.
+fn is_solved<R: Threads + Sync + AllocGlobal>(
+    rt: &R,
+    market: Market<'_>,
+    members: &[&[u16]],
+    least: &[Sale],
+) -> Result<bool, Fail> {
+    let solver = PathSolver::new(rt.alloc());
+    let problems = Vec::from_array(rt.alloc(), [problem_of(rt.alloc(), market)?])?;
     let solved = solve_all(rt, rt.alloc(), 2, &problems, &solver, &OpenGate)?;
-    let Some(whole) = solved.first() else {
-        return Ok(false);
-    };
-    Ok(are_parts(&parts, members) && suits(&merged, members, least) && suits(whole, members, least))
+    match solved.first() {
+        Some(whole) => Ok(suits(whole, members, least)),
+        None => Ok(false),
+    }
 }
 
 #[test]
@@ -116,7 +125,8 @@ fn parts_are_solved_apart(rt: HostRuntime) -> Result<(), Fail> {
             sales,
             bounds,
         };
-        assert!(rt; is_solved_apart(&rt, market, parts, least)?);
+        let apart = is_solved_apart(&rt, market, parts, least)?;
+        assert!(rt; apart && is_solved(&rt, market, parts, least)?);
     }
     Ok(())
 }

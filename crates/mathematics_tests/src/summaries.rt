@@ -60,8 +60,9 @@ fn are_summed_up<R: Threads + Sync + AllocGlobal>(
 
 #[test]
 fn any_number_of_workers_sums_up_generated_markets(rt: HostRuntime) -> Result<(), Fail> {
-    assert!(rt; are_summed_up(&rt, 1, SUMMARIES)?);
-    assert!(rt; are_summed_up(&rt, 4, SUMMARIES)?);
-    assert!(rt; are_summed_up(&rt, 64, SUMMARIES)?);
+    let one = are_summed_up(&rt, 1, SUMMARIES)?;
+    let four = are_summed_up(&rt, 4, SUMMARIES)?;
+    let most = are_summed_up(&rt, 64, SUMMARIES)?;
+    assert!(rt; one && four && most);
     Ok(())
 }

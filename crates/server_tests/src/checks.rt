@@ -1,6 +1,6 @@
 //! Checks: a proposal is right, or the first thing that is wrong with it is told.
 
-use crate::market_files::{DEALERS, PROPOSAL, TRADES, checked};
+use crate::market_files::{DEALERS, TRADES, checked};
 use std::alloc::{AllocError, AllocGlobal};
 use std::sync::Wait;
 use std::test::Fail;
@@ -50,12 +50,5 @@ fn a_proposal_is_right_or_the_first_thing_wrong_with_it_is_told(
 ) -> Result<(), Fail> {
     let all = all_get_their_verdict(&rt)?;
     assert!(rt; all);
-    Ok(())
-}
-
-#[test]
-fn in_the_conservative_mode_no_pair_may_grow(rt: HostRuntime) -> Result<(), Fail> {
-    let ran = checked(&rt, "conservative", (DEALERS, TRADES), PROPOSAL.as_bytes())?;
-    assert!(rt; ran.is(1, b"no P above A B\n", ""));
     Ok(())
 }

@@ -1,4 +1,4 @@
-//! Files of a market that have a fault, are missing or are too long.
+//! Files of a market that have a fault or are too long.
 
 use crate::market_files::{DEALERS, PROPOSAL, TRADES, check_is_told, ran_over};
 use std::alloc::{AllocError, AllocGlobal};
@@ -194,103 +194,6 @@ fn proposals_are_told<R: Threads + Wait + Sync + AllocGlobal>(rt: &R) -> Result<
 #[test]
 fn the_first_line_of_a_proposal_that_cannot_stand_is_told(rt: HostRuntime) -> Result<(), Fail> {
     let all = proposals_are_told(&rt)?;
-    assert!(rt; all);
-    Ok(())
-}
-
-// The words of a check or a solve, the market's files, a proposal, and the status and the line that they get.
-type Case<'a> = (&'a [&'a str], (&'a str, &'a str), &'a str, u8, &'a str);
-
-const BAD_ROLE: &str = "name,role,key\nA,broker,KA\n";
-
-const FILES: &[Case<'static>] = &[
-    // The files are read in order, and the first that fails is told.
-    (
-        &["check", "T", "t", "hybrid", "p"],
-        (BAD_ROLE, ""),
-        "",
-        3,
-        "roster row 2: bad-role\n",
-    ),
-    (
-        &["check", "T", "u", "hybrid", "q"],
-        (BAD_ROLE, ""),
-        "",
-        3,
-        "roster row 2: bad-role\n",
-    ),
-    (
-        &["check", "T", "t", "hybrid", "p"],
-        (DEALERS, ""),
-        "",
-        3,
-        "trades row 1: columns\n",
-    ),
-    (
-        &["check", "T", "t", "hybrid", "q"],
-        (DEALERS, ""),
-        "",
-        3,
-        "trades row 1: columns\n",
-    ),
-    (
-        &["check", "T", "t", "hybrid", "p"],
-        (DEALERS, TRADES),
-        "",
-        3,
-        "proposal row 1: bad-line\n",
-    ),
-    // A file that is missing.
-    (
-        &["check", "U", "t", "hybrid", "p"],
-        (DEALERS, TRADES),
-        PROPOSAL,
-        11,
-        "file fault\n",
-    ),
-    (
-        &["check", "T", "u", "hybrid", "p"],
-        (DEALERS, TRADES),
-        PROPOSAL,
-        11,
-        "file fault\n",
-    ),
-    (
-        &["check", "T", "t", "hybrid", "q"],
-        (DEALERS, TRADES),
-        PROPOSAL,
-        11,
-        "file fault\n",
-    ),
-    (
-        &["solve", "U", "t", "hybrid"],
-        (DEALERS, TRADES),
-        PROPOSAL,
-        11,
-        "file fault\n",
-    ),
-    (
-        &["solve", "T", "u", "hybrid"],
-        (DEALERS, TRADES),
-        PROPOSAL,
-        11,
-        "file fault\n",
-    ),
-];
-
-fn files_are_told<R: Threads + Wait + Sync + AllocGlobal>(rt: &R) -> Result<bool, AllocError> {
-    for (words, market, proposal, status, line) in FILES {
-        let ran = ran_over(rt, words, *market, proposal.as_bytes(), 256)?;
-        if !ran.is(*status, b"", line) {
-            return Ok(false);
-        }
-    }
-    Ok(true)
-}
-
-#[test]
-fn the_first_file_that_fails_or_is_missing_is_told(rt: HostRuntime) -> Result<(), Fail> {
-    let all = files_are_told(&rt)?;
     assert!(rt; all);
     Ok(())
 }

@@ -4,9 +4,9 @@ ghost use Rattle.std.specs.Prelude.{Some};
 ghost use Rattle.outside.specs.Disk.{IsSettled};
 
 use crate::journals::{crashed, disk_of};
-use crate::program::{ROSTER, run_files, run_on};
+use crate::program::{ROSTER, run_on};
 use outside::{Disk, MemoryDisk, MemorySink, MemorySource};
-use std::alloc::{AllocError, AllocGlobal};
+use std::alloc::AllocGlobal;
 use std::sync::Wait;
 use std::test::Fail;
 use std::thread::Threads;
@@ -124,45 +124,4 @@ fn each_fault_is_told<R: Threads + Wait + Sync + AllocGlobal>(rt: &R) -> Result<
 #[test]
 fn a_disk_that_fails_is_told_and_stays(rt: HostRuntime) -> Result<(), Fail> {
     each_fault_is_told(&rt)
-}
-
-// Words, and whether they are in form.
-const WORDS: &[(&[&str], bool)] = &[
-    (&["replay", "T", "j"], true),
-    (&["replay", "--", "T", "j"], true),
-    (&["replay", "T", "--", "-j"], true),
-    (&["replay", "-", "-"], true),
-    (&["replay"], false),
-    (&["replay", "T"], false),
-    (&["replay", "T", "j", "k"], false),
-    (&["replay", "T", "-j"], false),
-    (&["replay", "T", "j", "--workers", "4"], false),
-    (&["replay", "T", "j", "--seats=4"], false),
-    (&["replay", "--connections", "1", "T", "j"], false),
-    (&["Replay", "T", "j"], false),
-];
-
-// Over no files, words in form fail at the roster's.
-fn words_are_told<R: Threads + Wait + Sync + AllocGlobal>(rt: &R) -> Result<bool, AllocError> {
-    for (words, in_form) in WORDS {
-        let (status, line) = if *in_form {
-            (11, "file fault\n")
-        } else {
-            (2, "bad words\n")
-        };
-        let mut source = MemorySource::new(rt.alloc(), b"")?;
-        let output = MemorySink::new(rt.alloc(), 256)?;
-        let ran = run_files(rt, words, &[], &mut source, output)?;
-        if !ran.is(status, b"", line) {
-            return Ok(false);
-        }
-    }
-    Ok(true)
-}
-
-#[test]
-fn words_of_a_replay_are_two_names(rt: HostRuntime) -> Result<(), Fail> {
-    let told = words_are_told(&rt)?;
-    assert!(rt; told);
-    Ok(())
 }

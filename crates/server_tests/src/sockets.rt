@@ -11,6 +11,7 @@ use std::net::{Net, Shutdown, TcpListener, TcpStream};
 use std::sync::Wait;
 use std::test::Fail;
 use std::thread::{Threads, join};
+use std::time::Clock;
 
 // Whether a client that writes these lines reads exactly these replies.
 fn is_answered(client: &mut TcpStream, lines: &str, replies: &str) -> io::Result<bool> {
@@ -53,7 +54,12 @@ fn both_are_answered<R: Net<Listener = TcpListener, Stream = TcpStream>>(
 }
 
 fn two_clients_are_served<
-    R: Threads + Wait + Sync + AllocGlobal + Net<Listener = TcpListener, Stream = TcpStream>,
+    R: Threads
+        + Wait
+        + Clock
+        + Sync
+        + AllocGlobal
+        + Net<Listener = TcpListener, Stream = TcpStream>,
 >(rt: &R) -> Result<bool, Trouble> {
     let alloc = rt.alloc();
     let mut listener = SocketListener::new(rt);

@@ -8,9 +8,8 @@ use crate::lock::opened;
 use crate::paced::{CountingSink, MANY_LOOKS, PacedGate, PacedSource, Piece, Steps};
 use crate::program::ROSTER;
 use crate::trades::{RING, RING_REPLIES};
-use command_types::Roster;
+use command_types::{Desk, Roster};
 use cycle_lock::{Pass, Turns};
-use cycle_states::PlainDesk;
 use path_solver::PathSolver;
 use session::{SessionEnd, serve_session};
 use std::alloc::{AllocError, AllocGlobal, Global};
@@ -42,10 +41,10 @@ fn is_text(text: &[u8], parts: &[&str]) -> bool {
 }
 
 // Whether a session replies as it is to.
-fn is_served<R: Threads + Wait + Sync>(
+fn is_served<R: Threads + Wait + Sync, D: Desk>(
     rt: &R,
     alloc: Global,
-    turns: &Turns<PlainDesk>,
+    turns: &Turns<D>,
     roster: &Roster,
     pass: Pass,
     part: &Part<'_>,
@@ -71,6 +70,36 @@ fn is_served<R: Threads + Wait + Sync>(
     Ok(matches!(end, SessionEnd::Ended) && is_text(sink.bytes(), part.replies))
 }
 
+// Whether two sessions beside one another, over one lock, each reply as they are to.
+fn each_is_served<R: Threads + Wait + Sync, D: Desk>(
+    rt: &R,
+    alloc: Global,
+    turns: &Turns<D>,
+    roster: &Roster,
+    pass: Pass,
+    other: Pass,
+    first: &Part<'_>,
+    second: &Part<'_>,
+    steps: &Steps,
+) -> (Result<bool, AllocError>, Result<bool, AllocError>)
+    requires pass { IsPassOf turns.now pass }
+    requires other { IsPassOf turns.now other }
+    requires roster { roster.now ≡ (seen pass).base.state.roster }
+    requires same { roster.now ≡ (seen other).base.state.roster }
+{
+    join(
+        rt,
+        || -> Result<bool, AllocError>
+            requires own { IsPassOf turns.now pass }
+            requires roster { roster.now ≡ (seen pass).base.state.roster }
+        { is_served(rt, alloc, turns, roster, pass, first, steps) },
+        || -> Result<bool, AllocError>
+            requires own { IsPassOf turns.now other }
+            requires roster { roster.now ≡ (seen other).base.state.roster }
+        { is_served(rt, alloc, turns, roster, other, second, steps) },
+    )
+}
+
 // Whether two sessions beside one another reply as they are to, in so many steps.
 fn both_are_served<R: Threads + Wait + Sync + AllocGlobal>(
     rt: &R,
@@ -85,17 +114,8 @@ fn both_are_served<R: Threads + Wait + Sync + AllocGlobal>(
     let (turns, mut pass) = opened(alloc, &roster)?;
     let other = turns.split(&mut pass);
     let steps = Steps::new();
-    let (turns, roster, steps) = (&turns, &roster, &steps);
-    let (one, two) = join(
-        rt,
-        || -> Result<bool, AllocError>
-            requires own { IsPassOf turns.now pass }
-            requires roster { roster.now ≡ (seen pass).base.state.roster }
-        { is_served(rt, alloc, turns, roster, pass, first, steps) },
-        || -> Result<bool, AllocError>
-            requires own { IsPassOf turns.now other }
-            requires roster { roster.now ≡ (seen other).base.state.roster }
-        { is_served(rt, alloc, turns, roster, other, second, steps) },
+    let (one, two) = each_is_served(
+        rt, alloc, &turns, &roster, pass, other, first, second, &steps,
     );
     Ok(one? && two? && steps.are(count))
 }

@@ -216,6 +216,8 @@ impl Listener for PacedListener {
     }
 
     fn take_back(&mut self, _door: PacedDoor) {}
+
+    fn set_idle(&mut self, _seconds: Option<u64>) {}
 }
 
 fn wait_in_a_service<R: Threads + Wait + Sync + AllocGlobal>(rt: &R) -> Result<bool, AllocError> {

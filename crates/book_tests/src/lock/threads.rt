@@ -5,15 +5,15 @@ ghost use Rattle.cycle_lock.specs.Passes.{IsPassOf, seat_of, may_split, Includes
 
 use super::calls::trade;
 use super::noted::NotedDesk;
-use command_types::Answer;
+use command_types::{Answer, Desk};
 use cycle_lock::{Pass, Turns};
 use std::alloc::{AllocError, Global};
 use std::sync::Wait;
 use std::thread;
-use std::thread::Threads;
+use std::thread::{Threads, join};
 
 /// Makes this many trades, and counts those that are answered after all before.
-pub fn many<R: Wait>(rt: &R, turns: &Turns<NotedDesk>, pass: &mut Pass, count: u64) -> u64
+pub fn many<R: Wait, D: Desk>(rt: &R, turns: &Turns<D>, pass: &mut Pass, count: u64) -> u64
     requires { IsPassOf turns.now pass.old }
     ensures { IsPassOf turns.now pass.new }
 {
@@ -60,9 +60,9 @@ pub fn split_off(
 }
 
 /// Each pass makes its trades, in threads.
-pub fn work<R: Threads + Wait + Sync>(
+pub fn work<R: Threads + Wait + Sync, D: Desk>(
     rt: &R,
-    turns: &Turns<NotedDesk>,
+    turns: &Turns<D>,
     jobs: &mut [Job],
     count: u64,
 )
@@ -78,6 +78,38 @@ pub fn work<R: Threads + Wait + Sync>(
             ensures { IsPassOf turns.entry.now job.new.pass }
         { job.done = many(rt, turns, &mut job.pass, count) },
     );
+}
+
+/// Two passes make so many trades each beside one another, in two threads, and count them as `many` does.
+pub fn both<R: Threads + Wait + Sync, D: Desk>(
+    rt: &R,
+    turns: &Turns<D>,
+    mut pass: Pass,
+    mut other: Pass,
+    count: u64,
+) -> ((Pass, u64), (Pass, u64))
+    requires pass { IsPassOf turns.now pass }
+    requires other { IsPassOf turns.now other }
+    ensures pass { IsPassOf turns.now result.0.0 }
+    ensures other { IsPassOf turns.now result.1.0 }
+{
+    join(
+        rt,
+        || -> (Pass, u64)
+            requires { IsPassOf turns.now pass }
+            ensures { IsPassOf turns.entry.now result.0 }
+        {
+            let done = many(rt, turns, &mut pass, count);
+            (pass, done)
+        },
+        || -> (Pass, u64)
+            requires { IsPassOf turns.now other }
+            ensures { IsPassOf turns.entry.now result.0 }
+        {
+            let done = many(rt, turns, &mut other, count);
+            (other, done)
+        },
+    )
 }
 
 /// The pass takes in all others, and their trades are counted.

@@ -1,10 +1,17 @@
+use denote.Param.Send.{param_send, arg_send}
 use Rattle.std.proofs.Common.{◌≡◌, ◌∙◌, ap, subst, List, [], ◌∷◌, ◌++◌, append_assoc}
 use Rattle.std.proofs.lemmas.List.Elements.{All-cons}
 use Rattle.std.specs.Prelude.{All, slice_index_or}
 use Rattle.book_tests.specs.declared.lock.threads.Job.{Job}
 use Rattle.cycle_lock.specs.Passes.{IsPassOf, Includes}
 use Rattle.book_tests.proofs.Includes.{through, all_front}
+use Rattle.book_tests.proofs.Sends.{noted_desk_send}
 use Rattle.book_tests.proofs.lock.threads.gather.Goals as goal
+
+-- the desk may go to another thread
+
+pub join-requires-send-T : goal.join-requires-send-T
+join-requires-send-T c κs = search (param_send, arg_send, noted_desk_send)
 
 pub loop-job-preserved : goal.loop-job-preserved
 loop-job-preserved c =
