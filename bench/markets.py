@@ -131,4 +131,5 @@ def main():
         write_slow(folder, "slow1")
 
 
-main()
+if __name__ == "__main__":
+    main()
