@@ -2,20 +2,19 @@
 //! are joined again.
 
 mod calls;
-mod noted;
 mod threads;
 
 ghost use Rattle.std.specs.Prelude.{◌≡◌, IfOk};
 ghost use Rattle.command_types.specs.History.{end_of};
 ghost use Rattle.cycle_lock.specs.Passes.{IsPassOf};
 
+use crate::NotedDesk;
 use crate::machine::answers::Told::{No, Traded};
 use crate::machine::empty_desk;
 use calls::Call::{Trade, Unreadable};
 use calls::{are_in_turn, calls};
 use command_types::Refusal;
 use cycle_lock::{Pass, Turns};
-use noted::NotedDesk;
 use std::alloc::Global;
 use std::sync::Wait;
 use std::test::Fail;

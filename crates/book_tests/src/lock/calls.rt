@@ -2,7 +2,7 @@
 
 ghost use Rattle.cycle_lock.specs.Passes.{IsPassOf};
 
-use super::noted::NotedDesk;
+use crate::NotedDesk;
 use crate::machine::answers::{Told, is_told};
 use crate::market::named;
 use command_types::{Ask, What};

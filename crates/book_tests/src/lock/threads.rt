@@ -4,7 +4,7 @@ ghost use Rattle.std.specs.Prelude.{◌≡◌, ◌≤◌, All, IfOk};
 ghost use Rattle.cycle_lock.specs.Passes.{IsPassOf, seat_of, may_split, Includes};
 
 use super::calls::trade;
-use super::noted::NotedDesk;
+use crate::NotedDesk;
 use command_types::{Answer, Desk};
 use cycle_lock::{Pass, Turns};
 use std::alloc::{AllocError, Global};

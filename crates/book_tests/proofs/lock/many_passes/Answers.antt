@@ -3,7 +3,7 @@ use Rattle.std.proofs.Common.{rules, ◌≡◌, ◌∙◌, ◌++◌, List, All, 
 use Rattle.std.proofs.Math.Seq.{take-append_seam}
 use Rattle.cycle_lock.specs.Passes.{IsPassOf}
 use Rattle.book_tests.specs.declared.lock.threads.Job.{Job}
-use Rattle.book_tests.proofs.lock.calls.calls.Answers.{noted_desk_send}
+use Rattle.book_tests.proofs.Sends.{noted_desk_send}
 use Rattle.book_tests.proofs.lock.many_passes.Goals as goal
 
 -- the desk may go to another thread

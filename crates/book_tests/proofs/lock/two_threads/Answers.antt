@@ -1,5 +1,5 @@
 use denote.Param.Send.{param_send, arg_send}
-use Rattle.book_tests.proofs.lock.calls.calls.Answers.{noted_desk_send}
+use Rattle.book_tests.proofs.Sends.{noted_desk_send}
 use Rattle.book_tests.proofs.lock.two_threads.Goals as goal
 
 -- the desk may go to another thread
