@@ -16,3 +16,8 @@ pub mod PlaceFacts
 pub mod WrittenRows
 pub mod WrittenLines
 pub mod WrittenParts
+pub mod NumbersRead
+pub mod LinesRead
+pub mod StageFacts
+pub mod ExactTexts
+pub mod WrittenTexts

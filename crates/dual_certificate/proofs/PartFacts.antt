@@ -103,7 +103,7 @@ said_kept roster r next (Some (End count)) h e = end_kept roster r next count h 
 ok_is : (x y : List ProposalPart) → (let o : Result (List ProposalPart) FileFault = Ok x in o) ≡ Ok y → x ≡ y
 ok_is x y h = ap (λ o. elim o [ Ok z ↦ z | Err f ↦ x ]) h
 
-taken : (b : Bool) (x y : List ProposalPart) (fault : FileFault) → cond b (Ok x) (Err fault) ≡ Ok y → (b ≡ true) × (x ≡ y)
+pub taken : (b : Bool) (x y : List ProposalPart) (fault : FileFault) → cond b (Ok x) (Err fault) ≡ Ok y → (b ≡ true) × (x ≡ y)
 taken true x y fault h = (refl, ok_is x y h)
 taken false x y fault h = absurd cc
 

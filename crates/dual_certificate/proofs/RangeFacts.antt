@@ -9,7 +9,7 @@ use Rattle.units_core.specs.Number.{is_digit, value_of, of_digits, of_first, num
 use Rattle.units_core.specs.Signed.{has_minus, plus_of, minus_of, signed_of}
 
 -- a number was read, so it was not the fault that stood first
-past : {A : Type 0} (b : Bool) (fault : NumberFault) (r : Result A NumberFault) (n : A) → cond b (Err fault) r ≡ Ok n → (b ≡ false) × (r ≡ Ok n)
+pub past : {A : Type 0} (b : Bool) (fault : NumberFault) (r : Result A NumberFault) (n : A) → cond b (Err fault) r ≡ Ok n → (b ≡ false) × (r ≡ Ok n)
 past true fault r n h = absurd cc
 past false fault r n h = (refl, h)
 

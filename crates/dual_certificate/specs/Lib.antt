@@ -8,3 +8,4 @@ pub mod Proposal
 pub mod ProposalDraft
 pub mod Parts
 pub mod Laws
+pub mod PartsText

@@ -24,7 +24,7 @@ mod summary_writer;
 
 pub use checker::check;
 pub use dual::bound;
-pub use laws::what_is_written_reads_back;
+pub use laws::{what_is_read_is_its_text, what_is_written_reads_back};
 pub use proposal_part::ProposalPart;
 pub use proposal_reader::read_proposal;
 pub use proposal_writer::write_proposal;

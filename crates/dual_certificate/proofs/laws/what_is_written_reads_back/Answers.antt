@@ -1,4 +1,4 @@
-use Rattle.dual_certificate.proofs.WrittenParts.{what_is_written_reads_back}
+use Rattle.dual_certificate.proofs.WrittenTexts.{what_is_written_reads_back}
 use Rattle.dual_certificate.proofs.laws.what_is_written_reads_back.Goals as goal
 
 pub returns : goal.returns
