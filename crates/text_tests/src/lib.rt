@@ -2,6 +2,8 @@
 #![tactic(auto)]
 
 #[cfg(test)]
+mod cut_lines;
+#[cfg(test)]
 mod cycle_lines;
 #[cfg(test)]
 mod details;
