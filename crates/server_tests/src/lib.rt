@@ -34,6 +34,8 @@ mod phase_lines;
 #[cfg(test)]
 mod phases;
 #[cfg(test)]
+mod premises;
+#[cfg(test)]
 mod program;
 #[cfg(test)]
 mod replays;

@@ -1,0 +1,2 @@
+pub mod ByeFacts
+pub mod PremiseFacts
