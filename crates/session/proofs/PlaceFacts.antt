@@ -29,7 +29,7 @@ module _ (rows : Rows) (name : List ℕ) (roster : IsRoster rows) where
       let named = (position-Some (λ (row : MemberRow). bytes_eq row.name name) rows.members p other at).1 in
       ne_eqb p i (λ e. absurd (cc (sym here ∙ turned (name_at rows.members i other) name (subst (λ n. bytes_eq (name_at rows.members n other) name ≡ true) e named))))
 
-  of_place : (place : Option ℕ) → member_place rows name ≡ place → IsPlaceOf (length rows.members) rows.members name place
+  of_place : (place : Option ℕ) → member_place rows name ≡ place → IsPlaceOf rows.members name place
   of_place None at = record { within = tt; is = λ i other lt. there None at i other lt (bytes_eq name (name_at rows.members i other)) refl }
   of_place (Some p) at = record {
     within = (position-Some (λ (row : MemberRow). bytes_eq row.name name) rows.members p nobody at).0;
@@ -37,5 +37,5 @@ module _ (rows : Rows) (name : List ℕ) (roster : IsRoster rows) where
   }
 
   -- the place of a name in a roster
-  pub place_of_name : IsPlaceOf (length rows.members) rows.members name (member_place rows name)
+  pub place_of_name : IsPlaceOf rows.members name (member_place rows name)
   place_of_name = of_place (member_place rows name) refl

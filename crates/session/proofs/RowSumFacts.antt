@@ -13,11 +13,11 @@ use Rattle.session.proofs.PlaceFacts.{nobody}
 use Rattle.session.specs.Places.{name_at, IsPlaceOf, pair_part, product_part, HasMore, HasRows}
 
 -- the name of the member at the place of a name
-named : (members : List MemberRow) (name : List ℕ) (p : ℕ) → IsPlaceOf (length members) members name (Some p) → name ≡ name_at members p nobody
+named : (members : List MemberRow) (name : List ℕ) (p : ℕ) → IsPlaceOf members name (Some p) → name ≡ name_at members p nobody
 named members name p place = (bytes_eq-Decides name (name_at members p nobody)).0 (sym (place.is p nobody place.within) ∙ eq-eqb p p refl)
 
 -- different parties have different places
-pub places_differ : (members : List MemberRow) (seller buyer : List ℕ) (p q amount : ℕ) → IsPlaceOf (length members) members seller (Some p) → IsPlaceOf (length members) members buyer (Some q) →
+pub places_differ : (members : List MemberRow) (seller buyer : List ℕ) (p q amount : ℕ) → IsPlaceOf members seller (Some p) → IsPlaceOf members buyer (Some q) →
     (bytes_eq seller buyer ≡ true → amount ≡ 0) → amount ≢ 0 → p ≢ q
 places_differ members seller buyer p q amount of_seller of_buyer parties some e =
     some (parties ((bytes_eq-Decides seller buyer).1 (named members seller p of_seller ∙ ap (λ n. name_at members n nobody) e ∙ sym (named members buyer q of_buyer))))

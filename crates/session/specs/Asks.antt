@@ -7,6 +7,7 @@ use Rattle.command_types.specs.Grammar.{line_within}
 use Rattle.command_text.specs.declared.bad_line.BadLine.{BadLine}
 use Rattle.command_text.specs.ReadOf.{read_of}
 
+-- what is read of a line; one that is too long can't be read
 abbrev pub read_within : List ℕ → Result Line BadLine
 read_within line = read_of (line_within line)
 

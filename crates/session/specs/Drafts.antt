@@ -10,21 +10,27 @@ use Rattle.session.specs.declared.draft_rows.PairKey.{PairKey}
 use Rattle.session.specs.declared.draft_potentials.PlaceKey.{PlaceKey}
 use Rattle.units_core.specs.declared.limits.TheConstants.{MOST_GROSS}
 
+-- an entry as a row of a draft
 abbrev pub row_of : PairKey × ℕ → DraftRow
 row_of entry = record { product = entry.0.product; seller = entry.0.seller; buyer = entry.0.buyer; amount = entry.1 }
 
+-- the entries as a draft's rows
 abbrev pub rows_of : List (PairKey × ℕ) → List DraftRow
 rows_of entries = map row_of entries
 
+-- the two keys are of one product and pair
 abbrev pub is_same_pair : PairKey → PairKey → Bool
 is_same_pair a b = bytes_eq a.product b.product && bytes_eq a.seller b.seller && bytes_eq a.buyer b.buyer
 
+-- an entry as a potential of a draft
 abbrev pub potential_of : PlaceKey × ℤ → DraftPotential
 potential_of entry = record { product = entry.0.product; member = entry.0.member; value = entry.1 }
 
+-- the entries as a draft's potentials
 abbrev pub potentials_of : List (PlaceKey × ℤ) → List DraftPotential
 potentials_of entries = map potential_of entries
 
+-- the two keys are of one product and member
 abbrev pub is_same_place : PlaceKey → PlaceKey → Bool
 is_same_place a b = bytes_eq a.product b.product && bytes_eq a.member b.member
 

@@ -10,6 +10,7 @@ use Rattle.session.specs.declared.draft.Draft.{Draft}
 use Rattle.session.specs.Kept.{kept_rows, kept_potentials, HasRowRoom, HasPotentialRoom}
 use Rattle.units_core.specs.declared.limits.TheConstants.{MOST_DRAFT, MOST_GROSS}
 
+-- a draft as the definitions of sessions see it
 abbrev pub draft_of : Draft → DraftData
 draft_of draft = record { rows = kept_rows draft.rows; potentials = kept_potentials draft.potentials }
 

@@ -5,6 +5,7 @@ use Rattle.command_types.specs.declared.roster.MemberRow.{MemberRow}
 use Rattle.command_types.specs.Session.{DraftRow, draft_amount, draft_sum}
 use Rattle.pair_table.specs.PairSums.{PairSums, sum_in, gross_in}
 
+-- the place is this one
 abbrev pub is_there : Option ℕ → ℕ → Bool
 is_there None i = false
 is_there (Some place) i = place == i
@@ -13,16 +14,17 @@ is_there (Some place) i = place == i
 abbrev pub name_at : List MemberRow → ℕ → MemberRow → List ℕ
 name_at members i other = (slice_index_or members i other).name
 
--- the place of the one of the first members that has the name; none where none of them has it
-pub record IsPlaceOf (first : ℕ) (members : List MemberRow) (name : List ℕ) (place : Option ℕ) : Type 0 where
-  pub within : IfSome place (λ p. p < first)
-  pub is : (i : ℕ) (other : MemberRow) → i < first → is_there place i ≡ bytes_eq name (name_at members i other)
+-- the place of the member that has the name; none where none has it
+pub record IsPlaceOf (members : List MemberRow) (name : List ℕ) (place : Option ℕ) : Type 0 where
+  pub within : IfSome place (λ p. p < length members)
+  pub is : (i : ℕ) (other : MemberRow) → i < length members → is_there place i ≡ bytes_eq name (name_at members i other)
 
--- what a row has for a product and a pair of names, and for the product
+-- what a row has for a product and a pair of names
 abbrev pub pair_part : List ℕ → DraftRow → List ℕ → List ℕ → ℕ
 pair_part product row seller buyer =
     if bytes_eq row.product product && bytes_eq row.seller seller && bytes_eq row.buyer buyer then row.amount else 0
 
+-- what a row has for a product
 abbrev pub product_part : List ℕ → DraftRow → ℕ
 product_part product row = if bytes_eq row.product product then row.amount else 0
 

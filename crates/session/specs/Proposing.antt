@@ -14,6 +14,7 @@ abbrev pub begun_version : Answer → Option ℕ
 begun_version (Begun cycle version) = Some version
 begun_version answer = None
 
+-- the answer gives a version's problems
 abbrev pub has_problems : Answer → Bool
 has_problems (Problems problems) = true
 has_problems answer = false

@@ -17,7 +17,7 @@ use units_core::{MemberNo, Name};
 
 // The place of the member with this name; none where no member has it.
 fn place_of(roster: &Roster, name: &Name) -> Option<MemberNo>
-    ensures { IsPlaceOf (length roster.now.members) roster.now.members name.now result }
+    ensures { IsPlaceOf roster.now.members name.now result }
 {
     // A roster's members say that their names differ.
     let _members = roster.members();

@@ -14,6 +14,8 @@ mod heads;
 #[cfg(test)]
 mod lines;
 #[cfg(test)]
+mod names;
+#[cfg(test)]
 mod parties;
 #[cfg(test)]
 mod refusals;
