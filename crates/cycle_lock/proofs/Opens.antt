@@ -1,5 +1,5 @@
 -- The table at its opening meets the rule.
-use Rattle.std.proofs.Common.{◌≡◌, ℕ, suc, zero, ◌+◌, ◌^◌, ◌≤◌, Bool, List, [], ◌∷◌, length, drop, sym, refl, ap, ◌∙◌, subst, arith}
+use Rattle.std.proofs.Common.{◌≡◌, ℕ, suc, zero, ◌+◌, ◌^◌, ◌≤◌, Bool, true, List, [], ◌∷◌, length, drop, sym, refl, ap, ◌∙◌, subst, arith}
 use Rattle.std.specs.Prelude.{Some}
 use Rattle.std.proofs.lemmas.List.{append-nil}
 use mathlib.Core.Option.{some, some-injective, some-ne-none}
@@ -73,4 +73,5 @@ opens history figures_of stopped d at is base legal fresh =
         alone = λ i j a b p q _ _. (only v a i p).0 ∙ sym (only v b j q).0;
       };
       home = λ _. (d, refl, (from_base history figures_of d base, refl, refl));
+      lone = λ _ halts j u p. subst (λ (z : View). z.account.stop ≡ true) (only v u j p).1 halts;
     }

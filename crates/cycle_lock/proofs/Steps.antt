@@ -21,7 +21,7 @@ use Rattle.cycle_lock.specs.Stage.{tickets, has_turn, to_give}
 use Rattle.cycle_lock.specs.Views.{ticketed, owned, left_of, owns, splits_left, unborn, placed, resting, blank, with_number, parent, child, hosting, merged}
 use Rattle.cycle_lock.specs.Accounts.{times, FitsAccount, longest, Extends, opening_count, by, whole}
 use Rattle.cycle_lock.specs.Line.{Lies, InLine}
-use Rattle.cycle_lock.specs.Kept.{KnowsDesk, FitsGuest, Fits, Quiet, IsDesk, Home, Kept}
+use Rattle.cycle_lock.specs.Kept.{KnowsDesk, FitsGuest, Fits, Quiet, AllSaw, IsDesk, Home, Kept}
 use Rattle.cycle_lock.specs.Numbers.{Counted}
 use Rattle.cycle_lock.specs.Plays.{Becomes, Sat, drew, Took, looked, numbered, settled, noted, passed}
 use Rattle.cycle_lock.specs.declared.rule.Account.{Account}
@@ -114,12 +114,26 @@ far_enough next n vs since c id v at is far = let m = c.small in dite (ℕ_discr
 blank_fits : (log : List Entry) (stop : Bool) (figures : Figures) → FitsAccount log stop figures blank
 blank_fits log stop figures = record { same = λ e. absurd (cc); later = λ e. absurd (cc); mine = λ e. absurd (cc); begins = (log, refl); stops = λ e. absurd (cc); made = λ n h. absurd (omega arith) }
 
+or_left : (a b : Bool) → a ≡ true → (a || b) ≡ true
+or_left true b e = refl
+or_left false b e = absurd (cc)
+
 or_true : (a b : Bool) (P : Type 0) → (a || b) ≡ true → (a ≡ true → P) → (b ≡ true → P) → P
 or_true true b P e f g = f refl
 or_true false b P e f g = g e
 
 quiet_front : (vs ws : List View) → Quiet (vs ++ ws) → Quiet vs
 quiet_front vs ws q j u p = q j u (at_longer vs ws j u p)
+
+saw_set : (vs : List View) (id : ℕ) (w : View) → w.account.stop ≡ true → ((j : ℕ) (u : View) → j ≢ id → get_elem? vs j ≡ some u → u.account.stop ≡ true) → AllSaw (set vs id w)
+saw_set vs id w mine others j u p = ⊎_elim
+    (λ (x : (j ≡ id) × (w ≡ u)). subst (λ (z : View). z.account.stop ≡ true) x.1 mine)
+    (λ (x : (j ≢ id) × (get_elem? vs j ≡ some u)). others j u x.0 x.1)
+    (at_set vs id j w u p)
+
+-- while no number but the first was drawn, one is alone
+alone_there : (next : ℕ) (vs : List View) (since : List Entry) (c : Counted next vs since) (id j : ℕ) (v u : View) → get_elem? vs id ≡ some v → get_elem? vs j ≡ some u → j ≢ id → next ≡ 1 → ⊥
+alone_there next vs since c id j v u p q ne one = let f = c.few in let a = below vs id v p in let b = below vs j u q in ne (omega arith)
 
 module _ {T : Type 0} (history : T → History) (figures_of : T → Figures) (stopped : T → Bool) (figures : Figures) where
   abbrev Rule : State (Option T) View → Type 0
@@ -145,6 +159,7 @@ module _ {T : Type 0} (history : T → History) (figures_of : T → Figures) (st
     numbers = subst (λ (z : ℕ). Counted z (set s.views id w) (drop (opening_count figures) k.log)) (sym third)
         (counted_kept (get_or s.words 3 0) s.views (drop (opening_count figures) k.log) (drop (opening_count figures) k.log) k.numbers id v w at has left new k.numbers.entries);
     home = home;
+    lone = λ one halts. let saw = k.lone (sym third ∙ one) halts in saw_set s.views id w (ap (λ a. a.stop) same ∙ saw id v at) (λ j u _ p. saw j u p);
   }
 
   pub draws : (size id : ℕ) (me : Sat T) → me.0.stage ≡ Resting → Allows Rule size id me 1 (λ n. (n + 1) % 2 ^ 64) (drew (step size 1 1 0 none) me)
@@ -204,6 +219,10 @@ module _ {T : Type 0} (history : T → History) (figures_of : T → Figures) (st
               made = subst (λ (f : Figures). (m : ℕ) → 1 ≤ times m v.account.stands → by m (drop (opening_count f) k.log) ≡ by m (drop (opening_count f) v.account.seen)) (sym same) fits.own.made;
               entries = subst (λ (f : Figures). (m : ℕ) → 4294967296 ≤ m + v.account.left → by m (drop (opening_count f) k.log) ≡ []) (sym same)
                   (λ m far. k.numbers.entries m (far_enough (get_or s.words 3 0) m s.views (drop (opening_count figures) k.log) k.numbers id v at (ap (λ (z : Stage). left_of z v.account v.guest) st) far));
+              lone = λ left halts.
+                  let all : splits_left v ≡ 4294967295 = ap (λ (z : Stage). left_of z v.account v.guest) st ∙ left in
+                  let t = k.numbers.splitter id v at (omega (arith, all)) in
+                  k.lone (omega (arith, t, all)) halts id v at;
             },
             (d, refl, (home.2.0 ∙ ap (λ (f : Figures). whole f k.log) (sym same), home.2.1, home.2.2 ∙ sym same)),
           )),
@@ -248,6 +267,7 @@ module _ {T : Type 0} (history : T → History) (figures_of : T → Figures) (st
             (counted_kept (get_or s.words 3 0) s.views (drop (opening_count figures) k.log) (drop (opening_count figures) log) k.numbers id v w' at
             (λ m. ap (λ (z : Stage). times m (owned z v.account v.guest)) (sym st)) (ap (λ (z : Stage). left_of z v.account v.guest) (sym st)) (ap to_give (sym st)) (λ n le. far n le ∙ k.numbers.entries n le));
         home = λ quiet. absurd (loud s.views id v w' at refl quiet);
+        lone = λ one halts. saw_set s.views id w' halts (λ j u ne p. absurd (alone_there (get_or s.words 3 0) s.views (drop (opening_count figures) k.log) k.numbers id j v u at p ne (sym third ∙ one)));
       })
 
   abbrev noting : List Entry → Bool → Sat T → View
@@ -325,6 +345,7 @@ module _ {T : Type 0} (history : T → History) (figures_of : T → Figures) (st
           numbers = subst (λ (z : ℕ). Counted z (set s.views id w) since) (sym (get_or-set_same s.words 3 n' 0 (omega arith) ∙ up))
               (counted_draws n s.views since c id v w at (λ m. let e = ap (owns m) is in omega arith) some_left (omega arith) (ap unborn is) refl);
           home = λ quiet. k.home (quiet_before s.views id v w at (ap has_turn out) quiet);
+          lone = λ one halts. let here = below s.views id v at in let f = c.few in let bad : n' ≡ 1 = sym (get_or-set_same s.words 3 n' 0 (omega arith)) ∙ one in absurd (omega (arith, bad, up, here, f));
         },
         (
           refl,
@@ -357,6 +378,7 @@ module _ {T : Type 0} (history : T → History) (figures_of : T → Figures) (st
             (at_new (set s.views id l) r u j p);
         numbers = counted_splits (get_or s.words 3 0) s.views since k.numbers id v' l r at' (λ m. omega arith) refl refl refl refl refl;
         home = λ quiet. k.home (quiet_before s.views id v' l at' refl (quiet_front (set s.views id l) (r ∷ []) quiet));
+        lone = λ one halts. let f = k.numbers.few in let u = total_at unborn s.views id v' at' in let here = below s.views id v' at' in absurd (omega (arith, one, f, u, here));
       }) at
 
   pub joins : (id other : ℕ) (v w : View) (a b : Account) → v ≡ resting a → w ≡ resting b → Joins Rule id v other w (hosting v w) (resting blank)
@@ -379,6 +401,7 @@ module _ {T : Type 0} (history : T → History) (figures_of : T → Figures) (st
             (let p = ap (λ (z : Stage). left_of z v.account v.guest) (ap (λ (z : View). z.stage) is) in let q = ap (λ (z : Stage). left_of z w.account w.guest) (ap (λ (z : View). z.stage) is') in omega arith)
             refl (ap unborn is) (ap unborn is') refl refl;
         home = λ quiet. k.home (quiet_before s.views id v h at still (quiet_before vs' other w gone there' still' quiet));
+        lone = λ one halts. absurd (alone_there (get_or s.words 3 0) s.views since k.numbers id other v w at there apart one);
       }
 
   pub settles : (size id : ℕ) (me : Sat T) → me.0.stage ≡ Joined → me.0.ticket ≡ 0 → me.0.account.spent ≡ false → me.0.guest.spent ≡ false → Allows Rule size id me 0 (λ n. n) (λ n w. settled me w)
@@ -419,6 +442,7 @@ module _ {T : Type 0} (history : T → History) (figures_of : T → Figures) (st
           numbers = subst (λ (z : ℕ). Counted z (set s.views id w) since) (sym (get_or-set_other s.words 0 3 n 0 (λ e. omega arith)))
               (counted_kept (get_or s.words 3 0) s.views since since k.numbers id v w at (λ x. ap (λ (z : Stage). times x (owned z a b)) (sym st)) (ap (λ (z : Stage). left_of z a b) (sym st)) (ap to_give (sym st)) k.numbers.entries);
           home = λ quiet. k.home (quiet_before s.views id v w at (ap has_turn st) quiet);
+          lone = λ one halts. let saw = k.lone (sym (get_or-set_other s.words 0 3 n 0 (λ e. omega arith)) ∙ one) halts in saw_set s.views id w (or_left a.stop b.stop (saw id v at)) (λ j u _ p. saw j u p);
         },
         (
           refl,

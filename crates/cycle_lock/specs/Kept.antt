@@ -1,5 +1,5 @@
 -- The rule that every step keeps.
-use Rattle.std.specs.Prelude.{◌≡◌, ℕ, ◌+◌, ◌≤◌, Bool, false, List, length, slice_index, drop, Option, Some}
+use Rattle.std.specs.Prelude.{◌≡◌, ℕ, ◌+◌, ◌≤◌, Bool, true, false, List, length, slice_index, drop, Option, Some}
 use mathlib.Core.Option.{some}
 use mathlib.Core.Option as maybe
 use lib.ListN.{get_elem?}
@@ -36,6 +36,10 @@ module _ (log : List Entry) (stop : Bool) (figures : Figures) where
 abbrev pub Quiet : List View → Type 0
 Quiet views = (j : ℕ) (v : View) → get_elem? views j ≡ some v → has_turn v.stage ≡ false
 
+-- all have seen a stop
+abbrev pub AllSaw : List View → Type 0
+AllSaw views = (j : ℕ) (v : View) → get_elem? views j ≡ some v → v.account.stop ≡ true
+
 module _ {T : Type 0} (history : T → History) (figures_of : T → Figures) (stopped : T → Bool) where
   -- this desk has that history, that stop and those figures
   abbrev pub IsDesk : List Entry → Bool → Figures → T → Type 0
@@ -45,7 +49,7 @@ module _ {T : Type 0} (history : T → History) (figures_of : T → Figures) (st
   abbrev pub Home : List (maybe.Option (Option T)) → List Entry → Bool → Figures → Type 0
   Home homes log stop figures = (d : T) × (get_elem? homes 0 ≡ some (some (Some d))) × IsDesk log stop figures d
 
-  -- Word 0 is the history's length, and word 3 the next number. Where no seat has the turn, the desk lies in the slot.
+  -- Word 0 is the history's length, and word 3 the next number. Where no seat has the turn, the desk lies in the slot. As long as no number but the first was drawn, whoever is there has seen the desk's stop.
   pub record Kept (figures : Figures) (s : State (Option T) View) : Type 0 where
     pub log : List Entry
     pub stop : Bool
@@ -57,3 +61,4 @@ module _ {T : Type 0} (history : T → History) (figures_of : T → Figures) (st
     pub each_seat : (j : ℕ) (v : View) → get_elem? s.views j ≡ some v → Fits log stop figures v
     pub numbers : Counted (slice_index s.words 3) s.views (drop (opening_count figures) log)
     pub home : Quiet s.views → Home s.homes log stop figures
+    pub lone : slice_index s.words 3 ≡ 1 → stop ≡ true → AllSaw s.views

@@ -10,7 +10,7 @@ use Rattle.cycle_lock.specs.Accounts.{whole, opening_count, by, times, longest, 
 use Rattle.cycle_lock.specs.Views.{placed, resting, with_number, merged}
 use Rattle.cycle_lock.specs.Kept.{IsDesk}
 
--- The desk's history begins with what the pass has seen, and has no more entries of its numbers.
+-- The desk's history begins with what the pass has seen, and has no more entries of its numbers. A pass that was never split has seen the desk's stop.
 pub record Newer (v : View) : Type 0 where
   pub begins : Extends v.known v.account.seen
   pub later : opening_count v.account.figures ≤ length v.known
@@ -19,6 +19,7 @@ pub record Newer (v : View) : Type 0 where
   pub stops : v.account.stop ≡ true → v.halted ≡ true
   pub made : (n : ℕ) → 1 ≤ times n v.account.stands → by n (drop (opening_count v.account.figures) v.known) ≡ by n (drop (opening_count v.account.figures) v.account.seen)
   pub entries : (n : ℕ) → 4294967296 ≤ n + v.account.left → by n (drop (opening_count v.account.figures) v.known) ≡ []
+  pub lone : v.account.left ≡ 4294967295 → v.halted ≡ true → v.account.stop ≡ true
 
 -- a view with the slots that its seat holds
 abbrev pub Sat : Type 0 → Type 0

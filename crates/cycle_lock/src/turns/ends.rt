@@ -52,7 +52,8 @@ impl<T: Desk> Turns<T> {
         }
     }
 
-    /// Waits for its turn, and gives the desk back. It takes no memory.
+    /// Waits for its turn, and gives the desk back. It takes no memory. Where no pass was split off, this one has seen the desk's
+    /// stop.
     pub fn close<R: Wait>(self, rt: &R, pass: Pass) -> T
         requires own { IsPassOf self pass }
         ensures seen { Continues (T.history result) (seen pass) }
@@ -60,6 +61,7 @@ impl<T: Desk> Turns<T> {
         ensures made { (n : ℕ) → StandsFor pass n → entries_of_seat (T.history result) n (T.figures result).opening ≡ made_by n pass }
         ensures numbers { (n : ℕ) → 2 ^ 32 ≤ n + may_split pass → entries_of_seat (T.history result) n (T.figures result).opening ≡ [] }
         ensures stop { saw_stop pass ≡ true → T.stopped result ≡ true }
+        ensures lone { may_split pass + 1 ≡ 2 ^ 32 → T.stopped result ≡ true → saw_stop pass ≡ true }
     {
         let Pass { badge, .. } = pass;
         let mut seat: SeatOf<T> = badge.into_seat();
