@@ -12,9 +12,9 @@ use Rattle.cycle_lock.specs.Passes as passes
 use Rattle.house.specs.House.{HouseView, figures_of, is_stopped}
 use Rattle.session.specs.declared.serve.SessionEnd.{SessionEnd}
 use Rattle.session.specs.declared.serve.SessionEnd.TheVariants.{Ended, SourceFault, SinkFault, Limit, Memory}
-use Rattle.session.specs.Serving.{Seat, Sight, of_pass, Grows, Written, Left, CutOff}
-use Rattle.session.specs.Ending.{Ends}
-use Rattle.compress_server.specs.Run.{at_first, IsReplied, IsLeft, IsCutOff, IsOpen}
+use Rattle.session.specs.Serving.{Seat, Sight, of_pass, Grows, Written, Left}
+use Rattle.session.specs.Ending.{CutLate, Ends}
+use Rattle.compress_server.specs.Run.{at_first, IsReplied, IsLeft, IsAhead, IsCutOff, IsOpen}
 use Rattle.compress_server.specs.Script.{ScriptEnds}
 use Rattle.compress_server.proofs.OnlyFacts.{since, seen_all, own_all}
 
@@ -35,6 +35,7 @@ pub record IsClosed (v w : HouseView) (now : Sight) : Type 0 where
   pub own : entries_of_seat w.history 0 (end_of v.history) ≡ entries_of_seat now.history 0 (end_of v.history)
   pub none : (n : ℕ) → 2 ^ 32 ≤ n + now.seat.splits → entries_of_seat w.history n (end_of v.history) ≡ []
   pub stop : now.stopped ≡ true → is_stopped w ≡ true
+  pub lone : now.seat.splits ≡ 4294967295 → is_stopped w ≡ true → now.stopped ≡ true
 
 module _ (lock : passes.LockId) (v w : HouseView) (now : Sight) (closed : IsClosed v w now) where
   module _ (made : List Entry) (g : Grows (first_sight lock v) now made) where
@@ -52,6 +53,10 @@ module _ (lock : passes.LockId) (v w : HouseView) (now : Sight) (closed : IsClos
     -- the history has grown by what the session did
     all_made : w.history ≡ longer v.history made
     all_made = seen_whole ∙ g.grown ∙ ap (λ es. longer v.history es) did_all
+
+    -- the session knows a stop of the house
+    knows_stop : is_stopped w ≡ true → now.stopped ≡ true
+    knows_stop = closed.lone (ap (λ (s : Seat). s.splits) g.seat)
 
     all_own : made ≡ entries_of_seat w.history 0 (end_of v.history)
     all_own = sym g.own ∙ sym (since v.history w.history g.more 0 (seen_whole ∙ g.grown))
@@ -85,6 +90,7 @@ module _ (lock : passes.LockId) (v w : HouseView) (now : Sight) (closed : IsClos
       session = session_of lines r.text r.made r.to r.grows r.talk;
       all = all_made r.made r.grows;
       stops = λ stopped. closed.stop (sym (ap (λ (m : Mark). m.stopped) r.there) ∙ stopped);
+      known = λ stopped. ap (λ (m : Mark). m.stopped) r.there ∙ knows_stop r.made r.grows stopped;
       took = r.took;
     }
 
@@ -100,8 +106,23 @@ module _ (lock : passes.LockId) (v w : HouseView) (now : Sight) (closed : IsClos
       over = l.over;
     }
 
-    cut_off : (lines : List (List ℕ)) → CutOff (first_sight lock v) begun taken now lines → IsCutOff v w begun taken lines
-    cut_off lines r = record {
+    ahead_of : (bytes : List ℕ) (lines : List (List ℕ)) (r : CutLate (first_sight lock v) begun taken now bytes lines) → IsAhead v w bytes r.cut.text r.cut.took.0
+    ahead_of bytes lines r = record {
+      early = r.early;
+      late = r.late;
+      split = r.split;
+      few = r.few;
+      front = r.cut.whole.front;
+      back = r.cut.whole.back;
+      order = r.cut.whole.order;
+      within = r.cut.whole.within;
+      made = r.cut.whole.made;
+      to = r.cut.whole.to;
+      talk = subst (λ h. IsTalk (figures_of v) h 0 (at_first v) (cut_of r.early).whole r.cut.whole.front r.cut.whole.made r.cut.whole.to) (sym (seen_whole r.cut.made r.cut.grows)) r.cut.whole.talk;
+    }
+
+    cut_off : (bytes : List ℕ) (lines : List (List ℕ)) → CutLate (first_sight lock v) begun taken now bytes lines → IsCutOff v w begun taken bytes lines
+    cut_off bytes lines late = let r = late.cut in record {
       said = r.said;
       others = r.others;
       order = r.order;
@@ -109,7 +130,9 @@ module _ (lock : passes.LockId) (v w : HouseView) (now : Sight) (closed : IsClos
       session = session_of r.said r.text r.made r.to r.grows r.talk;
       all = all_made r.made r.grows;
       stops = λ stopped. closed.stop (sym (ap (λ (m : Mark). m.stopped) r.there) ∙ stopped);
+      known = λ stopped. ap (λ (m : Mark). m.stopped) r.there ∙ knows_stop r.made r.grows stopped;
       took = r.took;
+      ahead = ahead_of bytes lines late;
     }
 
     module _ (flow : Option Flow) (bytes : List ℕ) (P Q : Type 0) where
@@ -118,10 +141,10 @@ module _ (lock : passes.LockId) (v w : HouseView) (now : Sight) (closed : IsClos
       ended_either (inl (at_end, short, r)) = inl (at_end, short, replied (lines_of bytes) r)
       ended_either (inr (short, l)) = inr (short, left_replied (cut_of bytes).whole l)
 
-      cut_either : (P × CutOff (first_sight lock v) begun taken now (cut_of bytes).whole) ⊎ (IsAtEnd flow × Q × CutOff (first_sight lock v) begun taken now (lines_of bytes)) →
-          (P × IsCutOff v w begun taken (cut_of bytes).whole) ⊎ (IsAtEnd flow × Q × IsCutOff v w begun taken (lines_of bytes))
-      cut_either (inl (short, r)) = inl (short, cut_off (cut_of bytes).whole r)
-      cut_either (inr (at_end, short, r)) = inr (at_end, short, cut_off (lines_of bytes) r)
+      cut_either : (P × CutLate (first_sight lock v) begun taken now bytes (cut_of bytes).whole) ⊎ (IsAtEnd flow × Q × CutLate (first_sight lock v) begun taken now bytes (lines_of bytes)) →
+          (P × IsCutOff v w begun taken bytes (cut_of bytes).whole) ⊎ (IsAtEnd flow × Q × IsCutOff v w begun taken bytes (lines_of bytes))
+      cut_either (inl (short, r)) = inl (short, cut_off bytes (cut_of bytes).whole r)
+      cut_either (inr (at_end, short, r)) = inr (at_end, short, cut_off bytes (lines_of bytes) r)
 
     ends_first : (opened flow : Option Flow) (end : SessionEnd) → Ends (first_sight lock v) opened flow begun taken now end → ScriptEnds v w opened flow begun taken end
     ends_first opened flow Ended (bytes, gives, either) = (bytes, gives, ended_either flow bytes _ _ either)
@@ -142,8 +165,8 @@ pub seat_stays : (start : Sight) (opened flow : Option Flow) (begun taken : Opti
 seat_stays start opened flow begun taken now Ended (bytes, gives, inl (at_end, short, r)) = r.grows.seat
 seat_stays start opened flow begun taken now Ended (bytes, gives, inr (short, l)) = l.written.grows.seat
 seat_stays start opened flow begun taken now SourceFault (bytes, gives, short, (r, open_yet)) = r.grows.seat
-seat_stays start opened flow begun taken now SinkFault (bytes, gives, inl (short, r)) = r.grows.seat
-seat_stays start opened flow begun taken now SinkFault (bytes, gives, inr (at_end, short, r)) = r.grows.seat
+seat_stays start opened flow begun taken now SinkFault (bytes, gives, inl (short, r)) = r.cut.grows.seat
+seat_stays start opened flow begun taken now SinkFault (bytes, gives, inr (at_end, short, r)) = r.cut.grows.seat
 seat_stays start opened flow begun taken now Limit (bytes, gives, size, (r, open_yet)) = r.grows.seat
 seat_stays start opened flow begun taken now Memory (same, none_taken, there) = ap (λ (s : Sight). s.seat) there
 
@@ -152,8 +175,8 @@ pub closed_on : (v w : HouseView) (pass : Pass) → end_of v.history ≡ (figure
     → passes.StandsFor pass (passes.seat_of pass)
     → ((n : ℕ) → passes.StandsFor pass n → entries_of_seat w.history n (figures_of w).opening ≡ passes.made_by n pass)
     → ((n : ℕ) → 2 ^ 32 ≤ n + passes.may_split pass → entries_of_seat w.history n (figures_of w).opening ≡ [])
-    → (passes.saw_stop pass ≡ true → is_stopped w ≡ true) → IsClosed v w (of_pass pass)
-closed_on v w pass opened number figures given goes_on mine made none stop =
+    → (passes.saw_stop pass ≡ true → is_stopped w ≡ true) → (passes.may_split pass + 1 ≡ 2 ^ 32 → is_stopped w ≡ true → passes.saw_stop pass ≡ true) → IsClosed v w (of_pass pass)
+closed_on v w pass opened number figures given goes_on mine made none stop lone =
     let later : (passes.figures_of pass).opening ≡ end_of v.history = ap (λ (f : Figures). f.opening) figures ∙ sym opened in
     let last : (figures_of w).opening ≡ end_of v.history = ap (λ (f : Figures). f.opening) given ∙ later in
     let own : entries_of_seat w.history 0 (figures_of w).opening ≡ entries_of_seat (passes.seen pass) 0 (passes.figures_of pass).opening =
@@ -164,4 +187,5 @@ closed_on v w pass opened number figures given goes_on mine made none stop =
       own = ap (λ n. entries_of_seat w.history 0 n) (sym last) ∙ own ∙ ap (λ n. entries_of_seat (passes.seen pass) 0 n) later;
       none = λ n up. ap (λ k. entries_of_seat w.history n k) (sym last) ∙ none n up;
       stop = stop;
+      lone = λ splits. lone (omega (arith, splits));
     }

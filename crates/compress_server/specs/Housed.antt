@@ -46,7 +46,7 @@ pub record IsHoused (rows : Rows) (disk left : DiskState) (v w : HouseView) : Ty
   -- what was kept where a fault of the disk stopped the house could have been made, and what a crash now leaves stands for all of the history, perhaps with this
   pub kept_legal : IsLegal (with_kept w.history w.kept)
   pub leaves_kept : LeavesKept left.history w.history w.kept
-  -- no crash of the run went back behind an earlier one
+  -- what every crash at one moment of the run left, every crash at a later moment left
   pub never_back : NeverGoBack (moment_of disk.history) v.opening left.history w.history w.kept
   -- what a crash at any moment of the run left stands for a front of the history, no shorter than the one at the opening, or, where a fault stopped the house, for all of it with the entry that was kept
   pub any_moment : AtAnyMoment disk.history left.history (λ image. StandsForFront v.opening w.history image ⊎ StandsForKept w.history w.kept image)

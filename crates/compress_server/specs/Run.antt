@@ -4,20 +4,22 @@ use Rattle.outside.specs.Faults.{Rose}
 use Rattle.outside.specs.Flow.{Flow, Gives, IsAtEnd, Takes, TakesFront}
 use Rattle.command_types.specs.History.{end_of, longer}
 use Rattle.command_types.specs.Lines.{cut_of, lines_of}
-use Rattle.command_types.specs.Session.{Standing, IsSession, nobody}
+use Rattle.command_types.specs.declared.ask.Entry.{Entry}
+use Rattle.command_types.specs.Session.{Standing, IsTalk, IsSession, nobody}
 use Rattle.house.specs.House.{HouseView, figures_of, is_stopped}
-use Rattle.session.specs.Ending.{session_limit}
+use Rattle.session.specs.Ending.{session_limit, most_piece}
 
 -- nobody has greeted, at the end of the history of a house that was just opened
 abbrev pub at_first : HouseView → Standing
 at_first v = record { position = end_of v.history; speaker = nobody; stopped = false; over = false }
 
--- The lines were replied to by the house v, which is now w, in one session of seat 0, and the whole text was written. The history has grown by the changes of these lines, in order, and by no others. A stop that was told is the house's.
+-- The lines were replied to by the house v, which is now w, in one session of seat 0, and the whole text was written. The history has grown by the changes of these lines, in order, and by no others. A stop that the session knows is the house's, and a stop of the house it knows.
 pub record IsReplied (v w : HouseView) (begun taken : Option (List ℕ)) (lines : List (List ℕ)) : Type 0 where
   pub text : List ℕ
   pub session : IsSession (figures_of v) w.history 0 (at_first v) lines text
   pub all : w.history ≡ longer v.history session.made
   pub stops : session.to.stopped ≡ true → is_stopped w ≡ true
+  pub known : is_stopped w ≡ true → session.to.stopped ≡ true
   pub took : Takes begun taken text
 
 -- The first of the lines were replied to, up to an accepted BYE, and their whole text was written.
@@ -28,8 +30,22 @@ pub record IsLeft (v w : HouseView) (begun taken : Option (List ℕ)) (lines : L
   pub replied : IsReplied v w begun taken said
   pub over : replied.session.to.over ≡ true
 
--- The first of the lines were replied to, in one session of seat 0, and of their text a front was written that is not the whole. The history has grown by the changes of these lines, in order, and by no others. A stop that was told is the house's.
-pub record IsCutOff (v w : HouseView) (begun taken : Option (List ℕ)) (lines : List (List ℕ)) : Type 0 where
+-- Of the bytes that were read the last came at once. The replies to the lines that ended before are a front of the text, within this many of its bytes.
+pub record IsAhead (v w : HouseView) (bytes text : List ℕ) (count : ℕ) : Type 0 where
+  pub early : List ℕ
+  pub late : List ℕ
+  pub split : bytes ≡ early ++ late
+  pub few : length late ≤ most_piece
+  pub front : List ℕ
+  pub back : List ℕ
+  pub order : text ≡ front ++ back
+  pub within : length front ≤ count
+  pub made : List Entry
+  pub to : Standing
+  pub talk : IsTalk (figures_of v) w.history 0 (at_first v) (cut_of early).whole front made to
+
+-- The first of the lines were replied to, in one session of seat 0, and of their text a front was written that is not the whole. The replies to all lines but those that the last bytes ended are in it whole. The history has grown by the changes of these lines, in order, and by no others. A stop that the session knows is the house's, and a stop of the house it knows.
+pub record IsCutOff (v w : HouseView) (begun taken : Option (List ℕ)) (bytes : List ℕ) (lines : List (List ℕ)) : Type 0 where
   pub said : List (List ℕ)
   pub others : List (List ℕ)
   pub order : lines ≡ said ++ others
@@ -37,7 +53,9 @@ pub record IsCutOff (v w : HouseView) (begun taken : Option (List ℕ)) (lines :
   pub session : IsSession (figures_of v) w.history 0 (at_first v) said text
   pub all : w.history ≡ longer v.history session.made
   pub stops : session.to.stopped ≡ true → is_stopped w ≡ true
+  pub known : is_stopped w ≡ true → session.to.stopped ≡ true
   pub took : TakesFront begun taken text
+  pub ahead : IsAhead v w bytes text took.0
 
 -- the input was read to its end and all its lines were replied to, or those up to an accepted BYE were
 abbrev pub IsWhole : HouseView → HouseView → Option Flow → Option Flow → Option (List ℕ) → Option (List ℕ) → Type 0
@@ -64,8 +82,8 @@ IsAtLimit v w opened flow begun taken =
 abbrev pub IsUnwritten : HouseView → HouseView → Option Flow → Option Flow → Option (List ℕ) → Option (List ℕ) → Type 0
 IsUnwritten v w opened flow begun taken =
     (bytes : List ℕ) × Gives opened flow bytes
-    × (((length bytes ≤ session_limit) × IsCutOff v w begun taken (cut_of bytes).whole)
-    ⊎ (IsAtEnd flow × (length bytes < session_limit) × IsCutOff v w begun taken (lines_of bytes)))
+    × (((length bytes ≤ session_limit) × IsCutOff v w begun taken bytes (cut_of bytes).whole)
+    ⊎ (IsAtEnd flow × (length bytes < session_limit) × IsCutOff v w begun taken bytes (lines_of bytes)))
 
 -- the line that tells a status on the errors; statuses 0 and 1 have none, and statuses 3 and 7 the fault's
 abbrev pub status_line : ℕ → List ℕ

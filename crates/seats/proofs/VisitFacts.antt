@@ -21,8 +21,8 @@ ends_grow start opened flow begun taken now Ended (bytes, gives, inl (at_end, sh
 ends_grow start opened flow begun taken now Ended (bytes, gives, inr (short, l)) = (l.written.made, l.written.grows)
 ends_grow start opened flow begun taken now SourceFault (bytes, gives, short, (w, still)) = (w.made, w.grows)
 ends_grow start opened flow begun taken now Limit (bytes, gives, size, (w, still)) = (w.made, w.grows)
-ends_grow start opened flow begun taken now SinkFault (bytes, gives, inl (size, w)) = (w.made, w.grows)
-ends_grow start opened flow begun taken now SinkFault (bytes, gives, inr (at_end, short, w)) = (w.made, w.grows)
+ends_grow start opened flow begun taken now SinkFault (bytes, gives, inl (size, w)) = (w.cut.made, w.cut.grows)
+ends_grow start opened flow begun taken now SinkFault (bytes, gives, inr (at_end, short, w)) = (w.cut.made, w.cut.grows)
 ends_grow start opened flow begun taken now Memory (same, none_taken, desk) = let P : Sight → Type 0 = λ s. Grows start s [] in ([], subst P (sym desk) (grows_none start))
 
 -- streams that tell their bytes before a session tell them after it
@@ -45,8 +45,8 @@ told_after start f flow t taken now Ended (bytes, gives, inl (at_end, short, w))
 told_after start f flow t taken now Ended (bytes, gives, inr (short, l)) = by_bytes f flow t taken bytes l.written.text gives l.written.took
 told_after start f flow t taken now SourceFault (bytes, gives, short, (w, still)) = by_bytes f flow t taken bytes w.text gives w.took
 told_after start f flow t taken now Limit (bytes, gives, size, (w, still)) = by_bytes f flow t taken bytes w.text gives w.took
-told_after start f flow t taken now SinkFault (bytes, gives, inl (size, w)) = by_bytes f flow t taken bytes _ gives w.took.2
-told_after start f flow t taken now SinkFault (bytes, gives, inr (at_end, short, w)) = by_bytes f flow t taken bytes _ gives w.took.2
+told_after start f flow t taken now SinkFault (bytes, gives, inl (size, w)) = by_bytes f flow t taken bytes _ gives w.cut.took.2
+told_after start f flow t taken now SinkFault (bytes, gives, inr (at_end, short, w)) = by_bytes f flow t taken bytes _ gives w.cut.took.2
 told_after start f flow t taken now Memory (same, none_taken, desk) =
     record { gave = []; left = f.left; took = t; flow_is = same ∙ (λ i. Some (record { given = sym (append-nil f.given) i; left = f.left })); all = refl; taken_is = none_taken }
 

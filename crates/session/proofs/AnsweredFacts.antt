@@ -294,8 +294,8 @@ module _ (start now : Sight) (opened flow : Option Flow) (begun taken : Option (
   written_ran lines w =
       talk_ran start.seat.figures now.history start.seat.number (standing start nobody false) lines w.text w.made w.to (ap (λ (m : Mark). m.stopped) w.there ∙ runs) w.talk
 
-  cut_ran : (lines : List (List ℕ)) → CutOff start begun taken now lines → start.stopped ≡ false
-  cut_ran lines c =
+  cut_ran : (ahead lines : List (List ℕ)) → CutOff start ahead begun taken now lines → start.stopped ≡ false
+  cut_ran ahead lines c =
       talk_ran start.seat.figures now.history start.seat.number (standing start nobody false) c.said c.text c.made c.to (ap (λ (m : Mark). m.stopped) c.there ∙ runs) c.talk
 
   -- a session that was told of no stop began before any
@@ -303,8 +303,8 @@ module _ (start now : Sight) (opened flow : Option Flow) (begun taken : Option (
   session_ran Ended (bytes, gives, inl (at_end, within, w)) = written_ran (lines_of bytes) w
   session_ran Ended (bytes, gives, inr (within, l)) = written_ran l.said l.written
   session_ran SourceFault (bytes, gives, within, (w, on)) = written_ran (cut_of bytes).whole w
-  session_ran SinkFault (bytes, gives, inl (within, c)) = cut_ran (cut_of bytes).whole c
-  session_ran SinkFault (bytes, gives, inr (at_end, within, c)) = cut_ran (lines_of bytes) c
+  session_ran SinkFault (bytes, gives, inl (within, c)) = cut_ran (cut_of c.early).whole (cut_of bytes).whole c.cut
+  session_ran SinkFault (bytes, gives, inr (at_end, within, c)) = cut_ran (cut_of c.early).whole (lines_of bytes) c.cut
   session_ran Limit (bytes, gives, within, (w, on)) = written_ran (cut_of bytes).whole w
   session_ran Memory (read, wrote, same) = ap (λ (s : Sight). s.stopped) (sym same) ∙ runs
 

@@ -11,7 +11,7 @@ pub seat_stays : (start : Sight) (opened flow : Option Flow) (begun taken : Opti
 seat_stays start opened flow begun taken now Ended (bytes, gives, inl (at_end, within, written)) = written.grows.seat
 seat_stays start opened flow begun taken now Ended (bytes, gives, inr (within, left)) = left.written.grows.seat
 seat_stays start opened flow begun taken now SourceFault (bytes, gives, within, (written, on)) = written.grows.seat
-seat_stays start opened flow begun taken now SinkFault (bytes, gives, inl (within, cut)) = cut.grows.seat
-seat_stays start opened flow begun taken now SinkFault (bytes, gives, inr (at_end, within, cut)) = cut.grows.seat
+seat_stays start opened flow begun taken now SinkFault (bytes, gives, inl (within, cut)) = cut.cut.grows.seat
+seat_stays start opened flow begun taken now SinkFault (bytes, gives, inr (at_end, within, cut)) = cut.cut.grows.seat
 seat_stays start opened flow begun taken now Limit (bytes, gives, within, (written, on)) = written.grows.seat
 seat_stays start opened flow begun taken now Memory (read, wrote, same) = ap (λ s. s.seat) same

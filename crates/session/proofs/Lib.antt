@@ -15,8 +15,10 @@ pub mod SolutionFacts
 pub mod GrammarFacts
 pub mod NotedFacts
 pub mod GrowthFacts
+pub mod WithinFacts
 pub mod ServedFacts
 pub mod StepFacts
 pub mod WholeFacts
 pub mod ReplyFacts
+pub mod GivenFacts
 pub mod AnsweredFacts

@@ -35,6 +35,14 @@ says_both a b c x y z p q first then = record {
   order = sym (append_assoc x p q) ∙ ap (λ t. t ++ q) first.order ∙ append_assoc first.written y q ∙ ap (λ t. first.written ++ t) then.order ∙ sym (append_assoc first.written then.written z);
 }
 
+-- and no less is written than before
+pub says_on : (a b c : Option (List ℕ)) (x y z p q : List ℕ) → (first : Says a b x y p) → Says b c y z q → (s : Says a c x z (p ++ q)) × (length first.written ≤ length s.written)
+unfolding says_both
+says_on a b c x y z p q first then =
+    let size = length-append first.written then.written in
+    let more : length first.written ≤ length (first.written ++ then.written) = omega (arith, size) in
+    (says_both a b c x y z p q first then, more)
+
 -- where nothing waits, all that was said was taken
 pub says_whole : (begun taken : Option (List ℕ)) (waited waits text : List ℕ) → waits ≡ [] → Says begun taken waited waits text → Takes begun taken (waited ++ text)
 says_whole begun taken waited waits text none s =
@@ -49,22 +57,30 @@ front_more begun after said more front =
     let P : List ℕ → Type 0 = λ t. Takes begun after t in
     (n, omega (arith, front.1, length-append said more), subst P (sym (take-append-le n said more short)) front.2)
 
+-- a front of the text, with at least so many bytes
+abbrev pub TakesFrom : Option (List ℕ) → Option (List ℕ) → ℕ → List ℕ → Type 0
+TakesFrom begun after least text = (front : TakesFront begun after text) × (least ≤ front.0)
+
 -- a front behind what was taken
-front_behind : (a b c : Option (List ℕ)) (written rest : List ℕ) → Takes a b written → TakesFront b c rest → TakesFront a c (written ++ rest)
+front_behind : (a b c : Option (List ℕ)) (written rest : List ℕ) → Takes a b written → TakesFront b c rest → TakesFrom a c (length written) (written ++ rest)
 front_behind a b c written rest took front =
     let n = front.0 in
     let P : List ℕ → Type 0 = λ t. Takes a c t in
-    (length written + n, omega (arith, length-append written rest, front.1), subst P (sym (take-append-add written rest n)) (takes_both a b c written (take n rest) took front.2))
+    let least : length written ≤ length written + n = omega arith in
+    ((length written + n, omega (arith, length-append written rest, front.1), subst P (sym (take-append-add written rest n)) (takes_both a b c written (take n rest) took front.2)), least)
 
 -- a text, and then a front of what waits and of the next text
-pub front_after : (a b c : Option (List ℕ)) (x y p q : List ℕ) → Says a b x y p → TakesFront b c (y ++ q) → TakesFront a c (x ++ (p ++ q))
-front_after a b c x y p q s front =
-    let P : List ℕ → Type 0 = λ t. TakesFront a c t in
+pub front_on : (a b c : Option (List ℕ)) (x y p q : List ℕ) → (s : Says a b x y p) → TakesFront b c (y ++ q) → TakesFrom a c (length s.written) (x ++ (p ++ q))
+front_on a b c x y p q s front =
+    let P : List ℕ → Type 0 = λ t. TakesFrom a c (length s.written) t in
     let order : x ++ (p ++ q) ≡ s.written ++ (y ++ q) = sym (append_assoc x p q) ∙ ap (λ t. t ++ q) s.order ∙ append_assoc s.written y q in
     subst P (sym order) (front_behind a b c s.written (y ++ q) s.took front)
 
 -- a text, and then a front of what waits
-pub front_waiting : (a b c : Option (List ℕ)) (x y p : List ℕ) → Says a b x y p → TakesFront b c y → TakesFront a c (x ++ p)
-front_waiting a b c x y p s front =
-    let P : List ℕ → Type 0 = λ t. TakesFront a c t in
+pub waiting_on : (a b c : Option (List ℕ)) (x y p : List ℕ) → (s : Says a b x y p) → TakesFront b c y → TakesFrom a c (length s.written) (x ++ p)
+waiting_on a b c x y p s front =
+    let P : List ℕ → Type 0 = λ t. TakesFrom a c (length s.written) t in
     subst P (sym s.order) (front_behind a b c s.written y s.took front)
+
+pub front_waiting : (a b c : Option (List ℕ)) (x y p : List ℕ) → Says a b x y p → TakesFront b c y → TakesFront a c (x ++ p)
+front_waiting a b c x y p s front = (waiting_on a b c x y p s front).0

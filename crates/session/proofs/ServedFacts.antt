@@ -4,22 +4,21 @@ use Rattle.std.proofs.lemmas.Bool.Decides.{nat_tests}
 use Rattle.std.proofs.lemmas.List.{length-append, append-nil, length-take, take_all, take_more, take-append-drop, take-append-le}
 use Rattle.outside.specs.Flow.{Takes, TakesFront}
 use Rattle.session.specs.Pending.{Says}
-use Rattle.session.proofs.PendingFacts.{says_none, says_flushed, says_both, says_then_flushed, says_whole, front_after, front_waiting}
+use Rattle.session.proofs.PendingFacts.{says_none, says_flushed, says_both, says_then_flushed, says_whole, says_on, front_on, waiting_on, front_waiting}
 use Rattle.command_types.specs.declared.line.Line.{Line}
-use Rattle.command_types.specs.declared.ask.Entry.{Entry}
 use Rattle.command_types.specs.declared.answer.Reply.{Reply}
-use Rattle.command_types.specs.History.{History}
 use Rattle.command_types.specs.Roster.{Rows}
-use Rattle.command_types.specs.Session.{Speaker, nobody, is_bye, Standing, IsReplied, IsAnswered, IsTalk}
+use Rattle.command_types.specs.Session.{Speaker, nobody, is_bye, IsReplied, IsAnswered, IsTalk}
 use Rattle.command_types.specs.Details.{reply_text}
 use Rattle.command_types.specs.Lines.{cut_of, ended_line, lines_of}
 use Rattle.command_types.specs.Grammar.{line_within}
 use Rattle.command_types.proofs.LineFacts.{cut_byte, cut_line, whole_grows, read_of_front, read_of_ended_front, take_push, none_last, some_last}
-use Rattle.command_types.proofs.TalkFacts.{talk_on, talk_longer}
+use Rattle.command_types.proofs.TalkFacts.{talk_on}
 use Rattle.session.specs.declared.taking.Step.{Step}
-use Rattle.session.specs.Serving.{Seat, Sight, mark, standing, roster_of, Grows, AnswersRead, Answers, Left, CutOff, Written}
+use Rattle.session.specs.Serving.{Seat, Sight, mark, standing, roster_of, AnswersRead, Answers, Left, CutOff, Written}
 use Rattle.session.specs.Standing.{Stand, RepliesWhole, RepliesInPart, Served}
 use Rattle.session.proofs.GrowthFacts.{grows_none, grows_both, same_roster}
+use Rattle.session.proofs.WithinFacts.{talk_there, within_more, within_still, within_none}
 
 -- the text of a reply over this desk's roster
 abbrev text_of : Sight → Reply → List ℕ
@@ -41,22 +40,14 @@ line_answered start old new before after line reply seat a =
       over = refl;
     }
 
--- a talk in a history that has grown
-talk_there : (start old new : Sight) (made : List Entry) (lines : List (List ℕ)) (text : List ℕ) (talked : List Entry) (to : Standing) → Grows old new made →
-    IsTalk start.seat.figures old.history start.seat.number (standing start nobody false) lines text talked to →
-    IsTalk start.seat.figures new.history start.seat.number (standing start nobody false) lines text talked to
-talk_there start old new made lines text talked to g talk =
-    let H : History → Type 0 = λ h. IsTalk start.seat.figures h start.seat.number (standing start nobody false) lines text talked to in
-    subst H (sym g.grown) (talk_longer start.seat.figures old.history g.more start.seat.number (standing start nobody false) lines text talked to talk)
-
 -- a line of the same command as another
 read_alike : (old new : Sight) (before after : Speaker) (a b : List ℕ) (reply : Reply) → line_within a ≡ line_within b → Answers old new before after a reply → Answers old new before after b reply
 read_alike old new before after a b reply e r = let P : Result Line ℕ → Type 0 = λ l. AnswersRead old new before after l reply in subst P e r
 
 -- a byte that ends no line
-pub served_byte : (start : Sight) (begun taken : Option (List ℕ)) (stand : Stand) (kept next bytes : List ℕ) (b : ℕ) →
-    Served start begun taken stand kept bytes → (b == 10) ≡ false → next ≡ take 4097 (kept ++ b ∷ []) → Served start begun taken stand next (bytes ++ b ∷ [])
-served_byte start begun taken stand kept next bytes b v other is =
+pub served_byte : (start : Sight) (ahead : List (List ℕ)) (begun taken : Option (List ℕ)) (stand : Stand) (kept next bytes : List ℕ) (b : ℕ) →
+    Served start ahead begun taken stand kept bytes → (b == 10) ≡ false → next ≡ take 4097 (kept ++ b ∷ []) → Served start ahead begun taken stand next (bytes ++ b ∷ [])
+served_byte start ahead begun taken stand kept next bytes b v other is =
     let same = cut_byte bytes b other in
     let P : List (List ℕ) → Type 0 = λ lines. IsTalk start.seat.figures stand.sight.history start.seat.number (standing start nobody false) lines v.text v.made (standing stand.sight stand.speaker false) in
     record {
@@ -64,6 +55,7 @@ served_byte start begun taken stand kept next bytes b v other is =
       made = v.made;
       grows = v.grows;
       said = v.said;
+      whole = v.whole;
       talk = subst P (sym (ap (λ c. c.whole) same)) v.talk;
       line = is ∙ ap (λ k. take 4097 (k ++ b ∷ [])) v.line ∙ take_push 4097 (cut_of bytes).rest b ∙ ap (λ c. take 4097 c.rest) (sym same);
     }
@@ -72,24 +64,40 @@ served_byte start begun taken stand kept next bytes b v other is =
 ended_front : (kept rest : List ℕ) → kept ≡ take 4097 rest → line_within (ended_line kept) ≡ line_within (ended_line rest)
 ended_front kept rest is = ap (λ k. line_within (ended_line k)) is ∙ read_of_ended_front rest
 
+-- where nothing waits, the replies to all whole lines were written whole
+pub whole_all : (start : Sight) (ahead : List (List ℕ)) (begun taken : Option (List ℕ)) (stand : Stand) (kept bytes : List ℕ) →
+    Served start ahead begun taken stand kept bytes → stand.waits ≡ [] → Served start (cut_of bytes).whole begun taken stand kept bytes
+whole_all start ahead begun taken stand kept bytes v none =
+    let all : v.text ≡ v.said.written = v.said.order ∙ ap (λ w. v.said.written ++ w) none ∙ append-nil v.said.written in
+    let size : length v.text ≡ length v.said.written = ap length all in
+    record {
+      text = v.text;
+      made = v.made;
+      grows = v.grows;
+      said = v.said;
+      whole = record { front = v.text; back = []; order = sym (append-nil v.text); within = omega (arith, size); made = v.made; to = standing stand.sight stand.speaker false; talk = v.talk };
+      talk = v.talk;
+      line = v.line;
+    }
+
 -- a last line, from what is kept of it
 last_front : (kept rest : List ℕ) → kept ≡ take 4097 rest → line_within kept ≡ line_within rest
 last_front kept rest is = ap line_within is ∙ read_of_front rest
 
 -- the lines with one more, which was replied to
-talk_with : (start : Sight) (begun taken : Option (List ℕ)) (old new : Stand) (kept bytes line : List ℕ) (reply : Reply) →
-    (v : Served start begun taken old kept bytes) → (a : Answers old.sight new.sight old.speaker new.speaker line reply) →
+talk_with : (start : Sight) (ahead : List (List ℕ)) (begun taken : Option (List ℕ)) (old new : Stand) (kept bytes line : List ℕ) (reply : Reply) →
+    (v : Served start ahead begun taken old kept bytes) → (a : Answers old.sight new.sight old.speaker new.speaker line reply) →
     IsTalk start.seat.figures new.sight.history start.seat.number (standing start nobody false) ((cut_of bytes).whole ++ line ∷ []) (v.text ++ text_of old.sight reply) (v.made ++ a.made) (standing new.sight new.speaker (is_bye reply.answer))
-talk_with start begun taken old new kept bytes line reply v a =
+talk_with start ahead begun taken old new kept bytes line reply v a =
     talk_on start.seat.figures new.sight.history start.seat.number (standing start nobody false) (cut_of bytes).whole v.text v.made (standing old.sight old.speaker false) line (text_of old.sight reply) a.made (standing new.sight new.speaker (is_bye reply.answer))
     (talk_there start old.sight new.sight a.made (cut_of bytes).whole v.text v.made (standing old.sight old.speaker false) a.grows v.talk)
     (line_answered start.seat old.sight new.sight old.speaker new.speaker line reply v.grows.seat a)
 
 -- these lines are written, with one more
-written_with : (start : Sight) (begun taken taken' : Option (List ℕ)) (old new : Stand) (kept bytes line : List ℕ) (reply : Reply) (lines : List (List ℕ)) →
-    (v : Served start begun taken old kept bytes) → Answers old.sight new.sight old.speaker new.speaker line reply → Says taken taken' old.waits new.waits (text_of old.sight reply) → new.waits ≡ [] → lines ≡ (cut_of bytes).whole ++ line ∷ [] →
+written_with : (start : Sight) (ahead : List (List ℕ)) (begun taken taken' : Option (List ℕ)) (old new : Stand) (kept bytes line : List ℕ) (reply : Reply) (lines : List (List ℕ)) →
+    (v : Served start ahead begun taken old kept bytes) → Answers old.sight new.sight old.speaker new.speaker line reply → Says taken taken' old.waits new.waits (text_of old.sight reply) → new.waits ≡ [] → lines ≡ (cut_of bytes).whole ++ line ∷ [] →
     Written start begun taken' new.sight lines
-written_with start begun taken taken' old new kept bytes line reply lines v a says none order =
+written_with start ahead begun taken taken' old new kept bytes line reply lines v a says none order =
     let P : List (List ℕ) → Type 0 = λ ls. IsTalk start.seat.figures new.sight.history start.seat.number (standing start nobody false) ls (v.text ++ text_of old.sight reply) (v.made ++ a.made) (standing new.sight new.speaker (is_bye reply.answer)) in
     record {
       text = v.text ++ text_of old.sight reply;
@@ -98,41 +106,43 @@ written_with start begun taken taken' old new kept bytes line reply lines v a sa
       there = refl;
       grows = grows_both start old.sight new.sight v.made a.made v.grows a.grows;
       took = says_whole begun taken' [] new.waits (v.text ++ text_of old.sight reply) none (says_both begun taken taken' [] old.waits new.waits v.text (text_of old.sight reply) v.said says);
-      talk = subst P (sym order) (talk_with start begun taken old new kept bytes line reply v a);
+      talk = subst P (sym order) (talk_with start ahead begun taken old new kept bytes line reply v a);
     }
 
 -- a line feed after which the session goes on
-pub served_line : (start : Sight) (begun taken taken' : Option (List ℕ)) (old new : Stand) (kept next bytes : List ℕ) (b : ℕ) (reply : Reply) →
-    Served start begun taken old kept bytes → (b == 10) ≡ true → next ≡ [] → Answers old.sight new.sight old.speaker new.speaker (ended_line kept) reply → Says taken taken' old.waits new.waits (text_of old.sight reply) → is_bye reply.answer ≡ false →
-    Served start begun taken' new next (bytes ++ b ∷ [])
-served_line start begun taken taken' old new kept next bytes b reply v feed is answered says stays =
+pub served_line : (start : Sight) (ahead : List (List ℕ)) (begun taken taken' : Option (List ℕ)) (old new : Stand) (kept next bytes : List ℕ) (b : ℕ) (reply : Reply) →
+    Served start ahead begun taken old kept bytes → (b == 10) ≡ true → next ≡ [] → Answers old.sight new.sight old.speaker new.speaker (ended_line kept) reply → Says taken taken' old.waits new.waits (text_of old.sight reply) → is_bye reply.answer ≡ false →
+    Served start ahead begun taken' new next (bytes ++ b ∷ [])
+served_line start ahead begun taken taken' old new kept next bytes b reply v feed is answered says stays =
     let same = cut_line bytes b feed in
     let line = ended_line (cut_of bytes).rest in
     let a = read_alike old.sight new.sight old.speaker new.speaker (ended_line kept) line reply (ended_front kept (cut_of bytes).rest v.line) answered in
     let P : List (List ℕ) → Type 0 = λ lines. IsTalk start.seat.figures new.sight.history start.seat.number (standing start nobody false) lines (v.text ++ text_of old.sight reply) (v.made ++ a.made) (standing new.sight new.speaker false) in
     let Q : Bool → Type 0 = λ over. IsTalk start.seat.figures new.sight.history start.seat.number (standing start nobody false) ((cut_of bytes).whole ++ line ∷ []) (v.text ++ text_of old.sight reply) (v.made ++ a.made) (standing new.sight new.speaker over) in
+    let both = says_on begun taken taken' [] old.waits new.waits v.text (text_of old.sight reply) v.said says in
     record {
       text = v.text ++ text_of old.sight reply;
       made = v.made ++ a.made;
       grows = grows_both start old.sight new.sight v.made a.made v.grows a.grows;
-      said = says_both begun taken taken' [] old.waits new.waits v.text (text_of old.sight reply) v.said says;
-      talk = subst P (sym (ap (λ c. c.whole) same)) (subst Q stays (talk_with start begun taken old new kept bytes line reply v a));
+      said = both.0;
+      whole = within_more start old.sight new.sight a.made ahead v.text (text_of old.sight reply) (length v.said.written) (length both.0.written) a.grows both.1 v.whole;
+      talk = subst P (sym (ap (λ c. c.whole) same)) (subst Q stays (talk_with start ahead begun taken old new kept bytes line reply v a));
       line = is ∙ ap (λ c. take 4097 c.rest) (sym same);
     }
 
 -- a line feed after which the session is over
-pub left_line : (start : Sight) (begun taken taken' : Option (List ℕ)) (old new : Stand) (kept bytes : List ℕ) (b : ℕ) (reply : Reply) →
-    Served start begun taken old kept bytes → (b == 10) ≡ true → Answers old.sight new.sight old.speaker new.speaker (ended_line kept) reply → Says taken taken' old.waits new.waits (text_of old.sight reply) → new.waits ≡ [] → is_bye reply.answer ≡ true →
+pub left_line : (start : Sight) (ahead : List (List ℕ)) (begun taken taken' : Option (List ℕ)) (old new : Stand) (kept bytes : List ℕ) (b : ℕ) (reply : Reply) →
+    Served start ahead begun taken old kept bytes → (b == 10) ≡ true → Answers old.sight new.sight old.speaker new.speaker (ended_line kept) reply → Says taken taken' old.waits new.waits (text_of old.sight reply) → new.waits ≡ [] → is_bye reply.answer ≡ true →
     Left start begun taken' new.sight (cut_of (bytes ++ b ∷ [])).whole
 unfolding written_with
-left_line start begun taken taken' old new kept bytes b reply v feed answered says none bye =
+left_line start ahead begun taken taken' old new kept bytes b reply v feed answered says none bye =
     let line = ended_line (cut_of bytes).rest in
     let a = read_alike old.sight new.sight old.speaker new.speaker (ended_line kept) line reply (ended_front kept (cut_of bytes).rest v.line) answered in
     record {
       said = (cut_of bytes).whole ++ line ∷ [];
       others = [];
       order = ap (λ c. c.whole) (cut_line bytes b feed) ∙ sym (append-nil _);
-      written = written_with start begun taken taken' old new kept bytes line reply _ v a says none refl;
+      written = written_with start ahead begun taken taken' old new kept bytes line reply _ v a says none refl;
       over = bye;
     }
 
@@ -149,83 +159,91 @@ left_more start begun taken now xs ys v =
     }
 
 -- a reply that is not written whole
-cut_off_at : (start : Sight) (begun taken taken' : Option (List ℕ)) (old new : Stand) (kept bytes line : List ℕ) (reply : Reply) (lines : List (List ℕ)) →
-    Served start begun taken old kept bytes → Answers old.sight new.sight old.speaker new.speaker line reply → TakesFront taken taken' (old.waits ++ text_of old.sight reply) → lines ≡ (cut_of bytes).whole ++ line ∷ [] →
-    CutOff start begun taken' new.sight lines
-cut_off_at start begun taken taken' old new kept bytes line reply lines v a front order = record {
-  said = (cut_of bytes).whole ++ line ∷ [];
-  others = [];
-  order = order ∙ sym (append-nil _);
-  text = v.text ++ text_of old.sight reply;
-  made = v.made ++ a.made;
-  to = standing new.sight new.speaker (is_bye reply.answer);
-  there = refl;
-  grows = grows_both start old.sight new.sight v.made a.made v.grows a.grows;
-  took = front_after begun taken taken' [] old.waits v.text (text_of old.sight reply) v.said front;
-  talk = talk_with start begun taken old new kept bytes line reply v a;
-}
+cut_off_at : (start : Sight) (ahead : List (List ℕ)) (begun taken taken' : Option (List ℕ)) (old new : Stand) (kept bytes line : List ℕ) (reply : Reply) (lines : List (List ℕ)) →
+    Served start ahead begun taken old kept bytes → Answers old.sight new.sight old.speaker new.speaker line reply → TakesFront taken taken' (old.waits ++ text_of old.sight reply) → lines ≡ (cut_of bytes).whole ++ line ∷ [] →
+    CutOff start ahead begun taken' new.sight lines
+cut_off_at start ahead begun taken taken' old new kept bytes line reply lines v a front order =
+    let cut = front_on begun taken taken' [] old.waits v.text (text_of old.sight reply) v.said front in
+    record {
+      said = (cut_of bytes).whole ++ line ∷ [];
+      others = [];
+      order = order ∙ sym (append-nil _);
+      text = v.text ++ text_of old.sight reply;
+      made = v.made ++ a.made;
+      to = standing new.sight new.speaker (is_bye reply.answer);
+      there = refl;
+      grows = grows_both start old.sight new.sight v.made a.made v.grows a.grows;
+      took = cut.0;
+      whole = within_more start old.sight new.sight a.made ahead v.text (text_of old.sight reply) (length v.said.written) cut.0.0 a.grows cut.1 v.whole;
+      talk = talk_with start ahead begun taken old new kept bytes line reply v a;
+    }
 
 -- a line feed whose reply is not written whole
-pub cut_off_line : (start : Sight) (begun taken taken' : Option (List ℕ)) (old new : Stand) (kept bytes : List ℕ) (b : ℕ) →
-    Served start begun taken old kept bytes → (b == 10) ≡ true → RepliesInPart old new (ended_line kept) taken taken' →
-    CutOff start begun taken' new.sight (cut_of (bytes ++ b ∷ [])).whole
-cut_off_line start begun taken taken' old new kept bytes b v feed r =
+pub cut_off_line : (start : Sight) (ahead : List (List ℕ)) (begun taken taken' : Option (List ℕ)) (old new : Stand) (kept bytes : List ℕ) (b : ℕ) →
+    Served start ahead begun taken old kept bytes → (b == 10) ≡ true → RepliesInPart old new (ended_line kept) taken taken' →
+    CutOff start ahead begun taken' new.sight (cut_of (bytes ++ b ∷ [])).whole
+cut_off_line start ahead begun taken taken' old new kept bytes b v feed r =
     let line = ended_line (cut_of bytes).rest in
     let a = read_alike old.sight new.sight old.speaker new.speaker (ended_line kept) line r.reply (ended_front kept (cut_of bytes).rest v.line) r.answers in
-    cut_off_at start begun taken taken' old new kept bytes line r.reply _ v a r.took (ap (λ c. c.whole) (cut_line bytes b feed))
+    cut_off_at start ahead begun taken taken' old new kept bytes line r.reply _ v a r.took (ap (λ c. c.whole) (cut_line bytes b feed))
 
 -- what waits is not written whole
-pub cut_off_waiting : (start : Sight) (begun taken taken' : Option (List ℕ)) (stand : Stand) (kept bytes : List ℕ) →
-    Served start begun taken stand kept bytes → TakesFront taken taken' stand.waits → CutOff start begun taken' stand.sight (cut_of bytes).whole
-cut_off_waiting start begun taken taken' stand kept bytes v front = record {
-  said = (cut_of bytes).whole;
-  others = [];
-  order = sym (append-nil _);
-  text = v.text;
-  made = v.made;
-  to = standing stand.sight stand.speaker false;
-  there = refl;
-  grows = v.grows;
-  took = front_waiting begun taken taken' [] stand.waits v.text v.said front;
-  talk = v.talk;
-}
+pub cut_off_waiting : (start : Sight) (ahead : List (List ℕ)) (begun taken taken' : Option (List ℕ)) (stand : Stand) (kept bytes : List ℕ) →
+    Served start ahead begun taken stand kept bytes → TakesFront taken taken' stand.waits → CutOff start ahead begun taken' stand.sight (cut_of bytes).whole
+cut_off_waiting start ahead begun taken taken' stand kept bytes v front =
+    let cut = waiting_on begun taken taken' [] stand.waits v.text v.said front in
+    record {
+      said = (cut_of bytes).whole;
+      others = [];
+      order = sym (append-nil _);
+      text = v.text;
+      made = v.made;
+      to = standing stand.sight stand.speaker false;
+      there = refl;
+      grows = v.grows;
+      took = cut.0;
+      whole = within_still start stand.sight ahead v.text (length v.said.written) cut.0.0 cut.1 v.whole;
+      talk = v.talk;
+    }
 
 -- some of what waited is written, or all of it
-pub served_flushed : (start : Sight) (begun taken taken' : Option (List ℕ)) (stand : Stand) (waits' kept bytes : List ℕ) →
-    Says taken taken' stand.waits waits' [] → Served start begun taken stand kept bytes → Served start begun taken' (record stand { waits = waits' }) kept bytes
-served_flushed start begun taken taken' stand waits' kept bytes says v =
-    let P : List ℕ → Type 0 = λ text. Says begun taken' [] waits' text in
+pub served_flushed : (start : Sight) (ahead : List (List ℕ)) (begun taken taken' : Option (List ℕ)) (stand : Stand) (waits' kept bytes : List ℕ) →
+    Says taken taken' stand.waits waits' [] → Served start ahead begun taken stand kept bytes → Served start ahead begun taken' (record stand { waits = waits' }) kept bytes
+served_flushed start ahead begun taken taken' stand waits' kept bytes says v =
+    let P : List ℕ → Type 0 = λ text. (s : Says begun taken' [] waits' text) × (length v.said.written ≤ length s.written) in
+    let both = subst P (append-nil v.text) (says_on begun taken taken' [] stand.waits waits' v.text [] v.said says) in
     record {
       text = v.text;
       made = v.made;
       grows = v.grows;
-      said = subst P (append-nil v.text) (says_both begun taken taken' [] stand.waits waits' v.text [] v.said says);
+      said = both.0;
+      whole = within_still start stand.sight ahead v.text (length v.said.written) (length both.0.written) both.1 v.whole;
       talk = v.talk;
       line = v.line;
     }
 
 -- before the first byte of a piece
-pub served_begun : (start : Sight) (begun taken : Option (List ℕ)) (stand : Stand) (kept bytes : List ℕ) →
-    Served start begun taken stand kept bytes → Served start begun taken stand kept (bytes ++ [])
-served_begun start begun taken stand kept bytes v = let P : List ℕ → Type 0 = λ bs. Served start begun taken stand kept bs in subst P (sym (append-nil bytes)) v
+pub served_begun : (start : Sight) (ahead : List (List ℕ)) (begun taken : Option (List ℕ)) (stand : Stand) (kept bytes : List ℕ) →
+    Served start ahead begun taken stand kept bytes → Served start ahead begun taken stand kept (bytes ++ [])
+served_begun start ahead begun taken stand kept bytes v = let P : List ℕ → Type 0 = λ bs. Served start ahead begun taken stand kept bs in subst P (sym (append-nil bytes)) v
 
 -- a whole piece, whose replies are written
-pub served_piece : (start : Sight) (begun taken taken' : Option (List ℕ)) (stand : Stand) (waits' kept bytes p : List ℕ) (i : ℕ) →
-    length p ≤ i → Takes taken taken' stand.waits → waits' ≡ [] → Served start begun taken stand kept (bytes ++ take i p) → Served start begun taken' (record stand { waits = waits' }) kept (bytes ++ p)
-served_piece start begun taken taken' stand waits' kept bytes p i past took none v =
-    let P : List ℕ → Type 0 = λ bs. Served start begun taken' (record stand { waits = waits' }) kept (bytes ++ bs) in
-    subst P (take_all i p past) (served_flushed start begun taken taken' stand waits' kept (bytes ++ take i p) (says_flushed taken taken' stand.waits waits' took none) v)
+pub served_piece : (start : Sight) (ahead : List (List ℕ)) (begun taken taken' : Option (List ℕ)) (stand : Stand) (waits' kept bytes p : List ℕ) (i : ℕ) →
+    length p ≤ i → Takes taken taken' stand.waits → waits' ≡ [] → Served start ahead begun taken stand kept (bytes ++ take i p) → Served start ahead begun taken' (record stand { waits = waits' }) kept (bytes ++ p)
+served_piece start ahead begun taken taken' stand waits' kept bytes p i past took none v =
+    let P : List ℕ → Type 0 = λ bs. Served start ahead begun taken' (record stand { waits = waits' }) kept (bytes ++ bs) in
+    subst P (take_all i p past) (served_flushed start ahead begun taken taken' stand waits' kept (bytes ++ take i p) (says_flushed taken taken' stand.waits waits' took none) v)
 
 -- a whole piece, whose replies are not written whole
-pub cut_off_piece : (start : Sight) (begun taken taken' : Option (List ℕ)) (stand : Stand) (kept bytes p : List ℕ) (i : ℕ) →
-    length p ≤ i → TakesFront taken taken' stand.waits → Served start begun taken stand kept (bytes ++ take i p) → CutOff start begun taken' stand.sight (cut_of (bytes ++ p)).whole
-cut_off_piece start begun taken taken' stand kept bytes p i past front v =
-    let P : List ℕ → Type 0 = λ bs. CutOff start begun taken' stand.sight (cut_of (bytes ++ bs)).whole in
-    subst P (take_all i p past) (cut_off_waiting start begun taken taken' stand kept (bytes ++ take i p) v front)
+pub cut_off_piece : (start : Sight) (ahead : List (List ℕ)) (begun taken taken' : Option (List ℕ)) (stand : Stand) (kept bytes p : List ℕ) (i : ℕ) →
+    length p ≤ i → TakesFront taken taken' stand.waits → Served start ahead begun taken stand kept (bytes ++ take i p) → CutOff start ahead begun taken' stand.sight (cut_of (bytes ++ p)).whole
+cut_off_piece start ahead begun taken taken' stand kept bytes p i past front v =
+    let P : List ℕ → Type 0 = λ bs. CutOff start ahead begun taken' stand.sight (cut_of (bytes ++ bs)).whole in
+    subst P (take_all i p past) (cut_off_waiting start ahead begun taken taken' stand kept (bytes ++ take i p) v front)
 
 -- a front of the lines is a front of more lines
-cut_off_by : (start : Sight) (begun taken : Option (List ℕ)) (now : Sight) (lines more all : List (List ℕ)) → all ≡ lines ++ more → CutOff start begun taken now lines → CutOff start begun taken now all
-cut_off_by start begun taken now lines more all is v = record {
+cut_off_by : (start : Sight) (ahead : List (List ℕ)) (begun taken : Option (List ℕ)) (now : Sight) (lines more all : List (List ℕ)) → all ≡ lines ++ more → CutOff start ahead begun taken now lines → CutOff start ahead begun taken now all
+cut_off_by start ahead begun taken now lines more all is v = record {
   said = v.said;
   others = v.others ++ more;
   order = is ∙ ap (λ w. w ++ more) v.order ∙ append_assoc v.said v.others more;
@@ -235,14 +253,15 @@ cut_off_by start begun taken now lines more all is v = record {
   there = v.there;
   grows = v.grows;
   took = v.took;
+  whole = v.whole;
   talk = v.talk;
 }
 
 -- a front of the lines is a front of the lines of more bytes
-pub cut_off_more : (start : Sight) (begun taken : Option (List ℕ)) (now : Sight) (xs ys : List ℕ) → CutOff start begun taken now (cut_of xs).whole → CutOff start begun taken now (cut_of (xs ++ ys)).whole
-cut_off_more start begun taken now xs ys v =
+pub cut_off_more : (start : Sight) (ahead : List (List ℕ)) (begun taken : Option (List ℕ)) (now : Sight) (xs ys : List ℕ) → CutOff start ahead begun taken now (cut_of xs).whole → CutOff start ahead begun taken now (cut_of (xs ++ ys)).whole
+cut_off_more start ahead begun taken now xs ys v =
     let more = whole_grows xs ys in
-    cut_off_by start begun taken now (cut_of xs).whole more.0 (cut_of (xs ++ ys)).whole more.1 v
+    cut_off_by start ahead begun taken now (cut_of xs).whole more.0 (cut_of (xs ++ ys)).whole more.1 v
 
 -- what was taken of a piece, with its next byte
 pub piece_next : (bytes p : List ℕ) (i : ℕ) → i < length p → (bytes ++ take i p) ++ get_or p i 0 ∷ [] ≡ bytes ++ take (i + 1) p
@@ -255,37 +274,37 @@ piece_rest bytes p i lt =
     ∙ append_assoc bytes (take (i + 1) p) (drop (i + 1) p) ∙ ap (λ v. bytes ++ v) (take-append-drop (i + 1) p)
 
 -- an input that ended, where no begun line is left
-pub written_none : (start : Sight) (begun taken : Option (List ℕ)) (stand : Stand) (kept bytes : List ℕ) →
-    Served start begun taken stand kept bytes → stand.waits ≡ [] → kept ≡ [] → Written start begun taken stand.sight (lines_of bytes)
-written_none start begun taken stand kept bytes v none empty =
+pub written_none : (start : Sight) (ahead : List (List ℕ)) (begun taken : Option (List ℕ)) (stand : Stand) (kept bytes : List ℕ) →
+    Served start ahead begun taken stand kept bytes → stand.waits ≡ [] → kept ≡ [] → Written start begun taken stand.sight (lines_of bytes)
+written_none start ahead begun taken stand kept bytes v none empty =
     let all : lines_of bytes ≡ (cut_of bytes).whole = ap (λ l. (cut_of bytes).whole ++ l) (none_last (cut_of bytes).rest (sym v.line ∙ empty)) ∙ append-nil (cut_of bytes).whole in
     let P : List (List ℕ) → Type 0 = λ lines. IsTalk start.seat.figures stand.sight.history start.seat.number (standing start nobody false) lines v.text v.made (standing stand.sight stand.speaker false) in
     record { text = v.text; made = v.made; to = standing stand.sight stand.speaker false; there = refl; grows = v.grows; took = says_whole begun taken [] stand.waits v.text none v.said; talk = subst P (sym all) v.talk }
 
 -- the whole lines so far, without a BYE among them
-pub whole_open : (start : Sight) (begun taken : Option (List ℕ)) (stand : Stand) (kept bytes : List ℕ) →
-    Served start begun taken stand kept bytes → stand.waits ≡ [] → (written : Written start begun taken stand.sight (cut_of bytes).whole) × (written.to.over ≡ false)
-whole_open start begun taken stand kept bytes v none =
+pub whole_open : (start : Sight) (ahead : List (List ℕ)) (begun taken : Option (List ℕ)) (stand : Stand) (kept bytes : List ℕ) →
+    Served start ahead begun taken stand kept bytes → stand.waits ≡ [] → (written : Written start begun taken stand.sight (cut_of bytes).whole) × (written.to.over ≡ false)
+whole_open start ahead begun taken stand kept bytes v none =
     (record { text = v.text; made = v.made; to = standing stand.sight stand.speaker false; there = refl; grows = v.grows; took = says_whole begun taken [] stand.waits v.text none v.said; talk = v.talk }, refl)
 
 all_lines : (bytes kept : List ℕ) → kept ≡ take 4097 (cut_of bytes).rest → (kept ≡ [] → ⊥) → lines_of bytes ≡ (cut_of bytes).whole ++ (cut_of bytes).rest ∷ []
 all_lines bytes kept is some = ap (λ l. (cut_of bytes).whole ++ l) (some_last (cut_of bytes).rest (λ e. some (is ∙ e)))
 
 -- and where one is left, which is replied to
-pub written_last : (start : Sight) (begun taken between taken' : Option (List ℕ)) (old new : Stand) (kept bytes : List ℕ) (step : Step) →
-    Served start begun taken old kept bytes → (kept ≡ [] → ⊥) → RepliesWhole old new kept taken between step → Takes between taken' new.waits →
+pub written_last : (start : Sight) (ahead : List (List ℕ)) (begun taken between taken' : Option (List ℕ)) (old new : Stand) (kept bytes : List ℕ) (step : Step) →
+    Served start ahead begun taken old kept bytes → (kept ≡ [] → ⊥) → RepliesWhole old new kept taken between step → Takes between taken' new.waits →
     Written start begun taken' new.sight (lines_of bytes)
-written_last start begun taken between taken' old new kept bytes step v some r took =
+written_last start ahead begun taken between taken' old new kept bytes step v some r took =
     let a = read_alike old.sight new.sight old.speaker new.speaker kept (cut_of bytes).rest r.reply (last_front kept (cut_of bytes).rest v.line) r.answers in
     let said = says_then_flushed taken between taken' old.waits new.waits (text_of old.sight r.reply) r.said took in
-    written_with start begun taken taken' old (record new { waits = [] }) kept bytes (cut_of bytes).rest r.reply (lines_of bytes) v a said refl (all_lines bytes kept v.line some)
+    written_with start ahead begun taken taken' old (record new { waits = [] }) kept bytes (cut_of bytes).rest r.reply (lines_of bytes) v a said refl (all_lines bytes kept v.line some)
 
-pub cut_off_last : (start : Sight) (begun taken taken' : Option (List ℕ)) (old new : Stand) (kept bytes : List ℕ) →
-    Served start begun taken old kept bytes → (kept ≡ [] → ⊥) → RepliesInPart old new kept taken taken' →
-    CutOff start begun taken' new.sight (lines_of bytes)
-cut_off_last start begun taken taken' old new kept bytes v some r =
+pub cut_off_last : (start : Sight) (ahead : List (List ℕ)) (begun taken taken' : Option (List ℕ)) (old new : Stand) (kept bytes : List ℕ) →
+    Served start ahead begun taken old kept bytes → (kept ≡ [] → ⊥) → RepliesInPart old new kept taken taken' →
+    CutOff start ahead begun taken' new.sight (lines_of bytes)
+cut_off_last start ahead begun taken taken' old new kept bytes v some r =
     let a = read_alike old.sight new.sight old.speaker new.speaker kept (cut_of bytes).rest r.reply (last_front kept (cut_of bytes).rest v.line) r.answers in
-    cut_off_at start begun taken taken' old new kept bytes (cut_of bytes).rest r.reply (lines_of bytes) v a r.took (all_lines bytes kept v.line some)
+    cut_off_at start ahead begun taken taken' old new kept bytes (cut_of bytes).rest r.reply (lines_of bytes) v a r.took (all_lines bytes kept v.line some)
 
 -- a reply that waits and is not written whole
 pub part_of_whole : (taken between taken' : Option (List ℕ)) (old new : Stand) (line : List ℕ) (step : Step) →
@@ -297,17 +316,18 @@ part_of_whole taken between taken' old new line step r front = record {
 }
 
 -- nothing is served yet
-pub served_none : (begun : Option (List ℕ)) (stand : Stand) (kept : List ℕ) → stand.speaker ≡ nobody → stand.waits ≡ [] → kept ≡ [] → Served stand.sight begun begun stand kept []
+pub served_none : (begun : Option (List ℕ)) (stand : Stand) (kept : List ℕ) → stand.speaker ≡ nobody → stand.waits ≡ [] → kept ≡ [] → Served stand.sight [] begun begun stand kept []
 served_none begun stand kept first none empty =
-    let begins : Served stand.sight begun begun (record { sight = stand.sight; speaker = nobody; waits = [] }) kept [] = record {
+    let begins : Served stand.sight [] begun begun (record { sight = stand.sight; speaker = nobody; waits = [] }) kept [] = record {
       text = [];
       made = [];
       grows = grows_none stand.sight;
       said = says_none begun [];
+      whole = within_none stand.sight _;
       talk = (refl, refl, refl);
       line = empty;
     } in
-    let P : Speaker × List ℕ → Type 0 = λ x. Served stand.sight begun begun (record { sight = stand.sight; speaker = x.0; waits = x.1 }) kept [] in
+    let P : Speaker × List ℕ → Type 0 = λ x. Served stand.sight [] begun begun (record { sight = stand.sight; speaker = x.0; waits = x.1 }) kept [] in
     subst P (λ i. (sym first i, sym none i)) begins
 
 -- the byte is a line feed, or not

@@ -15,28 +15,28 @@ use Rattle.session.proofs.PendingFacts.{says_as, says_then_flushed, front_waitin
 use Rattle.session.proofs.StepFacts.{goes_on, is_over, ok_holds}
 use Rattle.session.proofs.ServedFacts.{served_line, left_line, cut_off_line}
 
-pub whole_on : (start : Sight) (begun taken taken' : Option (List ℕ)) (old new : Stand) (kept next bytes line : List ℕ) (b : ℕ) (result : Result Step Failed) →
-    Served start begun taken old kept bytes → (b == 10) ≡ true → next ≡ [] → line ≡ ended_line kept → result ≡ Ok On → IfOk result (RepliesWhole old new line taken taken') →
-    Served start begun taken' new next (bytes ++ b ∷ [])
-whole_on start begun taken taken' old new kept next bytes line b result v feed is same ok whole =
+pub whole_on : (start : Sight) (ahead : List (List ℕ)) (begun taken taken' : Option (List ℕ)) (old new : Stand) (kept next bytes line : List ℕ) (b : ℕ) (result : Result Step Failed) →
+    Served start ahead begun taken old kept bytes → (b == 10) ≡ true → next ≡ [] → line ≡ ended_line kept → result ≡ Ok On → IfOk result (RepliesWhole old new line taken taken') →
+    Served start ahead begun taken' new next (bytes ++ b ∷ [])
+whole_on start ahead begun taken taken' old new kept next bytes line b result v feed is same ok whole =
     let P : List ℕ → Type 0 = λ l. RepliesWhole old new l taken taken' On in
     let r = subst P same (ok_holds (RepliesWhole old new line taken taken') result On ok whole) in
-    served_line start begun taken taken' old new kept next bytes b r.reply v feed is r.answers r.said (goes_on r.reply.answer r.next)
+    served_line start ahead begun taken taken' old new kept next bytes b r.reply v feed is r.answers r.said (goes_on r.reply.answer r.next)
 
-pub whole_over : (start : Sight) (begun taken taken' : Option (List ℕ)) (old new : Stand) (kept bytes line : List ℕ) (b : ℕ) (result : Result Step Failed) →
-    Served start begun taken old kept bytes → (b == 10) ≡ true → line ≡ ended_line kept → result ≡ Ok Over → IfOk result (RepliesWhole old new line taken taken') →
+pub whole_over : (start : Sight) (ahead : List (List ℕ)) (begun taken taken' : Option (List ℕ)) (old new : Stand) (kept bytes line : List ℕ) (b : ℕ) (result : Result Step Failed) →
+    Served start ahead begun taken old kept bytes → (b == 10) ≡ true → line ≡ ended_line kept → result ≡ Ok Over → IfOk result (RepliesWhole old new line taken taken') →
     Left start begun taken' new.sight (cut_of (bytes ++ b ∷ [])).whole
-whole_over start begun taken taken' old new kept bytes line b result v feed same ok whole =
+whole_over start ahead begun taken taken' old new kept bytes line b result v feed same ok whole =
     let P : List ℕ → Type 0 = λ l. RepliesWhole old new l taken taken' Over in
     let r = subst P same (ok_holds (RepliesWhole old new line taken taken') result Over ok whole) in
-    left_line start begun taken taken' old new kept bytes b r.reply v feed r.answers r.said (r.flushed refl) (is_over r.reply.answer r.next)
+    left_line start ahead begun taken taken' old new kept bytes b r.reply v feed r.answers r.said (r.flushed refl) (is_over r.reply.answer r.next)
 
-pub part_cut : (start : Sight) (begun taken taken' : Option (List ℕ)) (old new : Stand) (kept bytes line : List ℕ) (b : ℕ) →
-    Served start begun taken old kept bytes → (b == 10) ≡ true → line ≡ ended_line kept → RepliesInPart old new line taken taken' →
-    CutOff start begun taken' new.sight (cut_of (bytes ++ b ∷ [])).whole
-part_cut start begun taken taken' old new kept bytes line b v feed same r =
+pub part_cut : (start : Sight) (ahead : List (List ℕ)) (begun taken taken' : Option (List ℕ)) (old new : Stand) (kept bytes line : List ℕ) (b : ℕ) →
+    Served start ahead begun taken old kept bytes → (b == 10) ≡ true → line ≡ ended_line kept → RepliesInPart old new line taken taken' →
+    CutOff start ahead begun taken' new.sight (cut_of (bytes ++ b ∷ [])).whole
+part_cut start ahead begun taken taken' old new kept bytes line b v feed same r =
     let P : List ℕ → Type 0 = λ l. RepliesInPart old new l taken taken' in
-    cut_off_line start begun taken taken' old new kept bytes b v feed (subst P same r)
+    cut_off_line start ahead begun taken taken' old new kept bytes b v feed (subst P same r)
 
 -- a reply that waited and was written
 pub replied_flushed : (taken between taken' : Option (List ℕ)) (old new : Stand) (waits line : List ℕ) (rows : Rows) (reply : Reply) (step : Step) → rows ≡ roster_of old.sight →

@@ -7,6 +7,7 @@ pub mod Places
 pub mod Pending
 pub mod Serving
 pub mod Standing
+pub mod Given
 pub mod Proposing
 pub mod Ending
 pub mod Answered

@@ -1,5 +1,5 @@
 -- How far a session has come.
-use Rattle.std.specs.Prelude.{◌≡◌, ℕ, Bool, true, false, List, ◌++◌, filter, ◌==◌, Option, Result}
+use Rattle.std.specs.Prelude.{◌≡◌, ℕ, ◌≤◌, Bool, true, false, List, ◌++◌, length, filter, ◌==◌, Option, Result}
 use Rattle.outside.specs.Flow.{Takes, TakesFront}
 use Rattle.command_types.specs.declared.ask.Ask.{Ask}
 use Rattle.command_types.specs.declared.ask.Entry.{Entry}
@@ -92,8 +92,18 @@ pub record Left (start : Sight) (begun taken : Option (List ℕ)) (now : Sight) 
   pub written : Written start begun taken now said
   pub over : written.to.over ≡ true
 
--- The first of these lines are replied to, and of their text a front is written that is not the whole.
-pub record CutOff (start : Sight) (begun taken : Option (List ℕ)) (now : Sight) (lines : List (List ℕ)) : Type 0 where
+-- The replies to these lines, a session's first, are a front of the text, within this many of its bytes.
+pub record AreWithin (start now : Sight) (lines : List (List ℕ)) (text : List ℕ) (count : ℕ) : Type 0 where
+  pub front : List ℕ
+  pub back : List ℕ
+  pub order : text ≡ front ++ back
+  pub within : length front ≤ count
+  pub made : List Entry
+  pub to : Standing
+  pub talk : IsTalk start.seat.figures now.history start.seat.number (standing start nobody false) lines front made to
+
+-- The first of these lines are replied to, and of their text a front is written that is not the whole. The replies to the lines ahead are in it whole.
+pub record CutOff (start : Sight) (ahead : List (List ℕ)) (begun taken : Option (List ℕ)) (now : Sight) (lines : List (List ℕ)) : Type 0 where
   pub said : List (List ℕ)
   pub others : List (List ℕ)
   pub order : lines ≡ said ++ others
@@ -103,4 +113,5 @@ pub record CutOff (start : Sight) (begun taken : Option (List ℕ)) (now : Sight
   pub there : mark_of to ≡ mark now
   pub grows : Grows start now made
   pub took : TakesFront begun taken text
+  pub whole : AreWithin start now ahead text took.0
   pub talk : IsTalk start.seat.figures now.history start.seat.number (standing start nobody false) said text made to

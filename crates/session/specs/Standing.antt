@@ -1,5 +1,5 @@
 -- Where a session stands between two lines, and how it goes on from there.
-use Rattle.std.specs.Prelude.{◌≡◌, ℕ, ◌+◌, false, List, [], ◌++◌, take, Option, if◌then◌else◌}
+use Rattle.std.specs.Prelude.{◌≡◌, ℕ, ◌+◌, false, List, [], ◌++◌, length, take, Option, if◌then◌else◌}
 use Rattle.outside.specs.Flow.{TakesFront}
 use Rattle.command_types.specs.declared.ask.Entry.{Entry}
 use Rattle.command_types.specs.declared.answer.Answer.{Answer}
@@ -12,7 +12,7 @@ use Rattle.session.specs.declared.taking.Step.TheVariants.{On, Over}
 use Rattle.session.specs.declared.session.Session.{Session}
 use Rattle.session.specs.KeptSpeaker.{speaker_of}
 use Rattle.session.specs.Pending.{Says}
-use Rattle.session.specs.Serving.{Sight, of_pass, roster_of, standing, Grows, Answers, Written, Left, CutOff}
+use Rattle.session.specs.Serving.{Sight, of_pass, roster_of, standing, Grows, Answers, Written, Left, AreWithin, CutOff}
 use Rattle.units_core.specs.declared.limits.TheConstants.{MOST_LINE}
 
 -- what a session has seen of the desk, who speaks, and what waits for the sink
@@ -21,6 +21,7 @@ pub record Stand : Type 0 where
   pub speaker : Speaker
   pub waits : List ℕ
 
+-- how a session stands
 abbrev pub stand_of : {T R V G : Type 0} → Session T R V G → Stand
 stand_of session = record { sight = of_pass session.asker.pass; speaker = speaker_of session.speaker; waits = session.writer.outbox }
 
@@ -42,35 +43,36 @@ pub record RepliesInPart (old new : Stand) (line : List ℕ) (taken then_taken :
   pub answers : Answers old.sight new.sight old.speaker new.speaker line reply
   pub took : TakesFront taken then_taken (old.waits ++ reply_text (roster_of old.sight) reply)
 
--- All whole lines of these bytes are replied to, the replies are written but for what waits, and the begun line is kept, as far as it counts.
-pub record Served (start : Sight) (begun taken : Option (List ℕ)) (stand : Stand) (kept bytes : List ℕ) : Type 0 where
+-- All whole lines of these bytes are replied to, the replies are written but for what waits, those to the lines ahead among them, and the begun line is kept, as far as it counts.
+pub record Served (start : Sight) (ahead : List (List ℕ)) (begun taken : Option (List ℕ)) (stand : Stand) (kept bytes : List ℕ) : Type 0 where
   pub text : List ℕ
   pub made : List Entry
   pub grows : Grows start stand.sight made
   pub said : Says begun taken [] stand.waits text
+  pub whole : AreWithin start stand.sight ahead text (length said.written)
   pub talk : IsTalk start.seat.figures stand.sight.history start.seat.number (standing start nobody false) (cut_of bytes).whole text made (standing stand.sight stand.speaker false)
   pub line : kept ≡ take (MOST_LINE + 1) (cut_of bytes).rest
 
 -- whatever a session has served that stands here, with this begun line, and whose sink had taken this
-abbrev pub Serves : Stand → List ℕ → Option (List ℕ) → (Sight → Option (List ℕ) → List ℕ → Type 0) → Type 0
-Serves stand kept taken P = (start : Sight) (begun : Option (List ℕ)) (bytes : List ℕ) → Served start begun taken stand kept bytes → P start begun bytes
+abbrev pub Serves : Stand → List ℕ → Option (List ℕ) → (Sight → List (List ℕ) → Option (List ℕ) → List ℕ → Type 0) → Type 0
+Serves stand kept taken P = (start : Sight) (ahead : List (List ℕ)) (begun : Option (List ℕ)) (bytes : List ℕ) → Served start ahead begun taken stand kept bytes → P start ahead begun bytes
 
 -- with these bytes more it has served them too
 abbrev pub GoesOn : Stand → Stand → List ℕ → List ℕ → Option (List ℕ) → Option (List ℕ) → List ℕ → Type 0
-GoesOn old new kept then_kept taken then_taken more = Serves old kept taken (λ start begun bytes. Served start begun then_taken new then_kept (bytes ++ more))
+GoesOn old new kept then_kept taken then_taken more = Serves old kept taken (λ start ahead begun bytes. Served start ahead begun then_taken new then_kept (bytes ++ more))
 
 -- with these bytes more it is over by an accepted BYE
 abbrev pub IsLeft : Stand → Stand → List ℕ → Option (List ℕ) → Option (List ℕ) → List ℕ → Type 0
-IsLeft old new kept taken then_taken more = Serves old kept taken (λ start begun bytes. Left start begun then_taken new.sight (cut_of (bytes ++ more)).whole)
+IsLeft old new kept taken then_taken more = Serves old kept taken (λ start ahead begun bytes. Left start begun then_taken new.sight (cut_of (bytes ++ more)).whole)
 
 -- with these bytes more its text was cut off
 abbrev pub IsCut : Stand → Stand → List ℕ → Option (List ℕ) → Option (List ℕ) → List ℕ → Type 0
-IsCut old new kept taken then_taken more = Serves old kept taken (λ start begun bytes. CutOff start begun then_taken new.sight (cut_of (bytes ++ more)).whole)
+IsCut old new kept taken then_taken more = Serves old kept taken (λ start ahead begun bytes. CutOff start ahead begun then_taken new.sight (cut_of (bytes ++ more)).whole)
 
 -- at the input's end all lines are replied to, the begun one too
 abbrev pub EndsWritten : Stand → Stand → List ℕ → Option (List ℕ) → Option (List ℕ) → Type 0
-EndsWritten old new kept taken then_taken = Serves old kept taken (λ start begun bytes. Written start begun then_taken new.sight (lines_of bytes))
+EndsWritten old new kept taken then_taken = Serves old kept taken (λ start ahead begun bytes. Written start begun then_taken new.sight (lines_of bytes))
 
 -- at the input's end their text was cut off
 abbrev pub EndsCut : Stand → Stand → List ℕ → Option (List ℕ) → Option (List ℕ) → Type 0
-EndsCut old new kept taken then_taken = Serves old kept taken (λ start begun bytes. CutOff start begun then_taken new.sight (lines_of bytes))
+EndsCut old new kept taken then_taken = Serves old kept taken (λ start ahead begun bytes. CutOff start ahead begun then_taken new.sight (lines_of bytes))

@@ -53,6 +53,13 @@ impl<'a, T: Desk, R: Threads + Wait + Sync, V: Solver, G: Gate> Asker<'a, T, R, 
         }
     }
 
+    /// The pass as it is.
+    pub fn pass(&self) -> &Pass
+        ensures { result.now ≡ self.now.pass }
+    {
+        &self.pass
+    }
+
     /// The pass again.
     pub fn into_pass(self) -> Pass
         ensures pass { result ≡ self.entry.pass }

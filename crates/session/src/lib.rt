@@ -6,6 +6,7 @@ mod asks;
 mod draft;
 mod draft_potentials;
 mod draft_rows;
+mod given;
 mod laws;
 mod line_buffer;
 mod outbox;

@@ -6,9 +6,10 @@ ghost use Rattle.outside.specs.Flow.{Takes, TakesFront};
 ghost use Rattle.command_types.specs.Details.{reply_text};
 ghost use Rattle.session.specs.Pending.{Says};
 
+use crate::given::Given;
 use crate::outbox::Outbox;
 use command_text::write_head;
-use command_types::{Reply, Roster};
+use command_types::Roster;
 use outside::{Failed, Sink};
 use statements::{detail_count, detail_row, write_row};
 use std::alloc::{AllocError, Global};
@@ -31,25 +32,26 @@ impl ReplyWriter {
         })
     }
 
-    /// Puts the text of a reply behind what waits. What waits goes to the sink where there is no room for a line more.
+    /// Puts the text of a reply that was given behind what waits. What waits goes to the sink where there is no room for a line
+    /// more.
     pub fn write<K: Sink>(
         &mut self,
         roster: &Roster,
-        reply: &Reply,
+        given: &Given<'_>,
         sink: &mut K,
     ) -> Result<(), Failed>
-        ensures said { OnOk result (Says (K.taken sink.old) (K.taken sink.new) self.old.outbox self.new.outbox (reply_text roster.now reply.now)) }
-        ensures front { OnErr result (TakesFront (K.taken sink.old) (K.taken sink.new) (self.old.outbox ++ reply_text roster.now reply.now)) }
+        ensures said { OnOk result (Says (K.taken sink.old) (K.taken sink.new) self.old.outbox self.new.outbox (reply_text roster.now given.now.reply.now)) }
+        ensures front { OnErr result (TakesFront (K.taken sink.old) (K.taken sink.new) (self.old.outbox ++ reply_text roster.now given.now.reply.now)) }
         ensures never_falls { K.faults sink.old ≤ K.faults sink.new }
         ensures failed { OnErr result (Rose (K.faults sink.old) (K.faults sink.new)) }
     {
-        let end = write_head(reply, roster, &mut self.line);
+        let end = write_head(given.reply, roster, &mut self.line);
         match self.outbox.put(&self.line[..end], sink) {
             Ok(()) => {}
             Err(fault) => return Err(fault),
         }
-        for index in 0..detail_count(&reply.answer) {
-            let row = detail_row(&reply.answer, index);
+        for index in 0..detail_count(&given.reply.answer) {
+            let row = detail_row(&given.reply.answer, index);
             let end = write_row(&row, roster, &mut self.line);
             match self.outbox.put(&self.line[..end], sink) {
                 Ok(()) => {}

@@ -5,7 +5,7 @@ ghost use Rattle.std.specs.Prelude.{◌≡◌, ℕ, ◌≤◌, ◌<◌, ◌≢�
 ghost use Rattle.outside.specs.Faults.{Rose};
 ghost use Rattle.outside.specs.Flow.{TakesFront};
 ghost use Rattle.command_types.specs.Session.{nobody};
-ghost use Rattle.session.specs.Ending.{Ends};
+ghost use Rattle.session.specs.Ending.{Ends, most_piece};
 ghost use Rattle.session.specs.KeptSpeaker.{speaker_of};
 ghost use Rattle.session.specs.Pending.{Says};
 ghost use Rattle.session.specs.Serving.{of_pass};
@@ -13,6 +13,7 @@ ghost use Rattle.session.specs.Standing.{stand_of, step_of, RepliesWhole, Replie
 
 use crate::asker::Asker;
 use crate::asks::ended;
+use crate::given::Given;
 use crate::line_buffer::LineBuffer;
 use crate::replies::reply_to;
 use crate::reply_writer::ReplyWriter;
@@ -74,7 +75,11 @@ impl<'a, T: Desk, R: Threads + Wait + Sync, V: Solver, G: Gate> Session<'a, T, R
             &mut self.speaker,
             line,
         );
-        self.writer.write(self.roster, &reply, sink)?;
+        let given = Given {
+            reply: &reply,
+            pass: self.asker.pass(),
+        };
+        self.writer.write(self.roster, &given, sink)?;
         let step = step_after(&reply.answer);
         if step == Step::On {
             return Ok(step);
@@ -153,7 +158,7 @@ impl<'a, T: Desk, R: Threads + Wait + Sync, V: Solver, G: Gate> Session<'a, T, R
         source: &mut S,
         sink: &mut K,
     ) -> SessionEnd
-        requires piece { 0 < length piece.old }
+        requires piece { (0 < length piece.old) × (length piece.old ≤ most_piece) }
         requires line { line.old ≡ [] }
         requires waits { self.old.writer.outbox ≡ [] }
         requires speaker { speaker_of self.old.speaker ≡ nobody }

@@ -27,5 +27,5 @@ returns-clause-ends g c =
     let seat = seat_stays (of_pass pass) _ _ _ _ (of_pass after) c.serve_session-end.result.0 ends in
     script_ends (lock_of pass) c.args.house c.close.result (of_pass pass) _ _ _ _ (of_pass after) c.serve_session-end.result.0
     (first_at c.args.house pass e.figures e.seat.0 e.seen (e.stop ∙ c.requires.running) e.left)
-    (closed_on c.args.house c.close.result after c.requires.opened (ap (λ (s : Seat). s.number) seat ∙ e.seat.0) (ap (λ (s : Seat). s.figures) seat ∙ e.figures) done.figures done.seen after.mine done.made done.numbers done.stop)
+    (closed_on c.args.house c.close.result after c.requires.opened (ap (λ (s : Seat). s.number) seat ∙ e.seat.0) (ap (λ (s : Seat). s.figures) seat ∙ e.figures) done.figures done.seen after.mine done.made done.numbers done.stop done.lone)
     ends

@@ -6,16 +6,16 @@ use Rattle.session.proofs.reply_writer.ReplyWriter.write.Goals as goal
 
 pub returns-in-Err-put-clause-front : goal.returns-in-Err-put-clause-front
 returns-in-Err-put-clause-front g c =
-    front_of_reply _ _ _ c.args.roster.now c.args.reply.now c.loop-index.index (front_waiting _ _ _ _ _ _ c.loop-index.invariant.said c.in-Err-put.ensures.front)
+    front_of_reply _ _ _ c.args.roster.now c.args.given.now.reply.now c.loop-index.index (front_waiting _ _ _ _ _ _ c.loop-index.invariant.said c.in-Err-put.ensures.front)
 
 pub loop-index-preserved : goal.loop-index-preserved
 loop-index-preserved g c = record {
-  said = says_as _ _ _ _ _ _ (text_more c.args.roster.now c.args.reply.now c.loop-index.index c.detail_row-row.result c.detail_row-row.ensures)
+  said = says_as _ _ _ _ _ _ (text_more c.args.roster.now c.args.given.now.reply.now c.loop-index.index c.detail_row-row.result c.detail_row-row.ensures)
       (says_both _ _ _ _ _ _ _ _ c.loop-index.invariant.said (says_as _ _ _ _ _ _ c.write_row-end.ensures.text c.in-Ok-put.ensures.said));
   never_falls = omega (arith, c.loop-index.invariant.never_falls, c.in-Ok-put.ensures.never_falls);
 }
 
 pub returns-clause-said : goal.returns-clause-said
 returns-clause-said g c =
-    let past : length (details_of c.args.reply.now.answer) ≤ c.loop-index.index = omega (arith, c.detail_count-index-end.ensures, c.loop-index-test.false) in
-    says_as _ _ _ _ _ _ (text_whole c.args.roster.now c.args.reply.now c.loop-index.index past) c.loop-index.invariant.said
+    let past : length (details_of c.args.given.now.reply.now.answer) ≤ c.loop-index.index = omega (arith, c.detail_count-index-end.ensures, c.loop-index-test.false) in
+    says_as _ _ _ _ _ _ (text_whole c.args.roster.now c.args.given.now.reply.now c.loop-index.index past) c.loop-index.invariant.said

@@ -5,6 +5,6 @@ use Rattle.session.proofs.reply_writer.ReplyWriter.write.Given as goal
 
 abbrev pub invariant-loop-index : goal.invariant-loop-index
 invariant-loop-index g l = record {
-  said : Says (g.K.Sink.taken l.fn.sink) (g.K.Sink.taken l.sink) l.fn.self.outbox l.self.outbox (text_before l.roster l.reply l.index);
+  said : Says (g.K.Sink.taken l.fn.sink) (g.K.Sink.taken l.sink) l.fn.self.outbox l.self.outbox (text_before l.roster l.given.reply.now l.index);
   never_falls : g.K.Sink.faults l.fn.sink ≤ g.K.Sink.faults l.sink;
 }
