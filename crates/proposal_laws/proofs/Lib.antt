@@ -8,4 +8,5 @@ pub mod Positions
 pub mod Alone
 pub mod Counts
 pub mod Others
+pub mod Texts
 pub mod Worked

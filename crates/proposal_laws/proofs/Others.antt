@@ -23,7 +23,7 @@ use Rattle.proposal_laws.proofs.Overtaken.{proposals_are_overtaken}
 use Rattle.proposal_laws.proofs.Positions.{replied_runs, refused_makes_nothing, begun_makes_nothing}
 use Rattle.proposal_laws.proofs.Counts.{own_at, own_at_grows, own_at_most, own_at_change, other_between}
 
-none_recorded : (t : Bool) (e : Entry) → not t ≡ true → cond {A = List Entry} t (e ∷ []) [] ≡ []
+pub none_recorded : (t : Bool) (e : Entry) → not t ≡ true → cond {A = List Entry} t (e ∷ []) [] ≡ []
 none_recorded true e is = cc
 none_recorded false e is = refl
 

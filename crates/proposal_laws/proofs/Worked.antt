@@ -2,6 +2,7 @@
 use Rattle.std.proofs.Common.{◌≡◌, ℕ, true, false, List, [], ◌∷◌, Some, refl, sym, inl, inr, arith}
 use Rattle.std.specs.Fmt.{digits}
 use Rattle.std.proofs.lemmas.List.{append-nil}
+use Rattle.std.proofs.lemmas.List.Elements.{All-cons, All-nil}
 use Rattle.command_types.specs.declared.ask.Entry.{Entry}
 use Rattle.command_types.specs.declared.ask.What.TheVariants.{Begin, Post, Cancel}
 use Rattle.command_types.specs.declared.answer.Answer.{Answer}
@@ -12,12 +13,13 @@ use Rattle.command_types.specs.declared.cycle.Phase.TheVariants.{None as NoPhase
 use Rattle.command_types.specs.declared.refusal.Refusal.{Refusal}
 use Rattle.command_types.specs.declared.refusal.Refusal.TheVariants.{WrongPhase, WrongVersion}
 use Rattle.command_types.specs.Machine.{answer_to}
-use Rattle.command_types.specs.History.{History, replayed, entries_of_seat}
+use Rattle.command_types.specs.History.{History, longer, replayed, entries_of_seat}
 use Rattle.command_types.specs.Grammar.{line_within}
 use Rattle.command_types.specs.Details.{reply_text}
 use Rattle.command_types.specs.Session.{Standing, Mark, IsAsked, IsProposed, IsAnswered, speaker_after, is_bye, ask_begin, ask_fetch, ask_post}
 use Rattle.proposal_laws.specs.Laws.{is_overtaken}
-use Rattle.proposal_laws.specs.Examples.{name_ops, change, history_of, figures_of, greeted, posted, cancelled, begun_by_two, propose_line, IsProposedIn, IsOvertakenIn, nothing_text, phase_text, version_text}
+use Rattle.proposal_laws.specs.Texts.{IsPlain}
+use Rattle.proposal_laws.specs.Examples.{name_ops, change, history_of, figures_of, greeted, posted, cancelled, begun_by_two, propose_line, IsProposedIn, IsOvertakenIn, nothing_text, phase_text, version_text, frozen, begin_line, begun_text, IsBegunAlone}
 
 abbrev at : ℕ → Mark
 at n = record { position = n; stopped = false }
@@ -170,3 +172,37 @@ is_cancelled = is_overtaken_in (change 1 (Cancel 1)) (WrongPhase NoPhase) phase_
 pub is_begun_by_two : IsOvertakenIn begun_by_two version_text
 unfolding digits
 is_begun_by_two = is_overtaken_in (change 1 (Begin 1 Conservative)) (WrongVersion 2) version_text refl refl refl refl
+
+begins : IsAsked (figures_of frozen) (longer frozen (begin ∷ [])) 0 (at 1) (ask_begin (Some name_ops) 1 Conservative) (told 2 (Begun 1 1)) (begin ∷ []) (at 2)
+begins = record {
+  before = false;
+  told = record {
+    front = begin ∷ [];
+    back = [];
+    split = refl;
+    place = refl;
+    one = inl (record { before = []; last = refl; change = refl; same = refl });
+  };
+  later = omega arith;
+  known = λ x. cc;
+  stays = λ x. cc;
+  runs = λ x. refl;
+  keeps = refl;
+  position = refl;
+}
+
+abbrev at_two : Standing
+at_two = record greeted { position = 2 }
+
+-- a BEGIN with which all premises of the law on a script's text are met
+pub is_begun_alone : IsBegunAlone begun_text
+unfolding digits
+is_begun_alone =
+    let a : IsAnswered (figures_of frozen) (longer frozen (begin ∷ [])) 0 greeted begin_line begun_text (begin ∷ []) at_two =
+    record { reply = told 2 (Begun 1 1); open_yet = refl; replied = begins; text = refl; speaker = refl; over = refl } in
+    record {
+      made = begin ∷ [];
+      to = at_two;
+      talk = (at_two, begun_text, [], begin ∷ [], [], a, sym (append-nil begun_text), refl, (refl, refl, refl));
+      plain = All-cons IsPlain (record { from = greeted; line = begin_line; text = begun_text; made = begin ∷ []; to = at_two; answered = a }) [] (refl, refl) (All-nil IsPlain);
+    }

@@ -13,6 +13,7 @@ use Rattle.command_types.specs.History.{History}
 use Rattle.command_types.specs.Session.{Standing, empty_draft, IsSession}
 use Rattle.proposal_laws.specs.Turns.{Turn, turns, begun_in}
 use Rattle.proposal_laws.specs.Laws.{IsOvertaken}
+use Rattle.proposal_laws.specs.Texts.{IsPlainScript}
 
 abbrev pub name_ops : List ℕ
 name_ops = codes "OPS"
@@ -71,3 +72,17 @@ phase_text = codes "no 3 17 wrong-phase none\n"
 
 abbrev pub version_text : List ℕ
 version_text = codes "no 3 18 wrong-version 2\n"
+
+-- nothing has come since the freeze
+abbrev pub frozen : History
+frozen = history_of []
+
+abbrev pub begin_line : List ℕ
+begin_line = codes "BEGIN 1 conservative"
+
+abbrev pub begun_text : List ℕ
+begun_text = codes "ok 2 begun 1 1\n"
+
+-- the operator's BEGIN is replied to so, and nothing else comes
+abbrev pub IsBegunAlone : List ℕ → Type 0
+IsBegunAlone text = IsPlainScript (figures_of frozen) frozen 0 greeted (begin_line ∷ []) text

@@ -1,6 +1,7 @@
-//! The laws of PROPOSE, each the contract of a function that does nothing.
+//! The laws of PROPOSE and of a script's text, each the contract of a function that does nothing.
 
 ghost use Rattle.proposal_laws.specs.Laws.{ProposalsAreNeverBad, ProposalsAreOvertaken, ProposalsAloneStand, ScriptsStandAlone, OthersOvertake};
+ghost use Rattle.proposal_laws.specs.Texts.{ScriptTextsAreOne};
 
 /// A PROPOSE is never refused for a bad certificate.
 pub fn proposals_are_never_bad()
@@ -28,4 +29,10 @@ pub fn scripts_stand_alone()
 /// own.
 pub fn others_overtake()
     ensures { OthersOvertake }
+{}
+
+/// Behind one history the same lines have one text, and the same changes come of them, where these are all that came, no line is a
+/// PROPOSE, and no reply tells a full journal, a stop, a fault of the disk or want of memory.
+pub fn script_texts_are_one()
+    ensures { ScriptTextsAreOne }
 {}

@@ -1,11 +1,11 @@
-//! What holds of a PROPOSE in every history.
+//! What holds of a PROPOSE, and of a script's text, in every history.
 #![tactic(auto)]
 
 mod laws;
 
 pub use laws::{
     others_overtake, proposals_alone_stand, proposals_are_never_bad, proposals_are_overtaken,
-    scripts_stand_alone,
+    script_texts_are_one, scripts_stand_alone,
 };
 
 #[cfg(test)]

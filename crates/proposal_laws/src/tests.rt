@@ -1,10 +1,10 @@
 //! The laws, each called once, and a PROPOSE in small histories worked by hand.
 
-ghost use Rattle.proposal_laws.specs.Examples.{posted, cancelled, begun_by_two, IsProposedIn, IsOvertakenIn, nothing_text, phase_text, version_text};
+ghost use Rattle.proposal_laws.specs.Examples.{posted, cancelled, begun_by_two, IsProposedIn, IsOvertakenIn, IsBegunAlone, nothing_text, phase_text, version_text, begun_text};
 
 use crate::{
     others_overtake, proposals_alone_stand, proposals_are_never_bad, proposals_are_overtaken,
-    scripts_stand_alone,
+    script_texts_are_one, scripts_stand_alone,
 };
 use std::test::Fail;
 
@@ -19,6 +19,17 @@ fn a_cancel_overtakes_it()
 fn another_begin_overtakes_it()
     ensures { IsOvertakenIn begun_by_two version_text }
 {}
+
+fn alone_it_begins()
+    ensures { IsBegunAlone begun_text }
+{}
+
+#[test]
+fn the_law_on_texts_has_a_script(_rt: HostRuntime) -> Result<(), Fail> {
+    alone_it_begins();
+    script_texts_are_one();
+    Ok(())
+}
 
 #[test]
 fn proposals_are_replied_to_as_written(_rt: HostRuntime) -> Result<(), Fail> {
