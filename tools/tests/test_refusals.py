@@ -176,21 +176,31 @@ class RefusedThreads(Refused):
         self.assertEqual(self.ready(3, 30), Ran(0, b"", b""))
 
 
+LINES = b"HELLO A KA\nTRADE A B P 10 2026-03-02\n"
+MOST_REQUESTS = 200
+"""More than a script of these lines has: the last run is refused nothing."""
+
+ANSWERED = Ran(0, b"ok 0 hello A\nok 1 trade 1\n", b"")
+NO_MEMORY = {Ran(9, b"", b"memory\n"), Ran(0, b"ok 0 hello A\nno 0 28 memory\n", b"")}
+"""What is told where memory was refused before a session, and to the change of one."""
+
+
 class RefusedMemory(Refused):
-    MOST_REQUESTS = 600
+    def with_refusal(self, number: int) -> Ran:
+        """A script over a new journal, whose request for memory with this number is refused."""
+        environ = {**os.environ, "LD_PRELOAD": str(self.library), "REFUSE_MEMORY": str(number)}
+        words = [self.program, "script", ROSTER, self.folder / f"journal{number}"]
+        done = subprocess.run(words, input=LINES, env=environ, capture_output=True, timeout=60)
+        return Ran(done.returncode, done.stdout, done.stderr)
 
     def test_want_of_memory_is_no_fault_of_the_disk(self) -> None:
         """A script with one change, each of whose requests for memory is refused in turn."""
-        statuses: set[int] = set()
-        for number in range(1, self.MOST_REQUESTS + 1):
-            environ = {**os.environ, "LD_PRELOAD": str(self.library), "REFUSE_MEMORY": str(number)}
-            lines = b"HELLO A KA\nTRADE A B P 10 2026-03-02\n"
-            words = [self.program, "script", ROSTER, self.folder / f"journal{number}"]
-            ran = subprocess.run(words, input=lines, env=environ, capture_output=True, timeout=60)
+        told = [self.with_refusal(number) for number in range(1, MOST_REQUESTS + 1)]
+        for number, ran in enumerate(told, 1):
             with self.subTest(number=number):
-                self.assertNotIn(ran.returncode, (6, 7))
-            statuses.add(ran.returncode)
-        self.assertLessEqual({0, 9}, statuses)
+                self.assertIn(ran, NO_MEMORY | {ANSWERED})
+        self.assertEqual(told[-1], ANSWERED)
+        self.assertLessEqual(NO_MEMORY, set(told))
 
 
 if __name__ == "__main__":

@@ -3,6 +3,7 @@
 import fcntl
 import tempfile
 import threading
+import time
 import unittest
 from pathlib import Path
 
@@ -57,31 +58,43 @@ def of_trades(count: int) -> bytes:
     return f"member A {count}\n{rows}member B {count}\n{rows}member C 0\nend {count}\n".encode()
 
 
+MOST_TRADES = 20_000
+REPLAYS = 5
+
+
 class Beside(InService):
     def test_a_journal_that_a_service_writes_to_meanwhile(self) -> None:
         """Each replay tells the trades up to one, of which all were asked for, and all that were acknowledged before it."""
         self.start("--seats", "1")
         session = self.session("A")
         asked = acknowledged = 0
+        enough = threading.Event()
 
         def trade() -> None:
             nonlocal asked, acknowledged
-            for asked in range(1, 1501):
+            while not enough.is_set() and asked < MOST_TRADES:
+                asked += 1
                 acknowledged = session.trade("A", "B", "P", asked, "2026-03-02").position
+                time.sleep(0.001)
 
         thread = threading.Thread(target=trade)
         thread.start()
         counts: list[int] = []
-        while thread.is_alive():
-            least = acknowledged
-            ran = replay(self.journal)
-            count = int(ran.output.rsplit(maxsplit=1)[-1])
-            self.assertTrue(least <= count <= asked, (least, count, asked))
-            self.assertEqual(ran, Ran(0, of_trades(count), b""))
-            counts.append(count)
+        try:
+            while thread.is_alive() and len(set(counts)) < REPLAYS:
+                least = acknowledged
+                ran = replay(self.journal)
+                count = int(ran.output.rsplit(maxsplit=1)[-1])
+                self.assertTrue(least <= count <= asked, (least, count, asked))
+                self.assertEqual(ran, Ran(0, of_trades(count), b""))
+                counts.append(count)
+        finally:
+            enough.set()
+            thread.join()
         self.assertEqual(counts, sorted(counts))
-        self.assertGreater(len(set(counts)), 2)
-        self.assertEqual(replay(self.journal), Ran(0, of_trades(1500), b""))
+        self.assertEqual(len(set(counts)), REPLAYS)
+        self.assertEqual(acknowledged, asked)
+        self.assertEqual(replay(self.journal), Ran(0, of_trades(asked), b""))
 
 
 if __name__ == "__main__":
