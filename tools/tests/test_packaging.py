@@ -3,6 +3,7 @@
 import os
 import re
 import shutil
+import socket
 import subprocess
 import tempfile
 import unittest
@@ -33,7 +34,7 @@ TYPED: list[tuple[list[str], list[str]]] = [
     (["compress_cli", "script", "--w"], ["--workers"]),
     (["compress_cli", "script", "--workers", ""], []),
     (["compress_cli", "script", "--workers", "2", "rost"], ["roster.csv"]),
-    (["compress_cli", "serve", "a", "-"], ["--connections", "--seats", "--workers"]),
+    (["compress_cli", "serve", "a", "-"], ["--connections", "--idle", "--seats", "--workers"]),
     (["compress_cli", "serve", "a", "--seats", "2", "b", "--c"], ["--connections"]),
     (["compress-client", "-"], ["--connect", "--program", "--raw"]),
     (["compress-client", "--connect", ""], []),
@@ -178,6 +179,7 @@ class UnitServes(InService):
         (defaults,) = settings_of(unit, "Environment")
         values: dict[str, object] = dict(setting.split("=", 1) for setting in defaults.split())
         values |= {"CREDENTIALS_DIRECTORY": credentials, "STATE_DIRECTORY": state, "ADDRESS": self.address}
+        values |= {"SEATS": 2, "IDLE": 3}
 
         def commands(name: str) -> list[list[str]]:
             lines = [line.removeprefix("-").split() for line in settings_of(unit, name)]
@@ -188,6 +190,8 @@ class UnitServes(InService):
         for command in commands("ExecStartPost"):
             self.assertEqual(run(command), Ran(0, b"", b""))
         self.assertEqual([path.name for path in state.iterdir()], ["journal"])
+        with socket.create_connection(("127.0.0.1", self.port), 60) as silent:
+            self.assertEqual(silent.recv(64), b"")
         self.service.terminate()
         self.assertEqual(self.service.communicate(timeout=30), (b"", b""))
 

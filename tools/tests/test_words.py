@@ -18,7 +18,7 @@ FORMS: dict[str, list[str]] = {
 }
 OPTIONS: dict[str, dict[str, int]] = {
     "script": {"workers": 64},
-    "serve": {"workers": 64, "seats": 64, "connections": 1_000_000},
+    "serve": {"workers": 64, "seats": 64, "connections": 1_000_000, "idle": 86_400},
     "check": {},
     "solve": {"workers": 64},
     "gen": {"workers": 64},
@@ -60,7 +60,7 @@ class Words(unittest.TestCase):
 
     def test_options_that_a_form_has_not(self) -> None:
         for form, words in FORMS.items():
-            for name in {"workers", "seats", "connections", "worker", ""} - OPTIONS[form].keys():
+            for name in {"workers", "seats", "connections", "idle", "worker", ""} - OPTIONS[form].keys():
                 self.assert_out_of_form(form, *words, f"--{name}", "1")
                 self.assert_out_of_form(form, f"--{name}=1", *words)
 

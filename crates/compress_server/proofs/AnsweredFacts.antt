@@ -1,5 +1,5 @@
 -- Every line of a script and of a service's connections is answered, where nothing outside fails.
-use Rattle.std.proofs.Common.{◌≡◌, ◌⊎◌, ℕ, ◌+◌, Bool, true, false, List, [], ◌∷◌, Option, Some, None, refl, sym, subst, ap, inl, inr, arith}
+use Rattle.std.proofs.Common.{◌≡◌, ◌⊎◌, ℕ, ◌+◌, Bool, true, false, List, [], ◌∷◌, Option, Some, None, refl, sym, subst, ap, inl, inr}
 use Rattle.doors.specs.Visits.{Visits}
 use Rattle.outside.specs.Faults.{Rose}
 use Rattle.outside.specs.Files.{Folder}
@@ -28,7 +28,7 @@ use Rattle.compress_server.specs.Run.{at_first, IsReplied, IsWhole, IsAtLimit}
 use Rattle.compress_server.specs.Seen.{ListenerState, Seen, World}
 use Rattle.compress_server.specs.Serve.{ServicePlan, SeatRun, seat_at, final_of, IsSeatAt, AreSeats, IsUnasked}
 use Rattle.compress_server.specs.Telling.{TellsEnd}
-use Rattle.compress_server.specs.Words.{Form}
+use Rattle.compress_server.specs.Words.{Form, ServiceNumbers}
 use Rattle.compress_server.proofs.ServiceFacts.{none_asked}
 
 -- what can't be true is false
@@ -178,12 +178,12 @@ unbegun_status : (rose : Type 0) (begun taken : Option (List ℕ)) (errors then_
 unbegun_status rose begun taken errors then_errors status end (inl e) told held = let so = subst (λ x. TellsEnd begun taken errors then_errors x status) e told in so.0
 unbegun_status rose begun taken errors then_errors status end (inr (e, rises)) told held = absurd (held rises)
 
-module _ {D : Type 0} (visits : D → Option Visits) (roster journal address : List ℕ) (seats connections workers : ℕ) (before after : World) (status : ℕ) where
+module _ {D : Type 0} (visits : D → Option Visits) (roster journal address : List ℕ) (numbers : ServiceNumbers) (before after : World) (status : ℕ) where
   abbrev plan : ServicePlan
-  plan = record { address = address; seats = seats; connections = connections }
+  plan = record { address = address; seats = numbers.seats; connections = numbers.connections }
 
   abbrev form : Form
-  form = Form.Serve roster journal address seats connections workers
+  form = Form.Serve roster journal address numbers
 
   abbrev Answers : Type 0
   Answers =
@@ -217,11 +217,11 @@ module _ {D : Type 0} (visits : D → Option Visits) (roster journal address : L
             served = s.served;
             returned = s.returned;
             given = s.given;
-            answered = seats_answered connections s.served.lock v w runs visits 1 s.seats s.served.each;
+            answered = seats_answered numbers.connections s.served.lock v w runs visits 1 s.seats s.served.each;
           },
         ),
       )
 
 pub services_are_answered : {D : Type 0} (visits : D → Option Visits) → ServicesAreAnswered visits
-services_are_answered visits roster journal address seats connections workers before after status ends held =
-    service_answered visits roster journal address seats connections workers before after status ends.end _ _ _ ends.runs.1 ends.counted ends.tells held.files_held held.disk_held held.listener_held
+services_are_answered visits roster journal address numbers before after status ends held =
+    service_answered visits roster journal address numbers before after status ends.end _ _ _ ends.runs.1 ends.counted ends.tells held.files_held held.disk_held held.listener_held

@@ -1,5 +1,5 @@
 -- What is answered where nothing outside fails: first the ends that are left, and then their statuses.
-use Rattle.std.proofs.Common.{◌≡◌, ◌⊎◌, ℕ, Bool, true, false, List, Option, Some, refl, sym, subst, inl, inr, ◌∙◌}
+use Rattle.std.proofs.Common.{◌≡◌, ◌⊎◌, ℕ, Bool, true, false, List, Option, Some, refl, sym, subst, inl, inr}
 use Rattle.doors.specs.Visits.{Visits}
 use Rattle.outside.specs.Faults.{Rose}
 use Rattle.outside.specs.Files.{Folder}
@@ -20,7 +20,7 @@ use Rattle.compress_server.specs.Replay.{ReplayEnds}
 use Rattle.compress_server.specs.Seen.{OutputState, World}
 use Rattle.compress_server.specs.Serve.{HouseServes, IsWritten, history_line, service_end}
 use Rattle.compress_server.specs.Telling.{TellsEnd}
-use Rattle.compress_server.specs.Words.{Market, Form}
+use Rattle.compress_server.specs.Words.{Market, Form, ServiceNumbers}
 
 -- the ends that are left
 IsAnswer : Option Folder → Form → End → Type 0
@@ -160,20 +160,20 @@ replay_answered folder roster journal rows begun taken disk left files input out
 replay_answered folder roster journal rows begun taken disk left files input output Memory r counted no_output no_disk = tt
 
 -- a service whose house was not opened
-unhoused_answered : (folder : Option Folder) (roster journal address : List ℕ) (seats connections workers : ℕ) (rows : Rows) (disk left : DiskState) (end : End) → OpeningFails rows disk left end → (Rose disk.faults left.faults → ⊥) → IsAnswer folder (Form.Serve roster journal address seats connections workers) end
+unhoused_answered : (folder : Option Folder) (roster journal address : List ℕ) (numbers : ServiceNumbers) (rows : Rows) (disk left : DiskState) (end : End) → OpeningFails rows disk left end → (Rose disk.faults left.faults → ⊥) → IsAnswer folder (Form.Serve roster journal address numbers) end
 unfolding IsAnswer
-unhoused_answered folder roster journal address seats connections workers rows disk left Done r no_disk = absurd r
-unhoused_answered folder roster journal address seats connections workers rows disk left No r no_disk = absurd r
-unhoused_answered folder roster journal address seats connections workers rows disk left BadWords r no_disk = absurd r
-unhoused_answered folder roster journal address seats connections workers rows disk left (Unloaded fault) r no_disk = absurd r
-unhoused_answered folder roster journal address seats connections workers rows disk left (Damaged place) r no_disk = tt
-unhoused_answered folder roster journal address seats connections workers rows disk left DiskFault (unopened, rose) no_disk = absurd (no_disk rose)
-unhoused_answered folder roster journal address seats connections workers rows disk left Stopped r no_disk = absurd r
-unhoused_answered folder roster journal address seats connections workers rows disk left ListenerFault r no_disk = absurd r
-unhoused_answered folder roster journal address seats connections workers rows disk left SourceFault r no_disk = absurd r
-unhoused_answered folder roster journal address seats connections workers rows disk left SinkFault r no_disk = absurd r
-unhoused_answered folder roster journal address seats connections workers rows disk left Limit r no_disk = absurd r
-unhoused_answered folder roster journal address seats connections workers rows disk left Memory r no_disk = tt
+unhoused_answered folder roster journal address numbers rows disk left Done r no_disk = absurd r
+unhoused_answered folder roster journal address numbers rows disk left No r no_disk = absurd r
+unhoused_answered folder roster journal address numbers rows disk left BadWords r no_disk = absurd r
+unhoused_answered folder roster journal address numbers rows disk left (Unloaded fault) r no_disk = absurd r
+unhoused_answered folder roster journal address numbers rows disk left (Damaged place) r no_disk = tt
+unhoused_answered folder roster journal address numbers rows disk left DiskFault (unopened, rose) no_disk = absurd (no_disk rose)
+unhoused_answered folder roster journal address numbers rows disk left Stopped r no_disk = absurd r
+unhoused_answered folder roster journal address numbers rows disk left ListenerFault r no_disk = absurd r
+unhoused_answered folder roster journal address numbers rows disk left SourceFault r no_disk = absurd r
+unhoused_answered folder roster journal address numbers rows disk left SinkFault r no_disk = absurd r
+unhoused_answered folder roster journal address numbers rows disk left Limit r no_disk = absurd r
+unhoused_answered folder roster journal address numbers rows disk left Memory r no_disk = tt
 
 -- the output's count rose where the line was not written whole
 count_rose : (before after : OutputState) (line : List ℕ) (written : Bool) → IsWritten before after line written → written ≡ false → Rose before.faults after.faults
@@ -181,32 +181,32 @@ count_rose before after line true w e = absurd (cc e)
 count_rose before after line false w e = w.1
 
 -- a service whose seats served
-seats_answered : (folder : Option Folder) (roster journal address : List ℕ) (seats connections workers : ℕ) (no_memory door_fault stopped written : Bool) →
-    (stopped ≡ true → ⊥) → (written ≡ false → ⊥) → (door_fault ≡ true → ⊥) → IsAnswer folder (Form.Serve roster journal address seats connections workers) (service_end no_memory door_fault stopped written)
+seats_answered : (folder : Option Folder) (roster journal address : List ℕ) (numbers : ServiceNumbers) (no_memory door_fault stopped written : Bool) →
+    (stopped ≡ true → ⊥) → (written ≡ false → ⊥) → (door_fault ≡ true → ⊥) → IsAnswer folder (Form.Serve roster journal address numbers) (service_end no_memory door_fault stopped written)
 unfolding IsAnswer
-seats_answered folder roster journal address seats connections workers true door_fault stopped written no_stop no_cut no_door = tt
-seats_answered folder roster journal address seats connections workers false true stopped written no_stop no_cut no_door = absurd (no_door refl)
-seats_answered folder roster journal address seats connections workers false false true written no_stop no_cut no_door = absurd (no_stop refl)
-seats_answered folder roster journal address seats connections workers false false false true no_stop no_cut no_door = tt
-seats_answered folder roster journal address seats connections workers false false false false no_stop no_cut no_door = absurd (no_cut refl)
+seats_answered folder roster journal address numbers true door_fault stopped written no_stop no_cut no_door = tt
+seats_answered folder roster journal address numbers false true stopped written no_stop no_cut no_door = absurd (no_door refl)
+seats_answered folder roster journal address numbers false false true written no_stop no_cut no_door = absurd (no_stop refl)
+seats_answered folder roster journal address numbers false false false true no_stop no_cut no_door = tt
+seats_answered folder roster journal address numbers false false false false no_stop no_cut no_door = absurd (no_cut refl)
 
 -- a service whose seats could not begin
-unbegun_answered : (folder : Option Folder) (roster journal address : List ℕ) (seats connections workers : ℕ) (before after : ℕ) (end : End) →
-    ((end ≡ Memory) ⊎ ((end ≡ ListenerFault) × Rose before after)) → (Rose before after → ⊥) → IsAnswer folder (Form.Serve roster journal address seats connections workers) end
+unbegun_answered : (folder : Option Folder) (roster journal address : List ℕ) (numbers : ServiceNumbers) (before after : ℕ) (end : End) →
+    ((end ≡ Memory) ⊎ ((end ≡ ListenerFault) × Rose before after)) → (Rose before after → ⊥) → IsAnswer folder (Form.Serve roster journal address numbers) end
 unfolding IsAnswer
-unbegun_answered folder roster journal address seats connections workers before after end (inl e) held = let A : End → Type 0 = λ x. IsAnswer folder (Form.Serve roster journal address seats connections workers) x in subst A (sym e) tt
-unbegun_answered folder roster journal address seats connections workers before after end (inr (e, rose)) held = absurd (held rose)
+unbegun_answered folder roster journal address numbers before after end (inl e) held = let A : End → Type 0 = λ x. IsAnswer folder (Form.Serve roster journal address numbers) x in subst A (sym e) tt
+unbegun_answered folder roster journal address numbers before after end (inr (e, rose)) held = absurd (held rose)
 
 -- a service over its house
-served_answered : {D : Type 0} (visits : D → Option Visits) (roster journal address : List ℕ) (seats connections workers : ℕ) (before after : World) (v w : HouseView) (end : End) →
+served_answered : {D : Type 0} (visits : D → Option Visits) (roster journal address : List ℕ) (numbers : ServiceNumbers) (before after : World) (v w : HouseView) (end : End) →
     (is_stopped w ≡ true → Rose before.seen.disk.faults after.seen.disk.faults) →
-    HouseServes visits (record { address = address; seats = seats; connections = connections }) v w before.seen.output after.seen.output before.seen.listener after.seen.listener end →
-    IsUndisturbed before after → IsAnswer before.files.folder (Form.Serve roster journal address seats connections workers) end
-served_answered visits roster journal address seats connections workers before after v w end stops (inl u) held =
-    unbegun_answered before.files.folder roster journal address seats connections workers before.seen.listener.faults after.seen.listener.faults end u.why held.listener_held
-served_answered visits roster journal address seats connections workers before after v w end stops (inr s) held =
-    let A : End → Type 0 = λ x. IsAnswer before.files.folder (Form.Serve roster journal address seats connections workers) x in
-    subst A (sym s.told) (seats_answered before.files.folder roster journal address seats connections workers _ _ (is_stopped w) s.written
+    HouseServes visits (record { address = address; seats = numbers.seats; connections = numbers.connections }) v w before.seen.output after.seen.output before.seen.listener after.seen.listener end →
+    IsUndisturbed before after → IsAnswer before.files.folder (Form.Serve roster journal address numbers) end
+served_answered visits roster journal address numbers before after v w end stops (inl u) held =
+    unbegun_answered before.files.folder roster journal address numbers before.seen.listener.faults after.seen.listener.faults end u.why held.listener_held
+served_answered visits roster journal address numbers before after v w end stops (inr s) held =
+    let A : End → Type 0 = λ x. IsAnswer before.files.folder (Form.Serve roster journal address numbers) x in
+    subst A (sym s.told) (seats_answered before.files.folder roster journal address numbers _ _ (is_stopped w) s.written
     (λ e. held.disk_held (stops e)) (λ e. held.output_held (count_rose before.seen.output after.seen.output (history_line (end_of w.history)) s.written s.wrote e)) (λ e. held.listener_held (s.counted e)))
 
 -- the end of any form
@@ -218,12 +218,12 @@ end_answered visits (Form.Script roster journal workers) before after end (same,
     unloaded_answered before.files.folder (Form.Script roster journal workers) ReadBeforeRoster _ _ _ end fault e is counted held.files_held
 end_answered visits (Form.Script roster journal workers) before after end (same, inr (rows, says, are, runs)) counted held =
     journal_answered before.files.folder roster journal workers rows before.input.flow after.input.flow _ _ _ _ _ _ _ end runs counted held.input_held held.output_held held.disk_held
-end_answered visits (Form.Serve roster journal address seats connections workers) before after end (same, inl (fault, e, kept, is)) counted held =
-    unloaded_answered before.files.folder (Form.Serve roster journal address seats connections workers) ReadBeforeRoster _ _ _ end fault e is counted held.files_held
-end_answered visits (Form.Serve roster journal address seats connections workers) before after end (same, inr (rows, says, are, inl u)) counted held =
-    unhoused_answered before.files.folder roster journal address seats connections workers rows before.seen.disk after.seen.disk end u.opening held.disk_held
-end_answered visits (Form.Serve roster journal address seats connections workers) before after end (same, inr (rows, says, are, inr (v, w, housed, serves))) counted held =
-    served_answered visits roster journal address seats connections workers before after v w end housed.stopped serves held
+end_answered visits (Form.Serve roster journal address numbers) before after end (same, inl (fault, e, kept, is)) counted held =
+    unloaded_answered before.files.folder (Form.Serve roster journal address numbers) ReadBeforeRoster _ _ _ end fault e is counted held.files_held
+end_answered visits (Form.Serve roster journal address numbers) before after end (same, inr (rows, says, are, inl u)) counted held =
+    unhoused_answered before.files.folder roster journal address numbers rows before.seen.disk after.seen.disk end u.opening held.disk_held
+end_answered visits (Form.Serve roster journal address numbers) before after end (same, inr (rows, says, are, inr (v, w, housed, serves))) counted held =
+    served_answered visits roster journal address numbers before after v w end housed.stopped serves held
 end_answered visits (Form.Check market proposal) before after end (same, only, runs) counted held =
     check_answered before.files.folder market proposal _ _ _ _ _ end runs counted held.files_held held.output_held
 end_answered visits (Form.Solve market workers) before after end (same, only, runs) counted held =

@@ -12,3 +12,4 @@ pub mod CompleteFacts
 pub mod StatementFacts
 pub mod ReplayFacts
 pub mod AnsweredFacts
+pub mod IdleFacts

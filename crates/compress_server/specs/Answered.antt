@@ -13,7 +13,7 @@ use Rattle.compress_server.specs.Housed.{OverHouse}
 use Rattle.compress_server.specs.Seen.{World}
 use Rattle.compress_server.specs.Serve.{ServicePlan, SeatRun, HaveServed, HaveGiven, IsUnasked, Returned}
 use Rattle.compress_server.specs.Telling.{Ends}
-use Rattle.compress_server.specs.Words.{Form}
+use Rattle.compress_server.specs.Words.{Form, ServiceNumbers}
 
 -- The house that was opened on the script's journal, whose history is the one for which the disk stands, answered the script's input; the last value tells whether the session's limit ended it.
 abbrev pub AnswersInput : List ℕ → World → World → Bool → Type 0
@@ -52,10 +52,10 @@ module _ {D : Type 0} (visits : D → Option Visits) where
   -- in a service that nothing outside disturbs each connection is answered; or the roster's file has a fault, the journal is damaged, or there was no memory, and none was given
   abbrev pub ServicesAreAnswered : Type 0
   ServicesAreAnswered =
-      (roster journal address : List ℕ) (seats connections workers : ℕ) (before after : World) (status : ℕ) →
-      Ends visits (Some (Form.Serve roster journal address seats connections workers)) before after status →
+      (roster journal address : List ℕ) (numbers : ServiceNumbers) (before after : World) (status : ℕ) →
+      Ends visits (Some (Form.Serve roster journal address numbers)) before after status →
       IsUndisturbed before after →
-      ((((status ≡ 3) × HasFault before.files.folder (Form.Serve roster journal address seats connections workers)) ⊎ ((status ≡ 7) ⊎ (status ≡ 9)))
+      ((((status ≡ 3) × HasFault before.files.folder (Form.Serve roster journal address numbers)) ⊎ ((status ≡ 7) ⊎ (status ≡ 9)))
       × IsUnasked visits address before.seen.listener.doors after.seen.listener.doors)
       ⊎ OverRoster before.files.folder roster (λ rows. OverHouse rows before.seen.disk after.seen.disk (λ v w.
-      AnswersDoors (record { address = address; seats = seats; connections = connections }) v w before.seen.listener.doors after.seen.listener.doors))
+      AnswersDoors (record { address = address; seats = numbers.seats; connections = numbers.connections }) v w before.seen.listener.doors after.seen.listener.doors))

@@ -13,7 +13,7 @@ use Rattle.compress_server.specs.Words.{Form}
 -- of the files that a form reads, the first that has a fault has this one
 abbrev pub IsFormFault : Option Folder → Form → FileRole → FileFault → Type 0
 IsFormFault folder (Form.Script roster journal workers) = IsRosterFault folder roster
-IsFormFault folder (Form.Serve roster journal address seats connections workers) = IsRosterFault folder roster
+IsFormFault folder (Form.Serve roster journal address numbers) = IsRosterFault folder roster
 IsFormFault folder (Form.Check market proposal) = IsCheckFault folder market proposal
 IsFormFault folder (Form.Solve market workers) = IsMarketFault folder market
 IsFormFault folder (Form.Gen number workers) = λ role fault. ⊥
@@ -41,7 +41,7 @@ IsScript other = ⊥
 
 abbrev pub HasJournal : Form → Type 0
 HasJournal (Form.Script roster journal workers) = Unit {0}
-HasJournal (Form.Serve roster journal address seats connections workers) = Unit {0}
+HasJournal (Form.Serve roster journal address numbers) = Unit {0}
 HasJournal (Form.Replay roster journal) = Unit {0}
 HasJournal other = ⊥
 

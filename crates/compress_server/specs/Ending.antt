@@ -110,8 +110,8 @@ abbrev pub Runs : {D : Type 0} → (D → Option Visits) → Option Folder → O
 Runs visits folder None opened flow before after end = (end ≡ BadWords) × (flow ≡ opened) × (after ≡ before)
 Runs visits folder (Some (Form.Script roster journal workers)) opened flow before after end =
     (after.listener ≡ before.listener) × ScriptRuns folder roster opened flow before.output.taken after.output.taken before.disk after.disk end
-Runs visits folder (Some (Form.Serve roster journal address seats connections workers)) opened flow before after end =
-    (flow ≡ opened) × ServeRuns visits folder roster (record { address = address; seats = seats; connections = connections }) before after end
+Runs visits folder (Some (Form.Serve roster journal address numbers)) opened flow before after end =
+    (flow ≡ opened) × ServeRuns visits folder roster (record { address = address; seats = numbers.seats; connections = numbers.connections }) before after end
 Runs visits folder (Some (Form.Check market proposal)) opened flow before after end =
     (flow ≡ opened) × IsOnlyOutput before after × CheckRuns folder market proposal before.output.taken after.output.taken end
 Runs visits folder (Some (Form.Solve market workers)) opened flow before after end =

@@ -14,10 +14,17 @@ pub record Market : Type 0 where
   pub trades : List ℕ
   pub mode : Mode
 
+-- the numbers of a service: how many seats serve, how many connections each of them at most, how many workers solve for a seat, and for how many seconds a connection may be silent, none where it may be without end
+pub record ServiceNumbers : Type 0 where
+  pub seats : ℕ
+  pub connections : ℕ
+  pub workers : ℕ
+  pub idle : Option ℕ
+
 -- what the program is to do, with the names of its files and the numbers of its options
 pub data Form : Type 0 where
   Script : (roster journal : List ℕ) (workers : ℕ) → Form
-  Serve : (roster journal address : List ℕ) (seats connections workers : ℕ) → Form
+  Serve : (roster journal address : List ℕ) (numbers : ServiceNumbers) → Form
   Check : (market : Market) (proposal : List ℕ) → Form
   Solve : (market : Market) (workers : ℕ) → Form
   Gen : (number workers : ℕ) → Form
@@ -33,9 +40,12 @@ seats_of options = unwrap_or options.seats 4
 abbrev pub connections_of : Options → ℕ
 connections_of options = unwrap_or options.connections most_connections
 
+abbrev pub numbers_of : Options → ServiceNumbers
+numbers_of options = record { seats = seats_of options; connections = connections_of options; workers = workers_of options; idle = options.idle }
+
 -- no option is given, but perhaps the workers
 abbrev pub has_workers_alone : Options → Bool
-has_workers_alone options = is_none options.seats && is_none options.connections
+has_workers_alone options = (is_none options.seats && is_none options.connections) && is_none options.idle
 
 abbrev pub has_none : Options → Bool
 has_none options = is_none options.workers && has_workers_alone options
@@ -49,9 +59,9 @@ abbrev pub script_of : Options → List (List ℕ) → Option Form
 script_of options (roster ∷ journal ∷ []) = if has_workers_alone options then Some (Form.Script roster journal (workers_of options)) else None
 script_of options plain = None
 
--- `serve ROSTER JOURNAL ADDRESS [--seats N] [--connections C] [--workers W]`
+-- `serve ROSTER JOURNAL ADDRESS [--seats N] [--connections C] [--workers W] [--idle SECONDS]`
 abbrev pub serve_of : Options → List (List ℕ) → Option Form
-serve_of options (roster ∷ journal ∷ address ∷ []) = Some (Form.Serve roster journal address (seats_of options) (connections_of options) (workers_of options))
+serve_of options (roster ∷ journal ∷ address ∷ []) = Some (Form.Serve roster journal address (numbers_of options))
 serve_of options plain = None
 
 -- `check ROSTER TRADES MODE PROPOSAL`
@@ -97,6 +107,12 @@ abbrev pub form_of : List (List ℕ) → Option Form
 form_of [] = None
 form_of (name ∷ words) = option_and_then (form_named name) (parts_of words)
 
+-- the idle time of a listener behind a form: the one that a service is given, and what it was before where the form is no service
+abbrev pub idle_after : Option Form → Option ℕ → Option ℕ
+idle_after None before = before
+idle_after (Some (Form.Serve roster journal address numbers)) before = numbers.idle
+idle_after (Some other) before = before
+
 -- the market of the code's words
 abbrev pub read_market : MarketFiles → Market
 read_market market = record { roster = market.roster.now; trades = market.trades.now; mode = market.mode }
@@ -104,7 +120,8 @@ read_market market = record { roster = market.roster.now; trades = market.trades
 -- the form of the code's words
 abbrev pub read_form : ReadForm → Form
 read_form (read.Script roster journal workers) = Form.Script roster.now journal.now workers.value
-read_form (read.Serve roster journal address seats connections workers) = Form.Serve roster.now journal.now address.now seats.value connections workers.value
+read_form (read.Serve roster journal address seats connections workers idle) =
+    Form.Serve roster.now journal.now address.now (record { seats = seats.value; connections = connections; workers = workers.value; idle = idle })
 read_form (read.Check market proposal) = Form.Check (read_market market) proposal.now
 read_form (read.Solve market workers) = Form.Solve (read_market market) workers.value
 read_form (read.Gen number workers) = Form.Gen number workers.value

@@ -5,7 +5,7 @@
 //!     -, words without a dash  plain
 
 ghost use Rattle.std.specs.Prelude.{◌≡◌, ◌≤◌, ◌<◌, ◌==◌, Some, IfSome, map, take, drop, position, option_map, string_bytes, length};
-ghost use Rattle.compress_server.specs.Parting.{most_workers, most_seats, most_connections, count_of, once, with_option, option_word, is_dashed, with_plain, with_value, with_dashed, with_next, with_word, no_parts, parts_of, read_options, read_parts};
+ghost use Rattle.compress_server.specs.Parting.{most_workers, most_seats, most_connections, most_idle, count_of, once, with_option, option_word, is_dashed, with_plain, with_value, with_dashed, with_next, with_word, no_parts, parts_of, read_options, read_parts};
 
 use crate::count::Count;
 use arrayvec::ArrayVec;
@@ -17,6 +17,7 @@ pub enum OptionName {
     Workers,
     Seats,
     Connections,
+    Idle,
 }
 
 /// The options that are given.
@@ -25,7 +26,11 @@ pub struct Options {
     pub workers: Option<Count>,
     pub seats: Option<Count>,
     pub connections: Option<u64>,
+    pub idle: Option<u64>,
 }
+
+/// The most seconds that a connection of a service may be silent: a day.
+pub const MOST_IDLE: u64 = 86_400;
 
 /// How many plain words a form has at the most.
 const MOST_PLAIN: usize = 4;
@@ -64,6 +69,16 @@ fn count_once(before: Option<Count>, most: u32, text: &[u8]) -> Option<Count>
     })
 }
 
+// The number of so much at the most that a text writes, for an option that had the one before.
+fn number_once(before: Option<u64>, most: u64, text: &[u8]) -> Option<u64>
+    ensures { result ≡ once before (count_of most text.now) }
+{
+    match before {
+        Some(_) => None,
+        None => count_of(most, text),
+    }
+}
+
 impl Options {
     // The options with this one too.
     fn with(self, name: OptionName, value: &[u8]) -> Option<Options>
@@ -79,14 +94,15 @@ impl Options {
                 Some(Options { seats, ..self })
             }
             OptionName::Connections => {
-                if self.connections.is_some() {
-                    return None;
-                }
-                let connections = Some(count_of(MOST_CONNECTIONS, value)?);
+                let connections = Some(number_once(self.connections, MOST_CONNECTIONS, value)?);
                 Some(Options {
                     connections,
                     ..self
                 })
+            }
+            OptionName::Idle => {
+                let idle = Some(number_once(self.idle, MOST_IDLE, value)?);
+                Some(Options { idle, ..self })
             }
         }
     }
@@ -101,6 +117,8 @@ fn option_word(word: &[u8]) -> Option<OptionName>
         Some(OptionName::Seats)
     } else if word == b"--connections".as_slice() {
         Some(OptionName::Connections)
+    } else if word == b"--idle".as_slice() {
+        Some(OptionName::Idle)
     } else {
         None
     }
@@ -134,6 +152,7 @@ impl<'a> Parts<'a> {
                 workers: None,
                 seats: None,
                 connections: None,
+                idle: None,
             },
             waiting: None,
             ended: false,

@@ -26,6 +26,7 @@ pub fn take_places<L: Listener>(
     ensures all { OnOk result (length places.new.items ≡ count) }
     ensures never_falls { L.faults listener.old ≤ L.faults listener.new }
     ensures failed { result ≡ Err Trouble.Failed → Rose (L.faults listener.old) (L.faults listener.new) }
+    ensures waits { L.idle listener.new ≡ L.idle listener.old }
 {
     for _ in 0..count {
         let door = listener.door()?;
@@ -40,6 +41,7 @@ pub fn give_back<L: Listener>(listener: &mut L, places: Vec<Place<L::Door>>)
     ensures returned { TakesBackAll L.Door.visits (L.doors listener.old) (L.doors listener.new) (map (λ place. place.door) places.items) }
     ensures never_falls { L.faults listener.old ≤ L.faults listener.new }
     ensures failed { list_any (λ place. nat_lt 0 (L.Door.faults place.door)) places.items ≡ true → Rose (L.faults listener.old) (L.faults listener.new) }
+    ensures waits { L.idle listener.new ≡ L.idle listener.old }
 {
     for place in places {
         let Place {

@@ -1,7 +1,7 @@
 //! The form `serve`: seats that serve connections beside one another, over a roster and a journal.
 //!
-//!     roster -> house -> bind -> doors -> lock -> seats, each at its door -> passes joined, lock closed
-//!            -> doors taken back, in order -> `history N` -> the disk
+//!     idle time -> roster -> house -> bind -> doors -> lock -> seats, each at its door -> passes joined, lock closed
+//!               -> doors taken back, in order -> `history N` -> the disk
 //!
 //! A step that fails ends the call there, with the house's disk handed back.
 
@@ -36,8 +36,8 @@ use seats::{Place, SeatEnd, Service};
 use std::sync::Wait;
 use std::thread::Threads;
 
-/// The words of the form: how many seats serve, how many connections each of them at most, and how many workers solve for
-/// a seat.
+/// The words of the form: how many seats serve, how many connections each of them at most, how many workers solve for a
+/// seat, and for how many seconds a connection may be silent, none where it may be without end.
 #[derive(Clone, Copy)]
 pub struct ServiceWords<'a> {
     pub roster: &'a str,
@@ -46,6 +46,7 @@ pub struct ServiceWords<'a> {
     pub seats: Count,
     pub connections: u64,
     pub workers: Count,
+    pub idle: Option<u64>,
 }
 
 // Writes the line that tells the length of the history, and says whether it was written whole. It takes no memory.
@@ -132,10 +133,12 @@ impl<'a, R: Threads + Wait + Sync, G: Gate> Seating<'a, R, G> {
         requires opened { end_of house.history ≡ (figures_of house).opening }
         requires roster { self.now.roster.now ≡ house.history.base.state.roster }
         requires running { is_stopped house ≡ false }
+        requires told { L.idle listener.old ≡ self.now.words.now.idle }
         ensures serves { let doors = listener_by L.doors L.faults in
             HouseServes L.Door.visits (plan_of self.now.words.now) house result.1
             (output_by K.Sink output.old) (output_by K.Sink output.new) (doors listener.old) (doors listener.new) result.0 }
         ensures figures { figures_of result.1 ≡ figures_of house }
+        ensures waits { L.idle listener.new ≡ L.idle listener.old }
     {
         let count = self.words.seats.value as usize;
         let Ok(mut places) = Vec::with_capacity(self.with.alloc, count) else {
@@ -173,9 +176,15 @@ fn end_of_trouble(trouble: Trouble) -> End
     }
 }
 
-/// Reads the roster of the file with this name, opens the journal with that one, and has seats serve at the address. No
-/// file changes but the journal, whose disk comes back.
-pub fn run_serve<R: Threads + Wait + Sync, F: Files, K: Sink, D: Disk + Send, L: Listener, G: Gate>(
+// Reads the roster, opens the journal and has seats serve, at a listener that was told the idle time.
+fn open_and_serve<
+    R: Threads + Wait + Sync,
+    F: Files,
+    K: Sink,
+    D: Disk + Send,
+    L: Listener,
+    G: Gate,
+>(
     with: &Resources<'_, R, G>,
     files: &mut F,
     words: &ServiceWords<'_>,
@@ -183,13 +192,15 @@ pub fn run_serve<R: Threads + Wait + Sync, F: Files, K: Sink, D: Disk + Send, L:
     disk: D,
     listener: &mut L,
 ) -> (End, D)
-    requires { IsSettled (D.history disk) }
+    requires settled { IsSettled (D.history disk) }
+    requires told { L.idle listener.old ≡ words.now.idle }
     ensures runs { let seen = seen_by K.Sink D.Disk L.doors L.faults in
         ServeRuns L.Door.visits (F.folder files.old) words.now.roster.now (plan_of words.now)
         (seen output.old disk listener.old) (seen output.new result.1 listener.new) result.0 }
     ensures stays { F.folder files.new ≡ F.folder files.old }
     ensures sink_fault { result.0 ≡ End.SinkFault → Rose (K.faults output.old) (K.faults output.new) }
     ensures file_fault { (role : Role) → result.0 ≡ End.Unloaded (LoadFault.Files role) → Rose (F.faults files.old) (F.faults files.new) }
+    ensures waits { L.idle listener.new ≡ L.idle listener.old }
 {
     let roster = match load_roster(with.alloc, files, words.roster) {
         Ok(roster) => roster,
@@ -206,4 +217,27 @@ pub fn run_serve<R: Threads + Wait + Sync, F: Files, K: Sink, D: Disk + Send, L:
     };
     let (end, house) = seating.serve_at(house, listener, output);
     (end, house.end())
+}
+
+/// Tells the listener for how long a connection may be silent, reads the roster of the file with this name, opens the
+/// journal with that one, and has seats serve at the address. No file changes but the journal, whose disk comes back.
+pub fn run_serve<R: Threads + Wait + Sync, F: Files, K: Sink, D: Disk + Send, L: Listener, G: Gate>(
+    with: &Resources<'_, R, G>,
+    files: &mut F,
+    words: &ServiceWords<'_>,
+    output: &mut K,
+    disk: D,
+    listener: &mut L,
+) -> (End, D)
+    requires { IsSettled (D.history disk) }
+    ensures runs { let seen = seen_by K.Sink D.Disk L.doors L.faults in
+        ServeRuns L.Door.visits (F.folder files.old) words.now.roster.now (plan_of words.now)
+        (seen output.old disk listener.old) (seen output.new result.1 listener.new) result.0 }
+    ensures idle { L.idle listener.new ≡ words.now.idle }
+    ensures stays { F.folder files.new ≡ F.folder files.old }
+    ensures sink_fault { result.0 ≡ End.SinkFault → Rose (K.faults output.old) (K.faults output.new) }
+    ensures file_fault { (role : Role) → result.0 ≡ End.Unloaded (LoadFault.Files role) → Rose (F.faults files.old) (F.faults files.new) }
+{
+    listener.set_idle(words.idle);
+    open_and_serve(with, files, words, output, disk, listener)
 }

@@ -4,7 +4,7 @@ ghost use Rattle.std.specs.Prelude.{◌≡◌, map, string_bytes};
 ghost use Rattle.outside.specs.Disk.{IsSettled};
 ghost use Rattle.outside.specs.Faults.{Rose};
 ghost use Rattle.compress_server.specs.declared.load.FileRole.{FileRole as Role};
-ghost use Rattle.compress_server.specs.Words.{form_of};
+ghost use Rattle.compress_server.specs.Words.{form_of, idle_after};
 ghost use Rattle.compress_server.specs.Faults.{fault_line, damage_line};
 ghost use Rattle.compress_server.specs.Run.{IsReported};
 ghost use Rattle.compress_server.specs.Seen.{seen_by, world_by};
@@ -105,6 +105,7 @@ fn run_form<
     ensures runs { let seen = seen_by K.Sink D.Disk L.doors L.faults in
         Runs L.Door.visits (F.folder files.old) (form_of (map string_bytes words.now)) (S.flow input.old) (S.flow input.new)
         (seen output.old disk listener.old) (seen output.new result.1 listener.new) result.0 }
+    ensures idle { L.idle listener.new ≡ idle_after (form_of (map string_bytes words.now)) (L.idle listener.old) }
     ensures stays { F.folder files.new ≡ F.folder files.old }
     ensures source_fault { result.0 ≡ End.SourceFault → Rose (S.faults input.old) (S.faults input.new) }
     ensures sink_fault { result.0 ≡ End.SinkFault → Rose (K.faults output.old) (K.faults output.new) }
@@ -134,6 +135,7 @@ fn run_form<
                 seats,
                 connections,
                 workers,
+                idle,
             },
         ) => {
             let words = ServiceWords {
@@ -143,6 +145,7 @@ fn run_form<
                 seats,
                 connections,
                 workers,
+                idle,
             };
             run_serve(with, files, &words, output, disk, listener)
         }
@@ -176,9 +179,10 @@ fn run_form<
 ///
 /// - `script ROSTER JOURNAL [--workers W]`: one session, under seat 0, over the roster of a file, on the history that the
 ///   journal keeps; each of its changes is in the journal before it is answered.
-/// - `serve ROSTER JOURNAL ADDRESS [--seats N] [--connections C] [--workers W]`: N seats, under the numbers 1 to N, beside
-///   one another over the same; each serves the connections of a door at the address, one after another, at most C of them.
-///   In the end `history N` tells the history's length.
+/// - `serve ROSTER JOURNAL ADDRESS [--seats N] [--connections C] [--workers W] [--idle SECONDS]`: N seats, under the numbers
+///   1 to N, beside one another over the same; each serves the connections of a door at the address, one after another, at
+///   most C of them. In the end `history N` tells the history's length. The listener is told SECONDS, for which a call of a
+///   connection may wait: one that fails by then is a fault of that connection.
 /// - `check ROSTER TRADES MODE PROPOSAL`: whether a proposal is right for a market; `yes`, or `no`, the first product
 ///   that fails and why.
 /// - `solve ROSTER TRADES MODE [--workers W]`: a proposal for a market.
@@ -186,9 +190,9 @@ fn run_form<
 /// - `replay ROSTER JOURNAL`: what the journal stands for: each member and the trades in which it has a side, each
 ///   execution, and how many changes there are. Nothing is written to the disk.
 ///
-/// MODE is `conservative`, `hybrid` or `free`. W workers solve, from 1 to 64; N is from 1 to 64, and C from 1 to 1,000,000. Where the
-/// option is not given, W and N are 4, and C is 1,000,000. An option is `--name V` or `--name=V`, at any place behind the
-/// form's name, at most once; `--` ends the options.
+/// MODE is `conservative`, `hybrid` or `free`. W workers solve, from 1 to 64; N is from 1 to 64, C from 1 to 1,000,000,
+/// and SECONDS from 1 to 86,400. Where the option is not given, W and N are 4, C is 1,000,000, and a call may wait without
+/// end. An option is `--name V` or `--name=V`, at any place behind the form's name, at most once; `--` ends the options.
 ///
 /// The files are read in the order of the words of the form, the proposal last, and the first that can't be had ends the
 /// call. The disk, which a script attaches to its journal, has to be settled: a crash now would leave what a read gives. It is
@@ -237,6 +241,7 @@ pub fn run<
         let world = world_by F.Files S.Source E.Sink seen in
         Ends L.Door.visits (form_of (map string_bytes words.now)) (world files.old input.old errors.old output.old disk listener.old)
         (world files.new input.new errors.new output.new result.1 listener.new) result.0 }
+    ensures idle { L.idle listener.new ≡ idle_after (form_of (map string_bytes words.now)) (L.idle listener.old) }
     ensures files { F.folder files.new ≡ F.folder files.old }
 {
     let with = Resources { rt, alloc, gate };

@@ -35,6 +35,7 @@ pub enum Form<'a> {
         seats: Count,
         connections: u64,
         workers: Count,
+        idle: Option<u64>,
     },
     /// Whether a proposal is right for a market.
     Check {
@@ -81,7 +82,7 @@ impl Options {
     fn has_workers_alone(&self) -> bool
         ensures { result ≡ has_workers_alone (read_options self.now) }
     {
-        self.seats.is_none() && self.connections.is_none()
+        self.seats.is_none() && self.connections.is_none() && self.idle.is_none()
     }
 
     fn has_none(&self) -> bool
@@ -130,6 +131,7 @@ fn read_serve<'a>(options: &Options, plain: &[&'a str]) -> Option<Form<'a>>
                 seats: options.seats(),
                 connections: options.connections(),
                 workers: options.workers(),
+                idle: options.idle,
             })
         }
         _ => None,

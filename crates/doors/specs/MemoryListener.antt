@@ -5,7 +5,7 @@ use Rattle.doors.specs.declared.planned_door.PlannedDoor.{PlannedDoor}
 use Rattle.doors.specs.Visits.{Doors}
 use Rattle.doors.specs.MemoryDoor.{MemoryVisits, empty_door, input_bytes, visits_by}
 
--- a listener in memory: the address at which it listens; the doors to which something was added; how many doors were handed out, how many of them are not back, those that were taken back, in order; how often it was asked to listen or for a door, which of these calls fail, the first being 1, and its count of faults
+-- a listener in memory: the address at which it listens; the doors to which something was added; how many doors were handed out, how many of them are not back, those that were taken back, in order; how often it was asked to listen or for a door, which of these calls fail, the first being 1, its count of faults, and the seconds that it was told
 pub record MemoryHall : Type 0 where
   pub address : Option (List ℕ)
   pub planned : List PlannedDoor
@@ -15,10 +15,11 @@ pub record MemoryHall : Type 0 where
   pub calls : ℕ
   pub failing : List ℕ
   pub faults : ℕ
+  pub idle : Option ℕ
 
 -- nobody comes to any door
 abbrev pub empty_hall : MemoryHall
-empty_hall = record { address = None; planned = []; handed = 0; lent = 0; back = []; calls = 0; failing = []; faults = 0 }
+empty_hall = record { address = None; planned = []; handed = 0; lent = 0; back = []; calls = 0; failing = []; faults = 0; idle = None }
 
 -- the door with this number among these, one to which nobody comes where it isn't there
 abbrev pub door_at : List PlannedDoor → ℕ → MemoryVisits
@@ -75,6 +76,10 @@ pub record KeepsDoors (old new : MemoryHall) : Type 0 where
 -- a listener's count of faults, once it took back a door with this one
 abbrev pub with_faults_of : ℕ → ℕ → ℕ
 with_faults_of faults of_door = if nat_lt 0 of_door then one_more faults else faults
+
+-- after it was told these seconds
+abbrev pub hall_after_telling : MemoryHall → Option ℕ → MemoryHall
+hall_after_telling m seconds = record m { idle = seconds }
 
 -- after a door was taken back
 abbrev pub hall_after_return : MemoryHall → MemoryVisits → MemoryHall

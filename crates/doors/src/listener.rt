@@ -18,12 +18,16 @@ pub trait Listener {
     // The count. It never falls, and stands still at the largest number that it can keep.
     ghost faults: { Self → ℕ };
 
+    // For how many seconds a call of a connection's streams may wait; none: without end.
+    ghost idle: { Self → Option ℕ };
+
     /// Listens at this address from now on.
     fn bind(&mut self, address: &str) -> Result<(), Trouble>
         ensures binds { OnOk result (Binds address.now (doors self.old) (doors self.new)) }
         ensures nothing { OnErr result (doors self.new ≡ doors self.old) }
         ensures never_falls { faults self.old ≤ faults self.new }
-        ensures failed { result ≡ Err Trouble.Failed → Rose (faults self.old) (faults self.new) };
+        ensures failed { result ≡ Err Trouble.Failed → Rose (faults self.old) (faults self.new) }
+        ensures waits { idle self.new ≡ idle self.old };
 
     /// A new door for the connections to that address. It gave none yet, and no call of it failed.
     fn door(&mut self) -> Result<Self::Door, Trouble>
@@ -31,18 +35,21 @@ pub trait Listener {
         ensures lends { IfOk result (λ d. Lends (doors self.old) (doors self.new) (Self.Door.visits d)) }
         ensures nothing { OnErr result (doors self.new ≡ doors self.old) }
         ensures never_falls { faults self.old ≤ faults self.new }
-        ensures failed { result ≡ Err Trouble.Failed → Rose (faults self.old) (faults self.new) };
+        ensures failed { result ≡ Err Trouble.Failed → Rose (faults self.old) (faults self.new) }
+        ensures waits { idle self.new ≡ idle self.old };
 
     /// Takes a door back that it handed out. It takes no memory.
     fn take_back(&mut self, door: Self::Door)
         requires lent { IsLent (doors self.old) }
         ensures returns { TakesBack (doors self.old) (doors self.new) (Self.Door.visits door) }
         ensures never_falls { faults self.old ≤ faults self.new }
-        ensures failed { 0 < Self.Door.faults door → Rose (faults self.old) (faults self.new) };
+        ensures failed { 0 < Self.Door.faults door → Rose (faults self.old) (faults self.new) }
+        ensures waits { idle self.new ≡ idle self.old };
 
     /// Says for how many seconds a call of a connection's streams may wait before it fails, at the doors that are handed out
     /// from now on; none: without end.
     fn set_idle(&mut self, seconds: Option<u64>)
+        ensures told { idle self.new ≡ seconds }
         ensures same { doors self.new ≡ doors self.old }
         ensures uncounted { faults self.new ≡ faults self.old };
 }

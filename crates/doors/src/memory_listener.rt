@@ -4,7 +4,7 @@ ghost use Rattle.std.specs.Prelude.{◌≡◌, ◌≢◌, ℕ, ◌≤◌, ◌<�
 ghost use Rattle.outside.specs.Faults.{Rose};
 ghost use Rattle.doors.specs.Visits.{Binds, IsNew, IsLent, Lends, TakesBack};
 ghost use Rattle.doors.specs.MemoryDoor.{empty_door, IsFresh, visits_by, with_connection, with_failing};
-ghost use Rattle.doors.specs.MemoryListener.{IsPlaceOf, empty_hall, door_at, with_door, doors_by, next_call_fails, hall_after_fault, hall_after_call, hall_after_bind, hall_after_door, hall_after_return, ChangesDoor, KeepsDoors};
+ghost use Rattle.doors.specs.MemoryListener.{IsPlaceOf, empty_hall, door_at, with_door, doors_by, next_call_fails, hall_after_fault, hall_after_call, hall_after_bind, hall_after_door, hall_after_return, hall_after_telling, ChangesDoor, KeepsDoors};
 ghost use Rattle.outside.specs.declared.trouble.Trouble.TheVariants as trouble;
 ghost use Rattle.doors.specs.declared.planned_door.PlannedDoor.{PlannedDoor};
 
@@ -20,7 +20,7 @@ use std::mem;
 /// A listener in memory, with what is to come to each of its doors. Its doors are counted from 0 as they are handed
 /// out. Those of its calls fail that it is told to. Contracts see it as the address at which it listens, the doors to be
 /// handed out, the number of doors handed out, of those that are not back, the doors taken back, the number of its calls,
-/// the calls that fail and its count of faults.
+/// the calls that fail, its count of faults and the seconds that it was told.
 #[derive(Drop)]
 pub struct MemoryListener {
     address: Option<Vec<u8>>,
@@ -32,6 +32,7 @@ pub struct MemoryListener {
     calls: u64,
     failing: Vec<u64>,
     faults: u64,
+    idle: Option<u64>,
     alloc: Global,
 }
 
@@ -42,7 +43,7 @@ impl Model for MemoryListener {
 
     ghost Value = { MemoryHall };
 
-    ghost view = { λ m. record { address = option_map (λ address. address.items) m.address; planned = m.planned.items; handed = m.handed; lent = m.lent; back = m.back.items; calls = m.calls; failing = m.failing.items; faults = m.faults } };
+    ghost view = { λ m. record { address = option_map (λ address. address.items) m.address; planned = m.planned.items; handed = m.handed; lent = m.lent; back = m.back.items; calls = m.calls; failing = m.failing.items; faults = m.faults; idle = m.idle } };
 
     ghost invariant = { λ m. (length m.back.items + m.lent ≤ vec_capacity m.back) × ((n : ℕ) → IsUnused (door_at m.planned.items n)) };
 }
@@ -105,6 +106,7 @@ impl MemoryListener {
             calls: 0,
             failing: Vec::new(alloc),
             faults: 0,
+            idle: None,
             alloc,
         }
     }
@@ -157,12 +159,15 @@ impl Listener for MemoryListener {
 
     ghost faults = { λ m. m.faults };
 
+    ghost idle = { λ m. m.idle };
+
     /// Listens at any address, where this call is none of those that fail. It takes memory for the address.
     fn bind(&mut self, address: &str) -> Result<(), Trouble>
         ensures binds { OnOk result (Binds address.now (Some (doors_by self.old)) (Some (doors_by self.new))) }
         ensures nothing { OnErr result (Some (doors_by self.new) ≡ Some (doors_by self.old)) }
         ensures never_falls { self.old.faults ≤ self.new.faults }
         ensures failed { result ≡ Err trouble.Failed → Rose self.old.faults self.new.faults }
+        ensures waits { self.new.idle ≡ self.old.idle }
 
         // Exactly this, besides what each listener promises.
         ensures fails { result ≡ Err trouble.Failed ↔ IsTrue (next_call_fails self.old) }
@@ -189,6 +194,7 @@ impl Listener for MemoryListener {
         ensures nothing { OnErr result (Some (doors_by self.new) ≡ Some (doors_by self.old)) }
         ensures never_falls { self.old.faults ≤ self.new.faults }
         ensures failed { result ≡ Err trouble.Failed → Rose self.old.faults self.new.faults }
+        ensures waits { self.new.idle ≡ self.old.idle }
 
         // Exactly this, besides what each listener promises.
         ensures fails { result ≡ Err trouble.Failed ↔ IsTrue (next_call_fails self.old) }
@@ -224,6 +230,7 @@ impl Listener for MemoryListener {
         ensures returns { TakesBack (Some (doors_by self.old)) (Some (doors_by self.new)) (Some (visits_by door)) }
         ensures never_falls { self.old.faults ≤ self.new.faults }
         ensures failed { 0 < door.faults → Rose self.old.faults self.new.faults }
+        ensures waits { self.new.idle ≡ self.old.idle }
 
         // Exactly this, besides what each listener promises.
         ensures after { self.new ≡ hall_after_return self.old door }
@@ -235,12 +242,15 @@ impl Listener for MemoryListener {
         self.back.push_reserved(door);
     }
 
-    /// Changes nothing, since no call of a connection in memory waits.
-    fn set_idle(&mut self, _seconds: Option<u64>)
+    /// Keeps the seconds. No call of a connection in memory waits.
+    fn set_idle(&mut self, seconds: Option<u64>)
+        ensures told { self.new.idle ≡ seconds }
         ensures same { Some (doors_by self.new) ≡ Some (doors_by self.old) }
         ensures uncounted { self.new.faults ≡ self.old.faults }
 
         // Exactly this, besides what each listener promises.
-        ensures unchanged { self.new ≡ self.old }
-    {}
+        ensures after { self.new ≡ hall_after_telling self.old seconds }
+    {
+        self.idle = seconds;
+    }
 }

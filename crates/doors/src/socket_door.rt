@@ -4,7 +4,7 @@ ghost use Rattle.std.specs.Prelude.{◌≡◌, ◌≤◌, nat_lt, IsSome, IfOk, 
 ghost use Rattle.outside.specs.Faults.{Rose, one_more};
 ghost use Rattle.outside.specs.Streams.{read_faults, write_faults};
 ghost use Rattle.doors.specs.Visits.{Visits, IsOver, Opens};
-ghost use Rattle.doors.specs.Sockets.{accept_faults};
+ghost use Rattle.doors.specs.Sockets.{accept_faults, door_idle};
 ghost use Rattle.outside.specs.declared.trouble.Trouble.TheVariants as trouble;
 
 use crate::direction::Direction;
@@ -24,7 +24,7 @@ pub struct SocketDoor<'a, R: Clock, L: OpenListener + Drop> {
     rt: &'a R,
     alloc: Global,
     socket: L,
-    idle: Option<Duration>,
+    idle: Option<u64>,
     faults: u64,
 }
 
@@ -40,20 +40,22 @@ pub fn trouble_of(error: &io::Error) -> Trouble {
 type Streams = (StreamSource<Direction>, StreamSink<Direction>);
 
 // What is written goes out at once; where the system refuses that, it goes out later, and nothing else differs.
-fn set_up(stream: &TcpStream, idle: Option<Duration>) -> io::Result<()> {
+fn set_up(stream: &TcpStream, idle: Option<u64>) -> io::Result<()> {
     let _ = stream.set_nodelay(true);
-    if idle.is_some() {
-        stream.set_read_timeout(idle)?;
-        stream.set_write_timeout(idle)?;
+    let wait = idle.map(Duration::from_secs);
+    if wait.is_some() {
+        stream.set_read_timeout(wait)?;
+        stream.set_write_timeout(wait)?;
     }
     Ok(())
 }
 
 impl<'a, R: Clock, L: OpenListener<Stream = TcpStream> + Drop> SocketDoor<'a, R, L> {
-    /// A door at this socket. A call of a connection's streams that waits for as long as `idle` says, in which nothing comes
-    /// or nothing goes, fails; without it calls wait without end.
-    pub fn new(rt: &'a R, alloc: Global, socket: L, idle: Option<Duration>) -> SocketDoor<'a, R, L>
-        ensures { accept_faults result ≡ 0 }
+    /// A door at this socket. A call of a connection's streams that waits for as many seconds as `idle` says, in which nothing
+    /// comes or nothing goes, fails; without it calls wait without end.
+    pub fn new(rt: &'a R, alloc: Global, socket: L, idle: Option<u64>) -> SocketDoor<'a, R, L>
+        ensures faults { accept_faults result ≡ 0 }
+        ensures waits { door_idle result ≡ idle }
     {
         SocketDoor {
             rt,

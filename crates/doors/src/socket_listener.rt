@@ -3,7 +3,7 @@
 ghost use Rattle.std.specs.Prelude.{◌≡◌, ◌≤◌, ◌<◌, IfOk, OnOk, OnErr, Err, Option, None};
 ghost use Rattle.outside.specs.Faults.{Rose, one_more};
 ghost use Rattle.doors.specs.Visits.{Doors, Binds, IsNew, Lends};
-ghost use Rattle.doors.specs.Sockets.{accept_faults, listen_faults};
+ghost use Rattle.doors.specs.Sockets.{accept_faults, door_idle, listen_faults, listen_idle};
 ghost use Rattle.outside.specs.declared.trouble.Trouble.TheVariants as trouble;
 
 use crate::listener::Listener;
@@ -11,7 +11,7 @@ use crate::socket_door::{SocketDoor, trouble_of};
 use outside::Trouble;
 use std::alloc::AllocGlobal;
 use std::net::{Net, TcpListener, TcpStream};
-use std::time::{Clock, Duration};
+use std::time::Clock;
 
 /// A listener at one socket, which its doors share. It counts the calls that failed and the doors of which a call had
 /// failed, and tells nothing of connections.
@@ -19,7 +19,7 @@ use std::time::{Clock, Duration};
 pub struct SocketListener<'a, R: Net<Listener = TcpListener, Stream = TcpStream>> {
     rt: &'a R,
     socket: Option<TcpListener>,
-    idle: Option<Duration>,
+    idle: Option<u64>,
     faults: u64,
 }
 
@@ -58,7 +58,7 @@ impl<'a, R: Net<Listener = TcpListener, Stream = TcpStream>> SocketListener<'a, 
 
 impl<'a, R: Net<Listener = TcpListener, Stream = TcpStream> + Clock + AllocGlobal + Sync> Listener
     for SocketListener<'a, R> {
-    ghost use Rattle.doors.specs.Sockets.{listen_faults};
+    ghost use Rattle.doors.specs.Sockets.{listen_faults, listen_idle};
 
     type Door = SocketDoor<'a, R, TcpListener>;
 
@@ -66,12 +66,15 @@ impl<'a, R: Net<Listener = TcpListener, Stream = TcpStream> + Clock + AllocGloba
 
     ghost faults = { λ s. listen_faults s };
 
+    ghost idle = { λ s. listen_idle s };
+
     /// Listens at a host's name or address and a port, as `127.0.0.1:7000`.
     fn bind(&mut self, address: &str) -> Result<(), Trouble>
         ensures binds { OnOk result (Binds address.now None None) }
         ensures nothing { OnErr result (◌≡◌ {A = Option Doors} None None) }
         ensures never_falls { listen_faults self.old ≤ listen_faults self.new }
         ensures failed { result ≡ Err trouble.Failed → Rose (listen_faults self.old) (listen_faults self.new) }
+        ensures waits { listen_idle self.new ≡ listen_idle self.old }
 
         ensures no_fault { OnOk result (listen_faults self.new ≡ listen_faults self.old) }
         ensures fault { result ≡ Err trouble.Failed → listen_faults self.new ≡ one_more (listen_faults self.old) }
@@ -91,16 +94,19 @@ impl<'a, R: Net<Listener = TcpListener, Stream = TcpStream> + Clock + AllocGloba
         }
     }
 
-    /// A door at the socket. It fails where nothing is listened at yet, and where the system does.
+    /// A door at the socket, whose connections' calls may wait as it was told. It fails where nothing is listened at yet, and
+    /// where the system does.
     fn door(&mut self) -> Result<SocketDoor<'a, R, TcpListener>, Trouble>
         ensures new { IfOk result (λ d. IsNew None × (accept_faults d ≡ 0)) }
         ensures lends { IfOk result (λ d. Lends None None None) }
         ensures nothing { OnErr result (◌≡◌ {A = Option Doors} None None) }
         ensures never_falls { listen_faults self.old ≤ listen_faults self.new }
         ensures failed { result ≡ Err trouble.Failed → Rose (listen_faults self.old) (listen_faults self.new) }
+        ensures waits { listen_idle self.new ≡ listen_idle self.old }
 
         ensures no_fault { OnOk result (listen_faults self.new ≡ listen_faults self.old) }
         ensures fault { result ≡ Err trouble.Failed → listen_faults self.new ≡ one_more (listen_faults self.old) }
+        ensures door_waits { IfOk result (λ d. door_idle d ≡ listen_idle self.old) }
     {
         match self.shared_socket() {
             Ok(socket) => Ok(SocketDoor::new(self.rt, self.rt.alloc(), socket, self.idle)),
@@ -116,15 +122,18 @@ impl<'a, R: Net<Listener = TcpListener, Stream = TcpStream> + Clock + AllocGloba
     fn take_back(&mut self, door: SocketDoor<'a, R, TcpListener>)
         ensures never_falls { listen_faults self.old ≤ listen_faults self.new }
         ensures failed { 0 < accept_faults door.entry → Rose (listen_faults self.old) (listen_faults self.new) }
+        ensures waits { listen_idle self.new ≡ listen_idle self.old }
     {
         if door.has_failed() {
             self.faults = self.faults.saturating_add(1);
         }
     }
 
+    /// Keeps the seconds for the doors that it hands out from now on.
     fn set_idle(&mut self, seconds: Option<u64>)
+        ensures told { listen_idle self.new ≡ seconds }
         ensures uncounted { listen_faults self.new ≡ listen_faults self.old }
     {
-        self.idle = seconds.map(Duration::from_secs);
+        self.idle = seconds;
     }
 }

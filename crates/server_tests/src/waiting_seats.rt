@@ -186,6 +186,7 @@ fn two_seats_each_wait_for_the_replies_of_the_other(rt: HostRuntime) -> Result<(
 struct PacedListener {
     handed: u64,
     steps: Arc<Steps, Global>,
+    idle: Option<u64>,
     alloc: Global,
 }
 
@@ -197,6 +198,8 @@ impl Listener for PacedListener {
     ghost doors = { λ _. None };
 
     ghost faults = { λ _. 0 };
+
+    ghost idle = { λ listener. listener.idle };
 
     fn bind(&mut self, _address: &str) -> Result<(), Trouble> {
         Ok(())
@@ -217,7 +220,9 @@ impl Listener for PacedListener {
 
     fn take_back(&mut self, _door: PacedDoor) {}
 
-    fn set_idle(&mut self, _seconds: Option<u64>) {}
+    fn set_idle(&mut self, seconds: Option<u64>) {
+        self.idle = seconds;
+    }
 }
 
 fn wait_in_a_service<R: Threads + Wait + Sync + AllocGlobal>(rt: &R) -> Result<bool, AllocError> {
@@ -226,6 +231,7 @@ fn wait_in_a_service<R: Threads + Wait + Sync + AllocGlobal>(rt: &R) -> Result<b
     let mut listener = PacedListener {
         handed: 0,
         steps: Arc::try_clone(&steps)?,
+        idle: None,
         alloc,
     };
     let disk = empty_disk(alloc)?;

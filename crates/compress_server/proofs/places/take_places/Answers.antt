@@ -21,6 +21,9 @@ returns-in_err-door-clause-never_falls g c = search rules
 pub returns-in_err-door-clause-failed : goal.returns-in_err-door-clause-failed
 returns-in_err-door-clause-failed g c = search rules
 
+pub returns-in_err-door-clause-waits : goal.returns-in_err-door-clause-waits
+returns-in_err-door-clause-waits g c = c.door.ensures.waits ∙ c.loop.invariant.waits
+
 pub push_reserved-requires : goal.push_reserved-requires
 push_reserved-requires g c = search rules
 
@@ -44,6 +47,7 @@ loop-preserved g c =
       new = subst (λ ps. All (λ p. IsNew (g.L.Door.Door.visits p.door) × (g.L.Door.Door.faults p.door ≡ 0)) ps) (sym pushed)
           (All-push (λ p. IsNew (g.L.Door.Door.visits p.door) × (g.L.Door.Door.faults p.door ≡ 0)) places place inv.new fresh);
       faults = omega (arith, inv.faults, c.door.ensures.never_falls);
+      waits = c.door.ensures.waits ∙ inv.waits;
     }
 
 pub returns-clause-lends : goal.returns-clause-lends

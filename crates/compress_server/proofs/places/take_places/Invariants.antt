@@ -13,4 +13,5 @@ invariant-loop g l = record {
   planned : ArePlanned g.L.Door.Door.visits (g.L.Listener.doors l.fn.listener) 0 l.places.items;
   new : All (λ place. IsNew (g.L.Door.Door.visits place.door) × (g.L.Door.Door.faults place.door ≡ 0)) l.places.items;
   faults : g.L.Listener.faults l.fn.listener ≤ g.L.Listener.faults l.listener;
+  waits : g.L.Listener.idle l.listener ≡ g.L.Listener.idle l.fn.listener;
 }

@@ -1,12 +1,5 @@
-use Rattle.std.proofs.Common.{inr}
-use Rattle.compress_server.proofs.HousedFacts.{housed}
+use Rattle.compress_server.proofs.IdleFacts.{runs_from_before}
 use Rattle.compress_server.proofs.serve.run_serve.Goals as goal
 
 pub returns-clause-runs : goal.returns-clause-runs
-returns-clause-runs g c =
-    let rows = c.in-Ok.roster in
-    let v = c.in-Ok-open_house.house in
-    let w = c.serve_at-end.result.1 in
-    let over = housed rows (g.D.Disk.history c.args.disk) (g.D.Disk.history c.end.result) (g.D.Disk.fault_count c.args.disk) (g.D.Disk.fault_count c.end.result) c.in-Ok.ensures.roster v w c.in-Ok-open_house.ensures.opened c.in-Ok-open_house.ensures.keeps
-    c.end.ensures.keeps c.serve_at-end.ensures.figures c.end.ensures.disk c.end.ensures.faults in
-    inr (rows, c.in-Ok.ensures.says, c.in-Ok.ensures.roster, inr (v, w, over, c.serve_at-end.ensures.serves))
+returns-clause-runs g c = runs_from_before g.L.Door.Door.visits _ _ _ _ _ _ _ _ _ _ _ c.set_idle.ensures.same c.set_idle.ensures.uncounted c.open_and_serve.ensures.runs
