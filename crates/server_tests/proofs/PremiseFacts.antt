@@ -68,10 +68,10 @@ abbrev session : IsSession (figures_of first_house) first_history 0 (record gone
 session = record { made = []; to = gone; talk = talk (figures_of first_house) 0; own = refl }
 
 left : IsLeft first_house first_house (Some []) (Some replied) (cut_of said).whole
-left = record { said = line ∷ []; others = []; order = refl; replied = record { text = replied; session = session; all = refl; stops = λ e. absurd cc; took = refl }; over = refl }
+left = record { said = line ∷ []; others = []; order = refl; replied = record { text = replied; session = session; all = refl; stops = λ e. absurd cc; known = λ e. absurd cc; took = refl }; over = refl }
 
 left_untold : IsLeft first_house first_house None None (cut_of said).whole
-left_untold = record { said = line ∷ []; others = []; order = refl; replied = record { text = replied; session = session; all = refl; stops = λ e. absurd cc; took = tt }; over = refl }
+left_untold = record { said = line ∷ []; others = []; order = refl; replied = record { text = replied; session = session; all = refl; stops = λ e. absurd cc; known = λ e. absurd cc; took = tt }; over = refl }
 
 pub script_ends : Ends {D = Option Visits} (λ d. d) (Some script_form) script_before script_after 0
 script_ends = record {

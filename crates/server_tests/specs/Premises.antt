@@ -72,7 +72,7 @@ abbrev pub service_plan : ServicePlan
 service_plan = record { address = codes "127.0.0.1:7070"; seats = 1; connections = 2 }
 
 abbrev pub service_form : Form
-service_form = Form.Serve (codes "roster.csv") (codes "journal") (codes "127.0.0.1:7070") 1 2 4
+service_form = Form.Serve (codes "roster.csv") (codes "journal") (codes "127.0.0.1:7070") (record { seats = 1; connections = 2; workers = 4; idle = None })
 
 -- the one connection that is to come to the first door, and what it is then
 abbrev pub planned : ℕ → List (List ℕ)
