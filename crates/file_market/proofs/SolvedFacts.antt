@@ -14,7 +14,7 @@ use Rattle.dual_certificate.specs.Proposal.{proposal_of}
 use Rattle.dual_certificate.specs.ProposalText.{proposal_text}
 use Rattle.dual_certificate.specs.Writing.{HasMembers}
 use Rattle.dual_certificate.specs.Laws.{AreOfRoster, part_for, parts_for}
-use Rattle.dual_certificate.proofs.WrittenParts.{part_at, parts_length, what_is_written_reads_back}
+use Rattle.dual_certificate.proofs.WrittenTexts.{part_at, parts_length, what_is_written_reads_back}
 use Rattle.file_market.specs.declared.failing.Failing.{Failing}
 use Rattle.file_market.specs.Check.{has_figures, IsChecked}
 use Rattle.file_market.specs.Solve.{AreSolutions}
