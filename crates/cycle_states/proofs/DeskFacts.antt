@@ -52,6 +52,12 @@ grown h more seat ask answer is change =
     let one : recorded seat ask answer ≡ record { seat = seat; ask = ask } ∷ [] = ap (λ (t : Bool). if t then record { seat = seat; ask = ask } ∷ [] else []) change in
     ap (λ (es : List Entry). record h { entries = es }) (is ∙ ap (λ es. h.entries ++ es) (sym one))
 
+-- and stays with any other command
+pub not_grown : (h : History) (more : List Entry) (seat : ℕ) (ask : Ask) (answer : Answer) → more ≡ h.entries → is_recorded ask.what answer ≡ false → record h { entries = more } ≡ longer h (recorded seat ask answer)
+not_grown h more seat ask answer same off =
+    let none : recorded seat ask answer ≡ [] = ap (λ (t : Bool). if t then record { seat = seat; ask = ask } ∷ [] else []) off in
+    ap (λ (es : List Entry). record h { entries = es }) (same ∙ sym (append-nil h.entries)) ∙ ap (longer h) (sym none)
+
 -- a command that is recorded
 pub told_recorded : (m : State) (h : History) (more : List Entry) (seat at : ℕ) (ask : Ask) (answer : Answer) (figures : Figures) → IsReplayed m h → more ≡ h.entries ++ record { seat = seat; ask = ask } ∷ [] →
     IsTrue (is_recorded ask.what answer) → answer ≡ answer_to m ask → at ≡ end_of h + 1 → IsTold figures false false (record h { entries = more }) seat ask (record { at = at; answer = answer })

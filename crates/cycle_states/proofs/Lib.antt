@@ -10,4 +10,5 @@ pub mod DeskFacts
 pub mod EffectFacts
 pub mod RecordFacts
 pub mod RefusalFacts
+pub mod DecisionFacts
 pub mod Sends

@@ -64,7 +64,7 @@ pub roster_after : (s : State) (ask : Ask) → (state_after s ask).roster ≡ s.
 roster_after s ask = roster_by s ask.by ask.what
 
 -- where no condition holds, the first doesn't, nor one of the others
-none_of : (test : Bool) (refusal : Refusal) (rows : List (Bool × Refusal)) → first_of ((test, refusal) ∷ rows) ≡ None → (test ≡ false) × (first_of rows ≡ None)
+pub none_of : (test : Bool) (refusal : Refusal) (rows : List (Bool × Refusal)) → first_of ((test, refusal) ∷ rows) ≡ None → (test ≡ false) × (first_of rows ≡ None)
 none_of true refusal rows none = cc
 none_of false refusal rows none = (refl, none)
 

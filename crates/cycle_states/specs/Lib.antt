@@ -4,3 +4,4 @@ pub mod Replayed
 pub mod PlainDesk
 pub mod Refusals
 pub mod Ready
+pub mod Decision

@@ -7,6 +7,6 @@ mod plain_desk;
 mod recorded;
 
 pub use laws::effect_is_next;
-pub use machine::{LastCycle, Machine, Ready};
+pub use machine::{Decision, LastCycle, Machine, Ready};
 pub use plain_desk::PlainDesk;
 pub use recorded::is_recorded;

@@ -5,6 +5,7 @@ mod applying;
 mod conditions;
 mod cycle;
 mod cycle_refusals;
+mod decision;
 mod effect;
 mod effects;
 mod freezing;
@@ -24,25 +25,28 @@ mod solutions;
 mod terms;
 mod trade_refusals;
 
-ghost use Rattle.std.specs.Prelude.{ℕ, ◌≡◌, ◌≤◌, ◌<◌, ◌^◌, length, All, IsTrue, IfOk, IsOk, OnOk, is_some};
+ghost use Rattle.std.specs.Prelude.{ℕ, ◌≡◌, ◌≤◌, ◌<◌, ◌^◌, length, None, All, IsTrue, IfOk, IsOk, OnOk, is_some};
 ghost use Rattle.network_laws.specs.Solutions.{IsSolution};
 ghost use Rattle.command_types.specs.Bases.{AreRising};
 ghost use Rattle.command_types.specs.Trades.{gross_of};
 ghost use Rattle.command_types.specs.Cycles.{closed};
-ghost use Rattle.command_types.specs.Machine.{answer_to, state_after};
+ghost use Rattle.command_types.specs.Machine.{answer_to, first_of, refusals, state_after};
 ghost use Rattle.command_types.specs.History.{is_recorded, solutions_posted};
 ghost use Rattle.command_types.specs.Spelling.{posted, most_solutions};
 ghost use Rattle.trade_history.specs.Laws.{is_execution};
 ghost use Rattle.posting.specs.Laws.{AreLeast, KeepsNets};
 ghost use Rattle.product_book.specs.Book.{gross_limit, AreTrades};
+ghost use Rattle.cycle_states.specs.Decision.{IsDecision};
 ghost use Rattle.cycle_states.specs.Effects.{is_accept, rows_added, settings_added};
 ghost use Rattle.cycle_states.specs.Machine.{state_with, IsYoung};
 ghost use Rattle.cycle_states.specs.Ready.{IsReady};
 
+use crate::recorded::is_change;
 use applying::apply;
 use command_types::{Answer, Ask, Entry, Roster, ToleranceRow, TradeRow};
 use cycle::Cycle;
 pub use cycle::LastCycle;
+pub use decision::Decision;
 use product_book::Book;
 pub use ready::Ready;
 use room::make_room;
@@ -138,6 +142,60 @@ impl Machine {
         }
     }
 
+    // Makes an accepted change ready: the room that it needs, and all that it is made with.
+    fn made_ready(&mut self, entry: Entry) -> Result<Ready, AllocError>
+        requires accepted { IsTrue (is_recorded entry.ask.what (answer_to self.old.state entry.ask)) }
+        requires young { IsYoung self.old.state.cycle }
+        ensures state { self.new.state ≡ self.old.state }
+        ensures keeps { self.old.spare ≤ self.new.spare }
+        ensures keeps_slots { self.old.slots ≤ self.new.slots }
+        ensures entry { IfOk result (λ ready. ready.entry ≡ entry) }
+        ensures ready { IfOk result (λ ready. IsReady self.old.state ready) }
+        ensures room { OnOk result (rows_added self.old.state entry.ask ≤ self.new.spare) }
+        ensures slot { OnOk result (settings_added self.old.state entry.ask ≤ self.new.slots) }
+        ensures few { OnOk result (posted entry.ask.what ≤ most_solutions) }
+    {
+        let Some(by) = &entry.ask.by else {
+            unreachable!()
+        };
+        let made = self.made_for(by, &entry.ask.what)?;
+        let proposed = self.cycle.plan();
+        make_room(&mut self.book, &mut self.tolerances, &made.effect, proposed)?;
+        Ok(Ready::new(entry, made))
+    }
+
+    // Decides a command that is not refused.
+    fn decide_accepted(&mut self, entry: Entry) -> Result<Decision, AllocError>
+        requires accepted { first_of (refusals self.old.state entry.ask.by entry.ask.what) ≡ None }
+        requires young { IsYoung self.old.state.cycle }
+        ensures state { self.new.state ≡ self.old.state }
+        ensures keeps { self.old.spare ≤ self.new.spare }
+        ensures keeps_slots { self.old.slots ≤ self.new.slots }
+        ensures decides { IfOk result (λ decision. IsDecision self.new entry decision) }
+    {
+        if !is_change(&entry.ask.what) {
+            let answer = self.accepted(&entry.ask)?;
+            return Ok(Decision::Told(answer));
+        }
+        let ready = self.made_ready(entry)?;
+        Ok(Decision::Ready(ready))
+    }
+
+    /// Decides a command once: what is refused, and a read, is told its answer; a change is made ready, with all the room that
+    /// it needs. The state stays, whatever the result; the only error is want of memory.
+    pub fn decide(&mut self, entry: Entry) -> Result<Decision, AllocError>
+        requires { IsYoung self.old.state.cycle }
+        ensures state { self.new.state ≡ self.old.state }
+        ensures keeps { self.old.spare ≤ self.new.spare }
+        ensures keeps_slots { self.old.slots ≤ self.new.slots }
+        ensures decides { IfOk result (λ decision. IsDecision self.new entry decision) }
+    {
+        match self.check(&entry.ask) {
+            Err(refusal) => Ok(Decision::Told(Answer::No(refusal))),
+            Ok(()) => self.decide_accepted(entry),
+        }
+    }
+
     /// Makes the room that an accepted change needs, and all that it is made with. The state stays, whatever the result; the only
     /// error is want of memory.
     pub fn prepare(&mut self, entry: Entry) -> Result<Ready, AllocError>
@@ -151,13 +209,11 @@ impl Machine {
         ensures room { OnOk result (rows_added self.old.state entry.ask ≤ self.new.spare) }
         ensures slot { OnOk result (settings_added self.old.state entry.ask ≤ self.new.slots) }
     {
-        let Some(by) = &entry.ask.by else {
-            unreachable!()
-        };
-        let made = self.made_for(by, &entry.ask.what)?;
-        let proposed = self.cycle.plan();
-        make_room(&mut self.book, &mut self.tolerances, &made.effect, proposed)?;
-        Ok(Ready::new(entry, made))
+        let decision = self.decide(entry)?;
+        match decision {
+            Decision::Ready(ready) => Ok(ready),
+            Decision::Told(_) => unreachable!(),
+        }
     }
 
     /// Makes the change that was prepared in this state, and answers it. It takes no memory and can't fail. The solutions

@@ -1,13 +1,13 @@
 //! A desk without a journal: a machine, and the list of its changes.
 
-ghost use Rattle.std.specs.Prelude.{◌≡◌, ◌<◌, [], ◌∷◌, ◌++◌, All, IsTrue, IfOk, OnOk, OnErr, vec_len, vec_capacity};
+ghost use Rattle.std.specs.Prelude.{◌≡◌, ◌<◌, [], ◌∷◌, ◌++◌, All, IfOk, OnOk, OnErr, vec_len, vec_capacity};
 ghost use Rattle.command_types.specs.Machine.{answer_to, state_after};
 ghost use Rattle.network_laws.specs.Solutions.{IsSolution};
-ghost use Rattle.command_types.specs.History.{is_recorded, solutions_posted};
+ghost use Rattle.command_types.specs.History.{solutions_posted};
+ghost use Rattle.cycle_states.specs.Decision.{MayCommit};
 ghost use Rattle.cycle_states.specs.Machine.{IsYoung};
 
-use crate::machine::Machine;
-use crate::recorded::is_recorded;
+use crate::machine::{Decision, Machine, Ready};
 use command_types::{Answer, Ask, Desk, Entry, Refusal, Reply};
 use std::alloc::{AllocError, Global};
 use std::marker::Model;
@@ -32,23 +32,22 @@ fn make_room(entries: &mut Vec<Entry>) -> Result<(), AllocError>
     Ok(())
 }
 
-// Makes an accepted change, and puts it last. Nothing changes where no memory is to be had.
+// Makes a change that is ready, and puts it last. Nothing changes where no memory is to be had.
 fn record(
     machine: &mut Machine,
     entries: &mut Vec<Entry>,
-    entry: Entry,
+    ready: Ready,
 ) -> Result<Answer, AllocError>
-    requires accepted { IsTrue (is_recorded entry.ask.what (answer_to machine.old.state entry.ask)) }
+    requires ready { MayCommit machine.old ready }
     requires young { IsYoung machine.old.state.cycle }
-    ensures answer { IfOk result (λ answer. answer ≡ answer_to machine.old.state entry.ask) }
-    ensures state { OnOk result (machine.new.state ≡ state_after machine.old.state entry.ask) }
-    ensures entries { OnOk result (entries.new.items ≡ entries.old.items ++ entry ∷ []) }
-    ensures solutions { OnOk result (All IsSolution (solutions_posted entry.ask.what)) }
+    ensures answer { IfOk result (λ answer. answer ≡ answer_to machine.old.state ready.entry.ask) }
+    ensures state { OnOk result (machine.new.state ≡ state_after machine.old.state ready.entry.ask) }
+    ensures entries { OnOk result (entries.new.items ≡ entries.old.items ++ ready.entry ∷ []) }
+    ensures solutions { OnOk result (All IsSolution (solutions_posted ready.entry.ask.what)) }
     ensures same_state { OnErr result (machine.new.state ≡ machine.old.state) }
     ensures same_entries { OnErr result (entries.new.items ≡ entries.old.items) }
 {
     make_room(entries)?;
-    let ready = machine.prepare(entry)?;
     let (entry, answer) = machine.commit(ready);
     entries.push_reserved(entry);
     Ok(answer)
@@ -104,14 +103,12 @@ impl Desk for PlainDesk {
 
     fn ask(&mut self, seat: u32, ask: Ask) -> Reply {
         let at = self.entries.len() as u64;
-        let answer = match self.machine.answer(&ask) {
-            Ok(answer) => answer,
+        let ready = match self.machine.decide(Entry { seat, ask }) {
             Err(_) => return no_memory(at),
+            Ok(Decision::Told(answer)) => return Reply { at, answer },
+            Ok(Decision::Ready(ready)) => ready,
         };
-        if !is_recorded(&ask.what, &answer) {
-            return Reply { at, answer };
-        }
-        let answer = match record(&mut self.machine, &mut self.entries, Entry { seat, ask }) {
+        let answer = match record(&mut self.machine, &mut self.entries, ready) {
             Ok(answer) => answer,
             Err(_) => return no_memory(at),
         };

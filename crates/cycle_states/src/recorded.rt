@@ -6,7 +6,8 @@ ghost use Rattle.command_types.specs.History.{is_recorded};
 
 use command_types::{Answer, What};
 
-fn is_change(what: &What) -> bool
+/// Whether the command is of a kind that changes the machine where it is accepted.
+pub(crate) fn is_change(what: &What) -> bool
     ensures { result ≡ changes what.now }
 {
     matches!(

@@ -26,6 +26,10 @@ pub none_of : {A : Type 0} (o : Option A) → is_some o ≡ false → o ≡ None
 none_of None h = refl
 none_of (Some x) h = absurd (false≢true (sym h))
 
+-- a house stays one over a machine in the same state
+pub stays : (s t : State) (size : ℕ) (v : HouseView) → t ≡ s → IsHouse s size v → IsHouse t size v
+stays s t size v same house = subst (λ (n : State). IsHouse n size v) (sym same) house
+
 -- a house that runs has its history on the disk
 pub running_stored : (v : HouseView) → Keeps v → is_stopped v ≡ false → AreStored v.disk (bytes_of v) v.history
 running_stored v keeps runs =

@@ -21,7 +21,7 @@ ghost use Rattle.house.specs.Executions.{executions_told, told_of};
 use crate::past::Past;
 use crate::{Executions, House, OpenFault};
 use command_types::{Answer, Entry, Roster};
-use cycle_states::{Machine, is_recorded};
+use cycle_states::{Decision, Machine};
 use journal_core::Journal;
 use outside::Disk;
 use recovery::{Entries, EntryAt, read_entries};
@@ -37,12 +37,12 @@ fn accept(machine: &mut Machine, item: EntryAt) -> Result<(Entry, Answer), OpenF
     ensures state { OnOk result (machine.new.state ≡ state_after machine.old.state item.entry.ask) }
     ensures fault { IfErr result (IsReplayFault machine.old.state (item ∷ [])) }
 {
-    let answer = machine.answer(&item.entry.ask)?;
-    if !is_recorded(&item.entry.ask.what, &answer) {
-        return Err(OpenFault::Damaged { offset: item.at });
+    let offset = item.at;
+    let decision = machine.decide(item.entry)?;
+    match decision {
+        Decision::Told(_) => Err(OpenFault::Damaged { offset }),
+        Decision::Ready(ready) => Ok(machine.commit(ready)),
     }
-    let ready = machine.prepare(item.entry)?;
-    Ok(machine.commit(ready))
 }
 
 // Has a machine make the changes that were read, one after another, if it accepts each at its place. They are those of a

@@ -2,9 +2,10 @@
 ghost use Rattle.std.specs.Prelude.{◌≡◌, ◌≤◌, ◌<◌, ◌+◌, ◌^◌, [], ◌∷◌, length, is_some, All, IsTrue, IfOk, IfErr, OnOk, OnErr, Err};
 ghost use Rattle.network_laws.specs.Solutions.{IsSolution};
 ghost use Rattle.command_types.specs.Machine.{answer_to, state_after, changes};
-ghost use Rattle.command_types.specs.History.{longer, is_recorded, solutions_posted};
+ghost use Rattle.command_types.specs.History.{longer, solutions_posted};
 ghost use Rattle.command_types.specs.Sizes.{record_size, frame_size, journal_limit};
 ghost use Rattle.command_types.specs.Spelling.{Spells, posted, most_solutions};
+ghost use Rattle.cycle_states.specs.Decision.{MayCommit};
 ghost use Rattle.cycle_states.specs.Machine.{IsYoung};
 ghost use Rattle.outside.specs.Faults.{Rose};
 ghost use Rattle.journal_core.specs.Journal.{disk_of, size_of, IsReady as IsReadyAt};
@@ -14,7 +15,7 @@ ghost use Rattle.house.specs.Unstored.{Tells};
 
 use crate::past::Past;
 use command_types::{Answer, Entry};
-use cycle_states::Machine;
+use cycle_states::{Machine, Ready};
 use journal_core::{Frame, Journal};
 use outside::Disk;
 use record_codec::encode;
@@ -49,7 +50,7 @@ fn frame_of(alloc: Global, entry: &Entry) -> Result<Frame, AllocError>
     Frame::of(alloc, &bytes)
 }
 
-/// Makes an accepted change that fits into the journal, and puts it last, once its record is on the disk. What a crash at
+/// Makes a change that is ready and fits into the journal, and puts it last, once its record is on the disk. What a crash at
 /// any moment leaves stands for the entries from before, or for these and the one more. Where there is no memory, all stays;
 /// where the disk fails, machine and history do.
 pub(crate) fn store<D: Disk>(
@@ -57,32 +58,29 @@ pub(crate) fn store<D: Disk>(
     machine: &mut Machine,
     past: &mut Past,
     journal: &mut Journal<D>,
-    entry: Entry,
+    ready: Ready,
 ) -> Result<Answer, Unstored>
-    requires accepted { IsTrue (is_recorded entry.ask.what (answer_to machine.old.state entry.ask)) }
+    requires may { MayCommit machine.old ready }
     requires young { IsYoung machine.old.state.cycle }
-    requires party { IsTrue (is_some entry.ask.by) }
-    requires few { posted entry.ask.what ≤ most_solutions }
     requires ready { IsReadyAt (D.history (disk_of journal.old)) (size_of journal.old) }
-    requires fits { size_of journal.old + frame_size entry.ask ≤ journal_limit }
+    requires fits { size_of journal.old + frame_size ready.entry.ask ≤ journal_limit }
     requires short { length past.old.entries + 1 < 2 ^ 62 }
-    ensures answer { IfOk result (λ answer. answer ≡ answer_to machine.old.state entry.ask) }
-    ensures state { OnOk result (machine.new.state ≡ state_after machine.old.state entry.ask) }
-    ensures past { OnOk result (past.new ≡ longer past.old (entry ∷ [])) }
-    ensures solutions { OnOk result (All IsSolution (solutions_posted entry.ask.what)) }
-    ensures size { OnOk result (size_of journal.new ≡ size_of journal.old + frame_size entry.ask) }
-    ensures stored { AreStored (D.history (disk_of journal.old)) (size_of journal.old) past.old → OnOk result (AreStored (D.history (disk_of journal.new)) (size_of journal.new) (longer past.old (entry ∷ []))) }
-    ensures any_moment { LeavesEither (D.history (disk_of journal.old)) (size_of journal.old) (D.history (disk_of journal.new)) past.old entry }
+    ensures answer { IfOk result (λ answer. answer ≡ answer_to machine.old.state ready.entry.ask) }
+    ensures state { OnOk result (machine.new.state ≡ state_after machine.old.state ready.entry.ask) }
+    ensures past { OnOk result (past.new ≡ longer past.old (ready.entry ∷ [])) }
+    ensures solutions { OnOk result (All IsSolution (solutions_posted ready.entry.ask.what)) }
+    ensures size { OnOk result (size_of journal.new ≡ size_of journal.old + frame_size ready.entry.ask) }
+    ensures stored { AreStored (D.history (disk_of journal.old)) (size_of journal.old) past.old → OnOk result (AreStored (D.history (disk_of journal.new)) (size_of journal.new) (longer past.old (ready.entry ∷ []))) }
+    ensures any_moment { LeavesEither (D.history (disk_of journal.old)) (size_of journal.old) (D.history (disk_of journal.new)) past.old ready.entry }
     ensures yet { LeavesYet (D.history (disk_of journal.old)) (size_of journal.old) (D.history (disk_of journal.new)) past.old }
     ensures same_state { OnErr result (machine.new.state ≡ machine.old.state) }
     ensures same_past { OnErr result (past.new ≡ past.old) }
     ensures same_size { OnErr result (size_of journal.new ≡ size_of journal.old) }
     ensures same_disk { result ≡ Err Memory → (D.history (disk_of journal.new) ≡ D.history (disk_of journal.old)) × (D.fault_count (disk_of journal.new) ≡ D.fault_count (disk_of journal.old)) }
     ensures never_falls { D.fault_count (disk_of journal.old) ≤ D.fault_count (disk_of journal.new) }
-    ensures failed { IfErr result (Tells entry (Rose (D.fault_count (disk_of journal.old)) (D.fault_count (disk_of journal.new)) × All IsSolution (solutions_posted entry.ask.what))) }
+    ensures failed { IfErr result (Tells ready.entry (Rose (D.fault_count (disk_of journal.old)) (D.fault_count (disk_of journal.new)) × All IsSolution (solutions_posted ready.entry.ask.what))) }
 {
-    let frame = frame_of(alloc, &entry)?;
-    let ready = machine.prepare(entry)?;
+    let frame = frame_of(alloc, ready.entry())?;
     match journal.append(&frame) {
         Ok(()) => {
             let (entry, answer) = machine.commit(ready);

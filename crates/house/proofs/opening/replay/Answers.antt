@@ -1,4 +1,4 @@
-use Rattle.std.proofs.Common.{◌≡◌, ◌∙◌, ◌<◌, ◌+◌, ℕ, List, [], ◌∷◌, length, Err, Option, Some, None, IfErr, refl, rules, sym, subst, ap, arith, length-append}
+use Rattle.std.proofs.Common.{◌≡◌, ◌∙◌, ◌<◌, ◌+◌, List, [], ◌∷◌, length, Err, Option, Some, None, IfErr, refl, rules, sym, subst, ap, arith, length-append}
 use Rattle.command_types.specs.declared.ask.Entry.{Entry}
 use Rattle.command_types.specs.declared.figures.Start.{Start}
 use Rattle.command_types.specs.History.{History, end_of}

@@ -6,31 +6,25 @@ use Rattle.recovery.specs.StandsFor.{StandsFor}
 use Rattle.house.proofs.storing.store.Goals as goal
 
 pub returns-in_err-frame-clause-any_moment : goal.returns-in_err-frame-clause-any_moment
-returns-in_err-frame-clause-any_moment g c = still (g.D.Disk.history (disk_of c.args.journal.now)) (size_of c.args.journal.now) c.args.past.now c.args.entry
-
-pub returns-in_err-ready-clause-any_moment : goal.returns-in_err-ready-clause-any_moment
-returns-in_err-ready-clause-any_moment g c = still (g.D.Disk.history (disk_of c.args.journal.now)) (size_of c.args.journal.now) c.args.past.now c.args.entry
+returns-in_err-frame-clause-any_moment g c = still (g.D.Disk.history (disk_of c.args.journal.now)) (size_of c.args.journal.now) c.args.past.now c.args.ready.entry
 
 pub returns-in-Ok-clause-stored : goal.returns-in-Ok-clause-stored
 returns-in-Ok-clause-stored g c =
     append_adds (g.D.Disk.history (disk_of c.args.journal.now)) (g.D.Disk.history (disk_of c.append.new.self)) (size_of c.args.journal.now) (size_of c.append.new.self)
-    c.args.past.now c.in_ok-frame.frame c.args.entry c.in_ok-frame.ensures.spells c.append.ensures.any_moment c.in-Ok.ensures.done
+    c.args.past.now c.in_ok-frame.frame c.args.ready.entry (rw c.entry.ensures at c.in_ok-frame.ensures.spells) c.append.ensures.any_moment c.in-Ok.ensures.done
 
 pub returns-in-Ok-clause-any_moment : goal.returns-in-Ok-clause-any_moment
 returns-in-Ok-clause-any_moment g c =
     append_leaves (g.D.Disk.history (disk_of c.args.journal.now)) (g.D.Disk.history (disk_of c.append.new.self)) (size_of c.args.journal.now)
-    c.args.past.now c.in_ok-frame.frame c.args.entry c.in_ok-frame.ensures.spells c.append.ensures.any_moment
+    c.args.past.now c.in_ok-frame.frame c.args.ready.entry (rw c.entry.ensures at c.in_ok-frame.ensures.spells) c.append.ensures.any_moment
 
 pub returns-clause-any_moment : goal.returns-clause-any_moment
 returns-clause-any_moment g c =
     append_leaves (g.D.Disk.history (disk_of c.args.journal.now)) (g.D.Disk.history (disk_of c.append.new.self)) (size_of c.args.journal.now)
-    c.args.past.now c.in_ok-frame.frame c.args.entry c.in_ok-frame.ensures.spells c.append.ensures.any_moment
+    c.args.past.now c.in_ok-frame.frame c.args.ready.entry (rw c.entry.ensures at c.in_ok-frame.ensures.spells) c.append.ensures.any_moment
 
 pub returns-in_err-frame-clause-yet : goal.returns-in_err-frame-clause-yet
 returns-in_err-frame-clause-yet g c = λ stored. yet_none (g.D.Disk.history (disk_of c.args.journal.now)) (λ image. StandsFor image c.args.past.now)
-
-pub returns-in_err-ready-clause-yet : goal.returns-in_err-ready-clause-yet
-returns-in_err-ready-clause-yet g c = λ stored. yet_none (g.D.Disk.history (disk_of c.args.journal.now)) (λ image. StandsFor image c.args.past.now)
 
 pub returns-in-Ok-clause-yet : goal.returns-in-Ok-clause-yet
 returns-in-Ok-clause-yet g c =
