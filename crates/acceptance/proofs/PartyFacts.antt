@@ -55,7 +55,7 @@ touched_past rows n m plan le h =
     list_any_none (is_in_step rows m) plan (All-weaker (IsStepBelow rows n) (λ step. is_in_step rows m step ≡ false) (λ step below. step_past rows n m step le below) plan h)
 
 -- lists of members by tests that agree
-listed_agree : (f g : ℕ → Bool) (n : ℕ) → ((m : ℕ) → f m ≡ g m) → listed_below n (marked f) ≡ listed_below n (marked g)
+pub listed_agree : (f g : ℕ → Bool) (n : ℕ) → ((m : ℕ) → f m ≡ g m) → listed_below n (marked f) ≡ listed_below n (marked g)
 listed_agree f g zero h = refl
 listed_agree f g (suc n) h =
     ap (λ xs. xs ++ marked f n) (listed_agree f g n h) ∙ ap (λ t. listed_below n (marked g) ++ only_if t n) (h n)

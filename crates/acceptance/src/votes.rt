@@ -58,6 +58,24 @@ impl Votes {
         }
     }
 
+    /// Of no plan: nobody's vote is needed.
+    pub fn none() -> Votes
+        ensures needed { result.needed ≡ [] }
+        ensures accepted { result.accepted ≡ [] }
+    {
+        Votes::of(Flags::none())
+    }
+
+    /// The same votes. It takes no memory.
+    pub fn copy(&self) -> Votes
+        ensures { result ≡ self.now }
+    {
+        Votes {
+            needed: self.needed,
+            accepted: self.accepted,
+        }
+    }
+
     /// Whether the plan needs the member's vote.
     pub fn needs(&self, member: MemberNo) -> bool
         requires { member < MOST_MEMBERS }

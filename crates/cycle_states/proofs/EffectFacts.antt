@@ -21,7 +21,7 @@ use Rattle.command_types.specs.CycleSteps.{after_vote, left_after, proposed_or_d
 use Rattle.command_types.specs.Machine.{accepted, changes, first_of, member_of, party_answer, product_of, refusals, state_after, state_by}
 use Rattle.command_types.specs.Plans.{count_of, is_new}
 use Rattle.command_types.specs.Roster.{Rows, member_place, product_place}
-use Rattle.cycle_states.specs.Effects.{applied, effect_by, effect_of, posting_effect, rows_with, vote_effect, MayAllege}
+use Rattle.cycle_states.specs.Effects.{applied, decides, effect_by, effect_of, posting_effect, rows_with, vote_effect, MayAllege}
 use Rattle.cycle_states.specs.Machine.{state_with, IsMachine}
 use Rattle.cycle_states.proofs.CycleFacts.{solving_limits}
 use Rattle.cycle_states.proofs.KeptFacts.{accept_proposed, post_solves}
@@ -84,6 +84,12 @@ pub no_solutions : (what : What) → ((cycle version : ℕ) (solutions : List So
 no_solutions (Post cycle version solutions) other = absurd (other cycle version solutions refl)
 no_solutions what other = All-nil IsSolution
 
+-- a command that neither posts nor votes does not decide on a plan
+pub undecided : (what : What) → ((cycle version : ℕ) (solutions : List SolutionData) → what ≡ Post cycle version solutions → ⊥) → ((cycle version : ℕ) → what ≡ Accept cycle version → ⊥) → decides what ≡ false
+undecided (Post cycle version solutions) no_post no_vote = absurd (no_post cycle version solutions refl)
+undecided (Accept cycle version) no_post no_vote = absurd (no_vote cycle version refl)
+undecided what no_post no_vote = refl
+
 -- a member's place is below their number, and a product's likewise
 member_there : (s : State) (name : List ℕ) → is_none (member_place s.roster name) ≡ false → member_of s name < length s.roster.members
 member_there s name there = (found_by (λ row. bytes_eq row.name name) s.roster.members some_member (member_place s.roster name) refl there).0
@@ -108,11 +114,11 @@ may_allege s name seller buyer product amount day none =
       bound = trade_fits s (Some name) name seller buyer product amount day refl none;
     }
 
-posting_rows : (solutions : List SolutionData) (plan proposed : List PlanRow) (touched : List ℕ) → count_of is_new plan ≤ 4194304 → rows_with (posting_effect solutions plan touched) proposed ≤ 4194304
-posting_rows solutions plan proposed [] few = few
-posting_rows solutions plan proposed (member ∷ members) few = few
+posting_rows : (solutions : List SolutionData) (plan : List PlanRow) (made : ℕ) (touched : List ℕ) → count_of is_new plan ≤ 4194304 → rows_with (posting_effect solutions plan touched) made ≤ 4194304
+posting_rows solutions plan made [] few = few
+posting_rows solutions plan made (member ∷ members) few = few
 
-vote_rows : (s : State) (member : ℕ) (left : List ℕ) → count_of is_new s.cycle.plan ≤ 4194304 → rows_with (vote_effect s member left) s.cycle.plan ≤ 4194304
+vote_rows : (s : State) (member : ℕ) (left : List ℕ) → count_of is_new s.cycle.plan ≤ 4194304 → rows_with (vote_effect s member left) (count_of is_new s.cycle.plan) ≤ 4194304
 vote_rows s member [] few = few
 vote_rows s member (voter ∷ voters) few = few
 
@@ -121,9 +127,9 @@ module _ (roster : Rows) (members products : ℕ) (rows : List TradeRow) (settin
   s = state_with roster rows settings cycle
 
   -- what an accepted command does adds few trades
-  pub few_rows : (by : Option (List ℕ)) (what : What) → first_of (refusals s by what) ≡ None → rows_with (effect_by s (unwrap_or by []) what) cycle.plan ≤ 4194304
+  pub few_rows : (by : Option (List ℕ)) (what : What) → first_of (refusals s by what) ≡ None → rows_with (effect_by s (unwrap_or by []) what) (count_of is_new cycle.plan) ≤ 4194304
   few_rows by (Post number version solutions) none =
-      posting_rows solutions (posted_plan cycle rows solutions) cycle.plan (touched_in s (posted_plan cycle rows solutions))
+      posting_rows solutions (posted_plan cycle rows solutions) (count_of is_new cycle.plan) (touched_in s (posted_plan cycle rows solutions))
       (posting_few roster members products rows cycle kept solutions (solving_limits cycle.phase (post_solves s by number version solutions none)))
   few_rows by (Accept number version) none =
       vote_rows s (member_of s (unwrap_or by [])) (left_after s (member_of s (unwrap_or by [])))

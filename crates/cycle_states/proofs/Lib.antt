@@ -10,5 +10,6 @@ pub mod DeskFacts
 pub mod EffectFacts
 pub mod RecordFacts
 pub mod RefusalFacts
+pub mod BallotFacts
 pub mod DecisionFacts
 pub mod Sends

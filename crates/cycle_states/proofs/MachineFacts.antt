@@ -17,7 +17,7 @@ use Rattle.command_types.specs.declared.figures.State.{State}
 use Rattle.command_types.specs.declared.plan.PlanRow.{PlanRow}
 use Rattle.command_types.specs.declared.roster.Role.TheVariants.{Dealer}
 use Rattle.command_types.specs.declared.roster.MemberRow.{MemberRow}
-use Rattle.command_types.specs.Roster.{member_place, is_operator}
+use Rattle.command_types.specs.Roster.{Rows, member_place, is_operator}
 use Rattle.command_types.specs.Trades.{gross_of}
 use Rattle.command_types.specs.Machine.{first_of, refusals, command_refusals, trade_refusals, product_of, member_of, position_of, changes, is_refusal, refused_or, accepted, answer_to, state_by, state_after}
 use Rattle.command_types.specs.Cycles.{posted_plan}
@@ -102,6 +102,10 @@ some_member = record { name = []; role = Dealer; key = [] }
 pub found_by : {X : Type 0} (p : X → Bool) (xs : List X) (d : X) (o : Option ℕ) → position p xs ≡ o → is_none o ≡ false → (unwrap_or o 0 < length xs) × (p (get_or xs (unwrap_or o 0) d) ≡ true)
 found_by p xs d None is there = absurd (false≢true (sym there))
 found_by p xs d (Some i) is there = let at_place = position-Some p xs i d is in (at_place.0, at_place.1)
+
+-- a member's place is below their number
+pub place_within : (roster : Rows) (name : List ℕ) (member : ℕ) → member_place roster name ≡ Some member → member < length roster.members
+place_within roster name member is = (position-Some (λ row. bytes_eq row.name name) roster.members member some_member is).0
 
 pub neither : (a b : Bool) → (a || b) ≡ false → (a ≡ false) × (b ≡ false)
 neither true b h = cc

@@ -81,14 +81,14 @@ effect_of s ask = effect_by s (unwrap_or ask.by []) ask.what
 abbrev pub EffectIsNext : Type 0
 EffectIsNext = (s : State) (ask : Ask) → applied s (effect_of s ask) ≡ state_after s ask
 
--- how many trades it may add, where this plan is proposed: a plan that is proposed now may be executed later
-abbrev pub rows_with : Effect → List PlanRow → ℕ
-rows_with (effect.Allege seller buyer product amount day submitter) proposed = 1
-rows_with (effect.Propose solutions plan) proposed = count_of is_new plan
-rows_with (effect.Execute plan) proposed = count_of is_new plan
-rows_with effect.Complete proposed = count_of is_new proposed
-rows_with (effect.Vote votes) proposed = count_of is_new proposed
-rows_with other proposed = 0
+-- how many trades it may add, where the proposed plan makes so many: a plan that is proposed now may be executed later
+abbrev pub rows_with : Effect → ℕ → ℕ
+rows_with (effect.Allege seller buyer product amount day submitter) made = 1
+rows_with (effect.Propose solutions plan) made = count_of is_new plan
+rows_with (effect.Execute plan) made = count_of is_new plan
+rows_with effect.Complete made = made
+rows_with (effect.Vote votes) made = made
+rows_with other made = 0
 
 -- how many settings it may add
 abbrev pub settings_with : Effect → ℕ
@@ -97,7 +97,7 @@ settings_with other = 0
 
 -- how many trades and settings a change may add
 abbrev pub rows_added : State → Ask → ℕ
-rows_added s ask = rows_with (effect_of s ask) s.cycle.plan
+rows_added s ask = rows_with (effect_of s ask) (count_of is_new s.cycle.plan)
 
 abbrev pub settings_added : State → Ask → ℕ
 settings_added s ask = settings_with (effect_of s ask)

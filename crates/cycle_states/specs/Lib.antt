@@ -4,4 +4,5 @@ pub mod Replayed
 pub mod PlainDesk
 pub mod Refusals
 pub mod Ready
+pub mod Ballot
 pub mod Decision

@@ -2,6 +2,7 @@
 
 mod answers;
 mod applying;
+mod ballot;
 mod conditions;
 mod cycle;
 mod cycle_refusals;
@@ -43,6 +44,7 @@ ghost use Rattle.cycle_states.specs.Ready.{IsReady};
 
 use crate::recorded::is_change;
 use applying::apply;
+use ballot::Ballot;
 use command_types::{Answer, Ask, Entry, Roster, ToleranceRow, TradeRow};
 use cycle::Cycle;
 pub use cycle::LastCycle;
@@ -54,23 +56,26 @@ use std::alloc::{AllocError, Global};
 use std::marker::Model;
 use tolerance_sets::Tolerances;
 
-/// The machine: a roster, the trades and tolerances so far, and the cycle.
+/// The machine: a roster, the trades and tolerances so far, the cycle, and the ballot on its proposal.
 #[derive(Drop)]
 pub struct Machine {
     roster: Roster,
     book: Book,
     tolerances: Tolerances,
     cycle: Cycle,
+    ballot: Ballot,
 }
 
 impl Model for Machine {
+    ghost use Rattle.std.specs.Prelude.{length};
+    ghost use Rattle.cycle_states.specs.Ballot.{IsBallot};
     ghost use Rattle.cycle_states.specs.Machine.{MachineView, state_with, IsMachine};
 
     ghost Value = { MachineView };
 
     ghost view = { λ m. record { state = state_with m.roster m.book.rows m.tolerances.settings m.cycle; spare = m.book.spare; slots = m.tolerances.spare } };
 
-    ghost invariant = { λ m. IsMachine m.roster m.book.members m.book.products m.book.rows m.cycle };
+    ghost invariant = { λ m. IsMachine m.roster m.book.members m.book.products m.book.rows m.cycle × IsBallot (length m.roster.members) m.book.rows m.cycle m.ballot };
 }
 
 impl Machine {
@@ -88,6 +93,7 @@ impl Machine {
             book,
             tolerances: Tolerances::new(alloc),
             cycle: Cycle::none(alloc),
+            ballot: Ballot::none(),
         })
     }
 
@@ -115,6 +121,7 @@ impl Machine {
             book,
             tolerances: Tolerances::of_rows(alloc, tolerances)?,
             cycle: Cycle::after(alloc, last),
+            ballot: Ballot::none(),
         })
     }
 
@@ -159,7 +166,7 @@ impl Machine {
             unreachable!()
         };
         let made = self.made_for(by, &entry.ask.what)?;
-        let proposed = self.cycle.plan();
+        let proposed = self.ballot.made;
         make_room(&mut self.book, &mut self.tolerances, &made.effect, proposed)?;
         Ok(Ready::new(entry, made))
     }
@@ -234,7 +241,7 @@ impl Machine {
     {
         // What a book says of its trades is what the nets rest on.
         let _rows = self.book.rows();
-        let (entry, answer, effect) = ready.into_parts();
+        let (entry, answer, effect, ballot) = ready.into_parts();
         apply(
             &self.roster,
             &mut self.book,
@@ -242,6 +249,7 @@ impl Machine {
             &mut self.cycle,
             effect,
         );
+        self.ballot = ballot;
         (entry, answer)
     }
 }

@@ -14,5 +14,5 @@ pub use gross::{gross_after, gross_before};
 pub use laws::{plan_stays, posting_can_be_executed};
 pub use planned::posted_plan;
 pub use posted::bad_post;
-pub use steps::{is_touched, steps_of};
-pub use touching::{left_after, touches_nobody};
+pub use steps::steps_of;
+pub use touching::add_vote;

@@ -2,7 +2,7 @@
 //! those that it names.
 
 ghost use Rattle.std.specs.Prelude.{◌≡◌, filter, option_copied, IfOk};
-ghost use Rattle.command_types.specs.Plans.{is_party_row, is_in_step, is_touched};
+ghost use Rattle.command_types.specs.Plans.{is_party_row, is_in_step};
 ghost use Rattle.command_types.specs.Trades.{trade_numbered};
 
 use command_types::{PlanRow, TradeRow};
@@ -36,13 +36,6 @@ fn is_in_step(trades: &[TradeRow], step: &PlanRow, member: MemberNo) -> bool
         PlanRow::Cut { trade, .. } => is_party(trades, trade, member),
         PlanRow::New { seller, buyer, .. } => seller == member || buyer == member,
     }
-}
-
-/// Whether the member is a party of a step of the plan.
-pub fn is_touched(trades: &[TradeRow], plan: &[PlanRow], member: MemberNo) -> bool
-    ensures { result ≡ is_touched trades.now plan.now member }
-{
-    plan.iter().any(|step| is_in_step(trades, step, member))
 }
 
 /// The steps that have the member as a party, in the plan's order. The only error is want of memory.

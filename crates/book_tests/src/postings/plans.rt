@@ -5,7 +5,7 @@ use crate::market::Posted::{Difference, ShortChain};
 use crate::market::Step::{Cut, End, New};
 use crate::market::{A, B, C, Owed, Posted, Step, are_steps, solution_of};
 use command_types::{Mode, PlanRow, TradeRow, TradeState};
-use posting::{Counts, counts_of, is_touched, posted_plan, steps_of};
+use posting::{Counts, counts_of, posted_plan, steps_of};
 use std::alloc::{AllocError, Global};
 use std::test::Fail;
 use units_core::{Amount, Day, MemberNo, ProductNo};
@@ -52,8 +52,7 @@ struct Market<'a> {
     posted: Posted,
 }
 
-// Whether these are the steps of the plan, so many of each kind, and these those of each member. Whoever has a step is
-// touched, and nobody else.
+// Whether these are the steps of the plan, so many of each kind, and these those of each member.
 fn has_plan(
     alloc: Global,
     market: &Market,
@@ -77,8 +76,7 @@ fn have_steps(
 ) -> Result<bool, AllocError> {
     for (member, want) in of_members {
         let own = steps_of(alloc, trades, plan, *member)?;
-        let touched = is_touched(trades, plan, *member);
-        if !are_steps(&own, want) || touched == want.is_empty() {
+        if !are_steps(&own, want) {
             return Ok(false);
         }
     }

@@ -9,11 +9,12 @@ ghost use Rattle.cycle_states.specs.Machine.{IsYoung};
 ghost use Rattle.cycle_states.specs.Effects.{is_accept};
 
 use super::Machine;
+use super::ballot::ballot_on;
 use super::freezing::taken_count;
 use super::parties::{place_of_member, place_of_product};
 use super::positions::{market_of, position_of};
 use super::problem_copies::problem_copies;
-use super::proposal::{plan_posted, touches_nobody};
+use super::proposal::plan_posted;
 use super::proposal_answers::{nothing, proposed, shown_plan};
 use command_types::{Answer, Ask, Listed, Refusal, TradeState, What};
 use network_laws::Solution;
@@ -99,7 +100,8 @@ impl Machine {
         ensures { IfOk result (λ answer. answer ≡ post_answer self.now.state solutions.now) }
     {
         let plan = plan_posted(&self.book, &self.cycle, solutions)?;
-        if touches_nobody(&self.roster, &self.book, &self.cycle, solutions, &plan) {
+        let (_, nobody) = ballot_on(&self.book, &self.roster, &self.cycle, solutions, &plan);
+        if nobody {
             return Ok(nothing(&self.cycle));
         }
         Ok(proposed(&self.cycle, solutions))

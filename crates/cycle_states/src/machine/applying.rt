@@ -58,7 +58,7 @@ pub(super) fn apply(
     requires book { IsBookOf roster.now book.old.members book.old.products }
     requires young { IsYoung cycle.old }
     requires may { MayApply (state_with roster.now book.old.rows tolerances.old.settings cycle.old) effect }
-    requires room { rows_with effect cycle.old.plan ≤ book.old.spare }
+    requires room { rows_with effect (count_of is_new cycle.old.plan) ≤ book.old.spare }
     requires slot { settings_with effect ≤ tolerances.old.spare }
     ensures state { state_with roster.now book.new.rows tolerances.new.settings cycle.new ≡ applied (state_with roster.now book.old.rows tolerances.old.settings cycle.old) effect }
     ensures members { book.new.members ≡ book.old.members }

@@ -1,9 +1,10 @@
 //! The conditions of the refusals, in the words of their definitions: each refuses where its condition holds.
 
-ghost use Rattle.std.specs.Prelude.{◌≡◌, [], ◌∷◌, not, length, slice_get, IsTrue};
+ghost use Rattle.std.specs.Prelude.{◌≡◌, ◌<◌, [], ◌∷◌, not, length, slice_get, IsTrue};
 ghost use Rattle.std.specs.Result.{result_err};
 ghost use Rattle.command_types.specs.CycleRefusals.{unless_operator, unless_member, unless_members, unless_product, unless_cycle, if_broken, unless_version, has_voted, unless_touched, if_voted, if_draft_full, if_bad_post, is_crossed};
-ghost use Rattle.command_types.specs.Cycles.{bad_post, is_solving};
+ghost use Rattle.command_types.specs.Cycles.{bad_post, is_proposed, is_solving};
+ghost use Rattle.command_types.specs.Plans.{is_touched};
 ghost use Rattle.command_types.specs.Machine.{first_of, if_frozen, is_party_of, maturity_refusal};
 
 use super::Machine;
@@ -12,7 +13,7 @@ use super::parties::member_count;
 use super::sides::is_party_of;
 use command_types::{Level, Refusal, TradeRow};
 use network_laws::Solution;
-use posting::{bad_post, is_touched};
+use posting::bad_post;
 use units_core::{Day, MOST_DRAFT, MemberNo, Name, ProductNo};
 
 /// Refuses where the condition holds.
@@ -113,14 +114,24 @@ impl Machine {
         refuse_if(other, Refusal::WrongVersion { version: current })
     }
 
+    // Whether the proposed plan touches the member at this place.
+    fn touches(&self, member: MemberNo) -> bool
+        requires proposed { IsTrue (is_proposed self.now.state.cycle.phase) }
+        requires there { member < length self.now.state.roster.members }
+        ensures { result ≡ is_touched self.now.state.trades self.now.state.cycle.plan member }
+    {
+        self.ballot.votes.needs(member)
+    }
+
     /// Unless the proposed plan touches the party.
     pub(super) fn unless_touched(&self, by: &Name) -> Result<(), Refusal>
+        requires { IsTrue (is_proposed self.now.state.cycle.phase) }
         ensures { result_err result ≡ first_of (unless_touched self.now.state by.now ∷ []) }
     {
         match self.roster.member_named(by) {
             None => Err(Refusal::NotTouched),
             Some(member) => {
-                let touched = is_touched(self.book.rows(), self.cycle.plan(), member);
+                let touched = self.touches(member);
                 refuse_if(!touched, Refusal::NotTouched)
             }
         }

@@ -21,20 +21,20 @@ fn make_plan_room(book: &mut Book, plan: &[PlanRow]) -> Result<(), AllocError>
     book.reserve(counts_of(plan).made as u32)
 }
 
-/// Makes room for the trades or the setting that a change may add, where this plan is proposed. The only error is want of
-/// memory.
+/// Makes room for the trades or the setting that a change may add, where the proposed plan makes so many trades. The only error
+/// is want of memory.
 pub(super) fn make_room(
     book: &mut Book,
     tolerances: &mut Tolerances,
     effect: &Effect,
-    proposed: &[PlanRow],
+    proposed: u64,
 ) -> Result<(), AllocError>
-    requires { rows_with effect.now proposed.now ≤ 4194304 }
+    requires { rows_with effect.now proposed ≤ 4194304 }
     ensures book { book.new ≡ record book.old { spare = book.new.spare } }
     ensures settings { tolerances.new.settings ≡ tolerances.old.settings }
     ensures keeps { book.old.spare ≤ book.new.spare }
     ensures keeps_slots { tolerances.old.spare ≤ tolerances.new.spare }
-    ensures room { OnOk result (rows_with effect.now proposed.now ≤ book.new.spare) }
+    ensures room { OnOk result (rows_with effect.now proposed ≤ book.new.spare) }
     ensures slot { OnOk result (settings_with effect.now ≤ tolerances.new.spare) }
 {
     match effect {
@@ -42,7 +42,7 @@ pub(super) fn make_room(
         Effect::Set(_) => tolerances.reserve(),
         Effect::Propose { plan, .. } => make_plan_room(book, plan.rows()),
         Effect::Execute { plan } => make_plan_room(book, plan.rows()),
-        Effect::Complete | Effect::Vote { .. } => make_plan_room(book, proposed),
+        Effect::Complete | Effect::Vote { .. } => book.reserve(proposed as u32),
         _ => Ok(()),
     }
 }

@@ -32,4 +32,4 @@ returns-in-Ok-clause-few c =
     let none : first_of (refusals s ask.by ask.what) ≡ None =
     ap (λ (v : MachineView). first_of (refusals v.state ask.by ask.what)) c.self.view_is ∙ sym c.in-Ok.ensures in
     if_ok c.accepted.result (λ answer. IsTrue (is_recorded ask.what answer) → posted ask.what ≤ most_solutions)
-    (λ answer change. few_posted m.roster m.book.members m.book.products m.book.rows m.cycle c.self.invariant m.tolerances.settings ask.by ask.what none)
+    (λ answer change. few_posted m.roster m.book.members m.book.products m.book.rows m.cycle c.self.invariant.0 m.tolerances.settings ask.by ask.what none)

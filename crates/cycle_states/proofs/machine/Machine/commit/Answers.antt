@@ -5,6 +5,9 @@ use Rattle.command_types.specs.Machine.{accepted, answer_to, first_of, refusals,
 use Rattle.command_types.specs.History.{solutions_posted}
 use Rattle.cycle_states.specs.declared.machine.effect.Effect.{Effect}
 use Rattle.cycle_states.specs.Effects.{applied, rows_with, settings_with}
+use Rattle.command_types.specs.Plans.{count_of, is_new}
+use Rattle.cycle_states.specs.declared.machine.ballot.Ballot.{Ballot}
+use Rattle.cycle_states.specs.Ballot.{IsBallotIn}
 use Rattle.cycle_states.specs.Machine.{state_with, MachineView}
 use Rattle.cycle_states.proofs.MachineFacts.{recorded_changes, not_refused, accepted_answer}
 use Rattle.cycle_states.proofs.CycleFacts.{stays_unbroken}
@@ -25,7 +28,7 @@ apply-requires-clause-room c =
     let m = c.self.inside in
     let does = rw (← c.self.view_is) at c.requires.ready.effect in
     let given = rw (← c.self.view_is) at c.requires.room in
-    subst (λ (e : Effect). rows_with e m.cycle.plan ≤ m.book.spare) (sym (c.into_parts-entry.ensures.effect ∙ does)) given
+    subst (λ (e : Effect). rows_with e (count_of is_new m.cycle.plan) ≤ m.book.spare) (sym (c.into_parts-entry.ensures.effect ∙ does)) given
 
 pub apply-requires-clause-slot : goal.apply-requires-clause-slot
 apply-requires-clause-slot c =
@@ -43,16 +46,19 @@ invariant_of-self c =
     let none : first_of (refusals s ask.by ask.what) ≡ None = not_refused s ask (rw (← c.self.view_is) at c.requires.accepted) in
     let does = rw (← c.self.view_is) at c.requires.ready.effect in
     let on : n ≡ state_after s ask = c.apply.ensures.state ∙ ap (λ (e : Effect). applied s e) (c.into_parts-entry.ensures.effect ∙ does) ∙ effect_is_next s ask in
-    record {
-      few_members = c.self.invariant.few_members;
-      few_products = c.self.invariant.few_products;
-      book = record {
-        members_all = c.apply.ensures.members ∙ c.self.invariant.book.members_all;
-        products_all = c.apply.ensures.products ∙ c.self.invariant.book.products_all;
-      };
-      unbroken = stays_unbroken s n ask on none c.self.invariant.unbroken;
-      cycle_kept = stays_kept s n ask.by ask.what on none c.self.invariant.unbroken c.requires.ready.solutions c.self.invariant.cycle_kept;
-    }
+    let ballot = rw (← c.self.view_is) at c.requires.ready.ballot in (
+      record {
+        few_members = c.self.invariant.0.few_members;
+        few_products = c.self.invariant.0.few_products;
+        book = record {
+          members_all = c.apply.ensures.members ∙ c.self.invariant.0.book.members_all;
+          products_all = c.apply.ensures.products ∙ c.self.invariant.0.book.products_all;
+        };
+        unbroken = stays_unbroken s n ask on none c.self.invariant.0.unbroken;
+        cycle_kept = stays_kept s n ask.by ask.what on none c.self.invariant.0.unbroken c.requires.ready.solutions c.self.invariant.0.cycle_kept;
+      },
+      subst (λ (b : Ballot). IsBallotIn n b) (sym c.into_parts-entry.ensures.ballot) (subst (λ (after : State). IsBallotIn after c.args.ready.ballot) (sym on) ballot),
+    )
 
 pub returns-clause-state : goal.returns-clause-state
 returns-clause-state c =
@@ -78,7 +84,7 @@ returns-clause-least c =
     let s = state_with m.roster m.book.rows m.tolerances.settings m.cycle in
     let none = not_refused s ask (rw (← c.self.view_is) at c.requires.accepted) in
     subst (λ (view : MachineView). AreLeast view.state.cycle.begun (solutions_posted ask.what)) c.self.view_is
-    (least_posted m.roster m.book.members m.book.products m.book.rows m.tolerances.settings m.cycle c.self.invariant c.rows-rows.ensures.trades c.rows-rows.ensures.bounded ask.by ask.what none c.requires.ready.solutions)
+    (least_posted m.roster m.book.members m.book.products m.book.rows m.tolerances.settings m.cycle c.self.invariant.0 c.rows-rows.ensures.trades c.rows-rows.ensures.bounded ask.by ask.what none c.requires.ready.solutions)
 
 pub returns-clause-nets : goal.returns-clause-nets
 returns-clause-nets c = λ told.
@@ -89,7 +95,7 @@ returns-clause-nets c = λ told.
     let none = not_refused s ask given in
     let change = recorded_changes ask.what (answer_to s ask) given in
     let answers : c.into_parts-entry.result.1 ≡ accepted s ask.by ask.what = returns-clause-answer c ∙ ap (λ (view : MachineView). answer_to view.state ask) (sym c.self.view_is) ∙ accepted_answer s ask none in
-    let kept = nets_kept m.roster m.book.members m.book.products m.book.rows m.tolerances.settings m.cycle c.self.invariant c.rows-rows.ensures.trades c.rows-rows.ensures.bounded ask.by ask.what change none c.requires.ready.solutions
+    let kept = nets_kept m.roster m.book.members m.book.products m.book.rows m.tolerances.settings m.cycle c.self.invariant.0 c.rows-rows.ensures.trades c.rows-rows.ensures.bounded ask.by ask.what change none c.requires.ready.solutions
     (subst (λ (answer : Answer). IsTrue (is_execution answer)) answers told) in
     let n = state_with m.roster c.apply.new.book.rows c.apply.new.tolerances.settings c.apply.new.cycle in
     let does = rw (← c.self.view_is) at c.requires.ready.effect in

@@ -10,11 +10,11 @@ pub bad_post-requires-clause-few : goal.bad_post-requires-clause-few
 bad_post-requires-clause-few c =
     let m = c.self.inside in
     let on : IsTrue (has_limits m.cycle.phase) = solving_limits m.cycle.phase (rw (← c.self.view_is) at c.requires) in
-    subst (λ (problems : List ProblemData). length problems ≤ 64) (sym c.begun.ensures) (few_problems m.roster m.book.members m.book.products m.book.rows m.cycle c.self.invariant on)
+    subst (λ (problems : List ProblemData). length problems ≤ 64) (sym c.begun.ensures) (few_problems m.roster m.book.members m.book.products m.book.rows m.cycle c.self.invariant.0 on)
 
 pub bad_post-requires-clause-same_members : goal.bad_post-requires-clause-same_members
 bad_post-requires-clause-same_members c =
     let m = c.self.inside in
     let on : IsTrue (has_limits m.cycle.phase) = solving_limits m.cycle.phase (rw (← c.self.view_is) at c.requires) in
     subst (λ (problems : List ProblemData). AreOfMembers c.member_count.result problems) (sym c.begun.ensures)
-    (subst (λ n. AreOfMembers n m.cycle.begun) (sym c.member_count.ensures.count) (of_members m.roster m.book.members m.book.products m.book.rows m.cycle c.self.invariant on))
+    (subst (λ n. AreOfMembers n m.cycle.begun) (sym c.member_count.ensures.count) (of_members m.roster m.book.members m.book.products m.book.rows m.cycle c.self.invariant.0 on))

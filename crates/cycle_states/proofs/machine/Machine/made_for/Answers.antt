@@ -1,10 +1,14 @@
-use Rattle.cycle_states.proofs.EffectFacts.{no_solutions}
+use Rattle.cycle_states.proofs.EffectFacts.{no_solutions, undecided}
 use Rattle.cycle_states.proofs.machine.Machine.made_for.Goals as goal
+
+pub same_ballot-ballot-requires : goal.same_ballot-ballot-requires
+same_ballot-ballot-requires c = undecided c.args.what.now c.in_default.not-Post c.in_default.not-Accept
 
 pub returns-in_ok-effect-in_default : goal.returns-in_ok-effect-in_default
 returns-in_ok-effect-in_default c = record {
   told = c.in_ok-answer-in_default.ensures.told;
   does = c.in_ok-effect-in_default.ensures.does;
   may = c.in_ok-effect-in_default.ensures.may;
+  ballot = c.same_ballot-ballot.ensures;
   solutions = no_solutions c.args.what.now c.in_default.not-Post;
 }

@@ -1,11 +1,13 @@
 use Rattle.std.proofs.Common.{◌≡◌, ◌∙◌, ◌≤◌, [], true, List, ℕ, None, Option, unwrap_or, ap, sym, subst}
-use Rattle.command_types.specs.declared.plan.PlanRow.{PlanRow}
-use Rattle.command_types.specs.Machine.{answer_to, changes, first_of, party_answer, refusals}
+use Rattle.command_types.specs.Machine.{answer_to, changes, first_of, party_answer, refusals, state_by_party}
 use Rattle.cycle_states.specs.declared.machine.effect.Effect.{Effect}
-use Rattle.cycle_states.specs.Effects.{effect_by, rows_with}
+use Rattle.command_types.specs.Plans.{count_of, is_new}
+use Rattle.cycle_states.specs.Ballot.{IsBallotIn}
+use Rattle.cycle_states.specs.Effects.{effect_by, rows_added, rows_with}
 use Rattle.cycle_states.specs.Machine.{state_with, MachineView}
 use Rattle.cycle_states.specs.Ready.{IsMade, IsReady, ReadyView}
 use Rattle.cycle_states.proofs.MachineFacts.{accepted_answer, not_refused, recorded_changes}
+use Rattle.cycle_states.proofs.BallotFacts.{rows_by_ballot}
 use Rattle.cycle_states.proofs.EffectFacts.{change_told, few_rows}
 use Rattle.cycle_states.proofs.RecordFacts.{few_posted}
 use Rattle.cycle_states.proofs.machine.Machine.made_ready.Goals as goal
@@ -16,13 +18,27 @@ make_room-requires c =
     let s = state_with m.roster m.book.rows m.tolerances.settings m.cycle in
     let ask = c.args.entry.ask in
     let made = c.in_ok-made.made in
-    let is_made = subst (λ (view : MachineView). IsMade view.state c.in-Some.by ask.what made.answer made.effect) (sym c.self.view_is) c.in_ok-made.ensures in
+    let is_made = subst (λ (view : MachineView). IsMade view.state c.in-Some.by ask.what made) (sym c.self.view_is) c.in_ok-made.ensures in
     let none : first_of (refusals s ask.by ask.what) ≡ None = not_refused s ask (rw (← c.self.view_is) at c.requires.accepted) in
-    let same =
-    ap (λ (by : Option (List ℕ)). rows_with (effect_by s (unwrap_or by []) ask.what) m.cycle.plan) c.in-Some.is
-    ∙ ap (λ (effect : Effect). rows_with effect m.cycle.plan) (sym is_made.does)
-    ∙ ap (λ (plan : List PlanRow). rows_with made.effect plan) (sym c.plan-proposed.ensures) in
-    subst (λ n. n ≤ 4194304) same (few_rows m.roster m.book.members m.book.products m.book.rows m.tolerances.settings m.cycle c.self.invariant ask.by ask.what none)
+    let same : rows_with (effect_by s (unwrap_or ask.by []) ask.what) (count_of is_new m.cycle.plan) ≡ rows_with made.effect m.ballot.made =
+    sym (rows_by_ballot s ask.by ask.what m.ballot none c.self.invariant.1)
+    ∙ ap (λ (by : Option (List ℕ)). rows_with (effect_by s (unwrap_or by []) ask.what) m.ballot.made) c.in-Some.is
+    ∙ ap (λ (effect : Effect). rows_with effect m.ballot.made) (sym is_made.does) in
+    subst (λ n. n ≤ 4194304) same (few_rows m.roster m.book.members m.book.products m.book.rows m.tolerances.settings m.cycle c.self.invariant.0 ask.by ask.what none)
+
+pub returns-clause-room : goal.returns-clause-room
+returns-clause-room c =
+    let m = c.self.inside in
+    let s = state_with m.roster m.book.rows m.tolerances.settings m.cycle in
+    let ask = c.args.entry.ask in
+    let made = c.in_ok-made.made in
+    let is_made = subst (λ (view : MachineView). IsMade view.state c.in-Some.by ask.what made) (sym c.self.view_is) c.in_ok-made.ensures in
+    let none : first_of (refusals s ask.by ask.what) ≡ None = not_refused s ask (rw (← c.self.view_is) at c.requires.accepted) in
+    let same : rows_with made.effect m.ballot.made ≡ rows_added s ask =
+    ap (λ (effect : Effect). rows_with effect m.ballot.made) is_made.does
+    ∙ ap (λ (by : Option (List ℕ)). rows_with (effect_by s (unwrap_or by []) ask.what) m.ballot.made) (sym c.in-Some.is)
+    ∙ rows_by_ballot s ask.by ask.what m.ballot none c.self.invariant.1 in
+    subst (λ (view : MachineView). rows_added view.state ask ≤ c.make_room.new.book.spare) c.self.view_is (subst (λ (n : ℕ). n ≤ c.make_room.new.book.spare) same c.in_ok-make_room.ensures.room)
 
 pub returns-clause-ready : goal.returns-clause-ready
 returns-clause-ready c =
@@ -35,6 +51,7 @@ returns-clause-ready c =
       answer = made.told ∙ ap (λ (by : Option (List ℕ)). party_answer s (unwrap_or by []) ask.what) (sym c.in-Some.is) ∙ change_told s ask.by ask.what change ∙ sym (accepted_answer s ask none);
       effect = made.does ∙ ap (λ (by : Option (List ℕ)). effect_by s (unwrap_or by []) ask.what) (sym c.in-Some.is);
       may = made.may;
+      ballot = subst (λ (by : Option (List ℕ)). IsBallotIn (state_by_party s (unwrap_or by []) ask.what) c.in_ok-made.made.ballot) (sym c.in-Some.is) made.ballot;
       solutions = made.solutions;
     })
 
@@ -43,4 +60,4 @@ returns-clause-few c =
     let m = c.self.inside in
     let s = state_with m.roster m.book.rows m.tolerances.settings m.cycle in
     let ask = c.args.entry.ask in
-    few_posted m.roster m.book.members m.book.products m.book.rows m.cycle c.self.invariant m.tolerances.settings ask.by ask.what (not_refused s ask (rw (← c.self.view_is) at c.requires.accepted))
+    few_posted m.roster m.book.members m.book.products m.book.rows m.cycle c.self.invariant.0 m.tolerances.settings ask.by ask.what (not_refused s ask (rw (← c.self.view_is) at c.requires.accepted))

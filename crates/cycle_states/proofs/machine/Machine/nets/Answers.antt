@@ -14,7 +14,7 @@ returns-then-is_operator c =
     let Tells : Answer → Type 0 = λ told. IfOk c.market_of.result (λ answer. answer ≡ told) in
     subst (λ (view : MachineView). Tells (nets_answer view.state by (product_of view.state product))) c.self.view_is
     (subst Tells
-    (market_answer s (Some by) by product m.book.members c.place_of_product-product.result refl c.self.invariant.book.members_all c.place_of_product-product.ensures (sym c.is_operator.ensures ∙ c.if-is_operator.true))
+    (market_answer s (Some by) by product m.book.members c.place_of_product-product.result refl c.self.invariant.0.book.members_all c.place_of_product-product.ensures (sym c.is_operator.ensures ∙ c.if-is_operator.true))
     c.market_of.ensures)
 
 pub returns : goal.returns

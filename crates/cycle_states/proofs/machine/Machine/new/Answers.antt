@@ -1,21 +1,26 @@
-use Rattle.std.proofs.Common.{◌∙◌, length, arith, ap, sym, subst}
+use Rattle.std.proofs.Common.{◌∙◌, length, arith, refl, ap, sym, subst}
 use Rattle.std.proofs.lemmas.Bool.{false≢true}
 use Rattle.command_types.specs.declared.figures.Cycle.{Cycle}
+use Rattle.command_types.specs.Cycles.{closed}
+use Rattle.cycle_states.specs.Ballot.{IsBallot}
 use Rattle.cycle_states.specs.Machine.{IsCycle, IsUnbroken}
+use Rattle.cycle_states.proofs.BallotFacts.{no_ballot}
 use Rattle.cycle_states.proofs.KeptFacts.{closed_kept}
 use Rattle.cycle_states.proofs.machine.Machine.new.Goals as goal
 
 pub invariant_of-result : goal.invariant_of-result
 invariant_of-result c =
     let roster = c.args.roster in
-    let rows = c.in_ok-book.book.rows in
-    record {
-      few_members = omega (arith, ap length c.members.ensures.rows, c.members.ensures.few);
-      few_products = omega (arith, ap length c.products.ensures.rows, c.products.ensures.few);
-      book = record {
-        members_all = c.in_ok-book.ensures.members ∙ ap length c.members.ensures.rows;
-        products_all = c.in_ok-book.ensures.products ∙ ap length c.products.ensures.rows;
-      };
-      unbroken = subst (λ (cycle : Cycle). IsUnbroken cycle.phase rows) (sym c.none.ensures) (λ may. absurd (false≢true may));
-      cycle_kept = subst (λ (cycle : Cycle). IsCycle roster rows cycle) (sym c.none.ensures) (closed_kept roster rows 0 0);
-    }
+    let rows = c.in_ok-book.book.rows in (
+      record {
+        few_members = omega (arith, ap length c.members.ensures.rows, c.members.ensures.few);
+        few_products = omega (arith, ap length c.products.ensures.rows, c.products.ensures.few);
+        book = record {
+          members_all = c.in_ok-book.ensures.members ∙ ap length c.members.ensures.rows;
+          products_all = c.in_ok-book.ensures.products ∙ ap length c.products.ensures.rows;
+        };
+        unbroken = subst (λ (cycle : Cycle). IsUnbroken cycle.phase rows) (sym c.none.ensures) (λ may. absurd (false≢true may));
+        cycle_kept = subst (λ (cycle : Cycle). IsCycle roster rows cycle) (sym c.none.ensures) (closed_kept roster rows 0 0);
+      },
+      subst (λ (cycle : Cycle). IsBallot (length roster.members) rows cycle c.none-2.result) (sym c.none.ensures) (no_ballot (length roster.members) rows (closed 0 0) c.none-2.result refl),
+    )
