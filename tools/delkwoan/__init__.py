@@ -1,1 +1,11 @@
-"""What the tools share: how they end, records of a journal, sessions, markets and their figures."""
+"""Delkwoan from Python: a second checker, a client, a journal's reader, and the figures of a compression.
+
+    delkwoan.session      a session with the program or with a service
+    delkwoan.replies      its answers as values
+    delkwoan.checker      the second checker of proposals, which shares nothing with the rest
+    delkwoan.records      the changes that a journal keeps, as values
+    delkwoan.figures      the figures of a compression
+"""
+
+__version__ = "0.1"
+"""The one place that says which version this is."""

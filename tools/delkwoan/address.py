@@ -19,3 +19,11 @@ def address_of(text: str) -> Address | None:
     if (":" in host) != is_bracketed:
         return None
     return Address(host[1:-1] if is_bracketed else host, int(port))
+
+
+def named_address(text: str) -> Address:
+    """The address that a text names; a ValueError where it is out of form."""
+    address = address_of(text)
+    if address is None:
+        raise ValueError(text)
+    return address

@@ -48,6 +48,14 @@ def tell(line: str) -> None:
         pass
 
 
+def status_of(main: Callable[[list[str]], int]) -> int:
+    """The status of a tool, also where it has shown its help or its version."""
+    try:
+        return main(sys.argv[1:])
+    except SystemExit as end:
+        return int(end.code or 0)
+
+
 def run(main: Callable[[list[str]], int]) -> NoReturn:
     """Runs a tool by its words, and ends the process."""
     signal.signal(signal.SIGINT, signal.SIG_DFL)
@@ -58,7 +66,7 @@ def run(main: Callable[[list[str]], int]) -> NoReturn:
             sys.stdout.reconfigure(encoding="utf-8", errors="backslashreplace")
         if isinstance(sys.stdin, io.TextIOWrapper):
             sys.stdin.reconfigure(encoding="utf-8", errors="surrogateescape")
-        status = main(sys.argv[1:])
+        status = status_of(main)
         sys.stdout.flush()
     except Stop as stop:
         status = stop.status

@@ -1,28 +1,31 @@
-"""The figures of a compression: of each product and each member, before it and after it.
+"""The figures of a compression: of each product, member and kind of pair, before it and after it.
 
 A compression is a trade file and a proposal, or two texts of `replay`, one from before it and one from after it. The files
-are read by the functions of tools/check_proposal and of the module `replayed`; the figures are computed from the trades and
-from the proposal's rows, never taken from the proposal's own figures.
+are read by the modules `checker` and `replayed`; the figures are computed from the trades and from the proposal's rows,
+never taken from the proposal's own figures. Products of different currencies are never added up.
 """
 
-from typing import Any, NamedTuple
+from collections import Counter
+from typing import Iterator, NamedTuple
 
-from .checking import Network, checker
+from . import checker
+from .about import About, about_of
+from .checker import Network, Pair, Roster
 from .ending import Stop, read_file
-from .replayed import MOST_REPLAY_BYTES, read_replay
+from .replayed import MOST_REPLAY_BYTES, Execution, Replay, read_replay
 
-
-MOST_BYTES: int = checker.MOST_BYTES + 1
+MOST_BYTES = checker.MOST_BYTES + 1
 
 
 class Sums(NamedTuple):
-    """Figures of a product's network."""
+    """Figures of a product's network, and of how many trades it is."""
 
     gross: int
     floor: int
     excess: int
     bilateral: int
     lines: int
+    trades: int
 
 
 class Product(NamedTuple):
@@ -34,7 +37,7 @@ class Product(NamedTuple):
 
 
 class Share(NamedTuple):
-    """What a member has over all products: what it owes and is owed, with how many others, in how many lines."""
+    """What a member owes and is owed over products of one currency, with how many others, in how many lines."""
 
     gross: int
     counterparties: int
@@ -57,16 +60,58 @@ class Member(NamedTuple):
         return 1 - self.after.gross / self.before.gross if self.before.gross else 0.0
 
 
-class Compression(NamedTuple):
+class Between(NamedTuple):
+    """The gross and the lines between dealers, between a dealer and a customer, or between customers."""
+
+    roles: str
+    before: tuple[int, int]
+    after: tuple[int, int]
+
+
+class Group(NamedTuple):
+    """All that is of one currency, or of those products whose currency is not told."""
+
+    currency: str
     products: list[Product]
     members: list[Member]
+    between: list[Between]
+
+    def total(self) -> tuple[Sums, Sums]:
+        """The sums of all products, before and after."""
+        return added([product.before for product in self.products]), added([product.after for product in self.products])
 
 
-def sums_of(network: Network, members: int) -> Sums:
+class Compression(NamedTuple):
+    """A group for each currency, the strictest mode that allows the new amounts, what was executed in between, and what is
+    told about the names."""
+
+    groups: list[Group]
+    mode: str
+    executions: list[Execution]
+    about: About
+
+    @property
+    def products(self) -> list[Product]:
+        return [product for group in self.groups for product in group.products]
+
+
+class Side(NamedTuple):
+    """A product's network on one side of a compression, and how many trades it is."""
+
+    network: Network
+    trades: int
+
+
+def added(sums: list[Sums]) -> Sums:
+    return Sums(*(sum(figures) for figures in zip(*sums))) if sums else Sums(0, 0, 0, 0, 0, 0)
+
+
+def sums_of(side: Side, members: int) -> Sums:
+    network = side.network
     gross = sum(network.values())
     floor = sum(net for net in checker.nets_of(network, members) if net > 0)
     gaps = {frozenset(pair): abs(amount - network.get((pair[1], pair[0]), 0)) for pair, amount in network.items()}
-    return Sums(gross, floor, gross - floor, sum(gaps.values()), len(network))
+    return Sums(gross, floor, gross - floor, sum(gaps.values()), len(network), side.trades)
 
 
 def shares_of(networks: list[Network], members: int) -> list[Share]:
@@ -93,53 +138,120 @@ def nets_kept(old: list[Network], new: list[Network], members: int) -> list[tupl
     return counts
 
 
-def compression_of(roster_file: str, trade_file: str, proposal_file: str) -> Compression:
+ROLES = ("customers", "a dealer and a customer", "dealers")
+"""Who a pair is, by how many dealers are in it."""
+
+
+def between(old: list[Network], new: list[Network], is_dealer: list[bool]) -> list[Between]:
+    """What lies between members of each two roles, dealers first."""
+    sums = [Counter[int](), Counter[int]()]
+    lines = [Counter[int](), Counter[int]()]
+    for side, networks in enumerate((old, new)):
+        for (seller, buyer), amount in (row for network in networks for row in network.items()):
+            dealers = is_dealer[seller] + is_dealer[buyer]
+            sums[side][dealers] += amount
+            lines[side][dealers] += 1
+    figures = [((sums[0][count], lines[0][count]), (sums[1][count], lines[1][count])) for count in range(3)]
+    return [Between(ROLES[count], *figures[count]) for count in (2, 1, 0)]
+
+
+def strictest_mode(old: list[Network], new: list[Network], is_dealer: list[bool]) -> str:
+    """The first mode that lets each pair grow which grows: `conservative` none, `hybrid` pairs of dealers, `free` all."""
+    grown = [pair for before, after in zip(old, new) for pair, amount in after.items() if amount > before.get(pair, 0)]
+    if not grown:
+        return "conservative"
+    return "hybrid" if all(is_dealer[seller] and is_dealer[buyer] for seller, buyer in grown) else "free"
+
+
+def trades_after(trades: list[tuple[Pair, int]], old: Network, new: Network) -> int:
+    """How many trades a plan leaves: where a pair falls, its trades end in their order while they fit; where it grows, one is new."""
+    left = {pair: amount - new.get(pair, 0) for pair, amount in old.items()}
+    ended = 0
+    for pair, amount in trades:
+        if 0 < amount <= left[pair]:
+            ended += 1
+        left[pair] -= amount
+    return len(trades) - ended + sum(amount > old.get(pair, 0) for pair, amount in new.items())
+
+
+def compression_of(roster_file: str, trade_file: str, proposal_file: str, about_file: str | None = None) -> Compression:
     """The figures of a compression by three files; stops with the line of the first of them that has a fault."""
     try:
-        roster = read_roster(roster_file)
-        old: list[Network] = checker.read_trades(read_file(trade_file, MOST_BYTES), roster)
+        roster = checker.read_roster(read_file(roster_file, MOST_BYTES))
+        trades: list[list[tuple[Pair, int]]] = [[] for _ in roster.products]
+        old: list[Network] = [{} for _ in roster.products]
+        for product, pair, amount in checker.trades_of(read_file(trade_file, MOST_BYTES), roster):
+            trades[product].append((pair, amount))
+            old[product][pair] = old[product].get(pair, 0) + amount
         new = [part.network for part in checker.read_proposal(read_file(proposal_file, MOST_BYTES), roster)]
-    except checker.Stop as stop:
-        raise Stop(*stop.args) from None
-    return compared(roster, old, new)
+    except checker.Fault as fault:
+        raise Stop(3, str(fault)) from None
+    before = [Side(network, len(rows)) for network, rows in zip(old, trades)]
+    after = [Side(network, trades_after(*rows, network)) for network, rows in zip(new, zip(trades, old))]
+    return compared(roster, before, after, [], about_for(roster_file, roster, about_file))
 
 
-def replays_compared(roster_file: str, before_file: str, after_file: str) -> Compression:
+def replays_compared(roster_file: str, before_file: str, after_file: str, about_file: str | None = None) -> Compression:
     """The figures of what changed between two texts of `replay`; stops with the line of the first file that has a fault."""
     try:
-        roster = read_roster(roster_file)
+        roster = checker.read_roster(read_file(roster_file, MOST_BYTES))
         old = read_replay("before", read_file(before_file, MOST_REPLAY_BYTES), roster)
         new = read_replay("after", read_file(after_file, MOST_REPLAY_BYTES), roster)
-    except checker.Stop as stop:
-        raise Stop(*stop.args) from None
-    return compared(roster, old, new)
+    except checker.Fault as fault:
+        raise Stop(3, str(fault)) from None
+    executions = [execution for execution in new.executions if execution not in old.executions]
+    return compared(roster, sides_of(old), sides_of(new), executions, about_for(roster_file, roster, about_file))
 
 
-def read_roster(file: str) -> Any:
-    return checker.read_roster(read_file(file, MOST_BYTES))
+def sides_of(replay: Replay) -> list[Side]:
+    return [Side(network, trades) for network, trades in zip(replay.networks, replay.trades)]
 
 
-def compared(roster: Any, old: list[Network], new: list[Network]) -> Compression:
-    """The figures of two networks for each product of a roster."""
+def about_for(roster_file: str, roster: Roster, about_file: str | None) -> About:
+    return about_of(roster_file, about_file, {name.decode() for name in [*roster.members, *roster.products, *roster.operators]})
+
+
+def compared(roster: Roster, old: list[Side], new: list[Side], executions: list[Execution], about: About) -> Compression:
+    """The figures of two sides of each product of a roster."""
+    names = [name.decode() for name in roster.products]
+    currencies = [about.currencies.get(name, "") for name in names]
+    groups = []
+    for currency in sorted({*currencies}, key=lambda currency: (not currency, currency)):
+        places = [place for place, own in enumerate(currencies) if own == currency]
+        groups.append(group_of(roster, currency, [(names[place], old[place], new[place]) for place in places]))
+    networks = [side.network for side in old], [side.network for side in new]
+    return Compression(groups, strictest_mode(*networks, roster.is_dealer), executions, about)
+
+
+def group_of(roster: Roster, currency: str, sides: list[tuple[str, Side, Side]]) -> Group:
+    """The figures of these products, each with its two sides."""
     count = len(roster.members)
     products = [
-        Product(name.decode(), sums_of(before, count), sums_of(after, count), before, after)
-        for name, before, after in zip(roster.products, old, new)
+        Product(name, sums_of(before, count), sums_of(after, count), before.network, after.network)
+        for name, before, after in sides
     ]
+    old, new = [product.old for product in products], [product.new for product in products]
     names = [name.decode() for name in roster.members]
     roles = ["dealer" if is_dealer else "customer" for is_dealer in roster.is_dealer]
     shares = zip(shares_of(old, count), shares_of(new, count), nets_kept(old, new, count))
-    return Compression(products, [Member(n, r, b, a, *nets) for n, r, (b, a, nets) in zip(names, roles, shares)])
+    members = [Member(name, role, before, after, *nets) for name, role, (before, after, nets) in zip(names, roles, shares)]
+    return Group(currency, products, members, between(old, new, roster.is_dealer))
 
 
-def rows_of(compression: Compression) -> list[tuple[str, str, str, int, int]]:
-    """All figures as rows: of what, its name, which figure, before and after."""
-    rows: list[tuple[str, str, str, int, int]] = []
-    for product in compression.products:
-        for figure, before, after in zip(Sums._fields, product.before, product.after):
-            rows.append(("product", product.name, figure, before, after))
-    for member in compression.members:
-        for figure, before, after in zip(Share._fields, member.before, member.after):
-            rows.append(("member", member.name, figure, before, after))
-        rows.append(("member", member.name, "nets", member.nets, member.nets_kept))
-    return rows
+Row = tuple[str, str, str, str, int, int]
+
+
+def rows_of(compression: Compression) -> Iterator[Row]:
+    """All figures as rows: of what, its name, the currency, which figure, before and after."""
+    for group in compression.groups:
+        currency = group.currency
+        for product in group.products:
+            for figure, before, after in zip(Sums._fields, product.before, product.after):
+                yield "product", product.name, currency, figure, before, after
+        for member in group.members:
+            for figure, before, after in zip(Share._fields, member.before, member.after):
+                yield "member", member.name, currency, figure, before, after
+            yield "member", member.name, currency, "nets", member.nets, member.nets_kept
+        for pairs in group.between:
+            for figure, before, after in zip(("gross", "lines"), pairs.before, pairs.after):
+                yield "between", pairs.roles, currency, figure, before, after

@@ -1,16 +1,14 @@
-"""Records of a journal: the change that bytes spell, in words, or the first field that breaks the rules.
+"""Records of a journal: the change that bytes spell, as a value, or the first field that breaks the rules.
 
-Written from docs/FORMATS.md, "Records".
+Written from docs/FORMATS.md, "Records". A change's text is its line of docs/PROTOCOL.md.
 """
 
 import datetime
 import re
-from typing import NamedTuple
+from typing import Callable, Iterator, NamedTuple
 
 MOST_NUMBER = 10**18
 MOST_POTENTIAL = 1_000_000
-KINDS = {1: "TRADE", 2: "AFFIRM", 3: "END", 4: "HOLD", 5: "FREE", 6: "TOL", 7: "FREEZE", 8: "BEGIN", 9: "POST"}
-KINDS |= {10: "ACCEPT", 11: "DECLINE", 12: "CANCEL"}
 
 
 class BadField(Exception):
@@ -22,13 +20,141 @@ class BadField(Exception):
         self.what = what
 
 
+class Row(NamedTuple):
+    """An amount of a solution, from one member to another by their places in the roster."""
+
+    seller: int
+    buyer: int
+    amount: int
+
+
+class Solution(NamedTuple):
+    """A product's network, and a potential for each member."""
+
+    rows: list[Row]
+    potentials: list[int]
+
+
+class Trade(NamedTuple):
+    seller: str
+    buyer: str
+    product: str
+    amount: int
+    day: str
+
+    def __str__(self) -> str:
+        return f"TRADE {self.seller} {self.buyer} {self.product} {self.amount} {self.day}"
+
+
+class Affirm(NamedTuple):
+    trade: int
+
+    def __str__(self) -> str:
+        return f"AFFIRM {self.trade}"
+
+
+class End(NamedTuple):
+    trade: int
+
+    def __str__(self) -> str:
+        return f"END {self.trade}"
+
+
+class Hold(NamedTuple):
+    trade: int
+
+    def __str__(self) -> str:
+        return f"HOLD {self.trade}"
+
+
+class Free(NamedTuple):
+    trade: int
+
+    def __str__(self) -> str:
+        return f"FREE {self.trade}"
+
+
+class Tolerance(NamedTuple):
+    """What a pair's amount may come to; `ceiling` is None without a most."""
+
+    other: str
+    product: str
+    side: str
+    floor: int
+    ceiling: int | None
+
+    def __str__(self) -> str:
+        ceiling = "-" if self.ceiling is None else self.ceiling
+        return f"TOL {self.other} {self.product} {self.side} {self.floor} {ceiling}"
+
+
+class Freeze(NamedTuple):
+    day: str
+
+    def __str__(self) -> str:
+        return f"FREEZE {self.day}"
+
+
+class Begin(NamedTuple):
+    cycle: int
+    mode: str
+
+    def __str__(self) -> str:
+        return f"BEGIN {self.cycle} {self.mode}"
+
+
+class Post(NamedTuple):
+    """A version's proposal: a solution for each product."""
+
+    cycle: int
+    version: int
+    solutions: list[Solution]
+
+    def __str__(self) -> str:
+        return f"POST {self.cycle} {self.version}"
+
+
+class Accept(NamedTuple):
+    cycle: int
+    version: int
+
+    def __str__(self) -> str:
+        return f"ACCEPT {self.cycle} {self.version}"
+
+
+class Decline(NamedTuple):
+    cycle: int
+    version: int
+
+    def __str__(self) -> str:
+        return f"DECLINE {self.cycle} {self.version}"
+
+
+class Cancel(NamedTuple):
+    cycle: int
+
+    def __str__(self) -> str:
+        return f"CANCEL {self.cycle}"
+
+
+Change = Trade | Affirm | End | Hold | Free | Tolerance | Freeze | Begin | Post | Accept | Decline | Cancel
+
+
 class Record(NamedTuple):
-    """Who asked for a change, from which seat, and its line; of a POST the solutions, too, a text for each line."""
+    """Who asked for a change, from which seat, and the change."""
 
     seat: int
     party: str
-    line: str
-    details: list[str]
+    change: Change
+
+
+def rows_of(change: Change) -> Iterator[str]:
+    """The solutions of a POST as lines; no other change has any."""
+    for place, solution in enumerate(change.solutions if isinstance(change, Post) else []):
+        yield f"  solution {place}: {len(solution.potentials)} members, {len(solution.rows)} rows"
+        for row in solution.rows:
+            yield f"    row {row.seller} {row.buyer} {row.amount}"
+        yield "    potentials " + " ".join(map(str, solution.potentials))
 
 
 class Fields:
@@ -72,29 +198,27 @@ class Fields:
     def choice(self, what: str, *words: str) -> str:
         return words[self.number(1, what, 0, len(words) - 1)]
 
-    def solution(self, place: int) -> list[str]:
-        """The lines of a solution: its members and rows, each row, and the potentials."""
+    def row(self, members: int, last: tuple[int, int], before: int) -> Row:
+        """A row behind the pair of the last one, where the amounts before it have this sum."""
+        at = self.at
+        field = self.take(12, "a row")
+        row = Row(*(int.from_bytes(field[start:end], "little") for start, end in ((0, 2), (2, 4), (4, 12))))
+        if max(row[:2]) >= members or row.seller == row.buyer:
+            raise BadField(at, f"a row: no pair of {members} members")
+        if row[:2] <= last:
+            raise BadField(at, "a row: it does not rise")
+        if row.amount == 0 or before + row.amount > MOST_NUMBER:
+            raise BadField(at, "a row: the amount is 0, or with those before above the most")
+        return row
+
+    def solution(self) -> Solution:
         members = self.number(2, "the number of members", 0, 256)
-        count = self.number(4, "the number of rows")
-        rows = []
-        last, gross = (-1, -1), 0
-        for _ in range(count):
-            at = self.at
-            field = self.take(12, "a row")
-            pair = (int.from_bytes(field[:2], "little"), int.from_bytes(field[2:4], "little"))
-            amount = int.from_bytes(field[4:], "little")
-            gross += amount
-            if max(pair) >= members or pair[0] == pair[1]:
-                raise BadField(at, f"a row: no pair of {members} members")
-            if pair <= last:
-                raise BadField(at, "a row: it does not rise")
-            if amount == 0 or gross > MOST_NUMBER:
-                raise BadField(at, "a row: the amount is 0, or with those before above the most")
-            last = pair
-            rows.append(f"    row {pair[0]} {pair[1]} {amount}")
-        potentials = [self.potential() for _ in range(members)]
-        head = f"  solution {place}: {members} members, {count} rows"
-        return [head, *rows, "    potentials " + " ".join(map(str, potentials))]
+        rows: list[Row] = []
+        gross = 0
+        for _ in range(self.number(4, "the number of rows")):
+            rows.append(self.row(members, rows[-1][:2] if rows else (-1, -1), gross))
+            gross += rows[-1].amount
+        return Solution(rows, [self.potential() for _ in range(members)])
 
     def potential(self) -> int:
         value = int.from_bytes(self.take(4, "a potential"), "little", signed=True)
@@ -102,40 +226,57 @@ class Fields:
             raise BadField(self.at - 4, f"a potential: {value} is out of its range")
         return value
 
-    def words(self, tag: int) -> list[str]:
-        """The words behind the kind of change, by its tag."""
-        if tag == 1:
-            names = [self.name("the seller"), self.name("the buyer"), self.name("the product")]
-            return [*names, str(self.number(8, "the amount", 1, MOST_NUMBER)), self.day("the day")]
-        if tag == 6:
-            names = [self.name("the other member"), self.name("the product"), self.choice("the side", "out", "in")]
-            floor = self.number(8, "the floor", 0, MOST_NUMBER)
-            is_given = self.number(1, "whether there is a ceiling", 0, 1)
-            ceiling = str(self.number(8, "the ceiling", 0, MOST_NUMBER)) if is_given else "-"
-            return [*names, str(floor), ceiling]
-        if tag == 7:
-            return [self.day("the day")]
-        number = str(self.number(8, "the trade" if tag in (2, 3, 4, 5) else "the cycle"))
-        if tag == 8:
-            return [number, self.choice("the mode", "conservative", "hybrid", "free")]
-        if tag in (9, 10, 11):
-            return [number, str(self.number(8, "the version"))]
-        return [number]
+    def trade(self) -> Trade:
+        seller, buyer, product = (self.name(what) for what in ("the seller", "the buyer", "the product"))
+        return Trade(seller, buyer, product, self.number(8, "the amount", 1, MOST_NUMBER), self.day("the day"))
+
+    def tolerance(self) -> Tolerance:
+        other, product, side = self.name("the other member"), self.name("the product"), self.choice("the side", "out", "in")
+        floor = self.number(8, "the floor", 0, MOST_NUMBER)
+        is_given = self.number(1, "whether there is a ceiling", 0, 1)
+        return Tolerance(other, product, side, floor, self.number(8, "the ceiling", 0, MOST_NUMBER) if is_given else None)
+
+    def trade_number(self) -> int:
+        return self.number(8, "the trade")
+
+    def cycle(self) -> int:
+        return self.number(8, "the cycle")
+
+    def version(self) -> int:
+        return self.number(8, "the version")
+
+    def post(self) -> Post:
+        cycle, version = self.cycle(), self.version()
+        return Post(cycle, version, [self.solution() for _ in range(self.number(2, "the number of solutions", 0, 64))])
+
+    def change(self) -> Change:
+        tag = self.number(1, "the kind of change")
+        if tag not in range(1, 13):
+            raise BadField(self.at - 1, f"the kind of change: {tag} is none")
+        return KINDS[tag - 1](self)
+
+
+KINDS: list[Callable[[Fields], Change]] = [
+    Fields.trade,
+    lambda fields: Affirm(fields.trade_number()),
+    lambda fields: End(fields.trade_number()),
+    lambda fields: Hold(fields.trade_number()),
+    lambda fields: Free(fields.trade_number()),
+    Fields.tolerance,
+    lambda fields: Freeze(fields.day("the day")),
+    lambda fields: Begin(fields.cycle(), fields.choice("the mode", "conservative", "hybrid", "free")),
+    Fields.post,
+    lambda fields: Accept(fields.cycle(), fields.version()),
+    lambda fields: Decline(fields.cycle(), fields.version()),
+    lambda fields: Cancel(fields.cycle()),
+]
+"""How the fields behind each kind of change are read, by its tag from 1."""
 
 
 def record_of(bytes: bytes) -> Record:
-    """The change that the bytes spell; raises BadField at the first field that breaks the rules."""
+    """The record that the bytes spell; raises BadField at the first field that breaks the rules."""
     fields = Fields(bytes)
-    seat = fields.number(4, "the seat")
-    party = fields.name("the party")
-    tag = fields.number(1, "the kind of change")
-    if tag not in KINDS:
-        raise BadField(fields.at - 1, f"the kind of change: {tag} is none")
-    line = " ".join([KINDS[tag], *fields.words(tag)])
-    details = []
-    if tag == 9:
-        for place in range(fields.number(2, "the number of solutions", 0, 64)):
-            details += fields.solution(place)
+    record = Record(fields.number(4, "the seat"), fields.name("the party"), fields.change())
     if fields.at < len(bytes):
         raise BadField(fields.at, "something behind the last field")
-    return Record(seat, party, line, details)
+    return record

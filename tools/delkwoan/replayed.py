@@ -9,9 +9,10 @@ A trade stands in the rows of both its parties, word for word. A fault is told a
 that the program reads: `columns`, `unknown-name`, `same-party`, `bad-amount`, `bad-day`, or `bad-line` for every other one.
 """
 
-from typing import Any
+from typing import NamedTuple
 
-from .checking import Network, checker
+from . import checker
+from .checker import Network, Roster
 
 MOST_REPLAY_BYTES = 1 << 30
 STATES = (b"alleged", b"live", b"ended")
@@ -19,7 +20,26 @@ NUMBERS = {b"member": 1, b"execution": 6, b"end": 1}  # how many of the last wor
 WIDTHS = {b"member": 3, b"trade": 9, b"execution": 7, b"end": 2}
 
 
-def row_fault(words: list[bytes], roster: Any) -> str | None:
+class Execution(NamedTuple):
+    """A plan that was executed: at which position, of which cycle and version, and how many trades it ended, cut and made."""
+
+    position: int
+    cycle: int
+    version: int
+    ended: int
+    cut: int
+    made: int
+
+
+class Replay(NamedTuple):
+    """For each product the sums of its live trades, and how many they are; and the executions."""
+
+    networks: list[Network]
+    trades: list[int]
+    executions: list[Execution]
+
+
+def row_fault(words: list[bytes], roster: Roster) -> str | None:
     """The first fault of a row by itself."""
     kind = words[0]
     if kind not in WIDTHS:
@@ -45,13 +65,14 @@ def row_fault(words: list[bytes], roster: Any) -> str | None:
 class Reader:
     """What the rows so far left to come, and the trades that they told."""
 
-    def __init__(self, roster: Any) -> None:
+    def __init__(self, roster: Roster) -> None:
         self.members = list(roster.members)
         self.current = b""  # the member whose trades come
         self.left = 0  # how many of them
         self.last = 0  # the number of the one before
         self.once: dict[bytes, list[bytes]] = {}  # the trades that one party's rows told
         self.both: list[list[bytes]] = []  # those that both told
+        self.executions: list[Execution] = []
         self.is_ended = False
 
     def takes(self, words: list[bytes]) -> bool:
@@ -66,6 +87,8 @@ class Reader:
             self.current, self.left, self.last = words[1], int(words[2]), 0
             del self.members[:1]
             return is_next
+        if kind == b"execution":
+            self.executions.append(Execution(*map(int, words[1:])))
         self.is_ended = kind == b"end"
         return not self.members and not self.once
 
@@ -83,21 +106,23 @@ class Reader:
         return other is None or other == words
 
 
-def read_replay(file: str, text: bytes, roster: Any) -> list[Network]:
-    """For each product the sums of the live trades that a text of `replay` tells."""
+def read_replay(file: str, text: bytes, roster: Roster) -> Replay:
+    """What a text of `replay` tells."""
     reader = Reader(roster)
     lines = text.split(b"\n")
     for row, line in enumerate(lines[:-1], 1):
         words = line.split(b" ")
         fault = row_fault(words, roster) or (None if reader.takes(words) else "bad-line")
         if fault is not None:
-            raise checker.Stop(3, f"{file} row {row}: {fault}")
+            raise checker.Fault(f"{file} row {row}: {fault}")
     if lines[-1] or not reader.is_ended:
-        raise checker.Stop(3, f"{file} row {len(lines)}: bad-line")
-    networks: list[Network] = [{} for _ in roster.products]
+        raise checker.Fault(f"{file} row {len(lines)}: bad-line")
+    told = Replay([{} for _ in roster.products], [0 for _ in roster.products], reader.executions)
     for _, _, seller, buyer, product, amount, _, state, _ in reader.both:
         if state == b"live":
-            network = networks[roster.products[product]]
+            place = roster.products[product]
+            network = told.networks[place]
             pair = roster.members[seller], roster.members[buyer]
             network[pair] = network.get(pair, 0) + int(amount)
-    return networks
+            told.trades[place] += 1
+    return told

@@ -3,7 +3,7 @@
 Every answer begins with its position, the history's length after the command. Amounts are whole numbers, days texts.
 """
 
-from typing import Any, NamedTuple
+from typing import Any, Callable, NamedTuple, TypeVar, get_type_hints, overload
 
 
 class BadReply(Exception):
@@ -65,6 +65,9 @@ class NewStep(NamedTuple):
     buyer: str
     product: str
     amount: int
+
+
+Row = TradeRow | LimitRow | EndStep | CutStep | NewStep
 
 
 class Hello(NamedTuple):
@@ -212,7 +215,12 @@ class Bye(NamedTuple):
     position: int
 
 
-HEADS: dict[str, Any] = {
+Answer = (
+    Hello | Traded | Live | Ending | Ended | Held | Freed | Tolerance | Nets | Market | Statement | Frozen | Begun | Limits
+    | Noted | Proposed | Nothing | Plan | Accepted | Executed | Declined | Cancelled | Bye
+)  # fmt: skip
+
+HEADS: dict[str, Callable[..., Answer]] = {
     "hello": Hello,
     "trade": Traded,
     "live": Live,
@@ -239,11 +247,32 @@ HEADS: dict[str, Any] = {
 }
 """The answer of each head line's word."""
 
-DETAILS: dict[str, Any] = {"trade": TradeRow, "limit": LimitRow, "end": EndStep, "cut": CutStep, "new": NewStep}
+DETAILS: dict[str, Callable[..., Row]] = {"trade": TradeRow, "limit": LimitRow, "end": EndStep, "cut": CutStep, "new": NewStep}
 """The row of each detail line's word."""
 
 
-def value_of(kind: Any, word: str) -> Any:
+A = TypeVar("A")
+B = TypeVar("B")
+
+
+@overload
+def expected(answer: object, kind: type[A]) -> A:
+    ...
+
+
+@overload
+def expected(answer: object, kind: type[A], other: type[B]) -> A | B:
+    ...
+
+
+def expected(answer: object, kind: type[A], other: type[B] | None = None) -> A | B:
+    """The answer, where it is of this kind or of the other one; else it is no reply to what was asked."""
+    if isinstance(answer, kind) or (other is not None and isinstance(answer, other)):
+        return answer
+    raise BadReply(str(answer))
+
+
+def value_of(kind: Any, word: str) -> str | bool | int | None:
     """What a word is, as a field of this kind."""
     if kind is str:
         return word
@@ -252,6 +281,12 @@ def value_of(kind: Any, word: str) -> Any:
     if kind == int | None and word == "-":
         return None
     return int(word)
+
+
+def position_of(head: str) -> int | None:
+    """The position that a head line tells, where it tells one."""
+    words = head.split(" ")
+    return int(words[1]) if len(words) > 1 and words[1].isascii() and words[1].isdigit() else None
 
 
 def count_of(head: str) -> int:
@@ -265,26 +300,25 @@ def count_of(head: str) -> int:
         raise BadReply(head) from None
 
 
-def row_of(line: str) -> Any:
+def row_of(line: str) -> Row:
     verb, *words = line.split(" ")
     kind = DETAILS[verb]
-    return kind(*(value_of(field, word) for field, word in zip(kind.__annotations__.values(), words, strict=True)))
+    return kind(*(value_of(field, word) for field, word in zip(get_type_hints(kind).values(), words, strict=True)))
 
 
-def answer_of(head: str, details: list[str]) -> Any:
+def answer_of(head: str, details: list[str]) -> Answer:
     """The answer that a reply tells; raises Refused for a refusal, and BadReply for what is no reply."""
     try:
         result, position, *words = head.split(" ")
         if result == "no":
             raise Refused(int(position), int(words[0]), words[1], " ".join(words[2:]))
         kind = HEADS[words[0]]
-        fields = list(kind.__annotations__.items())
-        if fields[-1][0] == "rows":
+        fields = get_type_hints(kind)
+        rows = []
+        if fields.pop("rows", None) is not None:
             words = words[:-1]
             rows = [[row_of(line) for line in details]]
-        else:
-            rows = []
-        values = [value_of(field, word) for (_, field), word in zip(fields, [position, *words[1:]])]
+        values = [value_of(field, word) for field, word in zip(fields.values(), [position, *words[1:]])]
         if result != "ok" or len(words) != len(values):
             raise BadReply(head)
         return kind(*values, *rows)

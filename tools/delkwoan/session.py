@@ -12,18 +12,20 @@ a connection to a `serve`, by `Session.connect("127.0.0.1", 7000)`.
 import socket
 import subprocess
 from pathlib import Path
-from typing import Any, Protocol
+from typing import Protocol
 
 from . import replies
+from .replies import expected
 
 
 class LinkClosed(Exception):
-    """The other side has ended: its status, and what it wrote to its errors."""
+    """The other side has ended: its status, what it wrote to its errors, and the last reply's position, if there was a reply."""
 
-    def __init__(self, status: int, errors: str) -> None:
+    def __init__(self, status: int, errors: str, position: int | None) -> None:
         super().__init__(f"the session has ended with status {status}: {errors}".rstrip(": "))
         self.status = status
         self.errors = errors
+        self.position = position
 
 
 class Link(Protocol):
@@ -112,6 +114,8 @@ class Session:
     def __init__(self, link: Link) -> None:
         self.link = link
         self.end_of_link: tuple[int, str] | None = None
+        self.position: int | None = None
+        """The position of the last reply that came."""
 
     @classmethod
     def script(cls, program: str | Path, roster: str | Path, journal: str | Path) -> "Session":
@@ -140,23 +144,26 @@ class Session:
         if "\n" in line:
             raise ValueError("a line has no line feed in it")
         if self.end_of_link is not None:
-            raise LinkClosed(*self.end_of_link)
+            raise LinkClosed(*self.end_of_link, self.position)
         self.link.send(line.encode(errors="surrogateescape") + b"\n")
         head = self.given()
-        return [head, *(self.given() for _ in range(replies.count_of(head.decode(errors="replace").rstrip("\n"))))]
+        text = head.decode(errors="replace").rstrip("\n")
+        details = [self.given() for _ in range(replies.count_of(text))]
+        self.position = replies.position_of(text)
+        return [head, *details]
 
     def given(self) -> bytes:
         line = self.link.give()
         if not line.endswith(b"\n"):
-            raise LinkClosed(*self.close())
+            raise LinkClosed(*self.close(), self.position)
         return line
 
-    def ask(self, line: str) -> Any:
+    def ask(self, line: str) -> replies.Answer:
         """The answer to a line."""
         head, *details = (line.decode(errors="replace")[:-1] for line in self.ask_raw(line))
         return replies.answer_of(head, details)
 
-    def command(self, *words: object) -> Any:
+    def command(self, *words: object) -> replies.Answer:
         """The answer to a command of these words, none of which is empty or has a space or a line's end."""
         texts = [str(word) for word in words]
         if any(not text or any(letter in text for letter in " \r\n") for text in texts):
@@ -164,65 +171,65 @@ class Session:
         return self.ask(" ".join(texts))
 
     def hello(self, name: str, key: str) -> replies.Hello:
-        return self.command("HELLO", name, key)
+        return expected(self.command("HELLO", name, key), replies.Hello)
 
     def trade(self, seller: str, buyer: str, product: str, amount: int, day: object) -> replies.Traded:
-        return self.command("TRADE", seller, buyer, product, amount, day)
+        return expected(self.command("TRADE", seller, buyer, product, amount, day), replies.Traded)
 
     def affirm(self, trade: int) -> replies.Live:
-        return self.command("AFFIRM", trade)
+        return expected(self.command("AFFIRM", trade), replies.Live)
 
     def end(self, trade: int) -> replies.Ending | replies.Ended:
-        return self.command("END", trade)
+        return expected(self.command("END", trade), replies.Ending, replies.Ended)
 
     def hold(self, trade: int) -> replies.Held:
-        return self.command("HOLD", trade)
+        return expected(self.command("HOLD", trade), replies.Held)
 
     def free(self, trade: int) -> replies.Freed:
-        return self.command("FREE", trade)
+        return expected(self.command("FREE", trade), replies.Freed)
 
     def tol(self, other: str, product: str, side: str, floor: int, ceiling: int | None = None) -> replies.Tolerance:
-        return self.command("TOL", other, product, side, floor, "-" if ceiling is None else ceiling)
+        return expected(self.command("TOL", other, product, side, floor, "-" if ceiling is None else ceiling), replies.Tolerance)
 
     def nets(self, product: str) -> replies.Nets | replies.Market:
         """A member's own position, or, for the operator, the product's figures."""
-        return self.command("NETS", product)
+        return expected(self.command("NETS", product), replies.Nets, replies.Market)
 
     def statement(self) -> replies.Statement:
-        return self.command("STATEMENT")
+        return expected(self.command("STATEMENT"), replies.Statement)
 
     def freeze(self, day: object) -> replies.Frozen:
-        return self.command("FREEZE", day)
+        return expected(self.command("FREEZE", day), replies.Frozen)
 
     def begin(self, cycle: int, mode: str) -> replies.Begun:
-        return self.command("BEGIN", cycle, mode)
+        return expected(self.command("BEGIN", cycle, mode), replies.Begun)
 
     def limits(self, product: str) -> replies.Limits:
-        return self.command("LIMITS", product)
+        return expected(self.command("LIMITS", product), replies.Limits)
 
     def row(self, product: str, seller: str, buyer: str, amount: int) -> replies.Noted:
-        return self.command("ROW", product, seller, buyer, amount)
+        return expected(self.command("ROW", product, seller, buyer, amount), replies.Noted)
 
     def pot(self, product: str, member: str, value: int) -> replies.Noted:
-        return self.command("POT", product, member, value)
+        return expected(self.command("POT", product, member, value), replies.Noted)
 
     def post(self, cycle: int, version: int) -> replies.Proposed | replies.Nothing:
-        return self.command("POST", cycle, version)
+        return expected(self.command("POST", cycle, version), replies.Proposed, replies.Nothing)
 
     def propose(self, cycle: int, mode: str) -> replies.Proposed | replies.Nothing:
-        return self.command("PROPOSE", cycle, mode)
+        return expected(self.command("PROPOSE", cycle, mode), replies.Proposed, replies.Nothing)
 
     def plan(self, cycle: int) -> replies.Plan:
-        return self.command("PLAN", cycle)
+        return expected(self.command("PLAN", cycle), replies.Plan)
 
     def accept(self, cycle: int, version: int) -> replies.Accepted | replies.Executed:
-        return self.command("ACCEPT", cycle, version)
+        return expected(self.command("ACCEPT", cycle, version), replies.Accepted, replies.Executed)
 
     def decline(self, cycle: int, version: int) -> replies.Declined:
-        return self.command("DECLINE", cycle, version)
+        return expected(self.command("DECLINE", cycle, version), replies.Declined)
 
     def cancel(self, cycle: int) -> replies.Cancelled:
-        return self.command("CANCEL", cycle)
+        return expected(self.command("CANCEL", cycle), replies.Cancelled)
 
     def bye(self) -> replies.Bye:
-        return self.command("BYE")
+        return expected(self.command("BYE"), replies.Bye)

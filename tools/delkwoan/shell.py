@@ -5,11 +5,12 @@ import io
 import os
 import sys
 from pathlib import Path
-from typing import Any, Iterable
+from typing import Iterable
 
 from . import replies
+from .about import NOTHING, About
 from .ending import Stop
-from .session import LinkClosed, Session
+from .session import CONNECTION_LOST, LinkClosed, Session
 
 COMMANDS: dict[str, str] = {
     "HELLO": "NAME KEY",
@@ -36,27 +37,34 @@ COMMANDS: dict[str, str] = {
 }
 """The words of each command."""
 
-OWN = {"help": "what can be typed", "quit": "end the session"}
+OWN = {"help": "what can be typed", "names": "the roster's names, and what is told about them", "quit": "end the session"}
 """Words of the shell itself, which are not sent."""
 
 
 class Names:
-    """The names of a roster file, to complete words with; of a file that is none there are fewer."""
+    """The names of a roster file, to complete words with, and what is told about them; of a file that is none there are fewer."""
 
-    def __init__(self, roster: bytes) -> None:
-        self.members: list[str] = []
-        self.products: list[str] = []
-        self.speakers: list[str] = []
+    def __init__(self, roster: bytes, about: About = NOTHING) -> None:
+        self.about = about
+        self.roles: dict[str, str] = {}
         try:
             for fields in csv.reader(io.StringIO(roster.decode("latin-1"), newline="")):
                 if len(fields) == 3 and fields[1] in ("dealer", "customer", "operator", "product"):
-                    self.add(fields[0], fields[1])
+                    self.roles[fields[0]] = fields[1]
         except csv.Error:
             pass  # the program tells what is wrong with it
-        self.speakers += self.members
+        self.members = self.of_roles("dealer", "customer")
+        self.products = self.of_roles("product")
+        self.speakers = [*self.of_roles("operator"), *self.members]
 
-    def add(self, name: str, role: str) -> None:
-        {"product": self.products, "operator": self.speakers}.get(role, self.members).append(name)
+    def of_roles(self, *roles: str) -> list[str]:
+        return [name for name, role in self.roles.items() if role in roles]
+
+    def table(self) -> list[list[str]]:
+        """Each name with its role, and with its LEI or currency where any is told."""
+        told = [(head, values) for head, values in zip(("LEI", "CURRENCY"), self.about) if values]
+        rows = [[name, role, *(values.get(name, "-") for _, values in told)] for name, role in self.roles.items()]
+        return [["NAME", "ROLE", *(head for head, _ in told)], *rows]
 
     def of_word(self, word: str) -> list[str]:
         """What can stand for a word of a command."""
@@ -93,12 +101,12 @@ def cell(value: object) -> str:
     return "-" if value is None else str(value)
 
 
-def table(row: Any) -> list[list[str]]:
+def table(row: replies.Row) -> list[list[str]]:
     """The names and the values of a row's fields."""
     return [[name.upper().removeprefix("IS_") for name in row._fields], [cell(value) for value in row]]
 
 
-def step_row(step: Any) -> list[str]:
+def step_row(step: replies.EndStep | replies.CutStep | replies.NewStep) -> list[str]:
     """A step of a plan as a row: what happens, the trade, the pair and product, and the amounts before and after."""
     if isinstance(step, replies.EndStep):
         return ["end", str(step.trade), "-", "-", "-", "-", "-"]
@@ -107,18 +115,31 @@ def step_row(step: Any) -> list[str]:
     return ["new", "-", step.seller, step.buyer, step.product, "-", str(step.amount)]
 
 
-def shown(answer: Any) -> Iterable[str]:
+PLAN_HEAD = ["STEP", "TRADE", "SELLER", "BUYER", "PRODUCT", "BEFORE", "AFTER"]
+
+
+WITH_ROWS = (replies.Statement, replies.Limits, replies.Plan)
+
+
+def rows_of(answer: replies.Statement | replies.Limits | replies.Plan) -> list[list[str]]:
+    """The rows of an answer below their names, or nothing where it has none."""
+    if not answer.rows:
+        return []
+    if isinstance(answer, replies.Plan):
+        return [PLAN_HEAD, *map(step_row, answer.rows)]
+    return [table(answer.rows[0])[0], *(table(row)[1] for row in answer.rows)]
+
+
+def shown(answer: replies.Answer) -> Iterable[str]:
     """An answer in columns: its name with its fields, and its rows."""
     fields = [(name, value) for name, value in zip(answer._fields, answer) if name not in ("position", "rows")]
     words = [f"{name.upper()} {cell(value)}" for name, value in fields]
-    if hasattr(answer, "rows"):
-        words.append(f"{len(answer.rows)} rows")
+    rows = rows_of(answer) if isinstance(answer, WITH_ROWS) else None
+    if rows is not None:
+        words.append(f"{len(rows[1:])} rows")
     yield "  ".join([f"[{answer.position}]", type(answer).__name__.lower(), *words])
-    if isinstance(answer, replies.Plan) and answer.rows:
-        head = ["STEP", "TRADE", "SELLER", "BUYER", "PRODUCT", "BEFORE", "AFTER"]
-        yield from columns([head, *map(step_row, answer.rows)])
-    elif hasattr(answer, "rows") and answer.rows:
-        yield from columns([table(answer.rows[0])[0], *(table(row)[1] for row in answer.rows)])
+    if rows:
+        yield from columns(rows)
 
 
 def help_lines(words: list[str]) -> Iterable[str]:
@@ -133,12 +154,13 @@ class Prompt:
 
     def __init__(self, names: Names) -> None:
         self.is_terminal = sys.stdin is not None and sys.stdin.isatty() and sys.stdout.isatty()
+        self.names = names
         self.speaker = ""
         self.history: Path | None = None
         if self.is_terminal:
-            self.prepare(names)
+            self.prepare()
 
-    def prepare(self, names: Names) -> None:
+    def prepare(self) -> None:
         try:
             import readline
         except ImportError:
@@ -147,7 +169,7 @@ class Prompt:
         readline.parse_and_bind("tab: complete")
 
         def complete(text: str, state: int) -> str | None:
-            found = completions(names, readline.get_line_buffer()[: readline.get_begidx()], text)
+            found = completions(self.names, readline.get_line_buffer()[: readline.get_begidx()], text)
             return found[state] if state < len(found) else None
 
         readline.set_completer(complete)
@@ -212,10 +234,14 @@ class Shell:
                 break
             if word == "help":
                 print("\n".join(help_lines(words)))
+            elif word == "names":
+                print("\n".join(columns(self.prompt.names.table())))
             elif not self.take(line):
                 break
             sys.stdout.flush()
         status, errors = self.session.close()
+        if (status, errors) == CONNECTION_LOST and self.session.position is not None:
+            errors += f" behind position {self.session.position}"
         if status != 0:
             raise Stop(status, errors or f"the program ended with status {status}")
         return 1 if self.refused and not self.prompt.is_terminal else 0

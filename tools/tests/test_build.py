@@ -45,6 +45,7 @@ class Build(unittest.TestCase):
             (self.top / name).write_text(text)
         (self.top / "bin/rt").chmod(0o755)
         shutil.copytree(TOOLS / "delkwoan", self.tree / "tools/delkwoan")
+        shutil.copy2(TOOLS / "crates.py", self.tree / "tools/crates.py")
         shutil.copy2(TOOLS / "build", self.tree / "tools/build")
 
     def build(self, fails: str = "") -> Ran:

@@ -23,6 +23,9 @@ CLIENT = TOOLS / "client"
 FAKE = TOOLS / "tests/fake_program.py"
 ROSTER = EXAMPLES / "roster.csv"
 
+LEI = "5493001KJTIIGC8Y1R12"
+"""An identifier whose check digits are right."""
+
 ANSWERS: list[tuple[str, list[str], Any]] = [
     ("ok 0 hello A", [], replies.Hello(0, "A")),
     ("ok 1 trade 1", [], replies.Traded(1, 1)),
@@ -134,7 +137,7 @@ class Values(unittest.TestCase):
         for before, text, due in cases:
             with self.subTest(before=before, text=text):
                 self.assertEqual(completions(names, before, text), due)
-        self.assertEqual(completions(names, "", ""), [f"{word} " for word in [*COMMANDS, "help", "quit"]])
+        self.assertEqual(completions(names, "", ""), [f"{word} " for word in [*COMMANDS, "help", "names", "quit"]])
 
 
 def whole_cycle(case: unittest.TestCase, session: Session) -> None:
@@ -292,6 +295,19 @@ class Shells(InFolder):
         self.assertEqual(ran.output, b"TRADE SELLER BUYER PRODUCT AMOUNT DAY\n")
         self.assertEqual(ran.status, 70)
 
+    def test_names_and_what_is_told_about_them(self) -> None:
+        roster, about = self.folder / "roster.csv", self.folder / "roster.about.csv"
+        roster.write_bytes(ROSTER.read_bytes())
+        plain = b"NAME  ROLE\nA     dealer\nB     dealer\nC     dealer\nOPS   operator\nP     product\n"
+        self.assertEqual(self.client(roster, self.journal, input=b"names\nquit\n").output, plain)
+        about.write_text(f"name,lei,currency\nA,{LEI},\nP,,EUR\n")
+        ran = self.client(roster, self.journal, input=b"names\nquit\n")
+        lines = ran.output.decode().splitlines()
+        self.assertEqual(lines[0].split(), ["NAME", "ROLE", "LEI", "CURRENCY"])
+        self.assertEqual([line.split() for line in lines[1:]][::4], [["A", "dealer", LEI, "-"], ["P", "product", "-", "EUR"]])
+        self.assertEqual(self.client("--about", "/dev/null", roster, self.journal).errors, b"about row 1: columns\n")
+        self.assertEqual(self.client("--about", "/none", roster, self.journal), Ran(11, b"", b"file fault\n"))
+
     def test_words_and_files(self) -> None:
         cases: list[list[str | Path]] = [
             [],
@@ -305,6 +321,8 @@ class Shells(InFolder):
             ["--connect", "127.0.0.1:1", ROSTER, "j"],
             ["--connect", "127.0.0.1", ROSTER],
             ["--connect", "127.0.0.1:1", "--program", "p", ROSTER],
+            ["--connect", "127.0.0.1:1", "--connect", "127.0.0.1:1", ROSTER],
+            ["--raw", "--raw", ROSTER, "j"],
         ]
         for words in cases:
             with self.subTest(words=words):

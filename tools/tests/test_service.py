@@ -81,7 +81,7 @@ class Service(InService):
         with self.assertRaises(subprocess.TimeoutExpired):
             waiting.wait(0.5)
         self.service.kill()
-        self.assertEqual(waiting.communicate(timeout=30), (b"", b"connection lost\n"))
+        self.assertEqual(waiting.communicate(timeout=30), (b"", b"connection lost behind position 0\n"))
         self.assertEqual(waiting.returncode, 14)
 
     def test_an_end_of_the_service_while_a_fifth_waits(self) -> None:
@@ -95,6 +95,7 @@ class Service(InService):
             with self.assertRaises(LinkClosed) as caught:
                 session.hello("B", "KB")
             self.assertEqual((caught.exception.status, caught.exception.errors), (14, "connection lost"))
+            self.assertEqual(caught.exception.position, None if session is sessions[-1] else 0)
 
     def test_one_that_waits_is_served_next(self) -> None:
         self.start()

@@ -60,6 +60,7 @@ class WrongBodies(unittest.TestCase):
             (self.top / name).write_text(text)
         (self.top / "bin/rt").chmod(0o755)
         shutil.copytree(TOOLS / "delkwoan", self.tree / "tools/delkwoan")
+        shutil.copy2(TOOLS / "crates.py", self.tree / "tools/crates.py")
         shutil.copy2(TOOLS / "wrong-bodies", self.tree / "tools/wrong-bodies")
 
     def start(self, *words: str, path: str | None = None) -> subprocess.Popen[bytes]:
