@@ -9,7 +9,8 @@ import re
 import socket
 import threading
 import time
-from typing import IO, NamedTuple
+from io import BufferedRWPair
+from typing import NamedTuple
 
 from serving import Kept
 
@@ -49,7 +50,7 @@ class Holder:
             return Line(f"NETS {'P' * size} X", f"no {NUMBER} 3 bad-line {6 + size}")
         return Line("NETS P", f"ok {NUMBER} nets 0 0 0")
 
-    def ask(self, file: IO[bytes], lines: list[Line]) -> None:
+    def ask(self, file: BufferedRWPair, lines: list[Line]) -> None:
         """Sends lines in two pieces, which meet anywhere, and judges their replies."""
         text = "".join(line.text + "\n" for line in lines).encode()
         cut = self.chance.randrange(len(text))

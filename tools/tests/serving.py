@@ -9,7 +9,7 @@ import sys
 import tempfile
 import unittest
 from pathlib import Path
-from typing import NamedTuple
+from typing import Callable, NamedTuple
 
 from running import EXAMPLES, TOOLS, Ran, program, run
 
@@ -35,7 +35,14 @@ def serving_program() -> Path:
 def free_port() -> int:
     with socket.socket() as unbound:
         unbound.bind(("127.0.0.1", 0))
-        return unbound.getsockname()[1]
+        port: int = unbound.getsockname()[1]
+        return port
+
+
+def started(words: list[str | Path], settings: dict[str, str] | None = None, limit: Callable[[], None] | None = None) -> subprocess.Popen[bytes]:
+    """A program that is started without input, with these settings, and below a limit."""
+    pipe = subprocess.PIPE
+    return subprocess.Popen(words, stdin=subprocess.DEVNULL, stdout=pipe, stderr=pipe, env=settings, preexec_fn=limit)
 
 
 class Kept(NamedTuple):
@@ -54,6 +61,8 @@ def kept_by(told: bytes) -> list[Kept]:
 
 class InService(unittest.TestCase):
     """Tests with a folder of their own, and a service in it from `start` on, which ends with the test."""
+
+    program: Path
 
     @classmethod
     def setUpClass(cls) -> None:
@@ -77,8 +86,7 @@ class InService(unittest.TestCase):
 
     def start(self, *options: str) -> None:
         """Starts a service over the journal, and waits until it takes connections."""
-        pipes = {"stdout": subprocess.PIPE, "stderr": subprocess.PIPE}
-        self.service = subprocess.Popen([*self.words(), *options], stdin=subprocess.DEVNULL, **pipes)
+        self.service = started([*self.words(), *options])
         self.assertEqual(run([TOOLS / "wait-ready", self.address, "30"]), Ran(0, b"", b""))
 
     def session(self, name: str = "") -> Session:

@@ -175,7 +175,7 @@ class Market(unittest.TestCase):
         solved = run([program(), "solve", MARKET / "roster.csv", MARKET / "trades.csv", "hybrid"])
         self.assertEqual((solved.status, solved.errors), (0, b""))
         (self.folder / "proposal.txt").write_bytes(solved.output)
-        words = [MARKET / "roster.csv", MARKET / "trades.csv", "hybrid", self.folder / "proposal.txt"]
+        words: list[str | Path] = [MARKET / "roster.csv", MARKET / "trades.csv", "hybrid", self.folder / "proposal.txt"]
         self.assertEqual(run([TOOLS / "check_proposal", *words]), Ran(0, b"yes\n", b""))
         journal = self.folder / "journal"
         ran = run([program(), "script", MARKET / "roster.csv", journal], (MARKET / "day.session").read_bytes())

@@ -1,20 +1,24 @@
-"""What is under packaging/: manual pages, completion, the unit, `make install` and `make deb`, each in a fresh tree."""
+"""What others install: manual pages, completion and the unit, as they are made, and the packages of Debian and of Python, each in a fresh tree."""
 
 import os
 import re
 import shutil
 import socket
 import subprocess
+import sys
 import tempfile
 import unittest
 from pathlib import Path
 
-from running import EXAMPLES, ROOT, Ran, program, run
+from running import EXAMPLES, ROOT, TOOLS, Ran, program, run
 from serving import InService, has_serve
 from test_journal import ONE, WHOLE
 
+sys.path.insert(0, str(TOOLS))
+
+from delkwoan import __version__
+
 PACKAGING = ROOT / "packaging"
-PAGES = sorted((PACKAGING / "man").iterdir())
 HUB = [str(EXAMPLES / "hub-roster.csv"), str(EXAMPLES / "hub-trades.csv"), "hybrid", str(EXAMPLES / "hub-proposal.txt")]
 COMMANDS = ["compress-check-proposal", "compress-client", "compress-journal", "compress-report", "compress-wait-ready"]
 COMMANDS += ["compress_cli"]
@@ -36,7 +40,7 @@ TYPED: list[tuple[list[str], list[str]]] = [
     (["compress_cli", "script", "--workers", "2", "rost"], ["roster.csv"]),
     (["compress_cli", "serve", "a", "-"], ["--connections", "--idle", "--seats", "--workers"]),
     (["compress_cli", "serve", "a", "--seats", "2", "b", "--c"], ["--connections"]),
-    (["compress-client", "-"], ["--connect", "--program", "--raw"]),
+    (["compress-client", "-"], ["--about", "--connect", "--program", "--raw"]),
     (["compress-client", "--connect", ""], []),
     (["compress-client", "--connect", "127.0.0.1:7000", "rost"], ["roster.csv"]),
     (["compress-wait-ready", ""], []),
@@ -44,6 +48,9 @@ TYPED: list[tuple[list[str], list[str]]] = [
     (["compress-client", "--program", "hub-r"], ["hub-roster.csv"]),
     (["compress-client", "--program", "x", "--raw", "hub-r"], ["hub-roster.csv"]),
     (["compress-report", "--product", "P", "hub-r"], ["hub-roster.csv"]),
+    (["compress-report", "--re"], ["--replay"]),
+    (["compress-report", "--replay", "--mode", ""], ["conservative", "free", "hybrid"]),
+    (["compress-check-proposal", "a", "b", "h"], ["hybrid"]),
     (["/usr/bin/compress-journal", "rost"], ["roster.csv"]),
 ]
 """The words of a command line up to the cursor, and what can stand there."""
@@ -56,16 +63,60 @@ def need(*tools: str) -> None:
             raise unittest.SkipTest(f"no {tool}")
 
 
-class Pages(unittest.TestCase):
+def python_with(*modules: str) -> str:
+    """This Python, or else the system's, if it has these modules; where neither has, skips."""
+    for python in (sys.executable, "/usr/bin/python3"):
+        if os.access(python, os.X_OK) and run([python, "-c", f"import {', '.join(modules)}"]).status == 0:
+            return python
+    raise unittest.SkipTest(f"no python3 with {', '.join(modules)}")
+
+
+class Made(unittest.TestCase):
+    """Tests with a folder of their own, in which stands what is made of other sources."""
+
+    def setUp(self) -> None:
+        folder = tempfile.TemporaryDirectory()
+        self.addCleanup(folder.cleanup)
+        self.folder = Path(folder.name)
+        self.made = self.folder / "made"
+        self.assertEqual(run([PACKAGING / "generate", "--prefix", "/usr", self.made]), Ran(0, b"", b""))
+        self.program = self.folder / "program"
+        self.program.write_text("#!/bin/sh\necho stands in\n")
+        self.program.chmod(0o755)
+
+    @property
+    def pages(self) -> list[Path]:
+        return sorted([self.made / "compress-tools.1", *(PACKAGING / "man").glob("*.[15]")])
+
+    def assert_works(self, commands: Path) -> None:
+        """The tools in this folder do what those of the tree do."""
+        self.assertEqual(run([commands / "compress-check-proposal", *HUB]), Ran(0, b"yes\n", b""))
+        journal = self.folder / "journal"
+        journal.write_bytes(ONE)
+        self.assertEqual(run([commands / "compress-journal", journal]), WHOLE)
+        ran = run([commands / "compress-report", *HUB[:2], HUB[3], self.folder / "report"])
+        self.assertEqual((ran.status, ran.errors), (0, b""))
+        self.assertTrue((self.folder / "report.html").read_text().endswith("</html>\n"))
+        self.assertEqual(run([commands / "compress-wait-ready"]), Ran(2, b"", b"bad words\n"))
+        environ = {**os.environ, "COMPRESS_CLI": str(self.program)}
+        words = [commands / "compress-client", EXAMPLES / "roster.csv", journal]
+        done = subprocess.run(words, input=b"BYE\n", capture_output=True, env=environ)
+        self.assertEqual((done.returncode, done.stderr), (13, b"no reply of a session: stands in\n"))
+        for name in COMMANDS[:-1]:
+            self.assertEqual(run([commands / name, "--version"]), Ran(0, f"{name} {__version__}\n".encode(), b""))
+
+
+class Pages(Made):
     def test_mandoc_finds_nothing(self) -> None:
         need("mandoc")
-        told = run(["mandoc", "-Tlint", *PAGES]).output.decode().splitlines()
+        told = run(["mandoc", "-Tlint", *self.pages]).output.decode().splitlines()
         self.assertEqual([line for line in told if "referenced manual not found" not in line], [])
 
     def test_pages_that_are_named_are_there(self) -> None:
-        names = {tuple(page.name.rsplit(".", 1)) for page in PAGES}
-        for page in PAGES:
+        names = {tuple(page.name.rsplit(".", 1)) for page in self.pages}
+        for page in self.pages:
             text = page.read_text()
+            self.assertNotIn("@", text)
             for name, section in re.findall(r"^\.Xr (\S+) (\S+)", text, re.MULTILINE):
                 self.assertIn((name, section), names, page.name)
             wanted = [
@@ -77,84 +128,145 @@ class Pages(unittest.TestCase):
             for section in wanted:
                 self.assertIn(f".Sh {section}\n", text, page.name)
 
+    def test_each_option_of_a_tool_is_told(self) -> None:
+        """By its help, and in the manual page."""
+        page = (self.made / "compress-tools.1").read_text()
+        told = 0
+        for name in ("check_proposal", "client", "journal", "report", "wait-ready"):
+            shown = run([TOOLS / name, "--help"])
+            self.assertEqual((shown.status, shown.errors), (0, b""))
+            for option in set(re.findall(r"^  --(\w+)", shown.output.decode(), re.MULTILINE)) - {"version"}:
+                self.assertRegex(page, rf"(?m)^\.It Fl -{option}\b")
+                told += 1
+        self.assertEqual(told, 9)
 
-class InFolder(unittest.TestCase):
+    def test_the_programs_forms_are_those_of_its_page(self) -> None:
+        page = (PACKAGING / "man/compress_cli.1").read_text()
+        synopsis = page.split(".Sh SYNOPSIS\n")[1].split(".Sh ")[0]
+        forms = []
+        for part in synopsis.split(".Nm\n")[1:]:
+            (name,) = re.findall(r"^\.Cm (\w+)$", part, re.MULTILINE)
+            options = re.findall(r"^\.Op Fl -(\w+)", part, re.MULTILINE)
+            forms.append((name, options, len(re.findall(r"^\.Ar", part, re.MULTILINE))))
+        lines = (PACKAGING / "forms").read_text().splitlines()[1:]
+        completed = []
+        for line in lines:
+            plain = re.sub(r"\[.*?\] ", "", line).split(" ")
+            completed.append((plain[1], re.findall(r"\[--(\w+)", line), len(plain) - 2))
+        self.assertEqual(sorted(forms), sorted(completed))
+
+
+class Version(unittest.TestCase):
+    def test_the_change_logs_begin_with_it(self) -> None:
+        """The package has the version; both change logs are of it."""
+        self.assertTrue((ROOT / "debian/changelog").read_text().startswith(f"delkwoan ({__version__}) "))
+        headings = re.findall(r"^## (\S+)", (ROOT / "CHANGELOG.md").read_text(), re.MULTILINE)
+        self.assertEqual(headings[0], __version__)
+        self.assertIn('dynamic = ["version"]', (ROOT / "pyproject.toml").read_text())
+
+
+class DebianPackage(Made):
+    def copied(self) -> Path:
+        """The files of the tree that a package is made from, as git or as the tree has them."""
+        tree = self.folder / "tree"
+        tree.mkdir()
+        ignored = shutil.ignore_patterns("out", "__pycache__", ".mypy_cache", "*.egg-info", "made", ".debhelper", "delkwoan.service")
+        for name in ("debian", "docs", "examples", "packaging", "tools"):
+            shutil.copytree(ROOT / name, tree / name, ignore=ignored)
+        for name in ("README.md", "CHANGELOG.md", "pyproject.toml"):
+            shutil.copy2(ROOT / name, tree / name)
+        return tree
+
+    def build(self, program: Path) -> Ran:
+        environ = {**os.environ, "PROGRAM": str(program)}
+        words = ["dpkg-buildpackage", "-b", "-uc", "-us"]
+        done = subprocess.run(words, cwd=self.copied(), env=environ, capture_output=True, timeout=300)
+        return Ran(done.returncode, done.stdout, done.stderr)
+
     def setUp(self) -> None:
-        need("make")
-        folder = tempfile.TemporaryDirectory()
-        self.addCleanup(folder.cleanup)
-        self.folder = Path(folder.name)
-        self.program = self.folder / "program"
-        self.program.write_text("#!/bin/sh\necho stands in\n")
-        self.program.chmod(0o755)
+        need("dpkg-buildpackage", "dh", "pybuild")
+        super().setUp()
+        words = ["dpkg-checkbuilddeps", str(ROOT / "debian/control")]
+        if (lacks := run(words)).status != 0:
+            raise unittest.SkipTest(lacks.errors.decode().strip())
 
-    def make(self, target: str, *settings: str) -> Ran:
-        return run(["make", "-s", "-C", PACKAGING, target, *settings])
-
-    def assert_works(self, root: Path) -> None:
-        """What is installed below a root runs, by its links."""
-        self.assertEqual(sorted(path.name for path in (root / "bin").iterdir()), COMMANDS)
-        self.assertEqual(run([root / "bin/compress_cli"]).output, b"stands in\n")
-        self.assertEqual(run([root / "bin/compress-check-proposal", *HUB]), Ran(0, b"yes\n", b""))
-        journal = self.folder / "journal"
-        journal.write_bytes(ONE)
-        self.assertEqual(run([root / "bin/compress-journal", journal]), WHOLE)
-        self.assertEqual(run([root / "bin/compress-report"]), Ran(2, b"", b"bad words\n"))
-        self.assertEqual(run([root / "bin/compress-wait-ready"]), Ran(2, b"", b"bad words\n"))
-        without = {name: value for name, value in os.environ.items() if name != "COMPRESS_CLI"}
-        words = [root / "bin/compress-client", EXAMPLES / "roster.csv", journal]
-        done = subprocess.run(words, input=b"BYE\n", capture_output=True, env=without)
-        self.assertEqual((done.returncode, done.stderr), (13, b"no reply of a session: stands in\n"))
-
-
-class Install(InFolder):
-    def test_install_and_uninstall(self) -> None:
+    def test_what_is_in_it(self) -> None:
+        built = self.build(self.program)
+        self.assertEqual(built.status, 0, built.output[-2000:] + built.errors[-2000:])
+        (package,) = self.folder.glob(f"delkwoan_{__version__}_*.deb")
         root = self.folder / "root"
-        settings = [f"PREFIX={root}", f"PROGRAM={self.program}"]
-        self.assertEqual(self.make("install", *settings), Ran(0, b"", b""))
-        self.assert_works(root)
-        for page in PAGES:
-            self.assertEqual((root / f"share/man/man{page.suffix[1:]}" / page.name).read_bytes(), page.read_bytes())
-        self.assertEqual(self.make("uninstall", *settings), Ran(0, b"", b""))
-        self.assertEqual([path for path in root.rglob("*") if not path.is_dir()], [])
-        self.assertTrue((ROOT / "README.md").exists())
+        self.assertEqual(run(["dpkg-deb", "-x", package, root]).status, 0)
+        self.assertEqual(sorted(path.name for path in (root / "usr/bin").iterdir()), COMMANDS)
+        self.assertEqual(run([root / "usr/bin/compress_cli"]).output, b"stands in\n")
+        self.assertIn("\nExecStart=/usr/bin/compress_cli serve ", (root / "lib/systemd/system/delkwoan.service").read_text())
+        for name in COMMANDS:
+            self.assertTrue((root / f"usr/share/man/man1/{name}.1.gz").exists(), name)
+            self.assertTrue((root / f"usr/share/bash-completion/completions/{name}").exists(), name)
+        for name in ("copyright", "changelog.gz", "examples/roster.csv", "OPERATIONS.md"):
+            self.assertTrue((root / "usr/share/doc/delkwoan" / name).exists(), name)
+        package_folder = root / "usr/lib/python3/dist-packages"
+        self.assertTrue((package_folder / "delkwoan/py.typed").exists())
+        done = run(["/usr/bin/python3", "-c", f"import sys; sys.path.insert(0, {str(package_folder)!r}); import delkwoan.client"])
+        self.assertEqual(done, Ran(0, b"", b""))
+        if shutil.which("lintian"):
+            told = run(["lintian", "--allow-root", "--fail-on", "error,warning", package])
+            self.assertEqual((told.status, told.output), (0, b""))
 
-    def test_install_without_a_program(self) -> None:
-        ran = self.make("install", f"PREFIX={self.folder}/root", f"PROGRAM={self.folder}/none")
-        self.assertNotEqual(ran.status, 0)
-        self.assertIn(b"no program at", ran.errors)
-        self.assertFalse((self.folder / "root").exists())
+    def test_without_a_program(self) -> None:
+        built = self.build(self.folder / "none")
+        self.assertNotEqual(built.status, 0)
+        self.assertIn(b"no program at", built.output + built.errors)
+        self.assertEqual([*self.folder.glob("*.deb")], [])
 
-    def test_deb(self) -> None:
-        need("dpkg-deb", "dpkg")
-        out, tree = self.folder / "out", self.folder / "tree"
-        ran = self.make("deb", f"OUT={out}", f"PROGRAM={self.program}")
-        self.assertEqual(ran.status, 0, ran.errors)
-        (package,) = out.glob("*.deb")
-        told = run(["dpkg-deb", "-f", package, "Package", "Depends"]).output
-        self.assertEqual(told, b"Package: delkwoan\nDepends: libc6, python3 (>= 3.11)\n")
-        self.assertEqual(run(["dpkg-deb", "-x", package, tree]).status, 0)
-        self.assert_works(tree / "usr")
-        unit = (tree / "usr/lib/systemd/system/delkwoan.service").read_text()
-        self.assertIn("\nExecStart=/usr/bin/compress_cli serve ", unit)
-        self.assertNotIn("@", unit.replace("@system-service", "").replace("@privileged @resources", ""))
-        self.assertIn(b" root/root ", run(["dpkg-deb", "-c", package]).output)
+
+class PythonPackage(Made):
+    def test_in_a_fresh_environment(self) -> None:
+        python = python_with("ensurepip", "setuptools", "wheel")
+        tree, room = self.folder / "tree", self.folder / "venv"
+        shutil.copytree(TOOLS, tree / "tools", ignore=shutil.ignore_patterns("__pycache__", "*.egg-info"))
+        for name in ("README.md", "pyproject.toml"):
+            shutil.copy2(ROOT / name, tree / name)
+        made = run([python, "-m", "venv", "--system-site-packages", room])
+        self.assertEqual(made.status, 0, made.errors)
+        installed = run([room / "bin/pip", "install", "-q", "--no-index", "--no-build-isolation", tree])
+        self.assertEqual(installed.status, 0, installed.errors)
+        self.assert_works(room / "bin")
+        typed = "import delkwoan, pathlib; print((pathlib.Path(delkwoan.__file__).parent / 'py.typed').exists(), delkwoan.__file__)"
+        told = run([room / "bin/python", "-c", typed], folder=self.folder).output.decode()
+        self.assertTrue(told.startswith(f"True {room}"), told)
+
+
+class Types(unittest.TestCase):
+    def test_mypy_finds_nothing(self) -> None:
+        need("mypy")
+        with tempfile.TemporaryDirectory() as cache:
+            ran = run(["mypy", "--cache-dir", cache], folder=ROOT)
+        self.assertEqual((ran.status, ran.errors), (0, b""), ran.output)
 
 
 def settings_of(unit: Path, name: str) -> list[str]:
     return [line.removeprefix(name + "=") for line in unit.read_text().splitlines() if line.startswith(name + "=")]
 
 
-class Unit(InFolder):
+class Unit(Made):
     def setUp(self) -> None:
         super().setUp()
-        self.root = self.folder / "root"
-        self.assertEqual(self.make("install", f"PREFIX={self.root}", f"PROGRAM={self.program}").status, 0)
-        self.unit = self.root / "lib/systemd/system/delkwoan.service"
+        self.unit = self.made / "delkwoan.service"
 
     def test_systemd_finds_nothing(self) -> None:
+        """It looks for the commands, which stand in for a while below another prefix."""
         need("systemd-analyze")
+        prefix = self.folder / "prefix"
+        (prefix / "bin").mkdir(parents=True)
+        for name in ("compress_cli", "compress-wait-ready"):
+            shutil.copy2(self.program, prefix / "bin" / name)
+        self.assertEqual(run([PACKAGING / "generate", "--prefix", prefix, self.made]), Ran(0, b"", b""))
         self.assertEqual(run(["systemd-analyze", "verify", "--man=no", self.unit]), Ran(0, b"", b""))
+
+    def test_nothing_is_left_to_fill_in(self) -> None:
+        text = self.unit.read_text()
+        self.assertIn("\nExecStart=/usr/bin/compress_cli serve ", text)
+        self.assertNotIn("@", text.replace("@system-service", "").replace("@privileged @resources", ""))
 
     def test_statuses_are_those_of_the_table(self) -> None:
         """No other start where a person is wanted: statuses of the operator's table, and that of a missing credential."""
@@ -168,22 +280,22 @@ class UnitServes(InService):
     """The unit's commands, as systemd would make them, with the program that was built."""
 
     def test_its_commands(self) -> None:
-        need("make")
-        root, state, credentials = (self.folder / name for name in ("root", "state", "credentials"))
-        state.mkdir()
-        credentials.mkdir()
+        root, state, credentials, made = (self.folder / name for name in ("root", "state", "credentials", "made"))
+        for folder in (state, credentials, root / "bin"):
+            folder.mkdir(parents=True)
         shutil.copyfile(EXAMPLES / "roster.csv", credentials / "roster")
-        made = run(["make", "-s", "-C", PACKAGING, "install", f"PREFIX={root}", f"PROGRAM={self.program}"])
-        self.assertEqual(made, Ran(0, b"", b""))
-        unit = root / "lib/systemd/system/delkwoan.service"
+        (root / "bin/compress_cli").symlink_to(self.program)
+        (root / "bin/compress-wait-ready").symlink_to(TOOLS / "wait-ready")
+        self.assertEqual(run([PACKAGING / "generate", "--prefix", root, made]), Ran(0, b"", b""))
+        unit = made / "delkwoan.service"
         (defaults,) = settings_of(unit, "Environment")
-        values: dict[str, object] = dict(setting.split("=", 1) for setting in defaults.split())
-        values |= {"CREDENTIALS_DIRECTORY": credentials, "STATE_DIRECTORY": state, "ADDRESS": self.address}
-        values |= {"SEATS": 2, "IDLE": 3}
+        values = dict(setting.split("=", 1) for setting in defaults.split())
+        values |= {"CREDENTIALS_DIRECTORY": str(credentials), "STATE_DIRECTORY": str(state), "ADDRESS": self.address}
+        values |= {"SEATS": "2", "IDLE": "3"}
 
         def commands(name: str) -> list[list[str]]:
             lines = [line.removeprefix("-").split() for line in settings_of(unit, name)]
-            return [[re.sub(r"\$\{(\w+)\}", lambda found: str(values[found[1]]), word) for word in line] for line in lines]
+            return [[re.sub(r"\$\{(\w+)\}", lambda found: values[str(found[1])], word) for word in line] for line in lines]
 
         (start,) = commands("ExecStart")
         self.service = subprocess.Popen(start, stdout=subprocess.PIPE, stderr=subprocess.PIPE)
@@ -196,13 +308,11 @@ class UnitServes(InService):
         self.assertEqual(self.service.communicate(timeout=30), (b"", b""))
 
 
-class Completion(InFolder):
+class Completion(Made):
     def setUp(self) -> None:
         super().setUp()
-        root = self.folder / "root"
-        self.assertEqual(self.make("install", f"PREFIX={root}", f"PROGRAM={self.program}").status, 0)
-        self.bash = root / "share/bash-completion/completions/compress_cli"
-        self.zsh = root / "share/zsh/site-functions/_compress_cli"
+        self.bash = self.made / "compress_cli.bash"
+        self.zsh = self.made / "_compress_cli"
 
     def test_bash(self) -> None:
         need("bash")
@@ -212,7 +322,7 @@ class Completion(InFolder):
         for typed, due in TYPED:
             with self.subTest(typed=typed):
                 ran = run(["bash", "-c", script, "bash", self.bash, *typed], folder=EXAMPLES)
-                self.assertEqual((ran.status, ran.output.decode().split()), (0, due))
+                self.assertEqual((ran.status, sorted(ran.output.decode().split())), (0, due))
         known = run(["bash", "-c", 'source "$1"; complete -p', "bash", self.bash]).output.decode().splitlines()
         self.assertEqual(sorted(line.split(" ")[-1] for line in known), COMMANDS)
 

@@ -13,7 +13,7 @@ import unittest
 from pathlib import Path
 
 from running import TOOLS, Ran, run
-from serving import ROSTER, InService
+from serving import ROSTER, InService, started
 
 GONE = ["ENETDOWN", "EPROTO", "ENOPROTOOPT", "EHOSTDOWN", "ENONET", "EHOSTUNREACH", "EOPNOTSUPP", "ENETUNREACH"]
 GONE += ["ECONNABORTED", "ECONNRESET", "ETIMEDOUT"]
@@ -31,6 +31,8 @@ MINUTE = 60_000
 
 class Refused(InService):
     """A service that is refused calls by a library which the test builds."""
+
+    library: Path
 
     @classmethod
     def setUpClass(cls) -> None:
@@ -50,8 +52,7 @@ class Refused(InService):
         self.slept = self.folder / "slept"
         self.slept.unlink(missing_ok=True)
         environ = {**os.environ, "LD_PRELOAD": str(self.library), name: value, "SLEPT": str(self.slept)}
-        pipes = {"stdin": subprocess.DEVNULL, "stdout": subprocess.PIPE, "stderr": subprocess.PIPE}
-        self.service = subprocess.Popen([*self.words(), *options], env=environ, **pipes)
+        self.service = started([*self.words(), *options], environ)
 
     def sleeps(self) -> list[int]:
         """The milliseconds of each sleep that the service asked for."""
@@ -125,8 +126,7 @@ class Descriptors(InService):
         def limit() -> None:
             resource.setrlimit(resource.RLIMIT_NOFILE, (few, few))
 
-        pipes = {"stdin": subprocess.DEVNULL, "stdout": subprocess.PIPE, "stderr": subprocess.PIPE}
-        self.service = subprocess.Popen(self.words(), preexec_fn=limit, **pipes)
+        self.service = service = started(self.words(), limit=limit)
         self.assertEqual(run([TOOLS / "wait-ready", self.address, "30"]), Ran(0, b"", b""))
         waiting = [socket.create_connection(("127.0.0.1", self.port), 30) for _ in range(SEATS)]
         for connection in waiting:
@@ -139,7 +139,7 @@ class Descriptors(InService):
             served.close()
             answered += 1
         self.assertEqual(answered, SEATS)
-        self.assertIsNone(self.service.poll())
+        self.assertIsNone(service.poll())
 
     def next_answered(self, waiting: list[socket.socket]) -> socket.socket:
         """The first of these to which something comes."""
@@ -189,7 +189,7 @@ class RefusedMemory(Refused):
     def with_refusal(self, number: int) -> Ran:
         """A script over a new journal, whose request for memory with this number is refused."""
         environ = {**os.environ, "LD_PRELOAD": str(self.library), "REFUSE_MEMORY": str(number)}
-        words = [self.program, "script", ROSTER, self.folder / f"journal{number}"]
+        words: list[str | Path] = [self.program, "script", ROSTER, self.folder / f"journal{number}"]
         done = subprocess.run(words, input=LINES, env=environ, capture_output=True, timeout=60)
         return Ran(done.returncode, done.stdout, done.stderr)
 

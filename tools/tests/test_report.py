@@ -103,7 +103,7 @@ class Figures(InFolder):
         other = f"product Q 7 7 7 7\nrow A B 7\n{pots}bound 7\nproduct R 0 0 0 0\n{pots}bound 0\nend 3\n"
         names[2].write_text(Path(PROPOSAL).read_text().replace("end 1\n", other))
         about.write_text("name,currency\nP,USD\nQ,EUR\n")
-        groups = compression_of(*map(str, names), str(about)).groups
+        groups = compression_of(str(names[0]), str(names[1]), str(names[2]), str(about)).groups
         told = [(group.currency, [product.name for product in group.products], group.total()[0].gross) for group in groups]
         self.assertEqual(told, [("EUR", ["Q"], 7), ("USD", ["P"], 20), ("", ["R"], 0)])
         self.assertEqual([group.members[0].before.gross for group in groups], [7, 5, 0])
@@ -128,10 +128,10 @@ class Figures(InFolder):
             with self.subTest(text=text):
                 about.write_text(text)
                 with self.assertRaises(Stop) as caught:
-                    compression_of(*HUB, str(about))
+                    compression_of(ROSTER, TRADES, PROPOSAL, str(about))
                 self.assertEqual((caught.exception.status, caught.exception.line), (3, f"about row {row}: {fault}"))
         about.write_text(f"name,lei\nOPS,{LEI}\n")
-        self.assertEqual(compression_of(*HUB, str(about)).about.leis, {"OPS": LEI})
+        self.assertEqual(compression_of(ROSTER, TRADES, PROPOSAL, str(about)).about.leis, {"OPS": LEI})
 
     def test_a_net_that_does_not_stay(self) -> None:
         proposal = self.folder / "proposal"
@@ -245,7 +245,7 @@ class Pages(InFolder):
     def test_two_replays(self) -> None:
         for name, trades, first in (("before", BEFORE_TRADES, 1), ("after", AFTER_TRADES, 5)):
             (self.folder / name).write_text(replay_text(rows_by_member(trades, first)))
-        words = ["--replay", ROSTER, self.folder / "before", self.folder / "after", self.output]
+        words: list[str | Path] = ["--replay", ROSTER, self.folder / "before", self.folder / "after", self.output]
         told = f"{self.output}.html and {self.output}.csv: gross 20 before, 10 after\n"
         self.assertEqual(run([REPORT, "--product", "P", *words]), Ran(0, told.encode(), b""))
         page = Path(self.output + ".html").read_text()

@@ -6,6 +6,7 @@ import subprocess
 import sys
 import threading
 import unittest
+from pathlib import Path
 
 from running import EXAMPLES, TOOLS, Ran, run
 from serving import ROSTER, InService, free_port
@@ -69,7 +70,7 @@ class Service(InService):
         """The service is held before the client's second line, and then ends."""
         self.start()
         assert self.service is not None
-        words = [TOOLS / "client", "--connect", self.address, ROSTER]
+        words: list[str | Path] = [TOOLS / "client", "--connect", self.address, ROSTER]
         waiting = subprocess.Popen(words, stdin=subprocess.PIPE, stdout=subprocess.PIPE, stderr=subprocess.PIPE)
         assert waiting.stdin is not None and waiting.stdout is not None
         waiting.stdin.write(b"HELLO B KB\n")
@@ -157,7 +158,7 @@ class Service(InService):
     def test_what_is_in_use(self) -> None:
         """A journal that a service has is nobody else's, and neither is its address."""
         self.start()
-        script = [self.program, "script", ROSTER, self.journal]
+        script: list[str | Path] = [self.program, "script", ROSTER, self.journal]
         self.assertEqual(run(script, b"HELLO A KA\n"), Ran(6, b"", b"disk fault\n"))
         self.assertEqual(run(self.words(self.folder / "other")), Ran(10, b"", b"listener fault\n"))
         self.port = free_port()

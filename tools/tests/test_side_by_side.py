@@ -9,7 +9,8 @@ import socket
 import sys
 import threading
 import unittest
-from typing import IO, NamedTuple
+from io import BufferedRWPair
+from typing import NamedTuple
 
 from running import TOOLS, run
 from serving import ROSTER, InService
@@ -58,7 +59,7 @@ class Known:
             elif words[2] in ("begun", "proposed"):
                 self.version = int(words[4])
 
-    def ask(self, file: IO[bytes], line: str) -> str:
+    def ask(self, file: BufferedRWPair, line: str) -> str:
         """The reply to a line; a PROPOSE waits until no other line is on the way, and holds up those behind it."""
         is_alone = line.startswith("PROPOSE")
         with self.alone:
