@@ -11,8 +11,8 @@ MOST_BARS = 16
 MOST_LABELS = 48
 MOST_ARROWS = 120
 MOST_LINES = 2_000
-RADIUS = 200
-"""Of the circle on which the members stand, in the picture's units."""
+LONG_NAME = 8
+"""More letters have more room, and the circle less."""
 LETTER = 0.75
 """How wide a letter is, as a part of its height."""
 
@@ -96,7 +96,7 @@ def label(name: str, point: Point, turn: float, size: int) -> Markup:
     """A name beside its point, along the way out of the circle, and never upside down."""
     is_left = turn > math.pi
     degrees = math.degrees(turn) + (90 if is_left else -90)
-    out = towards(Point(0, 0), point, RADIUS + 14)
+    out = towards(point, Point(0, 0), -14)
     transform = f"translate({out.x:.1f} {out.y:.1f}) rotate({degrees:.1f})"
     return tag("text", name, transform=transform, font_size=size, text_anchor="end" if is_left else "start", dominant_baseline="central")
 
@@ -112,24 +112,25 @@ def arrow_head() -> Markup:
 def network_chart(network: Network, names: list[str], shown: list[int], most: int, title: str) -> Markup:
     """A network on a circle of the members that are shown; `most` is the amount of the widest line."""
     turns = {member: 2 * math.pi * at / max(len(shown), 1) for at, member in enumerate(shown)}
-    points = {member: Point(RADIUS * math.sin(turn), -RADIUS * math.cos(turn)) for member, turn in turns.items()}
+    has_labels = len(shown) <= MOST_LABELS
+    longest = max((len(names[member]) for member in shown), default=0) if has_labels else 0
+    radius = 150 if longest > LONG_NAME else 200
+    points = {member: Point(radius * math.sin(turn), -radius * math.cos(turn)) for member, turn in turns.items()}
     greatest = sorted(network.items(), key=lambda row: row[1], reverse=True)[:MOST_LINES]
     is_arrow = len(greatest) <= MOST_ARROWS
     opacity = 0.7 if is_arrow else max(0.08, 0.5 * MOST_ARROWS / len(greatest))
     lines = [line(pair, 0.6 + 4 * amount / most, points, is_arrow) for pair, amount in greatest]
     size = 17 if len(shown) <= MOST_LABELS / 2 else 14
-    has_labels = len(shown) <= MOST_LABELS
     dots = [
         tag("circle", tag("title", names[member]), cx=f"{x:.1f}", cy=f"{y:.1f}", r=6 if has_labels else 3)
         for member, (x, y) in points.items()
     ]
     labels = [label(names[member], points[member], turns[member], size) for member in shown] if has_labels else []
-    longest = max((len(names[member]) for member in shown), default=0) if has_labels else 0
-    half = round(RADIUS + 20 + LETTER * size * longest)
+    half = round(radius + 20 + LETTER * size * longest)
     return tag(
         "svg",
         arrow_head(),
-        tag("g", *lines, class_="lines", opacity=f"{opacity:.2f}"),
+        tag("g", *lines, class_="lines", stroke_opacity=f"{opacity:.2f}"),
         tag("g", *dots),
         tag("g", *labels),
         viewBox=f"{-half} {-half} {2 * half} {2 * half}",

@@ -217,6 +217,27 @@ class Figures(InFolder):
                 )
 
 
+    def test_the_trades_that_the_programs_plan_leaves(self) -> None:
+        """A whole day of the market: what its execution ended, cut and made."""
+        built = program()
+        files = [EXAMPLES / "market" / name for name in ("roster.csv", "trades.csv")]
+        proposal = self.folder / "proposal"
+        proposal.write_bytes(run([built, "solve", *files, "hybrid"]).output)
+        day = (EXAMPLES / "market/day.session").read_bytes()
+        ran = run([built, "script", files[0], self.folder / "journal"], day)
+        (told,) = re.findall(rb"executed 1 1 (\d+) \d+ (\d+)", ran.output)
+        compression = compression_of(str(files[0]), str(files[1]), str(proposal))
+        before, after = compression.groups[0].total()
+        self.assertEqual((before.trades, after.trades), (3000, 3000 - int(told[0]) + int(told[1])))
+        self.assertEqual(compression.mode, "hybrid")
+        replay = self.folder / "after"
+        replay.write_bytes(run([built, "replay", files[0], self.folder / "journal"]).output)
+        (self.folder / "before").write_bytes(run([built, "replay", files[0], self.folder / "none"]).output)
+        replayed = replays_compared(str(files[0]), str(self.folder / "before"), str(replay))
+        self.assertEqual(replayed.groups[0].total()[1], after)
+        self.assertEqual([it.cycle for it in replayed.executions], [1])
+
+
 class Pages(InFolder):
     def setUp(self) -> None:
         super().setUp()
