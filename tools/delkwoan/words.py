@@ -26,6 +26,10 @@ class Words(argparse.ArgumentParser):
             self.usage = ("\n" + " " * (WIDTH - 1)).join(f"{name} {form}" for form in forms)
         self.add_argument("--version", action="version", version=f"{name} {__version__}", help="show the version and exit")
 
+    def own(self) -> list[argparse.Action]:
+        """The options and the plain words, but the options that every tool has."""
+        return [action for action in self._actions if action.dest not in ("help", "version")]
+
     def error(self, message: str) -> NoReturn:
         raise BAD_WORDS
 
