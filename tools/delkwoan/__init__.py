@@ -3,8 +3,9 @@
     delkwoan.session      a session with the program or with a service
     delkwoan.replies      its answers as values
     delkwoan.checker      the second checker of proposals, which shares nothing with the rest
-    delkwoan.records      the changes that a journal keeps, as values
-    delkwoan.figures      the figures of a compression
+    delkwoan.changes      the changes that a journal keeps, as values
+    delkwoan.records      how a journal's bytes spell them
+    delkwoan.compressions a compression's figures from its files
 """
 
 __version__ = "0.1"

@@ -8,7 +8,10 @@ from .words import Words, text
 
 
 def words() -> Words:
-    parser = Words("compress-check-proposal", "Tells whether a proposal is right for the market of a trade file. It shares nothing with the program.")
+    parser = Words(
+        "compress-check-proposal",
+        "Tells whether a proposal is right for the market of a trade file. It shares nothing with the program.",
+    )
     parser.add_argument("roster", metavar="ROSTER", type=text, help="the members, the products and the operator")
     parser.add_argument("trades", metavar="TRADES", type=text, help="live trades")
     parser.add_argument("mode", metavar="MODE", choices=checker.MODES, help="conservative, hybrid or free")

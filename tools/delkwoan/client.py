@@ -17,8 +17,9 @@ from . import replies
 from .about import about_of
 from .address import named_address
 from .ending import Stop, read_file, run
+from .names import Names
 from .session import Session
-from .shell import Names, Prompt, Shell
+from .shell import Prompt, Shell
 from .words import Once, Words, flag, plain
 
 MOST_ROSTER_BYTES = 67_108_865
@@ -27,7 +28,8 @@ PROGRAM = "compress_cli"
 
 def found_program() -> str:
     """The program that COMPRESS_CLI names, the one beside this tool, the one of this clone, or the one on the path."""
-    beside = [Path(sys.argv[0]).resolve().parent / PROGRAM, Path(__file__).resolve().parents[2] / "crates" / PROGRAM / "out" / PROGRAM]
+    built = Path(__file__).resolve().parents[2] / "crates" / PROGRAM / "out" / PROGRAM
+    beside = [Path(sys.argv[0]).resolve().parent / PROGRAM, built]
     named = [os.environ.get("COMPRESS_CLI", ""), *map(str, beside), shutil.which(PROGRAM) or ""]
     for name in named:
         if name and os.access(name, os.X_OK):
@@ -38,15 +40,19 @@ def found_program() -> str:
 def words() -> Words:
     parser = Words(
         "compress-client",
-        "A session with a script of its own, or with a service: lines in, replies in columns. `help` shows the lines, `quit` ends.",
+        "A session with a script of its own, or with a service: lines in, replies in columns. "
+        "`help` shows the lines, `quit` ends.",
         ["[--raw] [--about FILE] [--program FILE] ROSTER JOURNAL", "[--raw] [--about FILE] --connect HOST:PORT ROSTER"],
     )
     flag(parser, "--raw", "show each reply as its bytes")
-    parser.add_argument("--about", metavar="FILE", action=Once, help="what is told about the roster's names, as their LEIs; ROSTER.about.csv where it is absent")
+    about = "what is told about the roster's names, as their LEIs; ROSTER.about.csv where it is absent"
+    parser.add_argument("--about", metavar="FILE", action=Once, help=about)
     parser.add_argument("--program", metavar="FILE", action=Once, help="the program whose script is the other side")
-    parser.add_argument("--connect", metavar="HOST:PORT", action=Once, type=named_address, help="where a service listens that is the other side")
+    service = "where a service listens that is the other side"
+    parser.add_argument("--connect", metavar="HOST:PORT", action=Once, type=named_address, help=service)
     parser.add_argument("roster", metavar="ROSTER", type=plain, help="the members, the products and the operator")
-    parser.add_argument("journal", metavar="JOURNAL", type=plain, nargs="?", help="the file of the script's journal; it is made where there is none")
+    journal = "the file of the script's journal; it is made where there is none"
+    parser.add_argument("journal", metavar="JOURNAL", type=plain, nargs="?", help=journal)
     return parser
 
 

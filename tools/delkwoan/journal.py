@@ -6,8 +6,9 @@ from docs/FORMATS.md, "The journal's file" and "Records"; whether the machine ac
 
 from typing import NamedTuple, NoReturn
 
+from .changes import rows_of
 from .ending import Stop, read_file, run
-from .records import BadField, record_of, rows_of
+from .records import BadField, record_of
 from .words import Words, plain
 
 HEADER = b"OTCJRNL1"
@@ -70,7 +71,10 @@ def inspect(file: bytes) -> None:
 
 
 def words() -> Words:
-    parser = Words("compress-journal", "Prints each record of a journal in words, and where and by which rule it is damaged. It never writes to the file.")
+    parser = Words(
+        "compress-journal",
+        "Prints each record of a journal in words, and where and by which rule it is damaged. It never writes to the file.",
+    )
     parser.add_argument("file", metavar="FILE", type=plain, help="the journal")
     return parser
 

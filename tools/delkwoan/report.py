@@ -10,8 +10,9 @@ from pathlib import Path
 from typing import NoReturn
 
 from . import checker
+from .compressions import compression_of, replays_compared
 from .ending import Stop, run, write_file
-from .figures import Compression, Product, compression_of, replays_compared, rows_of
+from .figures import Compression, Product, rows_of
 from .page import Source, page_of
 from .words import Once, Words, flag, plain
 
@@ -19,16 +20,20 @@ from .words import Once, Words, flag, plain
 def words() -> Words:
     parser = Words(
         "compress-report",
-        "Writes OUTPUT.html, one page with the figures and charts of a compression, and OUTPUT.csv with the same figures. It does not check the proposal.",
+        "Writes OUTPUT.html, one page with the figures and charts of a compression, and OUTPUT.csv with the same figures. "
+        "It does not check the proposal.",
         [
             "[--product NAME] [--mode MODE] [--about FILE] ROSTER TRADES PROPOSAL OUTPUT",
             "--replay [--product NAME] [--mode MODE] [--about FILE] ROSTER BEFORE AFTER OUTPUT",
         ],
     )
-    parser.add_argument("--product", metavar="NAME", action=Once, help="the product whose network is shown; the one whose gross falls most where it is absent")
+    product = "the product whose network is shown; the one whose gross falls most where it is absent"
+    parser.add_argument("--product", metavar="NAME", action=Once, help=product)
     flag(parser, "--replay", "compare two texts of `compress_cli replay`, from before a cycle and from after it")
-    parser.add_argument("--mode", metavar="MODE", action=Once, choices=checker.MODES, help="the mode that was asked for, which no file tells: conservative, hybrid or free")
-    parser.add_argument("--about", metavar="FILE", action=Once, help="what is told about the roster's names, as LEIs and currencies; ROSTER.about.csv where it is absent")
+    mode = "the mode that was asked for, which no file tells: conservative, hybrid or free"
+    parser.add_argument("--mode", metavar="MODE", action=Once, choices=checker.MODES, help=mode)
+    about = "what is told about the roster's names, as LEIs and currencies; ROSTER.about.csv where it is absent"
+    parser.add_argument("--about", metavar="FILE", action=Once, help=about)
     parser.add_argument("roster", metavar="ROSTER", type=plain, help="the members, the products and the operator")
     parser.add_argument("old", metavar="TRADES", type=plain, help="the trades, or, by --replay, the text from before")
     parser.add_argument("new", metavar="PROPOSAL", type=plain, help="the proposal, or, by --replay, the text from after")

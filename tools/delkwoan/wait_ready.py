@@ -82,10 +82,15 @@ def answered(address: Address, seats: int, end: float) -> int:
 
 
 def words() -> Words:
-    parser = Words("compress-wait-ready", "Ends with 0 once a service takes a connection, or with 1 where none was taken in time. It sends nothing.")
-    parser.add_argument("--seats", metavar="N", type=seats_of, default=0, help="wait until N connections at once are each answered, and tell how many were where not all are; from 1 to 64")
+    parser = Words(
+        "compress-wait-ready",
+        "Ends with 0 once a service takes a connection, or with 1 where none was taken in time. Without --seats it sends nothing.",
+    )
+    seats = "send an empty line over each of N connections at once, and end once each is answered, or tell how many were; 1 to 64"
+    parser.add_argument("--seats", metavar="N", type=seats_of, default=0, help=seats)
     parser.add_argument("address", metavar="HOST:PORT", type=named_address, help="where the service listens")
-    parser.add_argument("seconds", metavar="SECONDS", type=seconds_of, nargs="?", default=10.0, help="how long to wait; 10 where it is absent")
+    seconds = "how long to wait; 10 where it is absent"
+    parser.add_argument("seconds", metavar="SECONDS", type=seconds_of, nargs="?", default=10.0, help=seconds)
     return parser
 
 

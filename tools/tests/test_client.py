@@ -15,9 +15,9 @@ from running import EXAMPLES, TOOLS, Ran, program, sessions
 sys.path.insert(0, str(TOOLS))
 
 from delkwoan import replies
+from delkwoan.names import COMMANDS, Names, completions
 from delkwoan.replies import BadReply, Refused, answer_of, count_of
 from delkwoan.session import LinkClosed, Session
-from delkwoan.shell import COMMANDS, Names, completions
 
 CLIENT = TOOLS / "client"
 FAKE = TOOLS / "tests/fake_program.py"

@@ -3,7 +3,6 @@
 import csv
 import io
 import re
-import subprocess
 import sys
 import tempfile
 import unittest
@@ -14,8 +13,9 @@ from running import EXAMPLES, TOOLS, Ran, program, run
 
 sys.path.insert(0, str(TOOLS))
 
+from delkwoan.compressions import compression_of, replays_compared
 from delkwoan.ending import Stop
-from delkwoan.figures import Between, Compression, Member, Share, Sums, compression_of, replays_compared, rows_of, trades_after
+from delkwoan.figures import Between, Compression, Member, Share, Sums, rows_of, trades_after
 from delkwoan.replayed import Execution
 
 REPORT = TOOLS / "report"
