@@ -62,7 +62,7 @@ def kept_by(told: bytes) -> list[Kept]:
 class InService(unittest.TestCase):
     """Tests with a folder of their own, and a service in it from `start` on, which ends with the test."""
 
-    program: Path
+    program: str | Path
 
     @classmethod
     def setUpClass(cls) -> None:

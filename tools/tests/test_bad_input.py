@@ -9,7 +9,6 @@ import struct
 import sys
 import time
 import unittest
-from pathlib import Path
 from typing import NamedTuple
 
 from running import TOOLS, Ran, run
@@ -249,7 +248,7 @@ class BadInput(InService):
     def test_what_is_no_address(self) -> None:
         for address in NO_ADDRESSES:
             with self.subTest(address=address):
-                words: list[str | Path] = [self.program, "serve", ROSTER, self.folder / "other", address]
+                words = [self.program, "serve", ROSTER, self.folder / "other", address]
                 self.assertEqual(run(words), Ran(10, b"", b"listener fault\n"))
         self.assertEqual(self.records(self.folder / "other"), [])
         self.assert_all_are_served()

@@ -289,13 +289,13 @@ class UnitServes(InService):
         self.assertEqual(run([PACKAGING / "generate", "--prefix", root, made]), Ran(0, b"", b""))
         unit = made / "delkwoan.service"
         (defaults,) = settings_of(unit, "Environment")
-        values = dict(setting.split("=", 1) for setting in defaults.split())
-        values |= {"CREDENTIALS_DIRECTORY": str(credentials), "STATE_DIRECTORY": str(state), "ADDRESS": self.address}
-        values |= {"SEATS": "2", "IDLE": "3"}
+        values: dict[str, object] = {**dict(setting.split("=", 1) for setting in defaults.split())}
+        values |= {"CREDENTIALS_DIRECTORY": credentials, "STATE_DIRECTORY": state, "ADDRESS": self.address}
+        values |= {"SEATS": 2, "IDLE": 3}
 
         def commands(name: str) -> list[list[str]]:
             lines = [line.removeprefix("-").split() for line in settings_of(unit, name)]
-            return [[re.sub(r"\$\{(\w+)\}", lambda found: values[str(found[1])], word) for word in line] for line in lines]
+            return [[re.sub(r"\$\{(\w+)\}", lambda found: str(values[str(found[1])]), word) for word in line] for line in lines]
 
         (start,) = commands("ExecStart")
         self.service = subprocess.Popen(start, stdout=subprocess.PIPE, stderr=subprocess.PIPE)

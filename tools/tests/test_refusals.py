@@ -188,7 +188,7 @@ class RefusedMemory(Refused):
     def with_refusal(self, number: int) -> Ran:
         """A script over a new journal, whose request for memory with this number is refused."""
         environ = {**os.environ, "LD_PRELOAD": str(self.library), "REFUSE_MEMORY": str(number)}
-        words: list[str | Path] = [self.program, "script", ROSTER, self.folder / f"journal{number}"]
+        words = [self.program, "script", ROSTER, self.folder / f"journal{number}"]
         done = subprocess.run(words, input=LINES, env=environ, capture_output=True, timeout=60)
         return Ran(done.returncode, done.stdout, done.stderr)
 

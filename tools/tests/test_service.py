@@ -158,7 +158,7 @@ class Service(InService):
     def test_what_is_in_use(self) -> None:
         """A journal that a service has is nobody else's, and neither is its address."""
         self.start()
-        script: list[str | Path] = [self.program, "script", ROSTER, self.journal]
+        script = [self.program, "script", ROSTER, self.journal]
         self.assertEqual(run(script, b"HELLO A KA\n"), Ran(6, b"", b"disk fault\n"))
         self.assertEqual(run(self.words(self.folder / "other")), Ran(10, b"", b"listener fault\n"))
         self.port = free_port()
