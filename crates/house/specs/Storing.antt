@@ -44,7 +44,7 @@ pub record StandsBetween (least most : ℕ) (h : History) (image : List ℕ) : T
   pub short : length front ≤ most
   pub stands : StandsFor image (record h { entries = front })
 
--- A crash never goes back behind an earlier one. Each moment from one number on has a length, which never falls, from that at the
+-- What every image of one moment has, every image of a later moment has. Each moment from one number on has a length, which never falls, from that at the
 -- opening to how many changes were made. What a crash at the moment leaves stands for a front of all of that length, or of one change
 -- more. At each moment but the last a crash may leave no more than that length.
 pub record NeverGoesBack (since opening made : ℕ) (now : disks.History) (all : History) : Type 0 where
