@@ -2,10 +2,10 @@
 
 ghost use Rattle.std.specs.Prelude.{◌≡◌, List, [], ◌∷◌};
 ghost use Rattle.command_types.specs.declared.trade.TradeState.TheVariants.{Live, Ended};
+ghost use Rattle.command_types.specs.History.{end_of, longer};
 ghost use Rattle.command_types.specs.Folds.{folded};
-ghost use Rattle.command_types.specs.History.{end_of};
 ghost use Rattle.trade_history.specs.Book.{executions_of};
-ghost use Rattle.trade_history.specs.Examples.{ring_compressed, ring_waiting, ring_with_later_trade, ring_broken, ring_declined, chain_unchanged, chain_compressed, lines_of};
+ghost use Rattle.trade_history.specs.Examples.{ring_compressed, pair_in_cycle_2, ring_waiting, ring_with_later_trade, ring_broken, ring_declined, chain_unchanged, chain_compressed, lines_of};
 
 use std::test::Fail;
 use trade_history::{
@@ -29,6 +29,22 @@ fn a_fold_keeps_the_trades_and_no_execution()
     ensures place { end_of (folded ring_compressed) ≡ 12 }
     ensures executions { executions_of (folded ring_compressed) ≡ [] }
     ensures trades { lines_of (folded ring_compressed) ≡ lines_of ring_compressed }
+{}
+
+// Two trades and the second cycle, behind the fold and behind the whole history.
+fn changes_behind_a_fold_execute_as_behind_the_history()
+    ensures execution { executions_of (longer (folded ring_compressed) pair_in_cycle_2) ≡ record { position = 21; cycle = 2; version = 1; ended = 2; cut = 0; made = 0 } ∷ [] }
+    ensures whole { executions_of (longer ring_compressed pair_in_cycle_2) ≡
+        record { position = 12; cycle = 1; version = 1; ended = 3; cut = 0; made = 0 }
+        ∷ record { position = 21; cycle = 2; version = 1; ended = 2; cut = 0; made = 0 }
+        ∷ [] }
+    ensures trades { lines_of (longer (folded ring_compressed) pair_in_cycle_2) ≡
+        record { number = 1; seller = 0; buyer = 1; amount = 10; state = Ended }
+        ∷ record { number = 2; seller = 1; buyer = 2; amount = 10; state = Ended }
+        ∷ record { number = 3; seller = 2; buyer = 0; amount = 10; state = Ended }
+        ∷ record { number = 4; seller = 0; buyer = 1; amount = 10; state = Ended }
+        ∷ record { number = 5; seller = 1; buyer = 0; amount = 10; state = Ended }
+        ∷ [] }
 {}
 
 fn a_missing_vote_executes_nothing()
@@ -79,6 +95,7 @@ fn a_plan_cuts_ends_and_makes()
 fn small_histories_execute_as_written(_rt: HostRuntime) -> Result<(), Fail> {
     the_last_vote_executes();
     a_fold_keeps_the_trades_and_no_execution();
+    changes_behind_a_fold_execute_as_behind_the_history();
     a_missing_vote_executes_nothing();
     a_later_trade_stays();
     an_ended_trade_stops_the_execution();

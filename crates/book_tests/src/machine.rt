@@ -3,6 +3,7 @@
 
 pub mod answers;
 pub mod commands;
+mod rests;
 mod starts;
 mod unsaid;
 pub mod words;

@@ -54,7 +54,8 @@ fn product() -> Result<ProductRow, AllocError>
 
 /// Dealers A, B and C with the keys KA, KB and KC, the operator OPS with KO, and the product P.
 pub fn three_dealers(alloc: Global) -> Result<Roster, AllocError>
-    ensures { IfOk result (λ roster. length roster.members ≡ 3) }
+    ensures members { IfOk result (λ roster. length roster.members ≡ 3) }
+    ensures products { IfOk result (λ roster. length roster.products ≡ 1) }
 {
     let a = member(named(b"A"), Role::Dealer, named(b"KA"));
     let b = member(named(b"B"), Role::Dealer, named(b"KB"));

@@ -1,10 +1,8 @@
 //! The book's sums and networks beside those of a plain list of trades, after each of many random commands.
 
 ghost use Rattle.std.specs.Prelude.{◌≡◌, ◌<◌, ◌≤◌};
-ghost use Rattle.command_types.specs.Trades.{trade_numbered};
-ghost use Rattle.product_book.specs.Book.{may_affirm, may_end};
 
-use super::amount;
+use super::{amount, can_end, is_alleged};
 use command_types::{Side, TradeState};
 use product_book::{Book, Which};
 use std::alloc::{AllocError, Global};
@@ -31,24 +29,6 @@ fn roll(seed: &mut u64, below: u64) -> u64
         .wrapping_mul(6364136223846793005)
         .wrapping_add(1442695040888963407);
     (*seed >> 33) % below
-}
-
-fn is_alleged(book: &Book, trade: u64) -> bool
-    ensures { result ≡ may_affirm (trade_numbered book.now.rows trade) }
-{
-    match book.get(trade) {
-        Some(row) => row.state == TradeState::Alleged,
-        None => false,
-    }
-}
-
-fn can_end(book: &Book, trade: u64, side: Side) -> bool
-    ensures { result ≡ may_end side (trade_numbered book.now.rows trade) }
-{
-    match book.get(trade) {
-        Some(row) => row.state != TradeState::Ended && row.mark != Some(side),
-        None => false,
-    }
 }
 
 // A trade of four members in two products.

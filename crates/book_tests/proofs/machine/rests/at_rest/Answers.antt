@@ -1,0 +1,7 @@
+use Rattle.std.proofs.Common.{sym, subst, ◌≤◌}
+use Rattle.command_types.specs.Trades.{gross_of}
+use Rattle.product_book.specs.Book.{gross_limit}
+use Rattle.book_tests.proofs.machine.rests.at_rest.Goals as goal
+
+pub at_rest-requires-clause-bounded : goal.at_rest-requires-clause-bounded
+at_rest-requires-clause-bounded c = λ product. subst (λ rows. gross_of product rows ≤ gross_limit) (sym c.rows.ensures.rows) (c.rows.ensures.bounded product)
