@@ -109,6 +109,20 @@ class ByHand(Folder):
             names = [str(EXAMPLES / f"{market}-{name}") for name in ("roster.csv", "trades.csv", "proposal.txt")]
             self.assertEqual(self.check(*names[:2], mode, names[2]), Ran(status, answer, b""))
 
+    def test_example_of_the_theory(self) -> None:
+        """The answers that docs/THEORY.md shows."""
+        market = [str(EXAMPLES / f"theory-{name}.csv") for name in ("roster", "trades")]
+        for mode, proposal, status, answer in [
+            ("conservative", "conservative", 0, b"yes\n"),
+            ("hybrid", "hybrid", 0, b"yes\n"),
+            ("free", "free", 0, b"yes\n"),
+            ("hybrid", "conservative", 1, b"no P open A C\n"),
+            ("conservative", "hybrid", 1, b"no P above A C\n"),
+        ]:
+            with self.subTest(mode=mode, proposal=proposal):
+                text = str(EXAMPLES / f"theory-{proposal}.txt")
+                self.assertEqual(self.check(*market, mode, text), Ran(status, answer, b""))
+
     def test_length(self) -> None:
         """An auditor reads one short file, which stands on Python's library alone."""
         text = (TOOLS / "delkwoan/checker.py").read_text()
