@@ -1,6 +1,7 @@
 """The second checker: by cases worked out by hand, and beside the program to the byte."""
 
 import os
+import re
 import subprocess
 import tempfile
 import unittest
@@ -8,11 +9,21 @@ from pathlib import Path
 
 import faulty_files as files
 from markets import Market, changed, market
-from running import EXAMPLES, TOOLS, Ran, program, run
+from running import EXAMPLES, ROOT, TOOLS, Ran, program, run
 
 CHECKER = TOOLS / "check_proposal"
 MARKETS = 3
 """How many markets are solved, and their proposals made wrong in each way."""
+
+
+def checks_of_the_theory() -> list[tuple[list[str], Ran]]:
+    """The words of each check that docs/THEORY.md shows, and what it says is answered."""
+    shown = re.findall(r"^\$ compress_cli check (.+)\n(.+\n)", (ROOT / "docs/THEORY.md").read_text(), re.M)
+    checks = []
+    for words, answer in shown:
+        found = [str(ROOT / word) if "/" in word else word for word in words.split()]
+        checks.append((found, Ran(0 if answer == "yes\n" else 1, answer.encode(), b"")))
+    return checks
 
 
 def line(text: bytes) -> bytes:
@@ -110,18 +121,11 @@ class ByHand(Folder):
             self.assertEqual(self.check(*names[:2], mode, names[2]), Ran(status, answer, b""))
 
     def test_example_of_the_theory(self) -> None:
-        """The answers that docs/THEORY.md shows."""
-        market = [str(EXAMPLES / f"theory-{name}.csv") for name in ("roster", "trades")]
-        for mode, proposal, status, answer in [
-            ("conservative", "conservative", 0, b"yes\n"),
-            ("hybrid", "hybrid", 0, b"yes\n"),
-            ("free", "free", 0, b"yes\n"),
-            ("hybrid", "conservative", 1, b"no P open A C\n"),
-            ("conservative", "hybrid", 1, b"no P above A C\n"),
-        ]:
-            with self.subTest(mode=mode, proposal=proposal):
-                text = str(EXAMPLES / f"theory-{proposal}.txt")
-                self.assertEqual(self.check(*market, mode, text), Ran(status, answer, b""))
+        checks = checks_of_the_theory()
+        self.assertEqual([answer.status for _, answer in checks], [0, 0, 0, 1, 1])
+        for words, answer in checks:
+            with self.subTest(words=words[2:]):
+                self.assertEqual(self.check(*words), answer)
 
     def test_length(self) -> None:
         """An auditor reads one short file, which stands on Python's library alone."""
@@ -139,6 +143,11 @@ class BesideTheProgram(Folder):
         theirs = run([self.program, "check", *words], folder=self.folder)
         self.assertEqual(self.check(*words), theirs)
         return theirs
+
+    def test_example_of_the_theory(self) -> None:
+        for words, answer in checks_of_the_theory():
+            with self.subTest(words=words[2:]):
+                self.assertEqual(self.assert_same(*words), answer)
 
     def test_solved_markets_and_their_wrong_proposals(self) -> None:
         told: dict[int, int] = {}
