@@ -100,7 +100,7 @@ sync_failed (Some h) b c place bytes settled wrote same =
     subst (λ (o : Option History). LeavesOnly (Some h) o (IsTorn place (length bytes) h.content)) (sym (same ∙ wrote)) (after_change h settled place (length bytes) (overwritten place bytes h.content))
 
 -- a write that was done is one that was not broken off
-torn_done : (place : ℕ) (bytes old : List ℕ) → place ≤ length old → IsTorn place (length bytes) old (overwritten place bytes old)
+pub torn_done : (place : ℕ) (bytes old : List ℕ) → place ≤ length old → IsTorn place (length bytes) old (overwritten place bytes old)
 torn_done place bytes old le =
     let rest = drop (place + length bytes) old in
     let size : length (take place old) ≡ place = length-take-le place old le in

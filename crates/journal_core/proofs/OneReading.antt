@@ -1,26 +1,29 @@
--- A file has one reading: it holds one list of records, or it is damaged at one place.
-use Rattle.std.proofs.Common.{◌≡◌, ◌≢◌, ◌⊎◌, inl, inr, ℕ, ◌+◌, ◌≤◌, ◌<◌, ◌^◌, List, [], ◌∷◌, ◌++◌, length, take, drop, get_or, Option, Some, None, refl, subst, sym, ◌∙◌, ap, arith, append_assoc, length-append}
+-- A file has one reading: it holds one base and one list of records, or it is damaged at one place.
+use Rattle.std.proofs.Common.{◌≡◌, ◌≢◌, ◌⊎◌, inl, inr, ℕ, ◌+◌, ◌≤◌, ◌<◌, ◌^◌, List, [], ◌∷◌, ◌++◌, length, take, drop, get_or, refl, subst, sym, ◌∙◌, ap, arith, append_assoc, length-append}
 use Rattle.std.proofs.Math.Seq.{take-append_seam, drop-append_seam}
-use Rattle.std.specs.Int.{w32, to_le_bytes}
+use Rattle.std.proofs.lemmas.Nat.{from_le_bytes-to_le_bytes_4, from_le_bytes-to_le_bytes_8}
+use Rattle.std.specs.Int.{w32, w64, to_le_bytes, from_le_bytes}
 use Rattle.std.specs.List.{flat_map}
-use Rattle.journal_core.specs.Holds.{header, limit, frame, front, IsJournal, Holds}
-use Rattle.outside.specs.Disk.{History}
+use Rattle.journal_core.specs.Holds.{plain_header, slots_header, limit, bytes_at, frame, slot_place, Selects, HasSlots, LeadsTo, Holds}
 use Rattle.journal_core.specs.Records.{AreAhead, IsNext}
-use Rattle.journal_core.specs.Walk.{NamesNoRecord, bytes_of, IsWalked, IsDamaged, IsFault, IsOnlyFault, FindsRecords, FindsFault, EndsAt}
-use Rattle.journal_core.specs.declared.walked.Walked.{Walked}
+use Rattle.journal_core.specs.Walk.{NamesNoRecord, NamesOffset, IsDamaged, IsFault, IsOnlyFault}
+use Rattle.journal_core.specs.declared.form.Form.{Form}
+use Rattle.journal_core.specs.declared.form.Form.TheVariants.{Short, Plain, SlotsShort, Slots}
 use Rattle.journal_core.specs.declared.walked.WalkFault.{WalkFault}
 use Rattle.journal_core.specs.declared.walked.WalkFault.TheVariants.{Damaged, DiskFault, Memory}
-use Rattle.journal_core.proofs.JournalFacts.{length-frame}
-use Rattle.journal_core.proofs.WalkFacts.{same_size, holds_all, fault_all, IsPiece}
+use Rattle.journal_core.proofs.PartFacts.{length-frame, take_front, other_header}
 
-abbrev frames : List (List ℕ) → List ℕ
+pub same_size : (m n : ℕ) → m < 2 ^ 32 → n < 2 ^ 32 → to_le_bytes w32 m ≡ to_le_bytes w32 n → m ≡ n
+same_size m n small small' is = sym (from_le_bytes-to_le_bytes_4 m small) ∙ ap (from_le_bytes w32) is ∙ from_le_bytes-to_le_bytes_4 n small'
+
+same_offset : (m n : ℕ) → m < 2 ^ 64 → n < 2 ^ 64 → to_le_bytes w64 m ≡ to_le_bytes w64 n → m ≡ n
+same_offset m n small small' is = sym (from_le_bytes-to_le_bytes_8 m small) ∙ ap (from_le_bytes w64) is ∙ from_le_bytes-to_le_bytes_8 n small'
+
+abbrev pub frames : List (List ℕ) → List ℕ
 frames records = flat_map frame records
 
 frames_size : (bytes : List ℕ) (records : List (List ℕ)) → length (frames (bytes ∷ records)) ≡ 5 + length bytes + length (frames records)
 frames_size bytes records = omega (arith, length-append (frame bytes) (frames records), length-frame bytes)
-
-front_size : (records : List (List ℕ)) → length (front records) ≡ 8 + length (frames records)
-front_size records = omega arith
 
 -- Two frames with something behind them are the same bytes.
 module _ (a b x y : List ℕ) (small : length a < 2 ^ 32) (small' : length b < 2 ^ 32) (is : frame a ++ x ≡ frame b ++ y) where
@@ -69,87 +72,142 @@ compared (a ∷ rs) (b ∷ ss) t u small small' is =
     one_more a b rs ss t u (same_bytes a b (frames rs ++ t) (frames ss ++ u) short short' both)
     (compared rs ss t u (omega (arith, small, frames_size a rs)) (omega (arith, small', frames_size b ss)) (same_rest a b (frames rs ++ t) (frames ss ++ u) short short' both))
 
--- the same behind the header
-fronts_compared : (rs ss : List (List ℕ)) (t u : List ℕ) → length (front rs) < limit → length (front ss) < limit → front rs ++ t ≡ front ss ++ u → Compared rs ss t u
-fronts_compared rs ss t u small small' is =
-    let both : header ++ (frames rs ++ t) ≡ header ++ (frames ss ++ u) = sym (append_assoc header (frames rs) t) ∙ is ∙ append_assoc header (frames ss) u in
-    compared rs ss t u (omega (arith, small, front_size rs)) (omega (arith, small', front_size ss))
-    (sym (drop-append_seam header (frames rs ++ t)) ∙ ap (λ (l : List ℕ). drop (length header) l) both ∙ drop-append_seam header (frames ss ++ u))
+-- ---- what stands before the first gate
+
+same_selected : (v w m n : ℕ) → v ≡ w → Selects v m → Selects w n → m ≡ n
+same_selected v w m n is (inl a) (inl b) = a.1 ∙ sym b.1
+same_selected v w m n is (inl a) (inr b) = absurd (b.0 (sym is ∙ a.0))
+same_selected v w m n is (inr a) (inl b) = absurd (a.0 (is ∙ b.0))
+same_selected v w m n is (inr a) (inr b) = a.1 ∙ sym b.1
+
+same_slot : (file : List ℕ) (v w m n o p : ℕ) → bytes_at 8 1 file ≡ v ∷ [] → bytes_at 8 1 file ≡ w ∷ [] → Selects v m → Selects w n
+    → bytes_at (slot_place m) 8 file ≡ to_le_bytes w64 o → bytes_at (slot_place n) 8 file ≡ to_le_bytes w64 p → o < 2 ^ 64 → p < 2 ^ 64 → (m ≡ n) × (o ≡ p)
+same_slot file v w m n o p v_is w_is selects selects' slot slot' small small' =
+    let same : v ≡ w = ap (λ (l : List ℕ). get_or l 0 0) (sym v_is ∙ w_is) in
+    let which : m ≡ n = same_selected v w m n same selects selects' in
+    (which, same_offset o p small small' (sym slot ∙ ap (λ (k : ℕ). bytes_at (slot_place k) 8 file) which ∙ slot'))
+
+pub same_base : (offset : ℕ) (file b c : List ℕ) → length b < 2 ^ 32 → length c < 2 ^ 32 → bytes_at offset (4 + length b) file ≡ to_le_bytes w32 (length b) ++ b
+    → bytes_at offset (4 + length c) file ≡ to_le_bytes w32 (length c) ++ c → b ≡ c
+same_base offset file b c small small' is is' =
+    let front : take 4 (drop offset file) ≡ to_le_bytes w32 (length b) =
+    sym (take_front 4 (4 + length b) (drop offset file) (omega arith)) ∙ ap (λ (l : List ℕ). take 4 l) is in
+    let front' : take 4 (drop offset file) ≡ to_le_bytes w32 (length c) =
+    sym (take_front 4 (4 + length c) (drop offset file) (omega arith)) ∙ ap (λ (l : List ℕ). take 4 l) is' in
+    let size : length b ≡ length c = same_size (length b) (length c) small small' (sym front ∙ front') in
+    ap (λ (l : List ℕ). drop 4 l) (sym is) ∙ ap (λ (n : ℕ). drop 4 (bytes_at offset (4 + n) file)) size ∙ ap (λ (l : List ℕ). drop 4 l) is'
+
+pub one_lead : (f g : Form) (file b c : List ℕ) (p q : ℕ) → p < limit → q < limit → LeadsTo f file b p → LeadsTo g file c q → (b ≡ c) × (p ≡ q)
+one_lead Short g file b c p q small small' leads leads' = absurd leads
+one_lead SlotsShort g file b c p q small small' leads leads' = absurd leads
+one_lead Plain Short file b c p q small small' leads leads' = absurd leads'
+one_lead Plain SlotsShort file b c p q small small' leads leads' = absurd leads'
+one_lead Plain Plain file b c p q small small' leads leads' = (leads.1 ∙ sym leads'.1, leads.2 ∙ sym leads'.2)
+one_lead Plain (Slots n o) file b c p q small small' leads leads' = absurd (other_header file leads.0 leads'.header)
+one_lead (Slots m o) Short file b c p q small small' leads leads' = absurd leads'
+one_lead (Slots m o) SlotsShort file b c p q small small' leads leads' = absurd leads'
+one_lead (Slots m o) Plain file b c p q small small' leads leads' = absurd (other_header file leads'.0 leads.header)
+one_lead (Slots m o) (Slots n r) file b c p q small small' leads leads' =
+    let low : o < 2 ^ 64 = omega (arith, small, leads.place_is) in
+    let low' : r < 2 ^ 64 = omega (arith, small', leads'.place_is) in
+    let slot = same_slot file leads.selector leads'.selector m n o r leads.selector_is leads'.selector_is leads.selects leads'.selects leads.slot leads'.slot low low' in
+    let few : length b < 2 ^ 32 = omega (arith, small, leads.place_is) in
+    let few' : length c < 2 ^ 32 = omega (arith, small', leads'.place_is) in
+    let base : b ≡ c = same_base o file b c few few' leads.based (ap (λ (k : ℕ). bytes_at k (4 + length c) file) slot.1 ∙ leads'.based) in
+    (base, omega (arith, leads.place_is, leads'.place_is, slot.1, ap length base))
+
+-- ---- what is held
 
 is_open : (gate : ℕ) (rest : List ℕ) (rs ss : List (List ℕ)) → GoesOn rs ss (gate ∷ rest) → gate ≡ 1
 is_open gate rest rs ss on = ap (λ (l : List ℕ). get_or l 0 0) on.split
 
-same_lists : (file : List ℕ) (rs ss : List (List ℕ)) (j : IsJournal file rs) (k : IsJournal file ss) → Compared rs ss (j.gate ∷ j.rest) (k.gate ∷ k.rest) → rs ≡ ss
-same_lists file rs ss j k (inl is) = is.0
-same_lists file rs ss j k (inr (inl on)) = absurd (j.closed (is_open j.gate j.rest rs ss on))
-same_lists file rs ss j k (inr (inr on)) = absurd (k.closed (is_open k.gate k.rest ss rs on))
+same_lists : (rs ss : List (List ℕ)) (gate shut : ℕ) (t u : List ℕ) → gate ≢ 1 → shut ≢ 1 → Compared rs ss (gate ∷ t) (shut ∷ u) → rs ≡ ss
+same_lists rs ss gate shut t u closed closed' (inl is) = is.0
+same_lists rs ss gate shut t u closed closed' (inr (inl on)) = absurd (closed (is_open gate t rs ss on))
+same_lists rs ss gate shut t u closed closed' (inr (inr on)) = absurd (closed' (is_open shut u ss rs on))
 
-pub one_list : (file : List ℕ) (rs ss : List (List ℕ)) → Holds file rs → Holds file ss → rs ≡ ss
-one_list file rs ss (inl a) (inl b) = a.1 ∙ sym b.1
-one_list file rs ss (inl a) (inr b) = absurd (omega (arith, a.0, b.0))
-one_list file rs ss (inr a) (inl b) = absurd (omega (arith, a.0, b.0))
-one_list file rs ss (inr a) (inr b) =
-    let j = a.1 in
-    let k = b.1 in
-    same_lists file rs ss j k (fronts_compared rs ss (j.gate ∷ j.rest) (k.gate ∷ k.rest) j.within k.within (sym j.split ∙ k.split))
+pub one_reading : (file b c : List ℕ) (rs ss : List (List ℕ)) → Holds file b rs → Holds file c ss → (b ≡ c) × (rs ≡ ss)
+one_reading file b c rs ss (inl x) (inl y) = (x.1 ∙ sym y.1, x.2 ∙ sym y.2)
+one_reading file b c rs ss (inl x) (inr y) = absurd (y.0 x.0)
+one_reading file b c rs ss (inr x) (inl y) = absurd (x.0 y.0)
+one_reading file b c rs ss (inr (long, (f, j))) (inr (long', (g, k))) =
+    let lead = one_lead f g file b c j.place k.place (omega (arith, j.within)) (omega (arith, k.within)) j.leads k.leads in
+    let both : frames rs ++ j.gate ∷ j.rest ≡ frames ss ++ k.gate ∷ k.rest = sym j.split ∙ ap (λ (n : ℕ). drop n file) lead.1 ∙ k.split in
+    (lead.0, same_lists rs ss j.gate k.gate j.rest k.rest j.closed k.closed (compared rs ss (j.gate ∷ j.rest) (k.gate ∷ k.rest) (omega (arith, j.within)) (omega (arith, k.within)) both))
+
+-- ---- one damage
 
 -- what an open gate needs behind it at a damaged place
 abbrev NoRecordFits : ℕ → List ℕ → Type 0
 NoRecordFits place tail = (bytes rest : List ℕ) → tail ≡ frame bytes ++ rest → limit ≤ place + (5 + length bytes)
 
-passes : (rs ss : List (List ℕ)) (t : List ℕ) (place : ℕ) → place ≡ length (front rs) → NoRecordFits place t → GoesOn rs ss t → limit ≤ length (front ss)
-passes rs ss t place here none on =
-    omega (arith, none on.bytes on.more on.split, on.within, here, front_size rs, front_size ss)
+passes : (rs ss : List (List ℕ)) (t : List ℕ) (from place : ℕ) → place ≡ from + length (frames rs) → NoRecordFits place t → GoesOn rs ss t → limit ≤ from + length (frames ss)
+passes rs ss t from place here none on = omega (arith, none on.bytes on.more on.split, on.within, here)
 
-clash : (file : List ℕ) (rs ss : List (List ℕ)) (tail : List ℕ) (place : ℕ) (j : IsJournal file rs) → place ≡ length (front ss) → ((gate : ℕ) (rest : List ℕ) → tail ≡ gate ∷ rest → gate ≡ 1) → NoRecordFits place tail
-    → Compared rs ss (j.gate ∷ j.rest) tail → ⊥
-clash file rs ss tail place j here gates none (inl is) = j.closed (gates j.gate j.rest (sym is.1))
-clash file rs ss tail place j here gates none (inr (inl on)) = j.closed (is_open j.gate j.rest rs ss on)
-clash file rs ss tail place j here gates none (inr (inr on)) = omega (arith, passes ss rs tail place here none on, j.within)
+clash : (rs ss : List (List ℕ)) (gate : ℕ) (t tail : List ℕ) (from place : ℕ) → gate ≢ 1 → from + length (frames rs) < limit → place ≡ from + length (frames ss)
+    → ((shut : ℕ) (rest : List ℕ) → tail ≡ shut ∷ rest → shut ≡ 1) → NoRecordFits place tail → Compared rs ss (gate ∷ t) tail → ⊥
+clash rs ss gate t tail from place closed within here gates none (inl is) = closed (gates gate t (sym is.1))
+clash rs ss gate t tail from place closed within here gates none (inr (inl on)) = closed (is_open gate t rs ss on)
+clash rs ss gate t tail from place closed within here gates none (inr (inr on)) = omega (arith, passes ss rs tail from place here none on, within)
 
-pub not_both : (file : List ℕ) (records : List (List ℕ)) (place : ℕ) → Holds file records → IsDamaged file place → ⊥
-not_both file records place (inl short) damaged = omega (arith, short.0, damaged.0)
-not_both file records place (inr j) (long, inl start) =
-    start.1 (frames records ++ j.1.gate ∷ j.1.rest) (j.1.split ∙ append_assoc header (frames records) (j.1.gate ∷ j.1.rest))
-not_both file records place (inr j) (long, inr d) =
-    clash file records d.0 d.1 place j.1 d.3 d.5 d.6
-    (fronts_compared records d.0 (j.1.gate ∷ j.1.rest) d.1 j.1.within (omega (arith, d.3, d.4)) (sym j.1.split ∙ d.2))
+-- a lead has one of the headers
+no_lead : (f : Form) (file b : List ℕ) (p : ℕ) → take 8 file ≢ plain_header → take 8 file ≢ slots_header → LeadsTo f file b p → ⊥
+no_lead Short file b p plain slots leads = leads
+no_lead Plain file b p plain slots leads = plain leads.0
+no_lead SlotsShort file b p plain slots leads = leads
+no_lead (Slots m o) file b p plain slots leads = slots leads.header
 
-same_places : (rs ss : List (List ℕ)) (t u : List ℕ) (p q : ℕ) → p ≡ length (front rs) → q ≡ length (front ss) → p < limit → q < limit → NoRecordFits p t → NoRecordFits q u → Compared rs ss t u → p ≡ q
-same_places rs ss t u p q here there small small' none none' (inl is) = here ∙ ap (λ (l : List (List ℕ)). length (front l)) is.0 ∙ sym there
-same_places rs ss t u p q here there small small' none none' (inr (inl on)) = absurd (omega (arith, passes rs ss t p here none on, there, small'))
-same_places rs ss t u p q here there small small' none none' (inr (inr on)) = absurd (omega (arith, passes ss rs u q there none' on, here, small))
+-- and none where the slot names no base
+no_base : (f : Form) (file b : List ℕ) (p place : ℕ) → p < limit → NamesOffset file place → ((which : ℕ) (base : List ℕ) (gate : ℕ) → HasSlots which place file base gate → limit ≤ gate) → LeadsTo f file b p → ⊥
+no_base Short file b p place small named none leads = leads
+no_base SlotsShort file b p place small named none leads = leads
+no_base Plain file b p place small named none leads = other_header file leads.0 named.header
+no_base (Slots m o) file b p place small named none leads =
+    let low : o < 2 ^ 64 = omega (arith, small, leads.place_is) in
+    let slot = same_slot file leads.selector named.selector m named.which o place leads.selector_is named.selector_is leads.selects named.selects leads.slot named.slot low named.small in
+    omega (arith, small, none m b p (subst (λ (k : ℕ). HasSlots m k file b p) slot.1 leads))
+
+pub not_both : (file b : List ℕ) (rs : List (List ℕ)) (place : ℕ) → Holds file b rs → IsDamaged file place → ⊥
+not_both file b rs place (inl short) damaged = damaged.0 short.0
+not_both file b rs place (inr (long, (f, j))) (_, inl d) = no_lead f file b j.place d.1 d.2 j.leads
+not_both file b rs place (inr (long, (f, j))) (_, inr (inl d)) = no_base f file b j.place place (omega (arith, j.within)) d.0 d.1 j.leads
+not_both file b rs place (inr (long, (f, j))) (_, inr (inr (g, c, gate, ss, tail, leads, split, here, small, gates, none))) =
+    let lead = one_lead f g file b c j.place gate (omega (arith, j.within)) (omega (arith, here, small)) j.leads leads in
+    let both : frames rs ++ j.gate ∷ j.rest ≡ frames ss ++ tail = sym j.split ∙ ap (λ (n : ℕ). drop n file) lead.1 ∙ split in
+    clash rs ss j.gate j.rest tail j.place place j.closed j.within (omega (arith, here, lead.1)) gates none
+    (compared rs ss (j.gate ∷ j.rest) tail (omega (arith, j.within)) (omega (arith, here, small)) both)
+
+same_places : (rs ss : List (List ℕ)) (t u : List ℕ) (from p q : ℕ) → p ≡ from + length (frames rs) → q ≡ from + length (frames ss) → p < limit → q < limit → NoRecordFits p t → NoRecordFits q u → Compared rs ss t u → p ≡ q
+same_places rs ss t u from p q here there small small' none none' (inl is) = here ∙ ap (λ (l : List (List ℕ)). from + length (frames l)) is.0 ∙ sym there
+same_places rs ss t u from p q here there small small' none none' (inr (inl on)) = absurd (omega (arith, passes rs ss t from p here none on, there, small'))
+same_places rs ss t u from p q here there small small' none none' (inr (inr on)) = absurd (omega (arith, passes ss rs u from q there none' on, here, small))
+
+no_named : (file : List ℕ) (place : ℕ) → take 8 file ≢ slots_header → NamesOffset file place → ⊥
+no_named file place none named = none named.header
 
 pub one_place : (file : List ℕ) (p q : ℕ) → IsDamaged file p → IsDamaged file q → p ≡ q
-one_place file p q (long, inl a) (long', inl b) = a.0 ∙ sym b.0
-one_place file p q (long, inl a) (long', inr d) = absurd (a.1 (frames d.0 ++ d.1) (d.2 ∙ append_assoc header (frames d.0) d.1))
-one_place file p q (long, inr d) (long', inl a) = absurd (a.1 (frames d.0 ++ d.1) (d.2 ∙ append_assoc header (frames d.0) d.1))
-one_place file p q (long, inr d) (long', inr e) =
-    same_places d.0 e.0 d.1 e.1 p q d.3 e.3 d.4 e.4 d.6 e.6
-    (fronts_compared d.0 e.0 d.1 e.1 (omega (arith, d.3, d.4)) (omega (arith, e.3, e.4)) (sym d.2 ∙ e.2))
+one_place file p q (_, inl a) (_, inl b) = a.0 ∙ sym b.0
+one_place file p q (_, inl a) (_, inr (inl b)) = absurd (no_named file q a.2 b.0)
+one_place file p q (_, inl a) (_, inr (inr (g, c, gate, ss, _, leads, _, _, _, _, _))) = absurd (no_lead g file c gate a.1 a.2 leads)
+one_place file p q (_, inr (inl a)) (_, inl b) = absurd (no_named file p b.2 a.0)
+one_place file p q (_, inr (inl a)) (_, inr (inl b)) =
+    (same_slot file a.0.selector b.0.selector a.0.which b.0.which p q a.0.selector_is b.0.selector_is a.0.selects b.0.selects a.0.slot b.0.slot a.0.small b.0.small).1
+one_place file p q (_, inr (inl a)) (_, inr (inr (g, c, gate, ss, _, leads, _, here, small, _, _)))
+    = absurd (no_base g file c gate p (omega (arith, here, small)) a.0 a.1 leads)
+one_place file p q (_, inr (inr (f, b, from, rs, _, leads, _, _, _, _, _))) (_, inl d) = absurd (no_lead f file b from d.1 d.2 leads)
+one_place file p q (_, inr (inr (f, b, from, rs, _, leads, _, here, small, _, _))) (_, inr (inl d))
+    = absurd (no_base f file b from q (omega (arith, here, small)) d.0 d.1 leads)
+one_place file p q (_, inr (inr (f, b, from, rs, t, leads, split, here, small, gates, none))) (_, inr (inr (g, c, gate, ss, u, leads', split', here', small', gates', none'))) =
+    let lead = one_lead f g file b c from gate (omega (arith, here, small)) (omega (arith, here', small')) leads leads' in
+    let both : frames rs ++ t ≡ frames ss ++ u = sym split ∙ ap (λ (n : ℕ). drop n file) lead.1 ∙ split' in
+    same_places rs ss t u from p q here (omega (arith, here', lead.1)) small small' none none'
+    (compared rs ss t u (omega (arith, here, small)) (omega (arith, here', small')) both)
 
 -- so what a walk tells is all that can be told
 pub only_fault : (file : List ℕ) (fault : WalkFault) → IsFault file fault → IsOnlyFault file fault
-only_fault file (Damaged place) damaged = (λ other is. one_place file other place is damaged, λ records holds. not_both file records place holds damaged)
+only_fault file (Damaged place) damaged = (λ other is. one_place file other place is damaged, λ base records holds. not_both file base records place holds damaged)
 only_fault file DiskFault told = tt
 only_fault file Memory told = tt
-
-pub finds : (o : Option History) (w : Walked) → IsPiece o (bytes_of w) → IsWalked w → FindsRecords o w
-finds None w is walked = tt
-finds (Some h) w is walked =
-    let all : (records : List (List ℕ)) → Holds (bytes_of w) records → Holds h.content records =
-    λ records holds. holds_all h.content is.0 is.1 records (subst (λ (l : List ℕ). Holds l records) is.2 holds) in
-    (all, λ records holds. subst (Holds (bytes_of w)) (one_list h.content walked.0 records (all walked.0 walked.1) holds) walked.1)
-
-pub fault_of : (o : Option History) (piece : List ℕ) (fault : WalkFault) → IsPiece o piece → IsFault piece fault → FindsFault o fault
-fault_of None piece fault is told = tt
-fault_of (Some h) piece fault is told =
-    let all = fault_all h.content is.0 is.1 fault (subst (λ (l : List ℕ). IsFault l fault) is.2 told) in
-    (all, only_fault h.content fault all)
-
-pub ends_of : (o : Option History) (w : Walked) → FindsRecords o w → IsWalked w → EndsAt o w.end
-ends_of None w found walked = tt
-ends_of (Some h) w found walked = (walked.0, found.0 walked.0 walked.1, walked.2)
 
 -- ---- the records ahead
 
@@ -195,7 +253,3 @@ none_named place rest body (r ∷ records) (inr on) is_open named =
     let behind : List ℕ = frames records ++ on.gate ∷ on.rest in
     let whole : body ≡ to_le_bytes w32 (length r) ++ r ++ behind = ap (λ (l : List ℕ). drop 1 l) (sym is_open ∙ on.split ∙ append_assoc (frame r) (frames records) (on.gate ∷ on.rest)) in
     absurd (omega (arith, named r behind whole, on.within, frames_size r records))
-
-pub none_in : (file : List ℕ) (records : List (List ℕ)) → Holds file records → length file < 10 → AreAhead 8 [] records
-none_in file records (inl none) short = inl (refl, none.1)
-none_in file records (inr j) short = absurd (omega (arith, j.0, short))

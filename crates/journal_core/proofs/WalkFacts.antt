@@ -1,130 +1,175 @@
 -- What a walk over a journal's file finds.
-use Rattle.std.proofs.Common.{◌≡◌, ◌≢◌, inl, inr, ⊎_elim, ℕ, ◌+◌, ◌-◌, ◌≤◌, ◌<◌, ◌^◌, min, List, [], ◌∷◌, ◌++◌, length, take, drop, Option, Some, None, refl, sym, ◌∙◌, ap, arith, append_assoc, length-append, take-append-drop}
-use Rattle.std.proofs.lemmas.List.{take_at, take-append-le, length-take, length-drop}
-use Rattle.std.proofs.Math.Seq.{take-append-add}
-use Rattle.std.proofs.lemmas.Nat.{from_le_bytes-to_le_bytes_4}
-use Rattle.std.specs.Int.{w32, to_le_bytes, from_le_bytes}
+use Rattle.std.proofs.Common.{◌≡◌, ◌⊎◌, inl, inr, ⊎_elim, ℕ, ◌+◌, ◌≤◌, ◌<◌, min, List, [], ◌∷◌, ◌++◌, length, take, drop, Option, Some, None, refl, sym, ◌∙◌, subst, ap, arith, append_assoc, length-append, take-append-drop}
+use Rattle.std.proofs.lemmas.List.{take_at, take_all, take-append-le, drop-append-le, length-take, length-drop}
+use Rattle.std.specs.List.{flat_map}
 use Rattle.outside.specs.Disk.{History, HasLength, Reads}
-use Rattle.journal_core.specs.Holds.{header, limit, frame, front, IsJournal, Holds}
-use Rattle.journal_core.specs.Walk.{EndsIn, IsDamaged, IsFault}
+use Rattle.journal_core.specs.Holds.{limit, frame, slot_place, HasSlots, IsJournal, IsShort, Holds}
+use Rattle.journal_core.specs.Journal.{EndsAs, EndsAt}
+use Rattle.journal_core.specs.Walk.{NamesOffset, IsDamaged, IsFault, IsWalked, FindsFault, bytes_of, base_of}
+use Rattle.journal_core.specs.declared.form.Form.{Form}
+use Rattle.journal_core.specs.declared.form.Form.TheVariants.{Short, Plain, SlotsShort, Slots}
+use Rattle.journal_core.specs.declared.walked.Walked.{Walked}
 use Rattle.journal_core.specs.declared.walked.WalkFault.{WalkFault}
 use Rattle.journal_core.specs.declared.walked.WalkFault.TheVariants.{Damaged, DiskFault, Memory}
-use Rattle.journal_core.proofs.JournalFacts.{length-frame, front-push, lt_or_le}
+use Rattle.journal_core.proofs.PartFacts.{length-frame, lt_or_le, take_front, bytes_before, slot_ends, slots_same, leads_same}
+use Rattle.journal_core.proofs.OneReading.{only_fault}
 
--- what a walk has passed so far in the bytes
-pub record SoFar (bytes : List ℕ) (at : ℕ) (rest : List ℕ) : Type 0 where
-  pub records : List (List ℕ)
-  pub split : bytes ≡ front records ++ rest
-  pub here : at ≡ length (front records)
-  pub within : at < limit
+-- What stands in a front of the file that is as long as a journal may be stands in the file.
+module _ (file : List ℕ) (long : limit ≤ length file) where
+  abbrev front : List ℕ
+  front = take limit file
 
-pub one_more : (bytes : List ℕ) (at : ℕ) (rest body after b : List ℕ) → SoFar bytes at rest → rest ≡ 1 ∷ body
-    → body ≡ to_le_bytes w32 (length b) ++ b ++ after → at + 5 + length b < limit → SoFar bytes (at + 5 + length b) after
-one_more bytes at rest body after b so_far is_open is_record small =
-    let before = so_far.records in
-    let longer : front (before ++ b ∷ []) ≡ front before ++ frame b = front-push before b in
+  whole : file ≡ front ++ drop limit file
+  whole = sym (take-append-drop limit file)
+
+  size : length front ≡ limit
+  size = omega (arith, length-take limit file, long)
+
+  same : (n : ℕ) → n ≤ limit → take n front ≡ take n file
+  same n le = take_front n limit file le
+
+  goes_on : (n : ℕ) (xs : List ℕ) → n ≤ limit → drop n front ≡ xs → drop n file ≡ xs ++ drop limit file
+  goes_on n xs le is = ap (λ (l : List ℕ). drop n l) whole ∙ drop-append-le n front (drop limit file) (omega (arith, le, size)) ∙ ap (λ (l : List ℕ). l ++ drop limit file) is
+
+  not_short : IsShort file → ⊥
+  not_short (inl short) = omega (arith, long, short)
+  not_short (inr short) = omega (arith, long, short.0)
+
+  front_not_short : IsShort front → ⊥
+  front_not_short (inl short) = omega (arith, size, short)
+  front_not_short (inr short) = omega (arith, size, short.0)
+
+  journal_all : (form : Form) (base : List ℕ) (records : List (List ℕ)) (j : IsJournal form front base records) → (k : IsJournal form file base records) × (k.place ≡ j.place)
+  journal_all form base records j = (
     record {
-      records = before ++ b ∷ [];
-      split = so_far.split ∙ ap (λ (l : List ℕ). front before ++ l) (is_open ∙ ap (λ (l : List ℕ). 1 ∷ l) is_record) ∙ sym (append_assoc (front before) (frame b) after) ∙ ap (λ (l : List ℕ). l ++ after) (sym longer);
-      here = omega (arith, so_far.here, ap length longer, length-append (front before) (frame b), length-frame b);
-      within = small;
-    }
-
--- a gate that is not open
-pub ended : (bytes : List ℕ) (at : ℕ) (rest : List ℕ) (so_far : SoFar bytes at rest) → 0 < length rest → ((body : List ℕ) → rest ≢ 1 ∷ body) → IsJournal bytes so_far.records
-ended bytes at [] so_far some shut = absurd (omega (arith, some))
-ended bytes at (gate ∷ rest) so_far some shut =
-    record { gate = gate; rest = rest; split = so_far.split; closed = λ is. shut rest (ap (λ (g : ℕ). g ∷ rest) is); within = omega (arith, so_far.here, so_far.within) }
-
-pub ends_there : (bytes : List ℕ) (at : ℕ) (rest : List ℕ) → SoFar bytes at rest → 0 < length rest → ((body : List ℕ) → rest ≢ 1 ∷ body) → 10 ≤ length bytes → EndsIn bytes (at + 1)
-ends_there bytes at rest so_far some shut long =
-    (so_far.records, inr (long, ended bytes at rest so_far some shut), ap (λ (n : ℕ). n + 1) so_far.here)
-
-pub same_size : (m n : ℕ) → m < 2 ^ 32 → n < 2 ^ 32 → to_le_bytes w32 m ≡ to_le_bytes w32 n → m ≡ n
-same_size m n small small' is = sym (from_le_bytes-to_le_bytes_4 m small) ∙ ap (from_le_bytes w32) is ∙ from_le_bytes-to_le_bytes_4 n small'
-
--- What stands in a front of the file stands in the file.
-module _ (file : List ℕ) (k : ℕ) (cut : k ≡ min (length file) limit) where
-  whole : file ≡ take k file ++ drop k file
-  whole = sym (take-append-drop k file)
-
-  size : length (take k file) ≡ k
-  size = omega (arith, length-take k file, cut)
-
-  pub holds_all : (records : List (List ℕ)) → Holds (take k file) records → Holds file records
-  holds_all records (inl short) = inl (omega (arith, short.0, size, cut), short.1)
-  holds_all records (inr j) = inr (
-    omega (arith, j.0, size, cut),
-    record {
-      gate = j.1.gate;
-      rest = j.1.rest ++ drop k file;
-      split = whole ∙ ap (λ (l : List ℕ). l ++ drop k file) j.1.split ∙ append_assoc (front records) (j.1.gate ∷ j.1.rest) (drop k file);
-      closed = j.1.closed;
-      within = j.1.within;
+      place = j.place;
+      leads = leads_same form front file base j.place j.leads (same j.place (omega (arith, j.within)));
+      gate = j.gate;
+      rest = j.rest ++ drop limit file;
+      split = goes_on j.place (flat_map frame records ++ j.gate ∷ j.rest) (omega (arith, j.within)) j.split ∙ append_assoc (flat_map frame records) (j.gate ∷ j.rest) (drop limit file);
+      closed = j.closed;
+      within = j.within;
     },
+    refl,
   )
 
-  no_header : 10 ≤ length (take k file) → ((rest : List ℕ) → take k file ≢ header ++ rest) → (rest : List ℕ) → file ≢ header ++ rest
-  no_header long none rest is =
-      let split : k ≡ 8 + (k - 8) = omega (arith, long, size) in
-      none (take (k - 8) rest) (ap (λ (l : List ℕ). take k l) is ∙ ap (λ (n : ℕ). take n (header ++ rest)) split ∙ take-append-add header rest (k - 8))
+  front_holds : (base : List ℕ) (records : List (List ℕ)) → Holds front base records → Holds file base records
+  front_holds base records (inl short) = absurd (front_not_short short.0)
+  front_holds base records (inr (not, (form, j))) = inr (not_short, (form, (journal_all form base records j).0))
 
-  module _ (records : List (List ℕ)) (tail : List ℕ) (split : take k file ≡ front records ++ tail) (within : length (front records) < limit) where
-    count : length (front records) + length tail ≡ k
-    count = omega (arith, size, ap length split, length-append (front records) tail)
+  front_ends : (form : Form) (end : ℕ) (base : List ℕ) (records : List (List ℕ)) → EndsAs form front end base records → EndsAs form file end base records
+  front_ends Short end base records ends = absurd (omega (arith, size, ends.0))
+  front_ends SlotsShort end base records ends = absurd (omega (arith, size, ends.0))
+  front_ends Plain end base records ends = let k = journal_all Plain base records ends.0 in (k.0, omega (arith, ends.1, k.1))
+  front_ends (Slots which offset) end base records ends = let k = journal_all (Slots which offset) base records ends.0 in (k.0, omega (arith, ends.1, k.1))
+
+  named_all : (place : ℕ) → NamesOffset front place → NamesOffset file place
+  named_all place n = record {
+    which = n.which;
+    selector = n.selector;
+    header = sym (same 8 (omega arith)) ∙ n.header;
+    selector_is = sym (bytes_before 8 1 25 front file (omega arith) (same 25 (omega arith))) ∙ n.selector_is;
+    selects = n.selects;
+    slot = sym (bytes_before (slot_place n.which) 8 25 front file (slot_ends n.selector n.which n.selects) (same 25 (omega arith))) ∙ n.slot;
+    small = n.small;
+  }
+
+  base_none : (place : ℕ) → ((which : ℕ) (base : List ℕ) (gate : ℕ) → HasSlots which place front base gate → limit ≤ gate) → (which : ℕ) (base : List ℕ) (gate : ℕ) → HasSlots which place file base gate → limit ≤ gate
+  base_none place none which base gate slots = ⊎_elim
+      (λ small. none which base gate (slots_same which place file front base gate slots (sym (same gate (omega (arith, small))))))
+      (λ large. large)
+      (lt_or_le gate limit)
+
+  module _ (from : ℕ) (records : List (List ℕ)) (tail : List ℕ) (split : drop from front ≡ flat_map frame records ++ tail) (within : from + length (flat_map frame records) < limit) where
+    count : from + length (flat_map frame records) + length tail ≡ limit
+    count = omega (arith, size, ap length split, length-append (flat_map frame records) tail, length-drop from front, within)
 
     -- a shorter list in front of the rest stands in it
-    in_tail : (xs rest : List ℕ) → tail ++ drop k file ≡ xs ++ rest → length xs ≤ length tail → tail ≡ xs ++ drop (length xs) tail
+    in_tail : (xs rest : List ℕ) → tail ++ drop limit file ≡ xs ++ rest → length xs ≤ length tail → tail ≡ xs ++ drop (length xs) tail
     in_tail xs rest is le =
         sym (take-append-drop (length xs) tail)
-        ∙ ap (λ (l : List ℕ). l ++ drop (length xs) tail) (sym (take-append-le (length xs) tail (drop k file) le) ∙ ap (λ (l : List ℕ). take (length xs) l) is ∙ take_at xs rest (length xs) refl)
+        ∙ ap (λ (l : List ℕ). l ++ drop (length xs) tail) (sym (take-append-le (length xs) tail (drop limit file) le) ∙ ap (λ (l : List ℕ). take (length xs) l) is ∙ take_at xs rest (length xs) refl)
 
-    -- where it doesn't, the limit is near
-    near : (xs rest : List ℕ) → tail ++ drop k file ≡ xs ++ rest → length tail < length xs → k ≡ limit
-    near xs rest is more =
-        omega (arith, ap length is, length-append tail (drop k file), length-append xs rest, length-drop k file, more, cut)
+    gates : ((gate : ℕ) (rest : List ℕ) → tail ≡ gate ∷ rest → gate ≡ 1) → (gate : ℕ) (rest : List ℕ) → tail ++ drop limit file ≡ gate ∷ rest → gate ≡ 1
+    gates open_gate gate rest is = open_gate gate (drop 1 tail) (in_tail (gate ∷ []) rest is (omega (arith, count, within)))
 
-    gates : ((gate : ℕ) (rest : List ℕ) → tail ≡ gate ∷ rest → gate ≡ 1) → (gate : ℕ) (rest : List ℕ) → tail ++ drop k file ≡ gate ∷ rest → gate ≡ 1
-    gates open_gate gate rest is = ⊎_elim
-        (λ few. absurd (omega (arith, near (gate ∷ []) rest is few, few, count, within)))
-        (λ some. open_gate gate (drop 1 tail) (in_tail (gate ∷ []) rest is some))
-        (lt_or_le (length tail) 1)
-
-    frames : ((b rest : List ℕ) → tail ≡ frame b ++ rest → limit ≤ length (front records) + (5 + length b)) → (b rest : List ℕ) → tail ++ drop k file ≡ frame b ++ rest → limit ≤ length (front records) + (5 + length b)
-    frames none b rest is = ⊎_elim
-        (λ few. omega (arith, near (frame b) rest is few, few, count, length-frame b))
+    no_record : ((b rest : List ℕ) → tail ≡ frame b ++ rest → limit ≤ from + length (flat_map frame records) + (5 + length b)) → (b rest : List ℕ) → tail ++ drop limit file ≡ frame b ++ rest
+        → limit ≤ from + length (flat_map frame records) + (5 + length b)
+    no_record none b rest is = ⊎_elim
+        (λ few. omega (arith, few, count, length-frame b))
         (λ some. none b (drop (length (frame b)) tail) (in_tail (frame b) rest is some))
         (lt_or_le (length tail) (length (frame b)))
 
-  pub damaged_all : (place : ℕ) → IsDamaged (take k file) place → IsDamaged file place
-  damaged_all place (long, inl start) = (omega (arith, long, size, cut), inl (start.0, no_header long start.1))
-  damaged_all place (long, inr d) =
-      let within : length (front d.0) < limit = omega (arith, d.3, d.4) in (
-        omega (arith, long, size, cut),
-        inr (
-          d.0,
-          d.1 ++ drop k file,
-          whole ∙ ap (λ (l : List ℕ). l ++ drop k file) d.2 ∙ append_assoc (front d.0) d.1 (drop k file),
-          d.3,
-          d.4,
-          gates d.0 d.1 d.2 within d.5,
-          λ b rest is. omega (arith, d.3, frames d.0 d.1 d.2 within (λ b more at. omega (arith, d.3, d.6 b more at)) b rest is),
-        ),
+  front_damaged : (place : ℕ) → IsDamaged front place → IsDamaged file place
+  front_damaged place (not, inl d) = (not_short, inl (d.0, (λ is. d.1 (same 8 (omega arith) ∙ is)), (λ is. d.2 (same 8 (omega arith) ∙ is))))
+  front_damaged place (not, inr (inl d)) = (not_short, inr (inl (named_all place d.0, base_none place d.1)))
+  front_damaged place (not, inr (inr (form, base, from, records, tail, leads, split, here, small, open_gates, none))) =
+      let within : from + length (flat_map frame records) < limit = omega (arith, here, small) in (
+        not_short,
+        inr (inr (
+          form,
+          base,
+          from,
+          records,
+          tail ++ drop limit file,
+          leads_same form front file base from leads (same from (omega (arith, within))),
+          goes_on from (flat_map frame records ++ tail) (omega (arith, within)) split ∙ append_assoc (flat_map frame records) tail (drop limit file),
+          here,
+          small,
+          gates from records tail split within open_gates,
+          λ b rest is. omega (arith, here, no_record from records tail split within (λ b more at. omega (arith, here, none b more at)) b rest is),
+        )),
       )
-
-  pub fault_all : (fault : WalkFault) → IsFault (take k file) fault → IsFault file fault
-  fault_all (Damaged place) damaged = damaged_all place damaged
-  fault_all DiskFault damaged = tt
-  fault_all Memory damaged = tt
 
 -- the bytes are the front of the content that a journal may have
 abbrev pub IsPiece : Option History → List ℕ → Type 0
 IsPiece None piece = Unit {0}
-IsPiece (Some h) piece = (k : ℕ) × (k ≡ min (length h.content) limit) × (piece ≡ take k h.content)
+IsPiece (Some h) piece = piece ≡ take (min (length h.content) limit) h.content
+
+-- all of it, or as much as a journal may have
+all_or_front : (file : List ℕ) → (take (min (length file) limit) file ≡ file) ⊎ ((limit ≤ length file) × (take (min (length file) limit) file ≡ take limit file))
+all_or_front file = ⊎_elim
+    (λ short. inl (take_all (min (length file) limit) file (omega (arith, short))))
+    (λ long. let is : min (length file) limit ≡ limit = omega (arith, long) in inr (long, ap (λ (n : ℕ). take n file) is))
+    (lt_or_le (length file) limit)
+
+pub holds_all : (file base : List ℕ) (records : List (List ℕ)) → Holds (take (min (length file) limit) file) base records → Holds file base records
+holds_all file base records holds = ⊎_elim
+    (λ all. subst (λ (f : List ℕ). Holds f base records) all holds)
+    (λ part. front_holds file part.0 base records (subst (λ (f : List ℕ). Holds f base records) part.1 holds))
+    (all_or_front file)
+
+ends_all : (form : Form) (file : List ℕ) (end : ℕ) (base : List ℕ) (records : List (List ℕ)) → EndsAs form (take (min (length file) limit) file) end base records → EndsAs form file end base records
+ends_all form file end base records ends = ⊎_elim
+    (λ all. subst (λ (f : List ℕ). EndsAs form f end base records) all ends)
+    (λ part. front_ends file part.0 form end base records (subst (λ (f : List ℕ). EndsAs form f end base records) part.1 ends))
+    (all_or_front file)
+
+pub ends_of : (o : Option History) (w : Walked) → IsPiece o (bytes_of w) → IsWalked w → EndsAt o w.form w.end
+ends_of None w is walked = tt
+ends_of (Some h) w is walked =
+    (base_of w, walked.1.0, ends_all w.form h.content w.end (base_of w) walked.1.0 (subst (λ (l : List ℕ). EndsAs w.form l w.end (base_of w) walked.1.0) is walked.1.1))
+
+damaged_all : (file : List ℕ) (place : ℕ) → IsDamaged (take (min (length file) limit) file) place → IsDamaged file place
+damaged_all file place damaged = ⊎_elim
+    (λ all. subst (λ (f : List ℕ). IsDamaged f place) all damaged)
+    (λ part. front_damaged file part.0 place (subst (λ (f : List ℕ). IsDamaged f place) part.1 damaged))
+    (all_or_front file)
+
+fault_all : (file : List ℕ) (fault : WalkFault) → IsFault (take (min (length file) limit) file) fault → IsFault file fault
+fault_all file (Damaged place) damaged = damaged_all file place damaged
+fault_all file DiskFault damaged = tt
+fault_all file Memory damaged = tt
 
 pub piece_of : (o : Option History) (size n : ℕ) (old new : List ℕ) → HasLength o size → length old ≡ min size limit → Reads o 0 n old new → IsPiece o (take n new)
 piece_of None size n old new long room reads = tt
 piece_of (Some h) size n old new long room reads =
     let count : n ≡ min (length h.content) limit = omega (arith, reads.0, room, long) in
     let taken : length (take n h.content) ≡ n = omega (arith, length-take n h.content, count) in
-    (n, count, ap (λ (l : List ℕ). take n l) reads.1 ∙ take_at (take n h.content) (drop n old) n taken)
+    ap (λ (l : List ℕ). take n l) reads.1 ∙ take_at (take n h.content) (drop n old) n taken ∙ ap (λ (k : ℕ). take k h.content) count
+
+pub fault_of : (o : Option History) (piece : List ℕ) (fault : WalkFault) → IsPiece o piece → IsFault piece fault → FindsFault o fault
+fault_of None piece fault is told = tt
+fault_of (Some h) piece fault is told =
+    let all = fault_all h.content fault (subst (λ (l : List ℕ). IsFault l fault) is told) in
+    (all, only_fault h.content fault all)

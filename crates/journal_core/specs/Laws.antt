@@ -2,6 +2,6 @@
 use Rattle.std.specs.Prelude.{◌≡◌, ℕ, List}
 use Rattle.journal_core.specs.Holds.{Holds}
 
--- No file holds two lists of records.
+-- No file holds two bases, or two lists of records.
 abbrev pub FilesHoldOneList : Type 0
-FilesHoldOneList = (file : List ℕ) (a b : List (List ℕ)) → Holds file a → Holds file b → a ≡ b
+FilesHoldOneList = (file b c : List ℕ) (rs ss : List (List ℕ)) → Holds file b rs → Holds file c ss → (b ≡ c) × (rs ≡ ss)

@@ -1,7 +1,9 @@
 pub mod Holds
 pub mod Moments
 pub mod Records
+pub mod Lead
 pub mod Walk
+pub mod Form
 pub mod Journal
 pub mod Calls
 pub mod Frame

@@ -1,51 +1,45 @@
 //! A journal on a disk.
-ghost use Rattle.std.specs.Prelude.{◌≡◌, ◌≤◌, ◌<◌, ◌↔◌, ◌+◌, List, ℕ, length, IsTrue, OnOk, OnErr, IfOk, IfErr};
+ghost use Rattle.std.specs.Prelude.{◌≡◌, ◌≤◌, ◌<◌, ◌↔◌, ◌+◌, [], List, ℕ, length, true, false, Some, None, IsTrue, OnOk, OnErr, IfOk, IfErr, IfSome};
 ghost use Rattle.outside.specs.Disk.{IsSettled};
 ghost use Rattle.outside.specs.Faults.{Rose};
-ghost use Rattle.journal_core.specs.Holds.{end_of, limit};
-ghost use Rattle.journal_core.specs.Walk.{EndsAt};
-ghost use Rattle.journal_core.specs.Journal.{DiskHolds, IsAtRest, disk_of, size_of, IsReady};
+ghost use Rattle.journal_core.specs.Holds.{limit};
+ghost use Rattle.journal_core.specs.Form.{IsSlots, begun_form, fold_end};
+ghost use Rattle.journal_core.specs.declared.form.Form.TheVariants.{Slots};
+ghost use Rattle.journal_core.specs.Journal.{disk_of, form_of, size_of, staged_of, is_sound, EndsAt, IsReady, IsStaged, IsReadyToSwitch};
 ghost use Rattle.journal_core.specs.Calls.{IsAppended, IsAppendedLast, IsAppending, IsStarted, IsStarting};
+ghost use Rattle.journal_core.specs.Calls.{IsStaging, IsStagedBeside, IsSwitching, IsSwitched};
 
-use crate::Frame;
+use crate::form::place_of;
 use crate::put::put;
+use crate::staged::Staged;
+use crate::starting::begin;
+use crate::{Form, Frame};
 use outside::{Disk, Failed};
 use units_core::MOST_JOURNAL;
 
 /// The most bytes that a journal has.
 pub(crate) const LIMIT: u64 = MOST_JOURNAL;
 
-/// A journal on a disk, whose records end before a closed gate.
+/// A journal on a disk, whose records end before a closed gate. After a fault of the disk it is to be opened again.
 #[derive(Drop)]
 pub struct Journal<D: Disk> {
     disk: D,
+    form: Form,
     end: u64,
-}
-
-// Gives a file of fewer than ten bytes its header and a closed gate.
-fn prepare<D: Disk>(disk: &mut D) -> Result<(), Failed>
-    requires { IsSettled (D.history disk.old) }
-    ensures at_rest { (records : List (List ℕ)) → DiskHolds (D.history disk.old) records → OnOk result (IsAtRest (D.history disk.new) (end_of records) records) }
-    ensures ready { (end : ℕ) → EndsAt (D.history disk.old) end → OnOk result (IsReady (D.history disk.new) end) }
-    ensures any_moment { IsStarting (D.history disk.old) (D.history disk.new) }
-    ensures never_falls { D.fault_count disk.old ≤ D.fault_count disk.new }
-    ensures failed { OnErr result (Rose (D.fault_count disk.old) (D.fault_count disk.new)) }
-{
-    let length = disk.length()?;
-    if length >= 10 {
-        return Ok(());
-    }
-    put(disk, 0, b"OTCJRNL1\0")?;
-    Ok(())
+    staged: Option<Staged>,
+    sound: bool,
 }
 
 impl<D: Disk> Journal<D> {
-    /// A journal on a settled disk whose records end at this place, as a walk found. A file of fewer than ten bytes gets
-    /// its header and a closed gate. A crash at any moment leaves a file that holds the same records.
-    pub fn start(disk: D, end: u64) -> Result<Journal<D>, (Failed, D)>
-        requires { IsSettled (D.history disk) }
-        ensures at_rest { IfOk result (λ j. IsStarted (D.history disk) (D.history (disk_of j)) end) }
-        ensures ready { EndsAt (D.history disk) end → IfOk result (λ j. IsReady (D.history (disk_of j)) (size_of j)) }
+    /// A journal on a settled disk whose content has this form and ends at this place, as a walk found. A file that holds
+    /// nothing is begun as one with slots. A crash at any moment leaves a file that holds what it held.
+    pub fn start(disk: D, form: Form, end: u64) -> Result<Journal<D>, (Failed, D)>
+        requires settled { IsSettled (D.history disk) }
+        requires walked { EndsAt (D.history disk) form end }
+        ensures at_rest { IfOk result (λ j. IsStarted (D.history disk) (D.history (disk_of j)) form) }
+        ensures ready { IfOk result (λ j. IsReady (D.history (disk_of j)) (form_of j) (size_of j)) }
+        ensures sound { IfOk result (λ j. is_sound j ≡ true) }
+        ensures form { IfOk result (λ j. form_of j ≡ begun_form form) }
         ensures end { IfOk result (λ j. size_of j ≡ end) }
         ensures any_moment { IfOk result (λ j. IsStarting (D.history disk) (D.history (disk_of j))) }
         ensures any_moment_failed { IfErr result (λ e. IsStarting (D.history disk) (D.history e.1)) }
@@ -54,8 +48,14 @@ impl<D: Disk> Journal<D> {
         ensures failed { IfErr result (λ e. Rose (D.fault_count disk) (D.fault_count e.1)) }
     {
         let mut disk = disk;
-        match prepare(&mut disk) {
-            Ok(()) => Ok(Journal { disk, end }),
+        match begin(&mut disk, form) {
+            Ok(()) => Ok(Journal {
+                disk,
+                form: form.begun(),
+                end,
+                staged: None,
+                sound: true,
+            }),
             Err(failed) => Err((failed, disk)),
         }
     }
@@ -74,27 +74,113 @@ impl<D: Disk> Journal<D> {
         self.end.saturating_add(length).saturating_add(5) <= LIMIT
     }
 
+    /// Whether the body of a base of this length fits below the limit.
+    pub fn fold_fits(&self, length: u64) -> bool
+        ensures { IsTrue result ↔ (fold_end (form_of self.now) (size_of self.now) length ≤ limit) }
+    {
+        let size = length.saturating_add(5);
+        self.form.body_place(self.end, size).saturating_add(size) <= LIMIT
+    }
+
     /// Puts a record behind the others, in four calls of the disk and without memory. When it is done, each crash leaves
     /// a file that holds it too. A crash at any moment before leaves one that holds the records from before, with the
     /// new one or without, and until the last moment it may be without. After a fault the journal is to be opened again.
     pub fn append(&mut self, frame: &Frame) -> Result<(), Failed>
-        requires ready { IsReady (D.history (disk_of self.old)) (size_of self.old) }
+        requires ready { IsReady (D.history (disk_of self.old)) (form_of self.old) (size_of self.old) }
         requires fits { size_of self.old + 4 + length frame.now + 1 ≤ limit }
-        ensures done { OnOk result (IsAppended (D.history (disk_of self.old)) (D.history (disk_of self.new)) (size_of self.old) (size_of self.new) frame.now) }
-        ensures ready { OnOk result (IsReady (D.history (disk_of self.new)) (size_of self.new)) }
+        requires sound { is_sound self.old ≡ true }
+        ensures done { OnOk result (IsAppended (D.history (disk_of self.old)) (D.history (disk_of self.new)) (form_of self.old) (size_of self.old) (size_of self.new) frame.now) }
+        ensures ready { OnOk result (IsReady (D.history (disk_of self.new)) (form_of self.new) (size_of self.new)) }
+        ensures sound { OnOk result (is_sound self.new ≡ true) }
+        ensures poisoned { OnErr result (is_sound self.new ≡ false) }
+        ensures unstaged { staged_of self.new ≡ None }
+        ensures form { form_of self.new ≡ form_of self.old }
         ensures size { OnOk result (size_of self.new ≡ size_of self.old + (5 + length frame.now)) }
         ensures same_size { OnErr result (size_of self.new ≡ size_of self.old) }
-        ensures any_moment { IsAppending (D.history (disk_of self.old)) (D.history (disk_of self.new)) (size_of self.old) frame.now }
-        ensures last { IsAppendedLast (D.history (disk_of self.old)) (D.history (disk_of self.new)) (size_of self.old) }
+        ensures any_moment { IsAppending (D.history (disk_of self.old)) (D.history (disk_of self.new)) (form_of self.old) (size_of self.old) frame.now }
+        ensures last { IsAppendedLast (D.history (disk_of self.old)) (D.history (disk_of self.new)) (form_of self.old) (size_of self.old) }
         ensures never_falls { D.fault_count (disk_of self.old) ≤ D.fault_count (disk_of self.new) }
         ensures failed { OnErr result (Rose (D.fault_count (disk_of self.old)) (D.fault_count (disk_of self.new))) }
     {
+        self.staged = None;
+        self.sound = false;
         let behind = frame.behind_gate();
         let gate = self.end.saturating_sub(1);
         put(&mut self.disk, self.end, behind)?;
         // The record has to be on the disk first: behind a gate that is torn open, what stands there counts.
         put(&mut self.disk, gate, &[1])?;
         self.end += behind.len() as u64;
+        self.sound = true;
+        Ok(())
+    }
+
+    /// Puts a base's body where nothing is held, and its offset into the slot that is not selected, in four calls of the disk
+    /// and without memory. A crash at any moment leaves a file that holds what it held.
+    pub fn stage(&mut self, base: &Frame) -> Result<(), Failed>
+        requires slots { IsSlots (form_of self.old) }
+        requires ready { IsReady (D.history (disk_of self.old)) (form_of self.old) (size_of self.old) }
+        requires fits { fold_end (form_of self.old) (size_of self.old) (length base.now) ≤ limit }
+        requires sound { is_sound self.old ≡ true }
+        ensures done { OnOk result (IsStagedBeside (D.history (disk_of self.old)) (D.history (disk_of self.new)) (form_of self.old) (size_of self.old)) }
+        ensures staged { OnOk result (IfSome (staged_of self.new) (λ s. IsStaged (D.history (disk_of self.new)) s base.now)) }
+        ensures ready { OnOk result (IsReady (D.history (disk_of self.new)) (form_of self.new) (size_of self.new)) }
+        ensures to_switch { OnOk result (IsReadyToSwitch (D.history (disk_of self.new)) (form_of self.new) (staged_of self.new)) }
+        ensures place { OnOk result (IfSome (staged_of self.new) (λ s. s.end ≡ fold_end (form_of self.old) (size_of self.old) (length base.now))) }
+        ensures sound { OnOk result (is_sound self.new ≡ true) }
+        ensures poisoned { OnErr result (is_sound self.new ≡ false) }
+        ensures form { form_of self.new ≡ form_of self.old }
+        ensures size { size_of self.new ≡ size_of self.old }
+        ensures any_moment { IsStaging (D.history (disk_of self.old)) (D.history (disk_of self.new)) (form_of self.old) (size_of self.old) }
+        ensures never_falls { D.fault_count (disk_of self.old) ≤ D.fault_count (disk_of self.new) }
+        ensures failed { OnErr result (Rose (D.fault_count (disk_of self.old)) (D.fault_count (disk_of self.new))) }
+    {
+        self.staged = None;
+        self.sound = false;
+        let body = base.behind_gate();
+        let size = body.len() as u64;
+        let offset = self.form.body_place(self.end, size);
+        let selected = self.form.other_slot();
+        put(&mut self.disk, offset, body)?;
+        put(&mut self.disk, place_of(selected), &offset.to_le_bytes())?;
+        self.staged = Some(Staged {
+            selected,
+            offset,
+            end: offset + size,
+        });
+        self.sound = true;
+        Ok(())
+    }
+
+    /// Selects the slot that was staged, in two calls of the disk and without memory. When it is done, each crash leaves a file
+    /// that holds the staged base without records. A crash at any moment before leaves one that holds that, or what was held.
+    pub fn switch(&mut self) -> Result<(), Failed>
+        requires ready { IsReady (D.history (disk_of self.old)) (form_of self.old) (size_of self.old) }
+        requires staged { IsReadyToSwitch (D.history (disk_of self.old)) (form_of self.old) (staged_of self.old) }
+        requires sound { is_sound self.old ≡ true }
+        ensures done { OnOk result (IfSome (staged_of self.old) (λ s. IsSwitched (D.history (disk_of self.old)) (D.history (disk_of self.new)) s (form_of self.new) (size_of self.new))) }
+        ensures ready { OnOk result (IsReady (D.history (disk_of self.new)) (form_of self.new) (size_of self.new)) }
+        ensures form { OnOk result (IfSome (staged_of self.old) (λ s. form_of self.new ≡ Slots s.selected s.offset)) }
+        ensures size { OnOk result (IfSome (staged_of self.old) (λ s. size_of self.new ≡ s.end)) }
+        ensures same { OnErr result ((form_of self.new ≡ form_of self.old) × (size_of self.new ≡ size_of self.old)) }
+        ensures sound { OnOk result (is_sound self.new ≡ true) }
+        ensures poisoned { OnErr result (is_sound self.new ≡ false) }
+        ensures any_moment { IfSome (staged_of self.old) (λ s. IsSwitching (D.history (disk_of self.old)) (D.history (disk_of self.new)) (form_of self.old) (size_of self.old) s) }
+        ensures never_falls { D.fault_count (disk_of self.old) ≤ D.fault_count (disk_of self.new) }
+        ensures failed { OnErr result (Rose (D.fault_count (disk_of self.old)) (D.fault_count (disk_of self.new))) }
+    {
+        let Some(staged) = self.staged else {
+            return Ok(());
+        };
+        self.sound = false;
+        // One byte: a crash leaves one selector or the other, whatever it tears.
+        put(&mut self.disk, 8, &[staged.selected])?;
+        self.form = Form::Slots {
+            selected: staged.selected,
+            offset: staged.offset,
+        };
+        self.end = staged.end;
+        self.staged = None;
+        self.sound = true;
         Ok(())
     }
 

@@ -1,15 +1,19 @@
 //! The journal: byte records in a file, each on the disk before its append is answered.
 #![tactic(auto)]
 
+pub mod form;
 pub mod frame;
 pub mod journal;
 mod laws;
 mod parts;
 mod put;
 pub mod records;
+mod staged;
+mod starting;
 pub mod walked;
 mod walking;
 
+pub use form::Form;
 pub use frame::Frame;
 pub use journal::Journal;
 pub use laws::files_hold_one_list;

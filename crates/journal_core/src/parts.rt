@@ -1,21 +1,7 @@
 //! The parts of a journal's bytes, each read from the front of those that are left.
 ghost use Rattle.std.specs.Prelude.{◌≡◌, ◌≢◌, ◌<◌, ◌^◌, ◌∷◌, ◌++◌, List, ℕ, length, IfSome, IfNone};
 ghost use Rattle.std.specs.Int.{w32, to_le_bytes};
-ghost use Rattle.journal_core.specs.Holds.{header};
 ghost use Rattle.journal_core.specs.Walk.{NamesNoRecord};
-
-const HEADER: [u8; 8] = *b"OTCJRNL1";
-
-// What stands behind the header, if the bytes begin with it.
-pub(crate) fn behind_header(bytes: &[u8]) -> Option<&[u8]>
-    ensures found { IfSome result (λ rest. bytes.now ≡ header ++ rest.now) }
-    ensures none { IfNone result ((rest : List ℕ) → bytes.now ≢ header ++ rest) }
-{
-    if !bytes.starts_with(&HEADER) {
-        return None;
-    }
-    Some(&bytes[8..])
-}
 
 // The number that four bytes spell, the lowest first.
 fn number_of(bytes: &[u8]) -> u32

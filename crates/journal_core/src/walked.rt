@@ -1,36 +1,45 @@
 //! What a walk over a journal answers.
-ghost use Rattle.std.specs.Prelude.{◌≡◌, ◌<◌, ◌^◌, List, ℕ, length};
+ghost use Rattle.std.specs.Prelude.{◌≡◌, ◌<◌, ◌≤◌, ◌^◌, List, ℕ, length};
 ghost use Rattle.journal_core.specs.declared.walked.WalkFault.TheVariants.{Memory, DiskFault};
 ghost use Rattle.journal_core.specs.Holds.{Holds};
 ghost use Rattle.journal_core.specs.Records.{AreAhead};
 
-use crate::Records;
+use crate::{Form, Records};
 use outside::Failed;
 use std::alloc::{AllocError, AllocFailed};
 use thiserror::Error;
 
-/// A file that holds records, and the place just past the gate behind them.
+/// A file that holds a base and records: its form, and the place just past the gate behind the records. The base stands from
+/// one place to the other, which is that of the first gate.
 #[derive(Drop)]
 pub struct Walked {
     pub(crate) bytes: Vec<u8>,
+    pub(crate) base: usize,
+    pub(crate) gate: usize,
+    pub form: Form,
     pub end: u64,
+    ghost within: { (base ≤ gate) × (gate ≤ length bytes.items) },
 }
 
 impl Walked {
-    ghost use Rattle.journal_core.specs.Walk.{bytes_of};
+    ghost use Rattle.journal_core.specs.Walk.{bytes_of, base_of, gate_of, IsWalked};
+
+    /// The base's bytes, none where there is no base. It takes no memory.
+    pub fn base(&self) -> &[u8]
+        ensures { result.now ≡ base_of self.now }
+    {
+        &self.bytes[self.base..self.gate]
+    }
 
     /// The file's records, to be read one after another. It takes no memory.
     pub fn records(&self) -> Records<'_>
-        ensures first { result.at ≡ 8 }
+        ensures first { result.at ≡ gate_of self.now }
         ensures few { length result.rest.now < 2 ^ 63 }
-        ensures all { (records : List (List ℕ)) → Holds (bytes_of self.now) records → AreAhead result.at result.rest.now records }
+        ensures all { IsWalked self.now → (base : List ℕ) (records : List (List ℕ)) → Holds (bytes_of self.now) base records → AreAhead result.at result.rest.now records }
     {
-        if self.bytes.len() < 10 {
-            return Records { at: 8, rest: &[] };
-        }
         Records {
-            at: 8,
-            rest: &self.bytes[8..],
+            at: self.gate as u64,
+            rest: &self.bytes[self.gate..],
         }
     }
 }

@@ -1,35 +1,124 @@
 //! A walk over a journal's file.
-ghost use Rattle.std.specs.Prelude.{◌≡◌, ◌≢◌, ◌≤◌, length, IfOk, IfErr, Err};
+ghost use Rattle.std.specs.Prelude.{◌≡◌, ◌≢◌, ◌≤◌, ◌<◌, List, ℕ, length, take, get_or, IfOk, IfErr, Err};
+ghost use Rattle.std.specs.Int.{w64, to_le_bytes};
 ghost use Rattle.outside.specs.Faults.{Rose};
-ghost use Rattle.journal_core.specs.Holds.{limit};
-ghost use Rattle.journal_core.specs.Walk.{IsWalked, EndsIn, IsFault, FindsRecords, FindsFault, EndsAt};
+ghost use Rattle.journal_core.specs.Holds.{slots_header, limit, Selects};
+ghost use Rattle.journal_core.specs.Journal.{EndsAt};
+ghost use Rattle.journal_core.specs.Lead.{IsLed, EndsLed, EndsBehind};
+ghost use Rattle.journal_core.specs.Walk.{IsBadLead, IsBreak, IsWalked, FindsRecords, FindsFault, bytes_of};
 
+use crate::form::place_of;
 use crate::journal::LIMIT;
-use crate::parts::{behind_header, behind_open, record_of};
-use crate::{WalkFault, Walked};
+use crate::parts::{behind_open, record_of};
+use crate::{Form, WalkFault, Walked};
 use outside::Disk;
 use std::alloc::Global;
 
-// The place just past the gate behind the records that stand in the bytes, of which there are at most as many as a
-// journal may have.
-fn end_in(bytes: &[u8]) -> Result<u64, WalkFault>
-    requires { length bytes.now ≤ limit }
-    ensures found { IfOk result (EndsIn bytes.now) }
-    ensures fault { IfErr result (IsFault bytes.now) }
-    ensures no_disk { result ≢ Err WalkFault.DiskFault }
+// How a file begins: its form, where its base begins, and where it ends, at the first gate.
+#[derive(Clone, Copy)]
+struct Lead {
+    form: Form,
+    base: usize,
+    gate: usize,
+}
+
+// The number that eight bytes spell, the lowest first.
+fn offset_of(bytes: &[u8]) -> u64
+    requires { length bytes.now ≡ 8 }
+    ensures { to_le_bytes w64 result ≡ bytes.now }
 {
-    if bytes.len() < 10 {
-        return Ok(9);
+    u64::from_le_bytes([
+        bytes[0], bytes[1], bytes[2], bytes[3], bytes[4], bytes[5], bytes[6], bytes[7],
+    ])
+}
+
+// The slot that is selected.
+fn selected_in(bytes: &[u8]) -> u8
+    requires { 9 ≤ length bytes.now }
+    ensures { Selects (get_or bytes.now 8 0) result }
+{
+    if bytes[8] == 1 { 1 } else { 0 }
+}
+
+// What stands before the first gate of a file with slots.
+fn slots_lead(bytes: &[u8]) -> Result<Lead, WalkFault>
+    requires long { 31 ≤ length bytes.now }
+    requires header { take 8 bytes.now ≡ slots_header }
+    ensures led { IfOk result (λ l. IsLed bytes.now l.form l.base l.gate) }
+    ensures fault { IfErr result (IsBadLead bytes.now) }
+{
+    let selected = selected_in(bytes);
+    let slot = place_of(selected) as usize;
+    let offset = offset_of(&bytes[slot..slot + 8]);
+    if offset < 25 {
+        return Err(WalkFault::Damaged { offset });
     }
-    let Some(mut rest) = behind_header(bytes) else {
-        return Err(WalkFault::Damaged { offset: 0 });
+    if offset > bytes.len() as u64 {
+        return Err(WalkFault::Damaged { offset });
+    }
+    let start = offset as usize;
+    let Some((base, _)) = record_of(&bytes[start..]) else {
+        return Err(WalkFault::Damaged { offset });
     };
-    let mut at = 8u64;
+    let gate = start + 4 + base.len();
+    if gate as u64 >= LIMIT {
+        return Err(WalkFault::Damaged { offset });
+    }
+    Ok(Lead {
+        form: Form::Slots { selected, offset },
+        base: start + 4,
+        gate,
+    })
+}
+
+// What stands before the first gate of a file.
+fn lead_of(bytes: &[u8]) -> Result<Lead, WalkFault>
+    ensures led { IfOk result (λ l. IsLed bytes.now l.form l.base l.gate) }
+    ensures fault { IfErr result (IsBadLead bytes.now) }
+{
+    let size = bytes.len();
+    if size < 10 {
+        return Ok(Lead {
+            form: Form::Short,
+            base: size,
+            gate: size,
+        });
+    }
+    if bytes.starts_with(b"OTCJRNL1") {
+        return Ok(Lead {
+            form: Form::Plain,
+            base: 8,
+            gate: 8,
+        });
+    }
+    if !bytes.starts_with(b"OTCJRNLC") {
+        return Err(WalkFault::Damaged { offset: 0 });
+    }
+    if size < 31 {
+        return Ok(Lead {
+            form: Form::SlotsShort,
+            base: size,
+            gate: size,
+        });
+    }
+    slots_lead(bytes)
+}
+
+// The place just past the gate behind the records that stand in the bytes from a gate at this place on.
+fn end_behind(bytes: &[u8], gate: u64) -> Result<u64, WalkFault>
+    requires small { gate < limit }
+    ensures found { IfOk result (EndsBehind gate bytes.now) }
+    ensures fault { IfErr result (IsBreak gate bytes.now) }
+{
+    let mut rest = bytes;
+    let mut at = gate;
     while let Some(body) = behind_open(rest) {
         let Some((record_bytes, after)) = record_of(body) else {
             return Err(WalkFault::Damaged { offset: at });
         };
-        let next = at + 5 + record_bytes.len() as u64;
+        let next = at
+            .saturating_add(5)
+            .saturating_add(record_bytes.len() as u64);
         if next >= LIMIT {
             return Err(WalkFault::Damaged { offset: at });
         }
@@ -42,13 +131,49 @@ fn end_in(bytes: &[u8]) -> Result<u64, WalkFault>
     Ok(at + 1)
 }
 
-/// The file of a journal, with the records that it holds, and the place just past the gate behind them. `Damaged` comes
-/// only where it holds none, with the one place at which it is damaged. It reads the file in one piece, at most as much
-/// of it as a journal may have, and writes nothing.
+// Where a journal on the bytes, which begin so, ends, or will when it is begun.
+fn end_of(bytes: &[u8], lead: &Lead) -> Result<u64, WalkFault>
+    requires { IsLed bytes.now lead.now.form lead.now.base lead.now.gate }
+    ensures ends { IfOk result (EndsLed lead.now.form bytes.now lead.now.gate) }
+    ensures fault { IfErr result (IsBadLead bytes.now) }
+{
+    match lead.form {
+        Form::Short => Ok(30),
+        Form::SlotsShort => Ok(30),
+        Form::Plain => {
+            let end = end_behind(&bytes[lead.gate..], lead.gate as u64)?;
+            Ok(end)
+        }
+        Form::Slots { .. } => {
+            let end = end_behind(&bytes[lead.gate..], lead.gate as u64)?;
+            Ok(end)
+        }
+    }
+}
+
+// A file's form and its parts, and where a journal on it ends, or will when it is begun.
+fn walk_over(bytes: Vec<u8>) -> Result<Walked, WalkFault>
+    ensures walked { IfOk result (λ w. IsWalked w × (bytes_of w ≡ bytes.items)) }
+    ensures fault { IfErr result (IsBadLead bytes.items) }
+{
+    let lead = lead_of(&bytes)?;
+    let end = end_of(&bytes, &lead)?;
+    Ok(Walked {
+        bytes,
+        base: lead.base,
+        gate: lead.gate,
+        form: lead.form,
+        end,
+    })
+}
+
+/// The file of a journal, with its form, the base and the records that it holds, and the place just past the gate behind them.
+/// `Damaged` comes only where it holds none, with the one place at which it is damaged. It reads the file in one piece, at most
+/// as much of it as a journal may have, and writes nothing.
 pub fn walk<D: Disk>(alloc: Global, disk: &mut D) -> Result<Walked, WalkFault>
     ensures walked { IfOk result IsWalked }
     ensures found { IfOk result (FindsRecords (D.history disk.old)) }
-    ensures ends { IfOk result (λ w. EndsAt (D.history disk.old) w.end) }
+    ensures ends { IfOk result (λ w. EndsAt (D.history disk.old) w.form w.end) }
     ensures fault { IfErr result (FindsFault (D.history disk.old)) }
     ensures same { D.history disk.new ≡ D.history disk.old }
     ensures never_falls { D.fault_count disk.old ≤ D.fault_count disk.new }
@@ -58,6 +183,6 @@ pub fn walk<D: Disk>(alloc: Global, disk: &mut D) -> Result<Walked, WalkFault>
     let mut bytes = vec![in alloc; 0u8; length.min(LIMIT) as usize]?;
     let read = disk.read(0, &mut bytes)?;
     bytes.truncate(read);
-    let end = end_in(&bytes)?;
-    Ok(Walked { bytes, end })
+    let walked = walk_over(bytes)?;
+    Ok(walked)
 }

@@ -1,5 +1,5 @@
-use Rattle.journal_core.proofs.OneReading.{one_list}
+use Rattle.journal_core.proofs.OneReading.{one_reading}
 use Rattle.journal_core.proofs.laws.files_hold_one_list.Goals as goal
 
 pub returns : goal.returns
-returns c = one_list
+returns c = one_reading
