@@ -5,6 +5,7 @@ use Rattle.std.specs.List.{flat_map}
 use Rattle.units_core.specs.Name.{is_name}
 use Rattle.units_core.specs.Number.{is_amount}
 use Rattle.units_core.specs.declared.limits.TheConstants.{MOST_GROSS, MOST_NUMBER, MOST_SUBMITTED}
+use Rattle.command_types.specs.declared.base.Base.{Base}
 use Rattle.command_types.specs.declared.figures.Start.{Start}
 use Rattle.command_types.specs.declared.roster.MemberRow.{MemberRow}
 use Rattle.command_types.specs.declared.roster.ProductRow.{ProductRow}
@@ -23,18 +24,8 @@ use Rattle.command_types.specs.Spelling.{number_spelling, name_spelling, day_spe
 
 -- ---- what is written
 
--- the position, the two numbers of the last cycle, the names of members and products in the roster's order, the settings and the trades
-pub record BaseData : Type 0 where
-  pub position : ℕ
-  pub cycle : ℕ
-  pub version : ℕ
-  pub members : List (List ℕ)
-  pub products : List (List ℕ)
-  pub tolerances : List ToleranceRow
-  pub trades : List TradeRow
-
 -- what is written of this base
-abbrev pub written : Start → BaseData
+abbrev pub written : Start → Base
 written base = record {
   position = base.position;
   cycle = base.state.cycle.number;
@@ -46,7 +37,7 @@ written base = record {
 }
 
 -- the base that is written so, over a roster: its roster is that one, and no cycle is open
-abbrev pub base_in : Rows → BaseData → Start
+abbrev pub base_in : Rows → Base → Start
 base_in roster b = record {
   position = b.position;
   state = record { roster = roster; trades = b.trades; tolerances = b.tolerances; cycle = closed b.cycle b.version };
@@ -86,7 +77,7 @@ trade_spelling row =
     ++ state_byte row.state ∷ party_byte row.submitter ∷ party_byte row.mark ∷ hold_byte row ∷ []
 
 -- the mark of the form, and the fields
-abbrev pub base_spelling : BaseData → List ℕ
+abbrev pub base_spelling : Base → List ℕ
 base_spelling b =
     1 ∷ number_spelling b.position ++ number_spelling b.cycle ++ number_spelling b.version ++ names_spelling b.members ++ names_spelling b.products
     ++ number_spelling (length b.tolerances) ++ flat_map setting_spelling b.tolerances ++ number_spelling (length b.trades) ++ flat_map trade_spelling b.trades
@@ -122,7 +113,7 @@ AreTradeRows number [] = Unit {0}
 AreTradeRows number (row ∷ rows) = IsTradeRow number row × AreTradeRows (suc number) rows
 
 -- what is written of some base
-pub record IsBaseData (b : BaseData) : Type 0 where
+pub record IsWrittenBase (b : Base) : Type 0 where
   pub position : IsNumber b.position
   pub cycle : IsNumber b.cycle
   pub version : IsNumber b.version
@@ -135,8 +126,8 @@ pub record IsBaseData (b : BaseData) : Type 0 where
   pub trades : AreTradeRows 1 b.trades
 
 -- The bytes are the spelling of what is written.
-pub record SpellsBase (bytes : List ℕ) (b : BaseData) : Type 0 where
-  pub fields : IsBaseData b
+pub record SpellsBase (bytes : List ℕ) (b : Base) : Type 0 where
+  pub fields : IsWrittenBase b
   pub same : bytes ≡ base_spelling b
 
 -- ---- what fits a roster
@@ -164,7 +155,7 @@ pub record IsTradeIn (members products : ℕ) (row : TradeRow) : Type 0 where
   pub fresh : IsFresh row.state row
 
 -- what is written fits the roster: the names are the roster's, and a machine over it may stand so
-pub record Fits (roster : Rows) (b : BaseData) : Type 0 where
+pub record Fits (roster : Rows) (b : Base) : Type 0 where
   pub position : b.position ≤ MOST_NUMBER
   pub cycle : b.cycle ≤ MOST_NUMBER
   pub version : b.version ≤ MOST_NUMBER

@@ -4,6 +4,7 @@
 
 mod answer;
 mod ask;
+mod base;
 mod cycle;
 mod desk;
 mod figures;
@@ -22,6 +23,7 @@ mod trade;
 
 pub use answer::{Answer, Reply};
 pub use ask::{Ask, Entry, What};
+pub use base::Base;
 pub use cycle::{Mode, Phase};
 pub use desk::Desk;
 pub use figures::{Cycle, Figures, JournalFigures, Start, State};
