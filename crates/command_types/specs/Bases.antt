@@ -124,6 +124,7 @@ pub record IsWrittenBase (b : Base) : Type 0 where
   pub settings : All IsSettingRow b.tolerances
   pub rising : AreRising 0 b.tolerances
   pub trades : AreTradeRows 1 b.trades
+  pub few_trades : IsNumber (length b.trades)
 
 -- The bytes are the spelling of what is written.
 pub record SpellsBase (bytes : List ℕ) (b : Base) : Type 0 where

@@ -22,7 +22,7 @@ which_side : (s : Side) → (Out ≡ s) ⊎ (In ≡ s)
 which_side Out = inl refl
 which_side In = inr refl
 
-side_format : IsFormat side_at (λ s. side_byte s ∷ []) (λ s. Unit {0})
+pub side_format : IsFormat side_at (λ s. side_byte s ∷ []) (λ s. Unit {0})
 side_format = bit_format Out In side_byte refl refl which_side
 
 mode_again : (m : Mode) → three_way modes.Conservative modes.Hybrid modes.Free (mode_byte m ∷ []) ≡ Some m

@@ -11,10 +11,10 @@ use Rattle.command_types.specs.Spelling.{number_spelling, name_spelling, day_spe
 use Rattle.record_codec.specs.Reading.{field, number_in, count_in, name_in, amount_in, level_in, day_in, seat_at, number_at, count_at, row_count_at, name_at, amount_at, level_at, day_at, given_at, ceiling_if, ceiling_at}
 use Rattle.record_codec.proofs.FieldFacts.{IsBytes, IsBytes-take, IsBytes-drop, IsBytes-rest, Takes, IsFormat, IsField, format_of, field_ok, field_again, ok_is, seq_takes, seq_again}
 
-abbrev some : {A : Type 0} → A → Option A
+abbrev pub some : {A : Type 0} → A → Option A
 some x = Some x
 
-some_is : {A : Type 0} (x y : A) → some x ≡ some y → x ≡ y
+pub some_is : {A : Type 0} (x y : A) → some x ≡ some y → x ≡ y
 some_is x y e = cc
 
 -- a test that a value passed
@@ -125,7 +125,7 @@ day_format = format_of 4 day_in day_spelling IsDay (record { back = day_back; ag
 
 -- ---- one byte that is 0 or 1
 
-single : (text : List ℕ) → length text ≡ 1 → text ≡ get_or text 0 0 ∷ []
+pub single : (text : List ℕ) → length text ≡ 1 → text ≡ get_or text 0 0 ∷ []
 single [] len = absurd (omega arith)
 single (a ∷ []) len = refl
 single (a ∷ b ∷ bs) len = absurd (omega arith)
@@ -155,7 +155,7 @@ bit_format {A} x y byte at_x at_y which = format_of 1 (two_way x y) (λ a. byte 
 
 -- ---- one byte that is 0, 1 or 2
 
-one_of_three : {A : Type 0} (b c d : Bool) (x y z a : A) → cond b (Some x) (cond c (Some y) (cond d (Some z) None)) ≡ some a → ((b ≡ true) × (x ≡ a)) ⊎ (((c ≡ true) × (y ≡ a)) ⊎ ((d ≡ true) × (z ≡ a)))
+pub one_of_three : {A : Type 0} (b c d : Bool) (x y z a : A) → cond b (Some x) (cond c (Some y) (cond d (Some z) None)) ≡ some a → ((b ≡ true) × (x ≡ a)) ⊎ (((c ≡ true) × (y ≡ a)) ⊎ ((d ≡ true) × (z ≡ a)))
 one_of_three true c d x y z a e = inl (refl, cc)
 one_of_three false c d x y z a e = inr (one_of c d y z a e)
 

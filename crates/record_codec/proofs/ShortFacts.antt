@@ -1,5 +1,5 @@
 -- The record of an ACCEPT, piece by piece.
-use Rattle.std.proofs.Common.{◌≡◌, ℕ, List, [], ◌∷◌, ◌++◌, length, sym, ◌∙◌, ap, append_assoc}
+use Rattle.std.proofs.Common.{◌≡◌, ℕ, List, [], ◌∷◌, ◌++◌, length, ◌∙◌, ap, append_assoc}
 use Rattle.std.specs.Int.{w32, w64, to_le_bytes}
 
 pub pieces : (seat cycle version : ℕ) (name a b c d e f : List ℕ) → a ≡ to_le_bytes w32 seat → b ≡ a ++ length name ∷ [] → c ≡ b ++ name → d ≡ c ++ 10 ∷ [] → e ≡ d ++ to_le_bytes w64 cycle → f ≡ e ++ to_le_bytes w64 version

@@ -65,7 +65,7 @@ pub record ReadsEach {A : Type 0} (read : List ℕ → Read A) (each : ℕ → L
   pub none : (bytes : List ℕ) → each zero bytes ≡ Ok ([], bytes)
   pub one : (n : ℕ) (bytes : List ℕ) → each (suc n) bytes ≡ (read bytes >>= λ first. each n first.1 >>= λ others. Ok (first.0 ∷ others.0, others.1))
 
-each_takes : {A : Type 0} {read : List ℕ → Read A} {spell : A → List ℕ} {Is : A → Type 0} (each : ℕ → List ℕ → Read (List A)) → IsFormat read spell Is → ReadsEach read each → (count : ℕ) (bytes : List ℕ) (x : List A × List ℕ) → IsBytes bytes → each count bytes ≡ Ok x
+pub each_takes : {A : Type 0} {read : List ℕ → Read A} {spell : A → List ℕ} {Is : A → Type 0} (each : ℕ → List ℕ → Read (List A)) → IsFormat read spell Is → ReadsEach read each → (count : ℕ) (bytes : List ℕ) (x : List A × List ℕ) → IsBytes bytes → each count bytes ≡ Ok x
     → Takes bytes (flat_map spell x.0) x.1 × (length x.0 ≡ count) × AllByRecursion Is x.0
 each_takes {A} {read} {spell} {Is} each format reads zero bytes x fits e =
     subst (λ (y : List A × List ℕ). Takes bytes (flat_map spell y.0) y.1 × (length y.0 ≡ 0) × AllByRecursion Is y.0) (ok_is ([], bytes) x (sym (reads.none bytes) ∙ e)) (record { parts = refl; rest_fits = fits }, refl, tt)
@@ -76,7 +76,7 @@ each_takes {A} {read} {spell} {Is} each format reads (suc n) bytes x fits e =
     let both = Takes-then bytes (spell a.0.0) a.0.1 (flat_map spell b.0.0) b.0.1 a.1 second.0 in
     subst (λ (y : List A × List ℕ). Takes bytes (flat_map spell y.0) y.1 × (length y.0 ≡ suc n) × AllByRecursion Is y.0) (ok_is (a.0.0 ∷ b.0.0, b.0.1) x b.2) (rw flat_map-cons both, ap suc second.1, (a.2, second.2))
 
-each_again : {A : Type 0} {read : List ℕ → Read A} {spell : A → List ℕ} {Is : A → Type 0} (each : ℕ → List ℕ → Read (List A)) → IsFormat read spell Is → ReadsEach read each → (xs : List A) (rest : List ℕ) → AllByRecursion Is xs → each (length xs) (flat_map spell xs ++ rest) ≡ Ok (xs, rest)
+pub each_again : {A : Type 0} {read : List ℕ → Read A} {spell : A → List ℕ} {Is : A → Type 0} (each : ℕ → List ℕ → Read (List A)) → IsFormat read spell Is → ReadsEach read each → (xs : List A) (rest : List ℕ) → AllByRecursion Is xs → each (length xs) (flat_map spell xs ++ rest) ≡ Ok (xs, rest)
 each_again each format reads [] rest h = reads.none rest
 each_again {A} {read} {spell} each format reads (x ∷ xs) rest h =
     let regrouped : flat_map spell (x ∷ xs) ++ rest ≡ spell x ++ (flat_map spell xs ++ rest) = ap (λ (t : List ℕ). t ++ rest) (flat_map-cons spell x xs) ∙ append_assoc (spell x) (flat_map spell xs) rest in

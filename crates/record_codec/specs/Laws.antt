@@ -1,6 +1,8 @@
--- What calls answer of a record, and the law on spellings.
+-- What calls answer of a record or a base, and the laws on spellings.
 use Rattle.std.specs.Prelude.{◌≡◌, ℕ, List, Result, Ok, Err}
 use Rattle.command_types.specs.declared.ask.Entry.{Entry}
+use Rattle.command_types.specs.declared.base.Base.{Base}
+use Rattle.command_types.specs.Bases.{SpellsBase}
 use Rattle.command_types.specs.Spelling.{Spells}
 use Rattle.record_codec.specs.declared.fault.ReadFault.{ReadFault}
 use Rattle.record_codec.specs.declared.fault.ReadFault.TheVariants as reads
@@ -16,15 +18,19 @@ abbrev pub Gives : {A B : Type 0} → (A → B) → Result A ReadFault → Resul
 Gives view (Ok value) read = read ≡ Ok (view value)
 Gives view (Err fault) read = Fails fault read
 
-abbrev pub IsFaultOf : DecodeFault → Result Entry ℕ → Type 0
+abbrev pub IsFaultOf : {A : Type 0} → DecodeFault → Result A ℕ → Type 0
 IsFaultOf Memory read = Unit {0}
 IsFaultOf (BadRecord at) read = read ≡ Err at
 
 -- The answer is what was read, unless memory ran out.
-abbrev pub Decodes : Result Entry DecodeFault → Result Entry ℕ → Type 0
-Decodes (Ok entry) read = read ≡ Ok entry
+abbrev pub Decodes : {A : Type 0} → Result A DecodeFault → Result A ℕ → Type 0
+Decodes (Ok value) read = read ≡ Ok value
 Decodes (Err fault) read = IsFaultOf fault read
 
 -- No bytes spell two changes.
 abbrev pub SpellingsAreUnique : Type 0
 SpellingsAreUnique = (bytes : List ℕ) (a b : Entry) → Spells bytes a → Spells bytes b → a ≡ b
+
+-- No bytes spell two bases.
+abbrev pub BasesAreUnique : Type 0
+BasesAreUnique = (bytes : List ℕ) (a b : Base) → SpellsBase bytes a → SpellsBase bytes b → a ≡ b

@@ -1,2 +1,4 @@
 pub mod Reading
+pub mod BaseReading
+pub mod BaseWriting
 pub mod Laws

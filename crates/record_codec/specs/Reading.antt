@@ -275,8 +275,8 @@ entry_of bytes = do
   if length entry.1 == 0 then Ok entry.0 else Err (length entry.1)
 
 -- a fault by its offset
-abbrev pub by_offset : ℕ → Result Entry ℕ → Result Entry ℕ
-by_offset size (Ok entry) = Ok entry
+abbrev pub by_offset : {A : Type 0} → ℕ → Result A ℕ → Result A ℕ
+by_offset size (Ok value) = Ok value
 by_offset size (Err left) = Err (size - left)
 
 -- the change that the bytes spell, or the offset of the first byte of the first field that breaks the grammar

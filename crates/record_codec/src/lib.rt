@@ -1,9 +1,15 @@
-//! Changes as the byte records of a journal: one spelling for each change, written and read.
+//! Changes as the byte records of a journal, and bases of histories as the bytes in front of them: one spelling for each,
+//! written and read.
 //!
-//! A record is the seat in four bytes, the party's name, one byte for the kind of change, and its fields. Numbers are
-//! little-endian, a name has a byte with its length in front, and nothing follows the last field.
+//! A record is the seat in four bytes, the party's name, one byte for the kind of change, and its fields. A base is one
+//! byte for the form, the position, cycle and version, the names, the settings and the trades. Numbers are little-endian,
+//! a name has a byte with its length in front, a list has its count, and nothing follows the last field.
 #![tactic(auto)]
 
+mod base_decoding;
+mod base_encoding;
+mod base_fields;
+mod base_parts;
 mod change;
 mod decoding;
 mod encoding;
@@ -11,14 +17,17 @@ mod fault;
 mod fields;
 mod laws;
 mod put;
+mod put_base;
 mod put_solution;
 mod short;
 mod size;
 mod solution;
 
+pub use base_decoding::decode_base;
+pub use base_encoding::encode_base;
 pub use decoding::decode;
 pub use encoding::encode;
 pub use fault::DecodeFault;
-pub use laws::spellings_are_unique;
+pub use laws::{base_spellings_are_unique, spellings_are_unique};
 pub use short::encode_short;
 pub use size::length;

@@ -35,7 +35,7 @@ pub(crate) fn put_short(out: &mut Vec<u8>, number: u16) -> Result<(), AllocError
     Ok(())
 }
 
-fn put_day(out: &mut Vec<u8>, day: Day) -> Result<(), AllocError>
+pub(crate) fn put_day(out: &mut Vec<u8>, day: Day) -> Result<(), AllocError>
     ensures appends { OnOk result (out.new.items ≡ out.old.items ++ day_spelling day) }
     ensures form { OnOk result (IsDay day) }
 {
@@ -45,14 +45,14 @@ fn put_day(out: &mut Vec<u8>, day: Day) -> Result<(), AllocError>
     Ok(())
 }
 
-fn put_level(out: &mut Vec<u8>, level: Level) -> Result<(), AllocError>
+pub(crate) fn put_level(out: &mut Vec<u8>, level: Level) -> Result<(), AllocError>
     ensures appends { OnOk result (out.new.items ≡ out.old.items ++ number_spelling level) }
     ensures form { OnOk result (IsLevel level) }
 {
     put_number(out, level.get())
 }
 
-fn put_ceiling(out: &mut Vec<u8>, ceiling: Option<Level>) -> Result<(), AllocError>
+pub(crate) fn put_ceiling(out: &mut Vec<u8>, ceiling: Option<Level>) -> Result<(), AllocError>
     ensures appends { OnOk result (out.new.items ≡ out.old.items ++ ceiling_spelling ceiling) }
     ensures form { OnOk result (IfSome ceiling IsLevel) }
 {
@@ -66,7 +66,7 @@ fn put_ceiling(out: &mut Vec<u8>, ceiling: Option<Level>) -> Result<(), AllocErr
     Ok(())
 }
 
-fn byte_of_side(side: Side) -> u8
+pub(crate) fn byte_of_side(side: Side) -> u8
     ensures { result ≡ side_byte side }
 {
     match side {

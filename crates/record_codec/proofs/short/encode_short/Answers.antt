@@ -1,4 +1,4 @@
-use Rattle.std.proofs.Common.{◌≡◌, ◌<◌, ◌^◌, ◌∷◌, ◌++◌, [], List, ℕ, length, take, IsTrue, rules}
+use Rattle.std.proofs.Common.{◌≡◌, ◌<◌, ◌^◌, ◌∷◌, ◌++◌, [], length, take, IsTrue, rules}
 use Rattle.units_core.specs.Name.{is_name}
 use Rattle.std.specs.Int.{w32, w64, to_le_bytes}
 use Rattle.record_codec.proofs.ShortFacts.{pieces}
