@@ -8,3 +8,4 @@ pub mod OpenPairs
 pub mod ModeLaws
 mod OpenRows
 pub mod RisingFacts
+pub mod OrderedFacts

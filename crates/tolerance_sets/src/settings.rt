@@ -1,14 +1,16 @@
 //! The settings of all members, each found by its place: by its member, product, other member and side.
 
-ghost use Rattle.std.specs.Prelude.{◌≡◌, true, ◌+◌, ◌<◌, ◌≤◌, [], OnOk, OnErr};
+ghost use Rattle.std.specs.Prelude.{◌≡◌, true, ◌+◌, ◌<◌, ◌≤◌, [], IfOk, OnOk, OnErr};
 ghost use Rattle.command_types.specs.Tolerances.{side_place, setting_place, is_setting_of, floor_in, ceiling_in, with_setting};
 ghost use Rattle.std.specs.List.{list_any};
+ghost use Rattle.std.specs.BTreeMap.{values as ordered_values};
 ghost use Rattle.indexmap.specs.IndexMap.{spare, values};
 ghost use Rattle.tolerance_sets.specs.Settings.{place_of, settings_of, IsKeptBy, AreKept, sets_ceiling, HaveNoCeiling};
 
 use command_types::{Level, Side, ToleranceRow};
 use indexmap::IndexMap;
 use std::alloc::{AllocError, Global};
+use std::collections::BTreeMap;
 use std::marker::Model;
 use units_core::{MemberNo, ProductNo};
 
@@ -86,6 +88,28 @@ fn insert(rows: &mut IndexMap<u64, ToleranceRow>, new: ToleranceRow)
     }
 }
 
+// The settings by their places, in rising order.
+fn ordered(
+    alloc: Global,
+    rows: &IndexMap<u64, ToleranceRow>,
+) -> Result<BTreeMap<u64, ToleranceRow>, AllocError>
+    requires { AreKept rows.now.entries }
+    ensures { IfOk result (λ map. ordered_values map ≡ settings_of rows.now.entries) }
+{
+    let entries = rows.as_slice();
+    let count = entries.len();
+    let mut ordered = BTreeMap::new(alloc);
+    for behind in 0..count {
+        let Some((place, kept)) = entries.get_index(count - 1 - behind) else {
+            unreachable!()
+        };
+        let ceiling: Option<Level> = kept.ceiling;
+        let row = ToleranceRow { ceiling, ..*kept };
+        ordered.insert(*place, row)?;
+    }
+    Ok(ordered)
+}
+
 // Whether one of the settings has a ceiling in a product.
 fn any_ceiling(rows: &IndexMap<u64, ToleranceRow>, product: ProductNo) -> bool
     ensures { result ≡ list_any (sets_ceiling product) (values rows.now) }
@@ -156,6 +180,14 @@ impl Settings {
                 ceiling: None,
             },
         }
+    }
+
+    /// All of them, in the order of their places. The only error is want of memory.
+    pub(super) fn in_order(&self, alloc: Global) -> Result<Vec<ToleranceRow>, AllocError>
+        ensures { IfOk result (λ rows. rows.items ≡ self.now.settings) }
+    {
+        let ordered = ordered(alloc, &self.rows)?;
+        ordered.into_values().collect(alloc)
     }
 
     /// Whether no member set anything.

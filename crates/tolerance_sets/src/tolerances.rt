@@ -69,6 +69,13 @@ impl Tolerances {
         Ok(made)
     }
 
+    /// Every setting that was made, in rising order of their places. The only error is want of memory.
+    pub fn rows(&self) -> Result<Vec<ToleranceRow>, AllocError>
+        ensures { IfOk result (λ rows. rows.items ≡ self.now.settings) }
+    {
+        self.settings.in_order(self.alloc)
+    }
+
     /// Makes room for one more setting. The only error is want of memory, and it changes nothing.
     pub fn reserve(&mut self) -> Result<(), AllocError>
         ensures settings { self.new.settings ≡ self.old.settings }

@@ -1,4 +1,4 @@
-use Rattle.std.proofs.Common.{◌∙◌, ap, sym}
+use Rattle.std.proofs.Common.{◌∙◌, ap}
 use Rattle.command_types.specs.Tolerances.{with_setting}
 use Rattle.tolerance_sets.specs.Settings.{SettingsView}
 use Rattle.tolerance_sets.proofs.RisingFacts.{set_next}
