@@ -67,6 +67,16 @@ impl<D: Disk> Journal<D> {
         self.end
     }
 
+    /// Whether its file has slots, so that a base can be staged in it.
+    pub fn has_slots(&self) -> bool
+        ensures { IsTrue result ↔ IsSlots (form_of self.now) }
+    {
+        match self.form {
+            Form::Slots { .. } => true,
+            Form::Short | Form::Plain | Form::SlotsShort => false,
+        }
+    }
+
     /// Whether a record of this length fits below the limit.
     pub fn fits(&self, length: u64) -> bool
         ensures { IsTrue result ↔ (size_of self.now + 4 + length + 1 ≤ limit) }

@@ -19,7 +19,11 @@ mod disks;
 #[cfg(test)]
 mod entries;
 #[cfg(test)]
+mod folds;
+#[cfg(test)]
 mod houses;
+#[cfg(test)]
+mod lives;
 #[cfg(test)]
 mod openings;
 #[cfg(test)]
