@@ -24,6 +24,13 @@ staged_of j = j.staged
 abbrev pub is_sound : {D : Type 0} → Journal D → Bool
 is_sound j = j.sound
 
+-- the form of a journal that is switched to what was staged, and its end
+abbrev pub form_staged : Staged → Form
+form_staged staged = Slots staged.selected staged.offset
+
+abbrev pub end_staged : Staged → ℕ
+end_staged staged = staged.end
+
 -- the file has this form, holds these, and a journal on it ends at this place, or will when it is begun
 abbrev pub EndsAs : Form → List ℕ → ℕ → List ℕ → List (List ℕ) → Type 0
 EndsAs Short file end base records = (length file < 10) × (base ≡ []) × (records ≡ []) × (end ≡ 30)

@@ -4,8 +4,7 @@ ghost use Rattle.outside.specs.Disk.{IsSettled};
 ghost use Rattle.outside.specs.Faults.{Rose};
 ghost use Rattle.journal_core.specs.Holds.{limit};
 ghost use Rattle.journal_core.specs.Form.{IsSlots, begun_form, fold_end};
-ghost use Rattle.journal_core.specs.declared.form.Form.TheVariants.{Slots};
-ghost use Rattle.journal_core.specs.Journal.{disk_of, form_of, size_of, staged_of, is_sound, EndsAt, IsReady, IsStaged, IsReadyToSwitch};
+ghost use Rattle.journal_core.specs.Journal.{disk_of, form_of, size_of, staged_of, form_staged, end_staged, is_sound, EndsAt, IsReady, IsStaged, IsReadyToSwitch};
 ghost use Rattle.journal_core.specs.Calls.{IsAppended, IsAppendedLast, IsAppending, IsStarted, IsStarting};
 ghost use Rattle.journal_core.specs.Calls.{IsStaging, IsStagedBeside, IsSwitching, IsSwitched};
 
@@ -135,7 +134,7 @@ impl<D: Disk> Journal<D> {
         ensures staged { OnOk result (IfSome (staged_of self.new) (λ s. IsStaged (D.history (disk_of self.new)) s base.now)) }
         ensures ready { OnOk result (IsReady (D.history (disk_of self.new)) (form_of self.new) (size_of self.new)) }
         ensures to_switch { OnOk result (IsReadyToSwitch (D.history (disk_of self.new)) (form_of self.new) (staged_of self.new)) }
-        ensures place { OnOk result (IfSome (staged_of self.new) (λ s. s.end ≡ fold_end (form_of self.old) (size_of self.old) (length base.now))) }
+        ensures place { OnOk result (IfSome (staged_of self.new) (λ s. end_staged s ≡ fold_end (form_of self.old) (size_of self.old) (length base.now))) }
         ensures sound { OnOk result (is_sound self.new ≡ true) }
         ensures poisoned { OnErr result (is_sound self.new ≡ false) }
         ensures form { form_of self.new ≡ form_of self.old }
@@ -169,8 +168,8 @@ impl<D: Disk> Journal<D> {
         requires sound { is_sound self.old ≡ true }
         ensures done { OnOk result (IfSome (staged_of self.old) (λ s. IsSwitched (D.history (disk_of self.old)) (D.history (disk_of self.new)) s (form_of self.new) (size_of self.new))) }
         ensures ready { OnOk result (IsReady (D.history (disk_of self.new)) (form_of self.new) (size_of self.new)) }
-        ensures form { OnOk result (IfSome (staged_of self.old) (λ s. form_of self.new ≡ Slots s.selected s.offset)) }
-        ensures size { OnOk result (IfSome (staged_of self.old) (λ s. size_of self.new ≡ s.end)) }
+        ensures form { OnOk result (IfSome (staged_of self.old) (λ s. form_of self.new ≡ form_staged s)) }
+        ensures size { OnOk result (IfSome (staged_of self.old) (λ s. size_of self.new ≡ end_staged s)) }
         ensures same { OnErr result ((form_of self.new ≡ form_of self.old) × (size_of self.new ≡ size_of self.old)) }
         ensures sound { OnOk result (is_sound self.new ≡ true) }
         ensures poisoned { OnErr result (is_sound self.new ≡ false) }
