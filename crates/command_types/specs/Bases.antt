@@ -131,6 +131,20 @@ pub record SpellsBase (bytes : List ℕ) (b : Base) : Type 0 where
   pub fields : IsWrittenBase b
   pub same : bytes ≡ base_spelling b
 
+-- ---- what can be written
+
+-- the trades are numbered one after another, the first by this number, and none is frozen
+abbrev pub AreNumbered : ℕ → List TradeRow → Type 0
+AreNumbered number [] = Unit {0}
+AreNumbered number (row ∷ rows) = (row.number ≡ number) × (row.frozen ≡ false) × AreNumbered (suc number) rows
+
+-- at most 65,535 members and products, the settings in rising order, the trades numbered from 1, and none frozen
+pub record CanBeWritten (b : Base) : Type 0 where
+  pub few_members : length b.members < 65536
+  pub few_products : length b.products < 65536
+  pub rising : AreRising 0 b.tolerances
+  pub numbered : AreNumbered 1 b.trades
+
 -- ---- what fits a roster
 
 -- a setting of a member of a pair: the places are in range, the two differ, and the floor does not pass the ceiling

@@ -59,7 +59,9 @@ pub struct JournalFigures {
     pub moment: u64,
     /// The number of the disk's moment when the desk took the disk.
     pub first_moment: u64,
-    /// The changes for which the disk's content stood then.
+    /// Where the history began for which the disk's content stood then.
+    pub first_base: Start,
+    /// The changes of that history.
     pub first: LinkedList<Entry>,
 }
 

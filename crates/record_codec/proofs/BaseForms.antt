@@ -2,8 +2,8 @@
 use Rattle.std.proofs.Common.{ℕ, suc, List, [], ◌∷◌, All}
 use Rattle.std.proofs.lemmas.List.Elements.{All-head, All-tail}
 use Rattle.command_types.specs.declared.trade.TradeRow.{TradeRow}
-use Rattle.command_types.specs.Bases.{AreTradeRows}
-use Rattle.record_codec.specs.BaseWriting.{AreNumbered, IsTradeForm}
+use Rattle.command_types.specs.Bases.{AreNumbered, AreTradeRows}
+use Rattle.record_codec.specs.BaseWriting.{IsTradeForm}
 
 pub trade_rows : (number : ℕ) (rows : List TradeRow) → AreNumbered number rows → All IsTradeForm rows → AreTradeRows number rows
 trade_rows number [] numbered forms = tt

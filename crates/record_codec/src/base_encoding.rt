@@ -1,8 +1,7 @@
 //! Bases, written.
 ghost use Rattle.std.specs.Prelude.{◌≡◌, ◌∷◌, ◌++◌, OnOk, IfOk};
 ghost use Rattle.command_types.specs.Spelling.{number_spelling, IsNumber};
-ghost use Rattle.command_types.specs.Bases.{base_spelling, IsWrittenBase, SpellsBase};
-ghost use Rattle.record_codec.specs.BaseWriting.{CanBeWritten};
+ghost use Rattle.command_types.specs.Bases.{base_spelling, CanBeWritten, IsWrittenBase, SpellsBase};
 
 use crate::put::put_number;
 use crate::put_base::{put_names, put_settings, put_trades};
