@@ -70,7 +70,7 @@ def opened(given: Namespace) -> Session:
         try:
             return Session.connect(*given.connect)
         except (OSError, ValueError):
-            raise Stop(14, f"no connection to {given.connect.host} at {given.connect.port}") from None
+            raise Stop(21, f"no connection to {given.connect.host} at {given.connect.port}") from None
     try:
         return Session.script(given.program or found_program(), given.roster, given.journal)
     except (OSError, ValueError):
@@ -88,7 +88,7 @@ def main(line: list[str]) -> int:
     try:
         return Shell(session, prompt, given.raw).run()
     except replies.BadReply as reply:
-        raise Stop(13, f"no reply of a session: {reply}") from None
+        raise Stop(20, f"no reply of a session: {reply}") from None
 
 
 def command() -> NoReturn:

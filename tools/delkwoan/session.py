@@ -74,7 +74,7 @@ class ScriptLink:
         return self.process.wait(), errors.decode(errors="replace").strip()
 
 
-CONNECTION_LOST = (14, "connection lost")
+CONNECTION_LOST = (21, "connection lost")
 """The status and the line of a connection that ended while a reply was due."""
 
 

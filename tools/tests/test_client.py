@@ -336,7 +336,7 @@ class Shells(InFolder):
         other.write_text("#!/bin/sh\necho what\n")
         other.chmod(0o755)
         ran = self.client(ROSTER, self.journal, input=b"BYE\n", COMPRESS_CLI=str(other))
-        self.assertEqual(ran, Ran(13, b"", b"no reply of a session: what\n"))
+        self.assertEqual(ran, Ran(20, b"", b"no reply of a session: what\n"))
 
     def test_input_that_is_no_text_and_output_that_fails(self) -> None:
         ran = self.client(ROSTER, self.journal, input=b"\xff\n")

@@ -101,7 +101,7 @@ class Made(unittest.TestCase):
         environ = {**os.environ, "COMPRESS_CLI": str(self.program)}
         words = [commands / "compress-client", EXAMPLES / "roster.csv", journal]
         done = subprocess.run(words, input=b"BYE\n", capture_output=True, env=environ)
-        self.assertEqual((done.returncode, done.stderr), (13, b"no reply of a session: stands in\n"))
+        self.assertEqual((done.returncode, done.stderr), (20, b"no reply of a session: stands in\n"))
         for name in COMMANDS[:-1]:
             self.assertEqual(run([commands / name, "--version"]), Ran(0, f"{name} {__version__}\n".encode(), b""))
 

@@ -83,7 +83,7 @@ class Service(InService):
             waiting.wait(0.5)
         self.service.kill()
         self.assertEqual(waiting.communicate(timeout=30), (b"", b"connection lost behind position 0\n"))
-        self.assertEqual(waiting.returncode, 14)
+        self.assertEqual(waiting.returncode, 21)
 
     def test_an_end_of_the_service_while_a_fifth_waits(self) -> None:
         """Four sessions have the seats, so that a fifth waits unanswered; then the service ends."""
@@ -95,7 +95,7 @@ class Service(InService):
         for session in reversed(sessions):
             with self.assertRaises(LinkClosed) as caught:
                 session.hello("B", "KB")
-            self.assertEqual((caught.exception.status, caught.exception.errors), (14, "connection lost"))
+            self.assertEqual((caught.exception.status, caught.exception.errors), (21, "connection lost"))
             self.assertEqual(caught.exception.position, None if session is sessions[-1] else 0)
 
     def test_one_that_waits_is_served_next(self) -> None:
@@ -113,7 +113,7 @@ class Service(InService):
 
     def test_no_service(self) -> None:
         ran = self.client("--connect", self.address, ROSTER, input=b"BYE\n")
-        self.assertEqual(ran, Ran(14, b"", f"no connection to 127.0.0.1 at {self.port}\n".encode()))
+        self.assertEqual(ran, Ran(21, b"", f"no connection to 127.0.0.1 at {self.port}\n".encode()))
 
     def test_crashes_lose_nothing_that_was_acknowledged(self) -> None:
         """A service is ended in the middle of trades, and goes on with what is there; so is each of its successors."""
