@@ -1,1 +1,5 @@
+pub mod PlaceFacts
+pub mod BaseFacts
 pub mod EntryFacts
+pub mod FindFacts
+mod LoopFacts

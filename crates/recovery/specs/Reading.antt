@@ -1,24 +1,35 @@
 -- What is read of a disk's journal.
-use Rattle.std.specs.Prelude.{◌≡◌, ◌⊎◌, ℕ, ◌+◌, List, [], ◌∷◌, length, map, Option, Some, None, Result, Ok, Err}
+use Rattle.std.specs.Prelude.{◌≡◌, ◌≢◌, ◌⊎◌, ℕ, List, [], ◌∷◌, length, map, Option, Some, None, Result, Ok, Err}
 use Rattle.command_types.specs.declared.ask.Entry.{Entry}
+use Rattle.command_types.specs.declared.figures.Start.{Start}
 use Rattle.std.specs.List.{AllZip}
+use Rattle.command_types.specs.Bases.{base_in, SpellsBase, Fits}
 use Rattle.command_types.specs.History.{History}
-use Rattle.command_types.specs.Sizes.{frames_size}
+use Rattle.command_types.specs.Roster.{Rows}
 use Rattle.command_types.specs.Spelling.{Spells}
 use Rattle.outside.specs.Disk as disks
-use Rattle.journal_core.specs.Holds.{Holds}
+use Rattle.journal_core.specs.Holds.{IsJournal, Holds}
 use Rattle.journal_core.specs.Records.{AreAhead}
-use Rattle.journal_core.specs.Walk.{placed, bytes_of, IsDamaged}
-use Rattle.recovery.specs.StandsFor.{StandsFor, IsFirstBad, IsUnreadable}
+use Rattle.journal_core.specs.Walk.{placed, bytes_of, IsDamaged, IsWalked}
+use Rattle.journal_core.specs.Walk as walks
+use Rattle.journal_core.specs.declared.form.Form.{Form}
+use Rattle.journal_core.specs.declared.form.Form.TheVariants.{Slots}
+use Rattle.journal_core.specs.declared.walked.Walked.{Walked}
+use Rattle.recovery.specs.StandsFor.{first_start, StandsFor, HoldsAt, SpellsSomeBase, IsBadBase, IsFirstBad, IsUnreadable}
+use Rattle.recovery.specs.declared.contents.BaseAt.{BaseAt}
+use Rattle.recovery.specs.declared.contents.Contents.{Contents}
 use Rattle.recovery.specs.declared.entries.Entries.{Entries}
 use Rattle.recovery.specs.declared.entries.EntryAt.{EntryAt}
 use Rattle.recovery.specs.declared.reader.EntryReader.{EntryReader}
 use Rattle.recovery.specs.declared.fault.RecoverFault.{RecoverFault}
 use Rattle.recovery.specs.declared.fault.RecoverFault.TheVariants.{Damaged, DiskFault, Memory}
 
--- the bytes that were read, and the place just past the gate behind their records
+-- the bytes that were read, their form, and the place just past the gate behind their records
 abbrev pub file_of : Entries → List ℕ
 file_of e = bytes_of e.walked
+
+abbrev pub form_read : Entries → Form
+form_read e = e.walked.form
 
 abbrev pub ends_at : Entries → ℕ
 ends_at e = e.walked.end
@@ -43,11 +54,12 @@ AreSpelled records = (list : List EntryAt) × AllZip SpellsAt records list
 
 -- the file holds some records, and each has its gate where its entry has it, and spells that
 abbrev pub IsRead : List ℕ → List EntryAt → Type 0
-IsRead file list = (records : List (List ℕ)) × Holds file records × AllZip SpellsAt (placed 8 records) list
+IsRead file list =
+    (base : List ℕ) × (records : List (List ℕ)) × (gate : ℕ) × HoldsAt file base records gate × AllZip SpellsAt (placed gate records) list
 
--- some entries are read of the file, and the place that is told is where these end
+-- some entries are read of the file, which a walk has found
 abbrev pub HasRead : Entries → Type 0
-HasRead e = (list : List EntryAt) × IsRead (file_of e) list × (ends_at e ≡ 9 + frames_size (entries_in list))
+HasRead e = (list : List EntryAt) × IsRead (file_of e) list × IsWalked e.walked
 
 -- the entries that are still to be read, of which the first has its gate where the reader stands
 abbrev pub AreLeft : EntryReader → List EntryAt → Type 0
@@ -63,10 +75,41 @@ abbrev pub IsNext : List EntryAt → EntryReader → Option EntryAt → Type 0
 IsNext list reader None = list ≡ []
 IsNext list reader (Some x) = (others : List EntryAt) × (list ≡ x ∷ others) × AreLeft reader others
 
--- damage is told at the place where the file is damaged as a journal, or, where it holds records, at the gate of the
--- first of them that spells no change
+-- the file holds no base, or one at the offset that is told, which spells what is told
+abbrev pub HasBase : List ℕ → Option BaseAt → Type 0
+HasBase file None = (records : List (List ℕ)) × Holds file [] records
+HasBase file (Some x) =
+    (which : ℕ) × (bytes : List ℕ) × (records : List (List ℕ)) × IsJournal (Slots which x.at) file bytes records × SpellsBase bytes x.base
+
+-- the same of a file that a walk has found
+abbrev pub IsBaseOf : Walked → Option BaseAt → Type 0
+IsBaseOf w None = walks.base_of w ≡ []
+IsBaseOf w (Some x) = (which : ℕ) × (w.form ≡ Slots which x.at) × SpellsBase (walks.base_of w) x.base
+
+-- a fault of reading its base: damage is told at the base's offset, where it spells none, and no disk is asked
+abbrev pub IsBaseFault : Walked → RecoverFault → Type 0
+IsBaseFault w (Damaged place) = (which : ℕ) × (w.form ≡ Slots which place) × (walks.base_of w ≢ []) × (¬ SpellsSomeBase (walks.base_of w))
+IsBaseFault w DiskFault = ⊥
+IsBaseFault w Memory = Unit {0}
+
+-- the base fits the roster, if there is one
+abbrev pub FitsIn : Rows → Option BaseAt → Type 0
+FitsIn roster None = Unit {0}
+FitsIn roster (Some x) = Fits roster x.base
+
+-- where a history of a roster begins: without a base where its market does, and else where the base tells
+abbrev pub start_of : Rows → Option BaseAt → Start
+start_of roster None = first_start roster
+start_of roster (Some x) = base_in roster x.base
+
+-- the history of a roster with this base and these entries
+abbrev pub history_of : Rows → Option BaseAt → List EntryAt → History
+history_of roster base list = record { base = start_of roster base; entries = entries_in list }
+
+-- damage is told at the place where the file is damaged as a journal, or, where it holds a base and records, at the offset of a
+-- base that is not spelled, or else at the gate of the first record that spells no change
 abbrev pub IsFault : List ℕ → RecoverFault → Type 0
-IsFault file (Damaged place) = IsDamaged file place ⊎ IsUnreadable file place
+IsFault file (Damaged place) = IsDamaged file place ⊎ (IsBadBase file place ⊎ IsUnreadable file place)
 IsFault file DiskFault = Unit {0}
 IsFault file Memory = Unit {0}
 
@@ -76,9 +119,15 @@ IsOnlyFault file (Damaged place) = ((other : ℕ) → IsFault file (Damaged othe
 IsOnlyFault file DiskFault = Unit {0}
 IsOnlyFault file Memory = Unit {0}
 
--- the answer is a file that stands for this history, or the disk failed, or there was no memory
-abbrev pub IsAnswer : Result Entries RecoverFault → History → Type 0
-IsAnswer (Ok e) h = StandsFor (file_of e) h
+-- the base that was read and the entries that are read are those of this history
+abbrev pub AreOf : Contents → History → Type 0
+AreOf c h =
+    (list : List EntryAt) × IsRead (file_of c.entries) list × FitsIn h.base.state.roster c.base
+    × (h ≡ history_of h.base.state.roster c.base list)
+
+-- the answer is the contents of this history, or the disk failed, or there was no memory
+abbrev pub IsAnswer : Result Contents RecoverFault → History → Type 0
+IsAnswer (Ok c) h = AreOf c h
 IsAnswer (Err (Damaged place)) h = ⊥
 IsAnswer (Err DiskFault) h = Unit {0}
 IsAnswer (Err Memory) h = Unit {0}
@@ -90,8 +139,13 @@ abbrev pub FindsEntries : Option disks.History → Entries → Type 0
 FindsEntries None e = Unit {0}
 FindsEntries (Some disk) e = (list : List EntryAt) → IsRead (file_of e) list → IsRead disk.content list
 
+-- the disk's content has this base
+abbrev pub FindsBase : Option disks.History → Option BaseAt → Type 0
+FindsBase None base = Unit {0}
+FindsBase (Some disk) base = HasBase disk.content base
+
 -- whatever history the disk's content stands for is the answer
-abbrev pub GivesOnly : Option disks.History → Result Entries RecoverFault → Type 0
+abbrev pub GivesOnly : Option disks.History → Result Contents RecoverFault → Type 0
 GivesOnly None answer = Unit {0}
 GivesOnly (Some disk) answer = (h : History) → StandsFor disk.content h → IsAnswer answer h
 

@@ -4,7 +4,7 @@ ghost use Rattle.recovery.specs.declared.entries.EntryAt.{EntryAt};
 
 use crate::EntryReader;
 use command_types::Entry;
-use journal_core::Walked;
+use journal_core::{Form, Walked};
 
 /// An entry, and the place of its record's gate in the file.
 #[derive(Drop)]
@@ -20,9 +20,16 @@ pub struct Entries {
 }
 
 impl Entries {
-    ghost use Rattle.recovery.specs.Reading.{file_of, ends_at, bytes_left, IsRead, AreLeft};
+    ghost use Rattle.recovery.specs.Reading.{file_of, form_read, ends_at, bytes_left, HasRead, IsRead, AreLeft};
 
-    /// The place just past the gate behind their records.
+    /// The form of the file.
+    pub fn form(&self) -> Form
+        ensures { result ≡ form_read self.now }
+    {
+        self.walked.form
+    }
+
+    /// The place just past the gate behind their records, or where that will be once a file that is too short is begun.
     pub fn end(&self) -> u64
         ensures { result ≡ ends_at self.now }
     {
@@ -32,7 +39,7 @@ impl Entries {
     /// A reader of them, at the first.
     pub fn reader(&self) -> EntryReader<'_>
         ensures few { bytes_left result < 2 ^ 63 }
-        ensures all { (list : List EntryAt) → IsRead (file_of self.now) list → AreLeft result list }
+        ensures all { HasRead self.now → (list : List EntryAt) → IsRead (file_of self.now) list → AreLeft result list }
     {
         EntryReader {
             records: self.walked.records(),

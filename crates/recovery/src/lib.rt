@@ -1,12 +1,15 @@
-//! The history that a journal's file stands for: the entries that its records spell, in their order.
+//! The history that a journal's file stands for: where its base begins, and the entries that its records spell, in their
+//! order.
 #![tactic(auto)]
 
+pub mod contents;
 pub mod entries;
 pub mod fault;
 mod laws;
 pub mod reader;
 mod reading;
 
+pub use contents::{BaseAt, Contents};
 pub use entries::{Entries, EntryAt};
 pub use fault::RecoverFault;
 pub use laws::files_stand_for_one_history;

@@ -1,20 +1,45 @@
-//! The entries of a disk's journal.
-ghost use Rattle.std.specs.Prelude.{◌≡◌, ◌≤◌, List, ℕ, Err, IfOk, IfErr};
+//! What a disk's journal holds.
+ghost use Rattle.std.specs.Prelude.{◌≡◌, ◌≤◌, List, ℕ, Err, IfOk, IfErr, IfSome};
+ghost use Rattle.command_types.specs.Bases.{CanBeWritten};
 ghost use Rattle.outside.specs.Faults.{Rose};
 ghost use Rattle.journal_core.specs.Holds.{Holds};
-ghost use Rattle.journal_core.specs.Walk.{bytes_of, placed, EndsAt};
-ghost use Rattle.recovery.specs.Reading.{ends_at, AreSpelled, HasRead, IsFaultAmong, FindsEntries, GivesOnly, FindsFault};
+ghost use Rattle.journal_core.specs.Journal.{EndsAt};
+ghost use Rattle.journal_core.specs.Walk.{bytes_of, gate_of, placed, IsWalked};
+ghost use Rattle.recovery.specs.Reading.{form_read, ends_at, AreSpelled, HasRead, IsFaultAmong, IsBaseOf, IsBaseFault};
+ghost use Rattle.recovery.specs.Reading.{FindsEntries, FindsBase, GivesOnly, FindsFault};
 
 use crate::reader::read_entry;
-use crate::{Entries, RecoverFault};
-use journal_core::{Walked, walk};
+use crate::{BaseAt, Contents, Entries, RecoverFault};
+use journal_core::{Form, Walked, walk};
 use outside::Disk;
+use record_codec::{DecodeFault, decode_base};
 use std::alloc::Global;
+
+// The base of a file, if it has one.
+fn read_base(alloc: Global, walked: &Walked) -> Result<Option<BaseAt>, RecoverFault>
+    requires { IsWalked walked.now }
+    ensures found { IfOk result (IsBaseOf walked.now) }
+    ensures fault { IfErr result (IsBaseFault walked.now) }
+{
+    let Form::Slots { offset, .. } = walked.form else {
+        return Ok(None);
+    };
+    let bytes = walked.base();
+    if bytes.is_empty() {
+        return Ok(None);
+    }
+    match decode_base(alloc, bytes) {
+        Ok(base) => Ok(Some(BaseAt { at: offset, base })),
+        Err(DecodeFault::BadRecord { .. }) => Err(RecoverFault::Damaged { offset }),
+        Err(DecodeFault::Memory) => Err(RecoverFault::Memory),
+    }
+}
 
 // Goes over a file's records, and fails at the first that spells no entry.
 fn read_all(alloc: Global, walked: &Walked) -> Result<(), RecoverFault>
-    ensures spelled { (records : List (List ℕ)) → Holds (bytes_of walked.now) records → IfOk result (λ _. AreSpelled (placed 8 records)) }
-    ensures fault { (records : List (List ℕ)) → Holds (bytes_of walked.now) records → IfErr result (IsFaultAmong (placed 8 records)) }
+    requires { IsWalked walked.now }
+    ensures spelled { (base : List ℕ) (records : List (List ℕ)) → Holds (bytes_of walked.now) base records → IfOk result (λ _. AreSpelled (placed (gate_of walked.now) records)) }
+    ensures fault { (base : List ℕ) (records : List (List ℕ)) → Holds (bytes_of walked.now) base records → IfErr result (IsFaultAmong (placed (gate_of walked.now) records)) }
 {
     let mut records = walked.records();
     while let Some(found) = records.next() {
@@ -23,14 +48,18 @@ fn read_all(alloc: Global, walked: &Walked) -> Result<(), RecoverFault>
     Ok(())
 }
 
-/// The entries that a journal's file stands for, to be read one after another, and the place just past the gate behind
-/// their records. `Damaged` comes only where it stands for none, with the one place that is told: the place at which it
-/// is damaged as a journal of byte records, or else the gate of the first record that spells no change. It writes
-/// nothing, and keeps no entry.
-pub fn read_entries<D: Disk>(alloc: Global, disk: &mut D) -> Result<Entries, RecoverFault>
-    ensures read { IfOk result HasRead }
-    ensures found { IfOk result (FindsEntries (D.history disk.old)) }
-    ensures ends { IfOk result (λ e. EndsAt (D.history disk.old) (ends_at e)) }
+/// The base and the entries that a journal's file stands for, the entries to be read one after another, and the place just
+/// past the gate behind their records. `Damaged` comes only where it stands for none, with the one place that is told: the
+/// place at which it is damaged as a journal of byte records, or else the offset of a base that is spelled by no bytes, or
+/// else the gate of the first record that spells no change. Whether the base fits a roster is not asked. It writes nothing,
+/// and keeps no entry.
+pub fn read_entries<D: Disk>(alloc: Global, disk: &mut D) -> Result<Contents, RecoverFault>
+    ensures read { IfOk result (λ c. HasRead c.entries) }
+    ensures found { IfOk result (λ c. FindsEntries (D.history disk.old) c.entries) }
+    ensures base { IfOk result (λ c. FindsBase (D.history disk.old) c.base) }
+    // So a machine can be made of it.
+    ensures written { IfOk result (λ c. IfSome c.base (λ x. CanBeWritten x.base)) }
+    ensures ends { IfOk result (λ c. EndsAt (D.history disk.old) (form_read c.entries) (ends_at c.entries)) }
     ensures only { GivesOnly (D.history disk.old) result }
     ensures fault { IfErr result (FindsFault (D.history disk.old)) }
     ensures same { D.history disk.new ≡ D.history disk.old }
@@ -38,6 +67,10 @@ pub fn read_entries<D: Disk>(alloc: Global, disk: &mut D) -> Result<Entries, Rec
     ensures failed { result ≡ Err RecoverFault.DiskFault → Rose (D.fault_count disk.old) (D.fault_count disk.new) }
 {
     let walked = walk(alloc, disk)?;
+    let base = read_base(alloc, &walked)?;
     read_all(alloc, &walked)?;
-    Ok(Entries { walked })
+    Ok(Contents {
+        base,
+        entries: Entries { walked },
+    })
 }

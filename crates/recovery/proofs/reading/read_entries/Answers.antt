@@ -1,9 +1,9 @@
 use Rattle.std.proofs.Common.{◌≡◌, Err, IfErr, sym, subst, rules}
-use Rattle.journal_core.specs.Walk.{placed}
-use Rattle.recovery.specs.Reading.{IsFaultAmong, GivesOnly, FindsFault}
+use Rattle.journal_core.specs.Walk.{base_of, gate_of, placed}
+use Rattle.recovery.specs.Reading.{IsFaultAmong, IsBaseFault, GivesOnly, FindsFault}
 use Rattle.recovery.specs.Faults.{fault_of_walk}
-use Rattle.recovery.specs.declared.entries.Entries.{Entries}
-use Rattle.recovery.proofs.EntryFacts.{found_of, has_read, fault_of, fault_among, only_of, only_fault_of}
+use Rattle.recovery.specs.declared.contents.Contents.{Contents}
+use Rattle.recovery.proofs.FindFacts.{walked_holds, found_of, base_on, has_read, can_be_written, fault_of, fault_before, fault_among, only_of, only_fault_of}
 use Rattle.recovery.proofs.reading.read_entries.Goals as goal
 
 pub returns-in_err-walked-clause-fault : goal.returns-in_err-walked-clause-fault
@@ -18,41 +18,83 @@ returns-in_err-walked-clause-only g c =
     let is : c.from_residual.result ≡ Err (fault_of_walk c.in_err-walked.field-0.0) = search rules in
     subst (GivesOnly was) (sym is) (only_fault_of was (fault_of_walk c.in_err-walked.field-0.0) (fault_of was c.in_err-walked.field-0.0 c.in_err-walked.ensures.fault))
 
+pub returns-in_err-base-clause-fault : goal.returns-in_err-base-clause-fault
+returns-in_err-base-clause-fault g c =
+    let was = g.D.Disk.history c.args.disk.now in
+    let walked = c.in_ok-walked.ensures in
+    let fault = c.in_err-base.field-0.0 in
+    let is : c.from_residual-in_err-base.result ≡ Err fault = search rules in
+    subst (λ r. IfErr r (FindsFault was)) (sym is)
+    (fault_before was c.in_ok-walked.walked fault walked.walked walked.found walked.ends c.in_err-base.ensures.fault)
+
+pub returns-in_err-base-clause-only : goal.returns-in_err-base-clause-only
+returns-in_err-base-clause-only g c =
+    let was = g.D.Disk.history c.args.disk.now in
+    let walked = c.in_ok-walked.ensures in
+    let fault = c.in_err-base.field-0.0 in
+    let is : c.from_residual-in_err-base.result ≡ Err fault = search rules in
+    subst (GivesOnly was) (sym is) (only_fault_of was fault
+    (fault_before was c.in_ok-walked.walked fault walked.walked walked.found walked.ends c.in_err-base.ensures.fault))
+
+pub returns-in_err-base-clause-failed : goal.returns-in_err-base-clause-failed
+returns-in_err-base-clause-failed g c = λ failed.
+    let w = c.in_ok-walked.walked in
+    let is : c.from_residual-in_err-base.result ≡ Err c.in_err-base.field-0.0 = search rules in
+    let bad : IfErr c.from_residual-in_err-base.result (IsBaseFault w) = subst (λ r. IfErr r (IsBaseFault w)) (sym is) c.in_err-base.ensures.fault in
+    absurd (subst (λ r. IfErr r (IsBaseFault w)) failed bad)
+
 pub returns-in_err-read_all-clause-fault : goal.returns-in_err-read_all-clause-fault
 returns-in_err-read_all-clause-fault g c =
     let was = g.D.Disk.history c.args.disk.now in
+    let w = c.in_ok-walked.walked in
+    let walked = c.in_ok-walked.ensures in
     let fault = c.in_err-read_all.field-0.0 in
-    let walked = c.in_ok-walked.ensures.walked in
     let is : c.from_residual-in_err-read_all.result ≡ Err fault = search rules in
     subst (λ r. IfErr r (FindsFault was)) (sym is)
-    (fault_among was c.in_ok-walked.walked walked.0 fault walked.1 c.in_ok-walked.ensures.found (c.in_err-read_all.ensures.fault walked.0 walked.1))
+    (fault_among was w c.in_ok-base.base fault walked.walked walked.found walked.ends c.in_ok-base.ensures.found
+    (c.in_err-read_all.ensures.fault (base_of w) walked.walked.1.0 (walked_holds w walked.walked)))
 
 pub returns-in_err-read_all-clause-only : goal.returns-in_err-read_all-clause-only
 returns-in_err-read_all-clause-only g c =
     let was = g.D.Disk.history c.args.disk.now in
+    let w = c.in_ok-walked.walked in
+    let walked = c.in_ok-walked.ensures in
     let fault = c.in_err-read_all.field-0.0 in
-    let walked = c.in_ok-walked.ensures.walked in
     let is : c.from_residual-in_err-read_all.result ≡ Err fault = search rules in
     subst (GivesOnly was) (sym is) (only_fault_of was fault
-    (fault_among was c.in_ok-walked.walked walked.0 fault walked.1 c.in_ok-walked.ensures.found (c.in_err-read_all.ensures.fault walked.0 walked.1)))
+    (fault_among was w c.in_ok-base.base fault walked.walked walked.found walked.ends c.in_ok-base.ensures.found
+    (c.in_err-read_all.ensures.fault (base_of w) walked.walked.1.0 (walked_holds w walked.walked))))
 
 pub returns-in_err-read_all-clause-failed : goal.returns-in_err-read_all-clause-failed
 returns-in_err-read_all-clause-failed g c = λ failed.
+    let w = c.in_ok-walked.walked in
     let walked = c.in_ok-walked.ensures.walked in
+    let records = placed (gate_of w) walked.1.0 in
     let is : c.from_residual-in_err-read_all.result ≡ Err c.in_err-read_all.field-0.0 = search rules in
-    let bad : IfErr c.from_residual-in_err-read_all.result (IsFaultAmong (placed 8 walked.0)) =
-    subst (λ r. IfErr r (IsFaultAmong (placed 8 walked.0))) (sym is) (c.in_err-read_all.ensures.fault walked.0 walked.1) in
-    absurd (subst (λ r. IfErr r (IsFaultAmong (placed 8 walked.0))) failed bad)
+    let bad : IfErr c.from_residual-in_err-read_all.result (IsFaultAmong records) =
+    subst (λ r. IfErr r (IsFaultAmong records)) (sym is) (c.in_err-read_all.ensures.fault (base_of w) walked.1.0 (walked_holds w walked)) in
+    absurd (subst (λ r. IfErr r (IsFaultAmong records)) failed bad)
 
 pub returns-clause-read : goal.returns-clause-read
 returns-clause-read g c =
-    let e : Entries = record { walked = c.in_ok-walked.walked } in
-    has_read e c.in_ok-walked.ensures.walked (c.in_ok-read_all.ensures.spelled c.in_ok-walked.ensures.walked.0 c.in_ok-walked.ensures.walked.1)
+    let w = c.in_ok-walked.walked in
+    let walked = c.in_ok-walked.ensures.walked in
+    has_read w walked (c.in_ok-read_all.ensures.spelled (base_of w) walked.1.0 (walked_holds w walked))
 
 pub returns-clause-found : goal.returns-clause-found
 returns-clause-found g c =
-    found_of (g.D.Disk.history c.args.disk.now) (record { walked = c.in_ok-walked.walked }) c.in_ok-walked.ensures.found
+    let walked = c.in_ok-walked.ensures in
+    found_of (g.D.Disk.history c.args.disk.now) c.in_ok-walked.walked walked.walked walked.found walked.ends
+
+pub returns-clause-base : goal.returns-clause-base
+returns-clause-base g c =
+    let walked = c.in_ok-walked.ensures in
+    base_on (g.D.Disk.history c.args.disk.now) c.in_ok-walked.walked c.in_ok-base.base walked.walked walked.found walked.ends c.in_ok-base.ensures.found
+
+pub returns-clause-written : goal.returns-clause-written
+returns-clause-written g c = can_be_written c.in_ok-walked.walked c.in_ok-base.base c.in_ok-base.ensures.found
 
 pub returns-clause-only : goal.returns-clause-only
 returns-clause-only g c =
-    only_of (g.D.Disk.history c.args.disk.now) (record { walked = c.in_ok-walked.walked }) (returns-clause-read g c) (returns-clause-found g c)
+    let contents : Contents = record { base = c.in_ok-base.base; entries = record { walked = c.in_ok-walked.walked } } in
+    only_of (g.D.Disk.history c.args.disk.now) contents (returns-clause-read g c) (returns-clause-found g c) (returns-clause-base g c)

@@ -2,7 +2,7 @@ use Rattle.std.proofs.Common.{◌≡◌, ◌∷◌, [], ℕ, Err, IfErr, sym, su
 use Rattle.recovery.specs.declared.fault.RecoverFault.TheVariants.{Memory}
 use Rattle.recovery.specs.declared.reader.EntryReader.{EntryReader}
 use Rattle.recovery.specs.Reading.{SpellsAt, IsFaultAmong}
-use Rattle.recovery.proofs.EntryFacts.{left_none, left_spelled, left_next}
+use Rattle.recovery.proofs.LoopFacts.{left_none, left_spelled, left_next}
 use Rattle.recovery.proofs.reader.EntryReader.next.Goals as goal
 
 pub returns-in_default-clause-next : goal.returns-in_default-clause-next
