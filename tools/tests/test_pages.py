@@ -1,0 +1,75 @@
+"""docs/check over the documents as they are, and over ones that are broken in each way that it looks for."""
+
+import shutil
+import tempfile
+import unittest
+from pathlib import Path
+
+from running import ROOT, Ran, run
+
+LONG = "word " * 40 + "word.\n"
+WIDE = "| Word | Meaning |\n|---|---|\n| one | " + "x" * 301 + " |\n"
+UNNAMED = "\n```rust\nlet unnamed = 1;\n```\n"
+
+# What is changed in a document, and what is told of it. Where there is no old text, the new one is put behind the document.
+BROKEN: list[tuple[str, str, str, str]] = [
+    ("README.md", "| members | 256 |", "| members | 255 |", "README.md: `MOST_MEMBERS` is 256, and not 255"),
+    ("README.md", " | `MOST_IDLE` |", " | none |", "README.md: no limit has `MOST_IDLE`"),
+    ("docs/MODEL.md", "", "\n" + LONG, "docs/MODEL.md: a sentence of 41 words: word word"),
+    ("docs/TOOLS.md", "", "\n- " + LONG, "docs/TOOLS.md: a sentence of 41 words: word word"),
+    ("docs/THEORY.md", "", "\n" + WIDE, "docs/THEORY.md: a cell of 301 characters: xxx"),
+    ("docs/PROVED.md", "", "\n`IsNothing`\n", "docs/PROVED.md: no definition has the document's `IsNothing`"),
+    ("docs/DECISIONS.md", "", "\n" + "a. " * 20_000, "README.md and docs: "),
+    ("docs/PROTOCOL.md", "| TOL | 4, 5, 6, 7, 23 |", "| TOL | 5, 4, 6, 7, 23 |", "the order of TOL: the definitions have [4, 5, 6, 7, 23]"),
+    ("docs/PROTOCOL.md", "| `10 trades-full`", "| `30 trades-full`", "refusals: no definition has the document's `30 trades-full`"),
+    ("docs/PROTOCOL.md", "`ok N bye`", "`ok N gone`", "replies: no definition has the document's `gone`"),
+    ("docs/PROTOCOL.md", "ok 8 cancelled 1", "ok 9 cancelled 1", "chain-by-hand: the document's replies are not the end of"),
+    ("crates/seats/README.md", "# seats", "# seat", "crates/seats/README.md: it does not begin with `# seats`"),
+    ("crates/house/README.md", "## Proved", "## Shown", "crates/house/README.md: its headings are not The parts, A caller,"),
+    ("crates/doors/README.md", "## Limits", "## Bounds", "crates/doors/README.md: its headings are not The parts, A caller,"),
+    ("crates/base_tests/README.md", "## Limits", "## Bounds", "crates/base_tests/README.md: its headings are not The parts, Limits"),
+    ("crates/session/README.md", "", "\n" + "a. " * 500, "crates/session/README.md: 9"),
+    ("crates/posting/README.md", "let plan = posted_plan(", "let plan = planned(", "crates/posting/README.md: crates/book_tests/src/postings/plans.rt has no"),
+    ("crates/outside/README.md", "From `crates/", "From `crate/", "crates/outside/README.md: lines of no file: 'disk.write_at"),
+    ("crates/trade_file/README.md", "", UNNAMED, "crates/trade_file/README.md: lines of no file: 'let unnamed"),
+]
+
+
+class Pages(unittest.TestCase):
+    def setUp(self) -> None:
+        folder = tempfile.TemporaryDirectory()
+        self.addCleanup(folder.cleanup)
+        self.tree = Path(folder.name)
+        shutil.copytree(ROOT / "docs", self.tree / "docs", ignore=shutil.ignore_patterns("__pycache__", "*.png"))
+        shutil.copy2(ROOT / "README.md", self.tree)
+        (self.tree / "examples").symlink_to(ROOT / "examples")
+        for crate in (ROOT / "crates").iterdir():
+            copied = self.tree / "crates" / crate.name
+            copied.mkdir(parents=True)
+            for name in ("src", "specs"):
+                if (crate / name).is_dir():
+                    (copied / name).symlink_to(crate / name)
+            shutil.copy2(crate / "README.md", copied)
+
+    def told(self) -> Ran:
+        return run([self.tree / "docs/check"])
+
+    def test_nothing_is_told_of_what_agrees(self) -> None:
+        self.assertEqual(self.told(), Ran(0, b"", b""))
+
+    def test_each_break_is_told(self) -> None:
+        (self.tree / "crates/doors/README.md").rename(self.tree / "crates/doors/page.md")
+        self.assertIn("crates/doors/README.md: it is not there", self.told().output.decode())
+        (self.tree / "crates/doors/page.md").rename(self.tree / "crates/doors/README.md")
+        for name, old, new, _ in BROKEN:
+            path = self.tree / name
+            text = path.read_text()
+            if old:
+                self.assertIn(old, text, name)
+            path.write_text(text.replace(old, new, 1) if old else text + new)
+        ended = self.told()
+        self.assertEqual((ended.status, ended.errors), (1, b""))
+        lines = ended.output.decode().splitlines()
+        for name, _, _, told in BROKEN:
+            with self.subTest(name=name, told=told):
+                self.assertTrue(any(line.startswith(told) for line in lines), lines)
