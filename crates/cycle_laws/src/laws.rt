@@ -1,7 +1,7 @@
 //! The laws of cycles in histories, each the contract of a function that does nothing.
 
 ghost use Rattle.cycle_laws.specs.Laws.{EmptyBeginsMarkets, FoldsBeginMarkets, NetsStayAtExecutions, PostingsAreLeast, ExecutionsFollowThePosting};
-ghost use Rattle.cycle_laws.specs.Bases.{EmptyIsWritable, FoldsAreWritable, WritableFits, WritableComesBack};
+ghost use Rattle.cycle_laws.specs.Bases.{EmptyIsWritable, FittingIsWritable, FoldsAreWritable, SpellingsStandForBases, WritableCanBeWritten, WritableComesBack, WritableFits};
 
 /// A history of a roster's market may begin in the state before the first command, for a roster of at most 256 members and 64
 /// products.
@@ -50,4 +50,20 @@ pub fn writable_fits()
 /// It is read as the same base.
 pub fn writable_comes_back()
     ensures { WritableComesBack }
+{}
+
+/// The state of a base that can be written and fits a roster of at most 256 members and 64 products can be written.
+pub fn fitting_is_writable()
+    ensures { FittingIsWritable }
+{}
+
+/// What is written of a state that can be written as a base meets the condition of `record_codec::encode_base`.
+pub fn writable_can_be_written()
+    ensures { WritableCanBeWritten }
+{}
+
+/// Bytes that spell what is written of such a state, at a small position and after few cycles, stand for it: what they spell
+/// fits the roster and is read as the same base.
+pub fn spellings_stand_for_bases()
+    ensures { SpellingsStandForBases }
 {}

@@ -4,7 +4,7 @@
 mod laws;
 
 pub use laws::{
-    empty_begins_markets, empty_is_writable, executions_follow_the_posting, folds_are_writable,
-    folds_begin_markets, nets_stay_at_executions, postings_are_least, writable_comes_back,
-    writable_fits,
+    empty_begins_markets, empty_is_writable, executions_follow_the_posting, fitting_is_writable,
+    folds_are_writable, folds_begin_markets, nets_stay_at_executions, postings_are_least,
+    spellings_stand_for_bases, writable_can_be_written, writable_comes_back, writable_fits,
 };

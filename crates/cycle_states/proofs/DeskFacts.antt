@@ -13,9 +13,9 @@ use Rattle.command_types.specs.History.{History, IsLegalFrom, end_of, longer, re
 use Rattle.command_types.specs.Roster.{IsRoster}
 use Rattle.command_types.specs.Told.{IsTold}
 use Rattle.command_types.proofs.HistoryFacts.{legal_on, replayed_on}
+use Rattle.trade_history.proofs.Rosters.{roster_on}
 use Rattle.cycle_states.specs.PlainDesk.{IsPlain}
 use Rattle.cycle_states.specs.Replayed.{history_from, IsReplayed}
-use Rattle.cycle_states.proofs.MachineFacts.{roster_after}
 
 -- the machine after a change is where the longer history leads
 pub replayed_more : (m n : State) (h : History) (more : List Entry) (entry : Entry) → IsReplayed m h → n ≡ state_after m entry.ask → more ≡ h.entries ++ entry ∷ [] → IsTrue (is_recorded entry.ask.what (answer_to m entry.ask)) →
@@ -32,11 +32,6 @@ pub plain_new : (m s : State) (entries : List Entry) → s ≡ m → entries ≡
 plain_new m s entries same none first =
     subst (λ (es : List Entry). IsPlain m (history_from 0 s es)) (sym none)
     (subst (λ (t : State). IsPlain m (history_from 0 t [])) (sym same) (record { replayed = record { same = refl; legal = tt }; first = first }))
-
--- no change changes the roster
-roster_on : (s : State) (entries : List Entry) → (replayed_from s entries).roster ≡ s.roster
-roster_on s [] = refl
-roster_on s (entry ∷ entries) = roster_on (state_after s entry.ask) entries ∙ roster_after s entry.ask
 
 pub roster_replayed : (m : State) (h : History) → IsReplayed m h → m.roster ≡ h.base.state.roster
 roster_replayed m h is = ap (λ s. s.roster) is.same ∙ roster_on h.base.state h.entries

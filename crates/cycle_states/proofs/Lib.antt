@@ -7,6 +7,7 @@ pub mod Thawing
 pub mod CommitFacts
 pub mod PlanSizes
 pub mod DeskFacts
+pub mod BaseFacts
 pub mod EffectFacts
 pub mod RecordFacts
 pub mod RefusalFacts

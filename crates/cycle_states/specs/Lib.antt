@@ -1,6 +1,7 @@
 pub mod Effects
 pub mod Machine
 pub mod Replayed
+pub mod BaseOf
 pub mod PlainDesk
 pub mod Refusals
 pub mod Ready

@@ -1,11 +1,13 @@
 //! The machine that answers one command at a time, and a desk over it without a journal.
 #![tactic(auto)]
 
+mod base_fault;
 mod laws;
 mod machine;
 mod plain_desk;
 mod recorded;
 
+pub use base_fault::BaseFault;
 pub use laws::effect_is_next;
 pub use machine::{Decision, LastCycle, Machine, Ready};
 pub use plain_desk::PlainDesk;

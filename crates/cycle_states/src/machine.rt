@@ -3,6 +3,7 @@
 mod answers;
 mod applying;
 mod ballot;
+mod base;
 mod conditions;
 mod cycle;
 mod cycle_refusals;
@@ -12,6 +13,7 @@ mod effects;
 mod freezing;
 mod limit_lines;
 mod making;
+mod of_base;
 mod parties;
 mod positions;
 mod problem_copies;

@@ -25,3 +25,6 @@ pub mod Versions
 pub mod Positions
 pub mod PlanFacts
 pub mod Folds
+pub mod Rosters
+pub mod Telling
+pub mod Sessions

@@ -1,8 +1,13 @@
 -- What stays of a history that begins again at its end, as statements.
-use Rattle.std.specs.Prelude.{◌≡◌, ◌↔◌, List, ◌++◌}
+use Rattle.std.specs.Prelude.{◌≡◌, ◌↔◌, ◌+◌, ◌≤◌, ℕ, Bool, List, ◌++◌, length}
+use Rattle.command_types.specs.declared.answer.Reply.{Reply}
+use Rattle.command_types.specs.declared.ask.Ask.{Ask}
 use Rattle.command_types.specs.declared.ask.Entry.{Entry}
-use Rattle.command_types.specs.History.{History, IsLegal, IsLegalFrom, end_of, longer, replayed}
+use Rattle.command_types.specs.declared.figures.Figures.{Figures}
+use Rattle.command_types.specs.History.{History, IsLegal, IsLegalFrom, end_of, longer, recorded, replayed}
 use Rattle.command_types.specs.Folds.{IsAtRest, folded}
+use Rattle.command_types.specs.Session.{IsSession, Standing}
+use Rattle.command_types.specs.Told.{IsTold}
 use Rattle.trade_history.specs.Book.{IsClosedBase, trades_of, executions_of}
 
 -- further changes behind the fold of a history end at the same position and in the same state as behind the history, and are as legal
@@ -30,3 +35,22 @@ abbrev pub ExecutionsStayInFolds : Type 0
 ExecutionsStayInFolds =
     (h : History) → IsClosedBase h.base.state → IsLegal h → IsAtRest h → (more : List Entry) → IsLegalFrom (replayed h) more →
     executions_of (longer h more) ≡ executions_of h ++ executions_of (longer (folded h) more)
+
+-- the figures of a desk whose history begins at the fold of this one
+abbrev pub figures_behind : History → Figures → Figures
+figures_behind h figures = record figures { base = (folded h).base }
+
+-- For a desk that was made at the fold or later, a reply is told behind the fold exactly where it is told behind the history, and its command came no earlier than the fold: at the same position, with the same answer.
+abbrev pub FoldsTellTheSame : Type 0
+FoldsTellTheSame =
+    (h : History) (more : List Entry) (figures : Figures) → figures.base ≡ h.base → end_of h ≤ figures.opening →
+    (before after : Bool) (seat : ℕ) (ask : Ask) (reply : Reply) →
+    IsTold (figures_behind h figures) before after (longer (folded h) more) seat ask reply
+    ↔ ((end_of h + length (recorded seat ask reply.answer) ≤ reply.at) × IsTold figures before after (longer h more) seat ask reply)
+
+-- so a session that begins at the fold or later is the same, line by line, behind the fold and behind the history
+abbrev pub SessionsStayInFolds : Type 0
+SessionsStayInFolds =
+    (h : History) (more : List Entry) (figures : Figures) → figures.base ≡ h.base → end_of h ≤ figures.opening →
+    (seat : ℕ) (from : Standing) (lines : List (List ℕ)) (text : List ℕ) → end_of h ≤ from.position →
+    IsSession (figures_behind h figures) (longer (folded h) more) seat from lines text ↔ IsSession figures (longer h more) seat from lines text

@@ -1,7 +1,7 @@
 //! The laws of a history's trades, each the contract of a function that does nothing.
 
 ghost use Rattle.trade_history.specs.Laws.{EmptyIsClosed, TradesAreTheHistorys, AnswersTellExecutions, SearchFindsExecutions, PlansExecuteWhole, OthersChangeOneRow, OwnRowsAreTheHistorys, ExecutionsAreListed, OthersAreNotListed, BegunLimitsStand, TradesFollowAtEachPosition, PositionsAreChanges, VersionsArePostedOnce};
-ghost use Rattle.trade_history.specs.Folds.{FoldsGoOn, FoldsAreClosed, TradesStayInFolds, ExecutionsStayInFolds};
+ghost use Rattle.trade_history.specs.Folds.{FoldsGoOn, FoldsAreClosed, FoldsTellTheSame, TradesStayInFolds, ExecutionsStayInFolds, SessionsStayInFolds};
 
 /// The state before the first command can be a history's base.
 pub fn empty_is_closed()
@@ -90,4 +90,15 @@ pub fn trades_stay_in_folds()
 /// The executions of a history are those up to a fold of it and those from there on, at the same positions.
 pub fn executions_stay_in_folds()
     ensures { ExecutionsStayInFolds }
+{}
+
+/// For a desk that was made at a fold or later, what a reply tells behind the fold is what it tells behind the whole history, at
+/// the same position; and nothing is told at an earlier one.
+pub fn folds_tell_the_same()
+    ensures { FoldsTellTheSame }
+{}
+
+/// A session that begins at a fold or later is the same, line by line, behind the fold and behind the whole history.
+pub fn sessions_stay_in_folds()
+    ensures { SessionsStayInFolds }
 {}
