@@ -40,7 +40,7 @@ class Fields:
     def take(self, size: int, what: str) -> bytes:
         field = self.bytes[self.at : self.at + size]
         if len(field) < size:
-            raise BadField(self.at, f"{what}: the record ends in it")
+            raise BadField(self.at, f"{what}: the bytes end in it")
         self.at += size
         return field
 
