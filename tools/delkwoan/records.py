@@ -11,6 +11,9 @@ from .changes import Accept, Affirm, Begin, Cancel, Change, Decline, End, Free, 
 
 MOST_NUMBER = 10**18
 MOST_POTENTIAL = 1_000_000
+NAMES: dict[bytes, str] = {}
+DAYS: dict[bytes, str] = {}
+"""The names and the days that were read, by their spellings: those that come again are looked up."""
 
 
 class BadField(Exception):
@@ -52,10 +55,10 @@ class Fields:
 
     def name(self, what: str) -> str:
         size = 1 + (self.bytes[self.at] if self.at < len(self.bytes) else 0)
-        field = self.take(size, what)[1:]
-        if re.fullmatch(rb"[A-Z0-9-]{1,16}", field) is None:
+        field = self.take(size, what)
+        if re.fullmatch(rb"[A-Z0-9-]{1,16}", field[1:]) is None:
             raise BadField(self.at - size, f"{what}: no name")
-        return field.decode()
+        return NAMES.setdefault(field, field[1:].decode())
 
     def day(self, what: str) -> str:
         field = self.take(4, what)
@@ -66,7 +69,7 @@ class Fields:
             month = 0
         if year > 9999 or month == 0:
             raise BadField(self.at - 4, f"{what}: no day of the calendar")
-        return f"{year:04}-{month:02}-{day:02}"
+        return DAYS.setdefault(field, f"{year:04}-{month:02}-{day:02}")
 
     def choice(self, what: str, *words: str) -> str:
         return words[self.number(1, what, 0, len(words) - 1)]
@@ -146,8 +149,36 @@ KINDS: list[Callable[[Fields], Change]] = [
 """How the fields behind each kind of change are read, by its tag from 1."""
 
 
+NUMBERED: dict[int, Callable[[int], Change]] = {2: Affirm, 3: End, 4: Hold, 5: Free}
+
+
+def quick_record(bytes: bytes) -> Record | None:
+    """A trade's record whose names and day were read before, or one of a trade's number; None for all others."""
+    size = len(bytes)
+    at = 5 + bytes[4] if size > 4 else size
+    party = NAMES.get(bytes[4:at])
+    if party is None or at >= size:
+        return None
+    seat, tag = int.from_bytes(bytes[:4], "little"), bytes[at]
+    if tag in NUMBERED and size == at + 9:
+        return Record(seat, party, NUMBERED[tag](int.from_bytes(bytes[at + 1 :], "little")))
+    if tag != 1 or size < at + 16:
+        return None
+    end = size - 12
+    buyer = at + 2 + bytes[at + 1]
+    product = buyer + 1 + bytes[buyer] if buyer < end else end
+    names = NAMES.get(bytes[at + 1 : buyer]), NAMES.get(bytes[buyer:product]), NAMES.get(bytes[product:end])
+    amount, day = int.from_bytes(bytes[end : end + 8], "little"), DAYS.get(bytes[end + 8 :])
+    if names[0] is None or names[1] is None or names[2] is None or day is None or not 0 < amount <= MOST_NUMBER:
+        return None
+    return Record(seat, party, Trade(names[0], names[1], names[2], amount, day))
+
+
 def record_of(bytes: bytes) -> Record:
     """The record that the bytes spell; raises BadField at the first field that breaks the rules."""
+    record = quick_record(bytes)
+    if record is not None:
+        return record
     fields = Fields(bytes)
     record = Record(fields.number(4, "the seat"), fields.name("the party"), fields.change())
     if fields.at < len(bytes):
