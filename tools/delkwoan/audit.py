@@ -6,6 +6,7 @@ line of the program; it never writes to the journal. Where the journal stands fo
 and the postings up to there, and ends with status 7, as `replay` does.
 """
 
+import gc
 import sys
 from typing import NoReturn
 
@@ -97,6 +98,7 @@ def words() -> Words:
 
 def main(line: list[str]) -> int:
     given = words().parse_args(line)
+    gc.disable()  # entries hold no rings of objects, and there may be millions of them
     names = names_of(read_file(given.roster, checker.MOST_BYTES + 1))
     entries = Entries(journal_bytes(given.journal))
     history = begun(names, entries)

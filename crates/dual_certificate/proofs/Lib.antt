@@ -21,3 +21,8 @@ pub mod LinesRead
 pub mod StageFacts
 pub mod ExactTexts
 pub mod WrittenTexts
+pub mod OwnPairs
+pub mod OwnRows
+pub mod NearPrices
+pub mod OwnClashes
+pub mod Silent

@@ -9,3 +9,5 @@ pub mod ProposalDraft
 pub mod Parts
 pub mod Laws
 pub mod PartsText
+pub mod Own
+pub mod OwnLaws

@@ -25,7 +25,12 @@ pub(super) fn first_bounds_clash(pairs: &Pairs) -> Option<Clash>
 }
 
 /// What is wrong with an amount beside its bounds.
-fn clash_with_bounds(seller: u16, buyer: u16, amount: u64, bounds: Bounds) -> Option<Clash>
+pub(super) fn clash_with_bounds(
+    seller: u16,
+    buyer: u16,
+    amount: u64,
+    bounds: Bounds,
+) -> Option<Clash>
     ensures { result ≡ bounds_clash seller buyer amount bounds.lower bounds.upper }
 {
     if amount < bounds.lower {

@@ -30,7 +30,7 @@ pub(super) fn first_price_clash(pairs: &Pairs, potentials: &[i32]) -> Option<Cla
 }
 
 /// What is wrong with an amount beside its bounds and its reduced cost.
-fn clash_with_price(
+pub(super) fn clash_with_price(
     seller: u16,
     buyer: u16,
     amount: u64,

@@ -10,7 +10,7 @@ use std::test::Fail;
 
 const MOST: u64 = 1_000_000_000_000_000_000;
 
-const RING: Market<'static> = Market {
+pub const RING: Market<'static> = Market {
     members: 3,
     sales: &[(0, 1, 10), (1, 2, 10), (2, 0, 10)],
     bounds: &[
@@ -68,7 +68,7 @@ fn have_bounds(alloc: Global, cases: &[(Market<'_>, &[i32], Option<i128>)]) -> R
     Ok(true)
 }
 
-const LEAST: &[Sale] = &[(0, 1, 4), (1, 2, 4), (2, 0, 4)];
+pub const LEAST: &[Sale] = &[(0, 1, 4), (1, 2, 4), (2, 0, 4)];
 
 const SLACK: Option<Clash> = Some(Clash::Slack {
     seller: 1,

@@ -21,6 +21,8 @@ mod least;
 #[cfg(test)]
 mod networks;
 #[cfg(test)]
+mod own_parts;
+#[cfg(test)]
 mod pairs;
 #[cfg(test)]
 mod parts;

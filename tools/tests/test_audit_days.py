@@ -1,0 +1,212 @@
+"""The auditor beside the program: random days, whose text is `replay`'s byte for byte, and the same journals spoilt."""
+
+import random
+import struct
+import sys
+import tempfile
+import unittest
+from pathlib import Path
+from typing import Callable, NamedTuple
+
+import spelled
+from days import Day, market_of
+from running import TOOLS, Ran, program, run
+
+sys.path.insert(0, str(TOOLS))
+
+from delkwoan.changes import Post, Row
+from delkwoan.changes import Solution as Posted
+from delkwoan.frames import walk
+from delkwoan.records import Record, record_of
+from delkwoan.session import Session
+
+AUDIT = TOOLS / "audit"
+DAYS, MOVES = 24, 160
+FOLDED = 1_000
+"""A journal that is opened with so many entries or more behind its base is folded, where it has slots and no cycle is open."""
+
+
+class Told(NamedTuple):
+    """What the auditor tells: its postings' lines, and the rest of its text."""
+
+    postings: list[bytes]
+    text: bytes
+    status: int
+    place: bytes
+
+
+def told(roster: Path, journal: Path) -> Told:
+    ran = run([AUDIT, roster, journal])
+    lines = ran.output.splitlines(keepends=True)
+    postings = [line for line in lines if line.startswith(b"posting ")]
+    return Told(postings, b"".join(lines[len(postings) :]), ran.status, ran.errors.split(b":")[0].rstrip(b"\n"))
+
+
+def spelling_of(record: Record, solutions: list[Posted]) -> bytes:
+    """The record of a POST with other solutions."""
+    by_hand = [spelled.Solution(it.rows, it.potentials) for it in solutions]
+    return spelled.record(f"{record.party}: {record.change}", by_hand, record.seat)
+
+
+Spoil = Callable[[random.Random, Posted], Posted]
+
+
+def with_row(draw: random.Random, solution: Posted, new: Callable[[Row], list[Row]]) -> Posted:
+    """The solution with others in the place of one row, in their order."""
+    if not solution.rows:
+        return solution
+    at = draw.randrange(len(solution.rows))
+    rows = [*solution.rows[:at], *new(solution.rows[at]), *solution.rows[at + 1 :]]
+    return Posted(sorted(rows), solution.potentials)
+
+
+def with_potential(draw: random.Random, solution: Posted, more: int) -> Posted:
+    at = draw.randrange(len(solution.potentials))
+    potentials = [value + more * (place == at) for place, value in enumerate(solution.potentials)]
+    return Posted(solution.rows, potentials)
+
+
+def with_new_row(draw: random.Random, solution: Posted) -> Posted:
+    seller, buyer = draw.sample(range(len(solution.potentials)), 2)
+    return Posted(sorted([*(row for row in solution.rows if row[:2] != (seller, buyer)), Row(seller, buyer, 3)]), solution.potentials)
+
+
+SPOILS: dict[str, Spoil] = {
+    "an amount is 1 more": lambda draw, it: with_row(draw, it, lambda row: [row._replace(amount=row.amount + 1)]),
+    "an amount is 1 less": lambda draw, it: with_row(draw, it, lambda row: [row._replace(amount=row.amount - 1)] if row.amount > 1 else []),
+    "a row is left out": lambda draw, it: with_row(draw, it, lambda row: []),
+    "a row is new": with_new_row,
+    "a potential is 1 more": lambda draw, it: with_potential(draw, it, 1),
+    "a potential is 1 less": lambda draw, it: with_potential(draw, it, -1),
+    "a potential is 5 more": lambda draw, it: with_potential(draw, it, 5),
+    "no row is left": lambda draw, it: Posted([], it.potentials),
+    "a member is one too many": lambda draw, it: Posted(it.rows, [*it.potentials, 0]),
+}
+"""What is wrong with a solution of a posting; some of it leaves it certified."""
+
+
+class Beside(unittest.TestCase):
+    """A random day, and its journal as it is, spoilt and folded."""
+
+    program: Path
+
+    @classmethod
+    def setUpClass(cls) -> None:
+        cls.program = program()
+
+    def setUp(self) -> None:
+        folder = tempfile.TemporaryDirectory()
+        self.addCleanup(folder.cleanup)
+        self.folder = Path(folder.name)
+        self.roster, self.journal = self.folder / "roster", self.folder / "journal"
+
+    def spend(self, number: int, moves: int) -> None:
+        """The day of a number, which is all that it follows from."""
+        chance = random.Random(number)
+        market = market_of(chance)
+        self.journal.unlink(missing_ok=True)
+        self.roster.write_bytes(market.roster(chance.randint(0, len(market.members))))
+        with Session.script(self.program, self.roster, self.journal) as session:
+            Day(session, market, chance).spend(moves)
+
+    def records(self) -> list[tuple[int, Record]]:
+        return [(at, record_of(bytes)) for at, bytes in walk(self.journal.read_bytes()).frames]
+
+    def replay(self, journal: Path) -> Ran:
+        return run([self.program, "replay", self.roster, journal])
+
+    def assert_alike(self, journal: Path) -> Told:
+        """The auditor's text and status are those of `replay`, and so is the place of damage."""
+        audited, replayed = told(self.roster, journal), self.replay(journal)
+        self.assertEqual((audited.status, audited.text), replayed[:2])
+        self.assertEqual(audited.place, replayed.errors.rstrip(b"\n"))
+        return audited
+
+    def assert_postings(self, audited: Told) -> None:
+        """There is a line for each POST, and each of those that stand is certified."""
+        posts = sum(isinstance(record.change, Post) for _, record in self.records())
+        self.assertEqual([line.rsplit(b" ", 1)[1] for line in audited.postings], [b"yes\n"] * posts)
+
+    def spoilt(self, content: bytes, at: int, new: bytes) -> Path:
+        """A journal with another record behind the gate at a place."""
+        size = int.from_bytes(content[at + 1 : at + 5], "little")
+        path = self.folder / "spoilt"
+        path.write_bytes(content[: at + 1] + struct.pack("<I", len(new)) + new + content[at + 5 + size :])
+        return path
+
+    def test_days(self) -> None:
+        postings = 0
+        for number in range(DAYS):
+            with self.subTest(number=number):
+                self.spend(number, MOVES)
+                audited = self.assert_alike(self.journal)
+                self.assert_postings(audited)
+                postings += len(audited.postings)
+        self.assertGreater(postings, DAYS)
+
+    def test_postings_that_are_spoilt(self) -> None:
+        found: dict[str, int] = dict.fromkeys(SPOILS, 0)
+        for number in range(DAYS // 4):
+            self.spend(number, MOVES)
+            content, draw = self.journal.read_bytes(), random.Random(number)
+            posts = [(at, record) for at, record in self.records() if isinstance(record.change, Post)]
+            for (at, record), (name, spoil) in zip(draw.choices(posts, k=len(SPOILS)) if posts else [], SPOILS.items()):
+                assert isinstance(record.change, Post)
+                place = draw.randrange(len(record.change.solutions))
+                solutions = [spoil(draw, it) if here == place else it for here, it in enumerate(record.change.solutions)]
+                with self.subTest(number=number, at=at, name=name):
+                    audited = self.assert_alike(self.spoilt(content, at, spelling_of(record, solutions)))
+                    is_bad = audited.place == b"damaged at %d" % at
+                    self.assertEqual(is_bad, b" no " in audited.postings[-1])
+                    found[name] += is_bad
+        self.assertEqual([name for name, count in found.items() if not count], [])
+
+    def test_bytes_that_are_others(self) -> None:
+        self.spend(7, MOVES)
+        content, draw = self.journal.read_bytes(), random.Random(7)
+        for _ in range(3 * DAYS):
+            at = draw.randrange(len(content))
+            changed = content[:at] + bytes([draw.choice((0, 1, 2, content[at] ^ 1, draw.randrange(256)))]) + content[at + 1 :]
+            path = self.folder / "spoilt"
+            path.write_bytes(changed)
+            with self.subTest(at=at, byte=changed[at]):
+                self.assert_alike(path)
+
+    def test_records_that_are_left_out_or_swapped(self) -> None:
+        self.spend(8, MOVES)
+        content, draw = self.journal.read_bytes(), random.Random(8)
+        head = content[: walk(content).frames[0][0]]
+        records = [bytes for _, bytes in walk(content).frames]
+        for _ in range(DAYS):
+            at = draw.randrange(len(records) - 1)
+            swapped = [*records[:at], records[at + 1], records[at], *records[at + 2 :]]
+            for changed in (swapped, records[:at] + records[at + 1 :], records[: at + 1] + records[at:]):
+                path = self.folder / "spoilt"
+                path.write_bytes(head + spelled.frames(changed))
+                with self.subTest(at=at):
+                    self.assert_alike(path)
+
+    def test_a_journal_that_was_folded(self) -> None:
+        self.spend(9, 12 * MOVES)
+        with Session.script(self.program, self.roster, self.journal) as session:
+            session.ask("HELLO OPS KOPS")
+            session.ask_raw("CANCEL 0")
+            for cycle in range(1, 1000):
+                if session.ask_raw(f"CANCEL {cycle}")[0].startswith(b"ok"):
+                    break
+        before = walk(self.journal.read_bytes())
+        if not before.lead or not before.lead.offset:
+            self.skipTest("the program writes no slots")
+        self.assertGreaterEqual(len(before.frames), FOLDED)
+        self.assertEqual(run([self.program, "script", self.roster, self.journal]), Ran(0, b"", b""))
+        after = walk(self.journal.read_bytes())
+        self.assertTrue(after.lead and after.lead.base and not after.frames)
+        self.assert_postings(self.assert_alike(self.journal))
+        with Session.script(self.program, self.roster, self.journal) as session:
+            chance = random.Random(10)
+            Day(session, market_of(random.Random(9)), chance).spend(MOVES)
+        self.assert_postings(self.assert_alike(self.journal))
+
+
+if __name__ == "__main__":
+    unittest.main()
