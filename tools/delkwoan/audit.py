@@ -11,38 +11,14 @@ import sys
 from typing import NoReturn
 
 from . import checker
-from .bases import Base, base_of
+from .bases import base_of
 from .book import Names, Refused
 from .ending import Stop, read_file, run
 from .fitting import Misfit, history_at
-from .frames import MOST_BYTES, walk
+from .frames import MOST_BYTES, Damaged, Lead, frames_of, lead_of
 from .history import History, Moved
-from .records import BadField, Record, record_of
+from .records import BadField, record_of
 from .words import Words, text
-
-
-class Entries:
-    """The entries that a journal's bytes spell, with the places of their gates, behind a base or none."""
-
-    def __init__(self, file: bytes) -> None:
-        found = walk(file)
-        if found.lead is None or found.damage is not None:
-            raise damaged(found.closed, str(found.damage))
-        self.offset = found.lead.offset
-        self.base: Base | None = None
-        at = self.offset
-        try:
-            if found.lead.base:
-                self.base = base_of(found.lead.base)
-            self.list: list[tuple[int, Record]] = []
-            for at, bytes in found.frames:
-                self.list.append((at, record_of(bytes)))
-        except BadField as bad:
-            raise damaged(at, f"it spells nothing: {bad}") from None
-
-
-def damaged(at: int, why: str) -> Stop:
-    return Stop(7, f"damaged at {at}: {why}")
 
 
 def names_of(roster: bytes) -> Names:
@@ -67,23 +43,47 @@ def journal_bytes(name: str) -> bytes:
         raise Stop(6, "disk fault") from None
 
 
-def begun(names: Names, entries: Entries) -> History:
-    """The history at the journal's base."""
-    try:
-        return History.first(names) if entries.base is None else history_at(names, entries.base)
-    except Misfit as misfit:
-        raise damaged(entries.offset, f"its base does not fit the roster: {misfit}") from None
+class Audit:
+    """The history of a journal's bytes, made again entry by entry, until one may not stand."""
 
+    def __init__(self, names: Names, file: bytes) -> None:
+        self.names = names
+        self.file = file
+        self.history = History.first(names)
+        self.refused: Damaged | None = None
+        """The first base or entry that may not stand; a later record that spells nothing is told before it."""
 
-def go_on(history: History, entries: Entries) -> None:
-    """Makes the entries' changes, and stops at the first that may not stand where it does."""
-    for at, record in entries.list:
+    def run(self) -> None:
+        """Makes all changes; raises Damaged where the bytes stand for no history of the roster, and what replaying raises."""
+        lead = lead_of(self.file)
+        for _ in frames_of(self.file, lead):
+            pass
+        if lead.base:
+            self.begin(lead)
+        for at, bytes in frames_of(self.file, lead):
+            self.take(at, bytes)
+        if self.refused is not None:
+            raise self.refused
+
+    def begin(self, lead: Lead) -> None:
+        """Begins the history at a base."""
         try:
-            history.take(record)
+            self.history = history_at(self.names, base_of(lead.base))
+        except BadField as bad:
+            raise Damaged(lead.offset, f"its base spells nothing: {bad}") from None
+        except Misfit as misfit:
+            self.refused = Damaged(lead.offset, f"its base does not fit the roster: {misfit}")
+
+    def take(self, at: int, bytes: bytes) -> None:
+        """Makes the change of a record behind the gate at a place."""
+        try:
+            record = record_of(bytes)
+            if self.refused is None:
+                self.history.take(record)
+        except BadField as bad:
+            raise Damaged(at, f"its record spells nothing: {bad}") from None
         except Refused as refusal:
-            raise damaged(at, f"{record.party}: {record.change} is refused: {refusal}") from None
-        except Moved as moved:
-            raise Stop(1, str(moved)) from None
+            self.refused = Damaged(at, f"{record.party}: {record.change} is refused: {refusal}")
 
 
 def words() -> Words:
@@ -99,14 +99,16 @@ def words() -> Words:
 def main(line: list[str]) -> int:
     given = words().parse_args(line)
     gc.disable()  # entries hold no rings of objects, and there may be millions of them
-    names = names_of(read_file(given.roster, checker.MOST_BYTES + 1))
-    entries = Entries(journal_bytes(given.journal))
-    history = begun(names, entries)
+    audit = Audit(names_of(read_file(given.roster, checker.MOST_BYTES + 1)), journal_bytes(given.journal))
     try:
-        go_on(history, entries)
+        audit.run()
+    except Damaged as damaged:
+        raise Stop(7, f"damaged at {damaged}") from None
+    except Moved as moved:
+        raise Stop(1, str(moved)) from None
     finally:
-        sys.stdout.writelines(f"{posted}\n" for posted in history.postings)
-    sys.stdout.writelines(f"{line}\n" for line in history.lines())
+        sys.stdout.writelines(f"{posted}\n" for posted in audit.history.postings)
+    sys.stdout.writelines(f"{line}\n" for line in audit.history.lines())
     return 0
 
 

@@ -5,7 +5,7 @@ Written from docs/FORMATS.md, "The journal's file". What a base spells is read b
 """
 
 from enum import Enum
-from typing import NamedTuple
+from typing import Iterator, NamedTuple
 
 PLAIN, SLOTTED = b"OTCJRNL1", b"OTCJRNLC"
 LEAST_PLAIN, LEAST_SLOTTED = 10, 31
@@ -48,7 +48,7 @@ class Walk(NamedTuple):
 
 
 class Damaged(Exception):
-    """The file is damaged at a place in front of its first gate, and how."""
+    """The file is damaged at a place, and how."""
 
     def __init__(self, at: int, what: str) -> None:
         super().__init__(f"{at}: {what}")
@@ -80,25 +80,37 @@ def lead_of(file: bytes) -> Lead:
     return Lead(Form.SLOTTED, slot, offset, file[start : start + size], start + size)
 
 
-def walk(file: bytes) -> Walk:
-    """The records that stand in a file."""
-    frames: list[tuple[int, bytes]] = []
-    try:
-        lead = lead_of(file)
-    except Damaged as damaged:
-        return Walk(None, frames, damaged.at, damaged.what)
+def frames_of(file: bytes, lead: Lead) -> Iterator[tuple[int, bytes]]:
+    """The places of the open gates with their records; raises Damaged where a gate is due and none that may stand there is."""
     at, length = lead.gate, len(file)
     if lead.form in (Form.SHORT, Form.SHORT_SLOTTED):
-        return Walk(lead, frames, at, None)
+        return
     while at < length and file[at] == 1:
         start = at + 5
         if start > length:
-            return Walk(lead, frames, at, "the length of its record passes the file's end")
+            raise Damaged(at, "the length of its record passes the file's end")
         end = start + int.from_bytes(file[at + 1 : start], "little")
         if end >= LIMIT:
-            return Walk(lead, frames, at, f"its record ends at {end}, at or past {LIMIT}")
+            raise Damaged(at, f"its record ends at {end}, at or past {LIMIT}")
         if end > length:
-            return Walk(lead, frames, at, f"its record of {end - start} bytes passes the file's end")
-        frames.append((at, file[start:end]))
+            raise Damaged(at, f"its record of {end - start} bytes passes the file's end")
+        yield at, file[start:end]
         at = end
-    return Walk(lead, frames, at, None if at < length else "a gate is due, and the file ends")
+    if at >= length:
+        raise Damaged(at, "a gate is due, and the file ends")
+
+
+def walk(file: bytes) -> Walk:
+    """The records that stand in a file."""
+    frames: list[tuple[int, bytes]] = []
+    lead: Lead | None = None
+    closed = 0
+    try:
+        lead = lead_of(file)
+        closed = lead.gate
+        for at, bytes in frames_of(file, lead):
+            frames.append((at, bytes))
+            closed = at + 5 + len(bytes)
+    except Damaged as damaged:
+        return Walk(lead, frames, damaged.at, damaged.what)
+    return Walk(lead, frames, closed, None)

@@ -279,7 +279,7 @@ class Audited(unittest.TestCase):
         frames = [record("A: AFFIRM 9"), bad]
         gate = 25 + 4 + len(base)
         self.assert_damaged(spelled.slotted(base, frames)[:-1], gate + 5 + len(frames[0]) + 10, "a gate is due")
-        self.assert_damaged(spelled.slotted(base, frames), gate + 5 + len(frames[0]), "it spells nothing")
+        self.assert_damaged(spelled.slotted(base, frames), gate + 5 + len(frames[0]), "its record spells nothing")
         self.assert_damaged(spelled.slotted(base, frames[:1]), 25, "does not fit")
         self.assert_damaged(spelled.slotted(STOOD.spelled(), frames[:1]), 25 + 4 + len(STOOD.spelled()), "11 unknown-trade")
 
