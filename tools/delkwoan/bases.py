@@ -5,7 +5,8 @@ Written from docs/FORMATS.md, "Bases". Whether a base fits a roster is not looke
 
 from typing import NamedTuple
 
-from .records import MOST_NUMBER, BadField, Fields
+from .quick import MOST_NUMBER
+from .records import BadField, Fields
 
 MARK = 1
 """The first byte of a base."""

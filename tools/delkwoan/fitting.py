@@ -7,7 +7,7 @@ from .bases import Base, Kept, Setting
 from .book import BUYER, MOST_GROSS, MOST_SUBMITTED, SELLER, Book, Names, Tolerance, Trade
 from .cycles import Cycle
 from .history import History
-from .records import MOST_NUMBER
+from .quick import MOST_NUMBER
 
 SIDES = {None: None, "out": SELLER, "in": BUYER}
 

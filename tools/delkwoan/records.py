@@ -8,12 +8,9 @@ import re
 from typing import Callable, NamedTuple
 
 from .changes import Accept, Affirm, Begin, Cancel, Change, Decline, End, Free, Freeze, Hold, Post, Row, Solution, Tolerance, Trade
+from .quick import DAYS, MOST_NUMBER, NAMES, quick_change
 
-MOST_NUMBER = 10**18
 MOST_POTENTIAL = 1_000_000
-NAMES: dict[bytes, str] = {}
-DAYS: dict[bytes, str] = {}
-"""The names and the days that were read, by their spellings: those that come again are looked up."""
 
 
 class BadField(Exception):
@@ -149,36 +146,14 @@ KINDS: list[Callable[[Fields], Change]] = [
 """How the fields behind each kind of change are read, by its tag from 1."""
 
 
-NUMBERED: dict[int, Callable[[int], Change]] = {2: Affirm, 3: End, 4: Hold, 5: Free}
-
-
-def quick_record(bytes: bytes) -> Record | None:
-    """A trade's record whose names and day were read before, or one of a trade's number; None for all others."""
-    size = len(bytes)
-    at = 5 + bytes[4] if size > 4 else size
-    party = NAMES.get(bytes[4:at])
-    if party is None or at >= size:
-        return None
-    seat, tag = int.from_bytes(bytes[:4], "little"), bytes[at]
-    if tag in NUMBERED and size == at + 9:
-        return Record(seat, party, NUMBERED[tag](int.from_bytes(bytes[at + 1 :], "little")))
-    if tag != 1 or size < at + 16:
-        return None
-    end = size - 12
-    buyer = at + 2 + bytes[at + 1]
-    product = buyer + 1 + bytes[buyer] if buyer < end else end
-    names = NAMES.get(bytes[at + 1 : buyer]), NAMES.get(bytes[buyer:product]), NAMES.get(bytes[product:end])
-    amount, day = int.from_bytes(bytes[end : end + 8], "little"), DAYS.get(bytes[end + 8 :])
-    if names[0] is None or names[1] is None or names[2] is None or day is None or not 0 < amount <= MOST_NUMBER:
-        return None
-    return Record(seat, party, Trade(names[0], names[1], names[2], amount, day))
-
-
 def record_of(bytes: bytes) -> Record:
     """The record that the bytes spell; raises BadField at the first field that breaks the rules."""
-    record = quick_record(bytes)
-    if record is not None:
-        return record
+    at = 5 + bytes[4] if len(bytes) > 4 else 0
+    party = NAMES.get(bytes[4:at])
+    if party is not None and at < len(bytes):
+        change = quick_change(bytes, at)
+        if change is not None:
+            return Record(int.from_bytes(bytes[:4], "little"), party, change)
     fields = Fields(bytes)
     record = Record(fields.number(4, "the seat"), fields.name("the party"), fields.change())
     if fields.at < len(bytes):

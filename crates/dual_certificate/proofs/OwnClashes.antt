@@ -1,5 +1,5 @@
 -- A member finds no clash exactly where the network is certified for it.
-use Rattle.std.proofs.Common.{◌≡◌, ℕ, ◌<◌, Bool, true, false, cond, Option, Some, None, List, ℤ, refl, sym, ap, ◌∙◌, arith, ◌↔◌}
+use Rattle.std.proofs.Common.{◌≡◌, ℕ, ◌<◌, Bool, true, false, cond, int_eq, Option, Some, None, List, ℤ, refl, sym, ap, ◌∙◌, arith, ◌↔◌}
 use Rattle.std.specs.Option.{option_or, IsNone}
 use Rattle.std.proofs.lemmas.Bool.{both_ways}
 use Rattle.std.proofs.lemmas.Int.{ints}
