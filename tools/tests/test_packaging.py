@@ -20,7 +20,7 @@ from delkwoan import __version__
 
 PACKAGING = ROOT / "packaging"
 HUB = [str(EXAMPLES / "hub-roster.csv"), str(EXAMPLES / "hub-trades.csv"), "hybrid", str(EXAMPLES / "hub-proposal.txt")]
-COMMANDS = ["compress-check-proposal", "compress-client", "compress-journal", "compress-report", "compress-wait-ready"]
+COMMANDS = ["compress-audit", "compress-check-proposal", "compress-client", "compress-journal", "compress-report", "compress-wait-ready"]
 COMMANDS += ["compress_cli"]
 
 TYPED: list[tuple[list[str], list[str]]] = [
@@ -52,6 +52,8 @@ TYPED: list[tuple[list[str], list[str]]] = [
     (["compress-report", "--replay", "--mode", ""], ["conservative", "free", "hybrid"]),
     (["compress-check-proposal", "a", "b", "h"], ["hybrid"]),
     (["/usr/bin/compress-journal", "rost"], ["roster.csv"]),
+    (["compress-audit", "rost"], ["roster.csv"]),
+    (["compress-audit", "a", "b", ""], []),
 ]
 """The words of a command line up to the cursor, and what can stand there."""
 
@@ -94,6 +96,8 @@ class Made(unittest.TestCase):
         journal = self.folder / "journal"
         journal.write_bytes(ONE)
         self.assertEqual(run([commands / "compress-journal", journal]), WHOLE)
+        audited = run([commands / "compress-audit", EXAMPLES / "roster.csv", journal])
+        self.assertEqual((audited.status, audited.output.splitlines()[-1]), (0, b"end 1"))
         ran = run([commands / "compress-report", *HUB[:2], HUB[3], self.folder / "report"])
         self.assertEqual((ran.status, ran.errors), (0, b""))
         self.assertTrue((self.folder / "report.html").read_text().endswith("</html>\n"))
@@ -132,7 +136,7 @@ class Pages(Made):
         """By its help, and in the manual page."""
         page = (self.made / "compress-tools.1").read_text()
         told = 0
-        for name in ("check_proposal", "client", "journal", "report", "wait-ready"):
+        for name in ("audit", "check_proposal", "client", "journal", "report", "wait-ready"):
             shown = run([TOOLS / name, "--help"])
             self.assertEqual((shown.status, shown.errors), (0, b""))
             for option in set(re.findall(r"^  --(\w+)", shown.output.decode(), re.MULTILINE)) - {"version"}:
