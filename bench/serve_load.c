@@ -3,8 +3,9 @@
 //     serve_load PORT CONNECTIONS LINES AHEAD LINE
 //
 // Each connection greets as A, all start together, and each sends LINE that many times, AHEAD of them in one write, and
-// reads as many replies before it sends more. It writes the seconds from the start to the last reply. A reply to LINE that
-// begins with `no` ends it with status 1.
+// reads as many replies before it sends more. It writes the seconds from the start to the last reply, and in microseconds the
+// median, the 99th of a hundred and the most of the times from a write to its last reply. A reply to LINE that begins with `no`
+// ends it with status 1.
 #include <arpa/inet.h>
 #include <netinet/tcp.h>
 #include <pthread.h>
@@ -19,6 +20,7 @@ static int port, lines, ahead;
 static char *block;
 static size_t line_length;
 static pthread_barrier_t barrier;
+static double *times;  // of each write of each connection
 
 static void stop(const char *what) {
     perror(what);
@@ -61,24 +63,32 @@ static void send_all(int connection, const char *bytes, size_t length) {
     }
 }
 
-static void *client(void *unused) {
+static double now(void) {
+    struct timespec time;
+    clock_gettime(CLOCK_MONOTONIC, &time);
+    return time.tv_sec + time.tv_nsec * 1e-9;
+}
+
+static void *client(void *own) {
+    double *time = own;
     int connection = connected();
     send_all(connection, "HELLO A KA\n", 11);
     read_lines(connection, 1);
     pthread_barrier_wait(&barrier);
     for (int left = lines; left > 0; left -= ahead) {
         int count = left < ahead ? left : ahead;
+        double begin = now();
         send_all(connection, block, line_length * count);
         read_lines(connection, count);
+        *time++ = (now() - begin) * 1e6;
     }
     close(connection);
-    return unused;
+    return own;
 }
 
-static double now(void) {
-    struct timespec time;
-    clock_gettime(CLOCK_MONOTONIC, &time);
-    return time.tv_sec + time.tv_nsec * 1e-9;
+static int by_size(const void *one, const void *other) {
+    double a = *(const double *)one, b = *(const double *)other;
+    return (a > b) - (a < b);
 }
 
 int main(int count, char **words) {
@@ -93,13 +103,17 @@ int main(int count, char **words) {
     line_length = strlen(words[5]) + 1;
     block = malloc(line_length * ahead + 1);
     for (int at = 0; at < ahead; at++) sprintf(block + line_length * at, "%s\n", words[5]);
+    size_t writes = (lines + ahead - 1) / ahead, all = writes * connections;
+    times = malloc(sizeof(double) * (all + 1));
     pthread_t threads[connections];
     pthread_barrier_init(&barrier, NULL, connections + 1);
     for (int at = 0; at < connections; at++)
-        if (pthread_create(&threads[at], NULL, client, NULL) != 0) stop("pthread_create");
+        if (pthread_create(&threads[at], NULL, client, times + writes * at) != 0) stop("pthread_create");
     pthread_barrier_wait(&barrier);
     double begin = now();
     for (int at = 0; at < connections; at++) pthread_join(threads[at], NULL);
-    printf("%.6f\n", now() - begin);
+    double seconds = now() - begin;
+    qsort(times, all, sizeof(double), by_size);
+    printf("%.6f %.1f %.1f %.1f\n", seconds, times[all / 2], times[all * 99 / 100], times[all - 1]);
     return 0;
 }

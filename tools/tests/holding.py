@@ -67,8 +67,8 @@ class Holder:
             if line.text.startswith("TRADE"):
                 self.trades[self.position] = line.text
 
-    def hold(self, port: int, greeted: threading.Barrier, seconds: float) -> None:
-        """One session, which begins when all have greeted."""
+    def hold(self, port: int, greeted: threading.Barrier, seconds: float, pause: float) -> None:
+        """One session, which begins when all have greeted, with pauses of at most so many seconds."""
         try:
             with socket.create_connection(("127.0.0.1", port), 60) as connection:
                 file = connection.makefile("rwb")
@@ -77,7 +77,7 @@ class Holder:
                 end = time.monotonic() + seconds
                 while time.monotonic() < end:
                     self.ask(file, [self.line() for _ in range(self.chance.randint(1, 16))])
-                    time.sleep(self.chance.uniform(0, 0.1))
+                    time.sleep(self.chance.uniform(0, pause))
                 self.ask(file, [Line("BYE", f"ok {NUMBER} bye")])
                 if file.readline() != b"":
                     raise ValueError(f"{self.speaker}: something behind the BYE")
@@ -85,11 +85,11 @@ class Holder:
             self.fault = str(fault) or type(fault).__name__
 
 
-def held(port: int, connections: int, seconds: float) -> list[Holder]:
+def held(port: int, connections: int, seconds: float, pause: float = 0.1) -> list[Holder]:
     """Holds so many connections for these seconds; what became of each."""
     holders = [Holder(place, connections) for place in range(connections)]
     greeted = threading.Barrier(connections)
-    threads = [threading.Thread(target=holder.hold, args=(port, greeted, seconds)) for holder in holders]
+    threads = [threading.Thread(target=holder.hold, args=(port, greeted, seconds, pause)) for holder in holders]
     for thread in threads:
         thread.start()
     for thread in threads:

@@ -1,10 +1,10 @@
-//! The lock round a desk: one pass, two passes one after the other, two threads with many calls each, and many passes that
-//! are joined again.
+//! The lock round a desk: one pass, two passes one after the other, two threads with many calls each, and many passes, each in a
+//! thread, that are joined again.
 
 mod calls;
 mod threads;
 
-ghost use Rattle.std.specs.Prelude.{◌≡◌, IfOk};
+ghost use Rattle.std.specs.Prelude.{◌≡◌, ◌≤◌, IfOk};
 ghost use Rattle.command_types.specs.History.{end_of};
 ghost use Rattle.cycle_lock.specs.Passes.{IsPassOf};
 
@@ -89,22 +89,29 @@ fn two_threads_keep_each_entry_once_and_in_order(rt: HostRuntime) -> Result<(), 
     Ok(())
 }
 
-// Whether eight passes with 200 trades each are joined again, and each one's trades are noted in order.
-fn many_passes<R: Threads + Wait + Sync>(rt: &R, alloc: Global) -> Result<bool, Fail> {
+// Whether passes with so many trades each, each in a thread of its own, are joined again, and each one's trades are noted in order.
+fn many_passes<R: Threads + Wait + Sync>(
+    rt: &R,
+    alloc: Global,
+    passes: u32,
+    trades: u64,
+) -> Result<bool, Fail>
+    requires { (passes ≤ 64) × (trades ≤ 1000) }
+{
     let Ok((turns, mut pass)) = Turns::new(alloc, noted_desk(alloc)?) else {
         return Ok(false);
     };
-    let mut jobs = split_off(alloc, &turns, &mut pass, 8)?;
-    work(rt, &turns, &mut jobs, 200);
+    let mut jobs = split_off(alloc, &turns, &mut pass, passes as u64)?;
+    work(rt, &turns, &mut jobs, trades);
     let done = gather(&turns, &mut pass, jobs);
     let desk = turns.close(rt, pass);
-    let by_others = (1..9u32).all(|seat| are_in_turn(&desk.notes, seat, 200));
-    let all = done == 1600 && desk.notes.len() == 1600;
+    let by_others = (1..passes + 1).all(|seat| are_in_turn(&desk.notes, seat, trades));
+    let all = done == passes as u64 * trades && desk.notes.len() as u64 == done;
     Ok(all && by_others && are_in_turn(&desk.notes, 0, 0))
 }
 
 #[test]
 fn many_passes_are_joined_and_closed(rt: HostRuntime) -> Result<(), Fail> {
-    assert!(rt; many_passes(&rt, rt.alloc())?);
+    assert!(rt; many_passes(&rt, rt.alloc(), 8, 200)? && many_passes(&rt, rt.alloc(), 64, 100)?);
     Ok(())
 }

@@ -6,7 +6,7 @@ use lib.ListN.{get_elem?}
 use Rattle.atomic_table.proofs.Lists.{at_set, one_turn}
 use Rattle.cycle_lock.specs.declared.rule.View.{View}
 use Rattle.cycle_lock.specs.declared.rule.Stage.{Stage}
-use Rattle.cycle_lock.specs.declared.rule.Stage.TheVariants.{Resting, Waiting, HasTurn, Drawn, Joined}
+use Rattle.cycle_lock.specs.declared.rule.Stage.TheVariants.{Resting, Waiting, HasTurn, Passed, Drawn, Joined}
 use Rattle.cycle_lock.specs.Stage.{tickets}
 use Rattle.cycle_lock.specs.Views.{total, ticketed}
 use Rattle.cycle_lock.specs.Line.{Lies, Apart, InLine}
@@ -20,6 +20,7 @@ at_most_one : (st : Stage) → tickets st ≤ 1
 at_most_one Resting = omega arith
 at_most_one Waiting = omega arith
 at_most_one HasTurn = omega arith
+at_most_one Passed = omega arith
 at_most_one Drawn = omega arith
 at_most_one Joined = omega arith
 
@@ -31,6 +32,7 @@ lies_more : (drawn served t : ℕ) (st : Stage) → Lies drawn served t st → L
 lies_more drawn served t Resting l = tt
 lies_more drawn served t Waiting l = (l.0, omega arith)
 lies_more drawn served t HasTurn l = (l.0, omega arith)
+lies_more drawn served t Passed l = tt
 lies_more drawn served t Drawn l = tt
 lies_more drawn served t Joined l = tt
 
@@ -38,6 +40,7 @@ lies_in : (drawn served t : ℕ) (st : Stage) → Lies drawn served t st → tic
 lies_in drawn served t Resting l e = absurd (omega arith)
 lies_in drawn served t Waiting l e = l
 lies_in drawn served t HasTurn l e = (omega arith, l.1)
+lies_in drawn served t Passed l e = absurd (omega arith)
 lies_in drawn served t Drawn l e = absurd (omega arith)
 lies_in drawn served t Joined l e = absurd (omega arith)
 
@@ -45,6 +48,7 @@ lies_past : (drawn served t : ℕ) (st : Stage) → Lies drawn served t st → (
 lies_past drawn served t Resting l n = tt
 lies_past drawn served t Waiting l n = let m = n refl in (omega arith, l.1)
 lies_past drawn served t HasTurn l n = absurd (n refl l.0)
+lies_past drawn served t Passed l n = tt
 lies_past drawn served t Drawn l n = tt
 lies_past drawn served t Joined l n = tt
 
@@ -84,6 +88,21 @@ line_kept ws ws' vs l id v w at long first second has same lies = record {
   apart = apart_set vs id w l.apart (λ j u ne p tu tw e. ne (l.apart j id u v p at tu (sym has ∙ tw) (e ∙ same)));
 }
 
+-- the words that count tickets stay, and a seat with no ticket rests
+pub line_rests : (ws ws' : List ℕ) (vs : List View) (l : InLine ws vs) (id : ℕ) (v w : View) → get_elem? vs id ≡ some v
+    → length ws' ≡ length ws → get_or ws' 1 0 ≡ get_or ws 1 0 → get_or ws' 2 0 ≡ get_or ws 2 0 → ticketed v ≡ 0 → w.stage ≡ Resting → InLine ws' (set vs id w)
+line_rests ws ws' vs l id v w at long first second none out = let none' : ticketed w ≡ 0 = ap tickets out in record {
+  drawn = l.drawn;
+  served = l.served;
+  wide = long ∙ l.wide;
+  drawn_is = first ∙ l.drawn_is;
+  served_is = second ∙ l.served_is;
+  counted = let s = total_set ticketed vs id v w at in let c = l.counted in omega arith;
+  few = let f = l.few in let e = length-set vs id w in omega arith;
+  each = each_set l.drawn l.served l.drawn l.served vs id w (subst (λ (z : Stage). Lies l.drawn l.served w.ticket z) (sym out) tt) (λ j u _ p. l.each j u p);
+  apart = apart_set vs id w l.apart (λ j u ne p tu tw e. omega arith);
+}
+
 pub line_draws : (ws : List ℕ) (vs : List View) (l : InLine ws vs) (id : ℕ) (v w : View) → get_elem? vs id ≡ some v → ticketed v ≡ 0 → w.stage ≡ Waiting → w.ticket ≡ l.drawn
     → InLine (set ws 1 ((get_or ws 1 0 + 1) % 2 ^ 64)) (set vs id w)
 line_draws ws vs l id v w at none st t = let wide = l.wide in let c = l.counted in let one : ticketed w ≡ 1 = ap tickets st in record {
@@ -100,7 +119,7 @@ line_draws ws vs l id v w at none st t = let wide = l.wide in let c = l.counted 
 }
 
 -- the seat that has its turn passes it on
-pub line_passes : (ws : List ℕ) (vs : List View) (l : InLine ws vs) (id : ℕ) (v w : View) → get_elem? vs id ≡ some v → v.stage ≡ HasTurn → w.stage ≡ Resting
+pub line_passes : (ws : List ℕ) (vs : List View) (l : InLine ws vs) (id : ℕ) (v w : View) → get_elem? vs id ≡ some v → v.stage ≡ HasTurn → w.stage ≡ Passed
     → InLine (set ws 2 ((get_or ws 2 0 + 1) % 2 ^ 64)) (set vs id w)
 line_passes ws vs l id v w at st out = let wide = l.wide in let c = l.counted in let one : ticketed v ≡ 1 = ap tickets st in let none : ticketed w ≡ 0 = ap tickets out in
     let mine = subst (λ (z : Stage). Lies l.drawn l.served v.ticket z) st (l.each id v at) in record {

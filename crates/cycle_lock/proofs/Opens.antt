@@ -1,5 +1,5 @@
 -- The table at its opening meets the rule.
-use Rattle.std.proofs.Common.{◌≡◌, ℕ, suc, zero, ◌+◌, ◌^◌, ◌≤◌, Bool, true, List, [], ◌∷◌, length, drop, sym, refl, ap, ◌∙◌, subst, arith}
+use Rattle.std.proofs.Common.{◌≡◌, ℕ, suc, zero, ◌+◌, ◌^◌, ◌≤◌, Bool, true, List, [], ◌∷◌, length, drop, set, replicate, sym, refl, ap, ◌∙◌, subst, arith}
 use Rattle.std.specs.Prelude.{Some}
 use Rattle.std.proofs.lemmas.List.{append-nil}
 use mathlib.Core.Option.{some, some-injective, some-ne-none}
@@ -11,6 +11,7 @@ use Rattle.cycle_lock.proofs.Numbers.{times_here, times_there}
 use Rattle.atomic_table.specs.Table.{opening}
 use Rattle.command_types.specs.declared.ask.Entry.{Entry}
 use Rattle.command_types.specs.declared.figures.Figures.{Figures}
+use Rattle.cycle_lock.specs.declared.rule.TheConstants.{WORDS}
 use Rattle.cycle_lock.specs.declared.rule.View.{View}
 use Rattle.cycle_lock.specs.Accounts.{by}
 use Rattle.command_types.specs.History.{History, IsLegal, IsLegalFrom, end_of}
@@ -34,7 +35,7 @@ no_more : (figures : Figures) (base : ℕ) (entries : List Entry) → base ≡ f
 no_more figures base entries e f = omega arith
 
 pub opens : {T : Type 0} (history : T → History) (figures_of : T → Figures) (stopped : T → Bool) (d : T) (at : ℕ) → at ≡ end_of (history d) → (history d).base ≡ (figures_of d).base → IsLegal (history d) → end_of (history d) ≡ (figures_of d).opening
-    → Kept history figures_of stopped (figures_of d) (opening (at ∷ 0 ∷ 0 ∷ 1 ∷ []) (Some d ∷ []) (newcomer (history d).entries (stopped d) (figures_of d)))
+    → Kept history figures_of stopped (figures_of d) (opening (set (set (replicate WORDS 0) 0 at) 3 1) (Some d ∷ []) (newcomer (history d).entries (stopped d) (figures_of d)))
 opens history figures_of stopped d at is base legal fresh =
     let log : List Entry = (history d).entries in let figures : Figures = figures_of d in
     let all : opening_count figures ≡ length log = no_more figures (history d).base.position log (ap (λ b. b.position) base) fresh in

@@ -15,20 +15,20 @@ use Rattle.command_types.specs.declared.ask.Entry.{Entry}
 use Rattle.command_types.specs.declared.figures.Figures.{Figures}
 use Rattle.cycle_lock.specs.declared.rule.View.{View}
 use Rattle.cycle_lock.specs.declared.rule.Stage.{Stage}
-use Rattle.cycle_lock.specs.declared.rule.Stage.TheVariants.{Resting, Waiting, HasTurn, Drawn, Joined}
+use Rattle.cycle_lock.specs.declared.rule.Stage.TheVariants.{Resting, Waiting, HasTurn, Passed, Drawn, Joined}
 use Rattle.command_types.specs.History.{History, IsLegal, IsLegalFrom, end_of}
 use Rattle.cycle_lock.specs.Stage.{tickets, has_turn, to_give}
 use Rattle.cycle_lock.specs.Views.{ticketed, owned, left_of, owns, splits_left, unborn, placed, resting, blank, with_number, parent, child, hosting, merged}
 use Rattle.cycle_lock.specs.Accounts.{times, FitsAccount, longest, Extends, opening_count, by, whole}
-use Rattle.cycle_lock.specs.Line.{Lies, InLine}
+use Rattle.cycle_lock.specs.Line.{Lies, InLine, bell}
 use Rattle.cycle_lock.specs.Kept.{KnowsDesk, FitsGuest, Fits, Quiet, AllSaw, IsDesk, Home, Kept}
 use Rattle.cycle_lock.specs.Numbers.{Counted}
-use Rattle.cycle_lock.specs.Plays.{Becomes, Sat, drew, Took, looked, numbered, settled, noted, passed}
+use Rattle.cycle_lock.specs.Plays.{Becomes, Sat, drew, Took, looked, looked_behind, rang, numbered, settled, noted, passed}
 use Rattle.cycle_lock.specs.declared.rule.Account.{Account}
 use Rattle.cycle_lock.proofs.Histories.{from_base}
 use Rattle.cycle_lock.proofs.Joins.{longer_over, between}
 use Rattle.cycle_lock.proofs.Numbers.{total_at, times-append, times_here, times_there, one_owner, was_drawn, counted_kept, counted_draws, counted_splits, counted_joins}
-use Rattle.cycle_lock.proofs.Line.{line_kept, line_draws, line_passes, line_served, line_alone, line_one, line_more, at_new}
+use Rattle.cycle_lock.proofs.Line.{line_kept, line_rests, line_draws, line_passes, line_served, line_alone, line_one, line_more, at_new}
 
 fits_set : (log : List Entry) (stop : Bool) (figures : Figures) (vs : List View) (id : ℕ) (w : View) → Fits log stop figures w
     → ((j : ℕ) (u : View) → j ≢ id → get_elem? vs j ≡ some u → Fits log stop figures u)
@@ -56,6 +56,7 @@ turnless : (st : Stage) → (st ≡ HasTurn → ⊥) → has_turn st ≡ false
 turnless Resting n = refl
 turnless Waiting n = refl
 turnless HasTurn n = absurd (n refl)
+turnless Passed n = refl
 turnless Drawn n = refl
 turnless Joined n = refl
 
@@ -63,6 +64,7 @@ knows_other : (log log' : List Entry) (stop stop' : Bool) (figures : Figures) (k
 knows_other log log' stop stop' figures known halted Resting n k = tt
 knows_other log log' stop stop' figures known halted Waiting n k = tt
 knows_other log log' stop stop' figures known halted HasTurn n k = absurd (n refl)
+knows_other log log' stop stop' figures known halted Passed n k = tt
 knows_other log log' stop stop' figures known halted Drawn n k = tt
 knows_other log log' stop stop' figures known halted Joined n k = tt
 
@@ -75,6 +77,7 @@ account_first : (n : ℕ) (a b : Account) (st : Stage) → 1 ≤ times n a.stand
 account_first n a b Resting h = h
 account_first n a b Waiting h = h
 account_first n a b HasTurn h = h
+account_first n a b Passed h = h
 account_first n a b Drawn h = h
 account_first n a b Joined h = omega (arith, times-append n a.stands b.stands)
 
@@ -95,6 +98,7 @@ guest_grows : (log log' more : List Entry) (stop stop' : Bool) (figures : Figure
 guest_grows log log' more stop stop' figures a g Resting f grown still theirs = tt
 guest_grows log log' more stop stop' figures a g Waiting f grown still theirs = tt
 guest_grows log log' more stop stop' figures a g HasTurn f grown still theirs = tt
+guest_grows log log' more stop stop' figures a g Passed f grown still theirs = tt
 guest_grows log log' more stop stop' figures a g Drawn f grown still theirs = tt
 guest_grows log log' more stop stop' figures a g Joined f grown still theirs = account_grows log log' more stop stop' figures g f grown still (λ n h. theirs n (omega (arith, times-append n a.stands g.stands)))
 
@@ -175,8 +179,8 @@ module _ {T : Type 0} (history : T → History) (figures_of : T → Figures) (st
   )
 
   pub passes : (size id : ℕ) (me : Sat T) (d : T) (slots : List (ℕ × Option T)) → me.0.stage ≡ HasTurn → me.1 ≡ (0, Some d) ∷ slots → IsDesk history figures_of stopped me.0.known me.0.halted me.0.account.figures d → me.0.account.spent ≡ false
-      → Allows Rule size id me 2 (λ n. (n + 1) % 2 ^ 64) (λ n w. passed me w)
-  passes size id me d slots st has is live s k long at small = let v : View = me.0 in let w : View = resting v.account in let n : ℕ = (get_or s.words 2 0 + 1) % 2 ^ 64 in
+      → Allows Rule size id me 2 (λ n. (n + 1) % 2 ^ 64) (λ n w. passed me n w)
+  passes size id me d slots st has is live s k long at small = let v : View = me.0 in let n : ℕ = (get_or s.words 2 0 + 1) % 2 ^ 64 in let w : View = placed Passed n [] false v.account in
       let ws' : List ℕ = set s.words 2 n in
       let fits = k.each_seat id v at in let knows = subst (λ (z : Stage). KnowsDesk k.log k.stop figures z v.known v.halted) st fits.knows in (
         w,
@@ -237,6 +241,43 @@ module _ {T : Type 0} (history : T → History) (figures_of : T → Figures) (st
             (λ quiet. k.home (quiet_before s.views id v v at (ap has_turn st) quiet)),
         (refl, (λ hit. absurd (miss hit)), λ _. refl),
       ))
+
+  -- a seat that has passed its turn on rests, and the words that the rule counts stay
+  rests : (s : State (Option T) View) (k : Rule s) (ws' : List ℕ) (id : ℕ) (v : View) → get_elem? s.views id ≡ some v → v.stage ≡ Passed → length ws' ≡ length s.words
+      → get_or ws' 0 0 ≡ get_or s.words 0 0 → get_or ws' 1 0 ≡ get_or s.words 1 0 → get_or ws' 2 0 ≡ get_or s.words 2 0 → get_or ws' 3 0 ≡ get_or s.words 3 0
+      → Rule record { words = ws'; homes = s.homes; views = set s.views id (resting v.account) }
+  rests s k ws' id v at st long zeroth first second third = let w : View = resting v.account in
+      stays s k ws' s.homes id v w at (line_rests s.words ws' s.views k.line id v w at long first second (ap tickets st) refl) k.one zeroth third refl tt tt
+      (λ m. ap (λ (z : Stage). times m (owned z v.account v.guest)) (sym st)) (ap (λ (z : Stage). left_of z v.account v.guest) (sym st)) (ap to_give (sym st))
+      (λ quiet. k.home (quiet_before s.views id v w at (ap has_turn st) quiet))
+
+  pub looks_behind : (size id : ℕ) (me : Sat T) → me.0.stage ≡ Passed → Allows Rule size id me 1 (λ n. n) (λ n w. looked_behind me n w)
+  looks_behind size id me st s k long at small = let v : View = me.0 in let n : ℕ = get_or s.words 1 0 in let ws' : List ℕ = set s.words 1 n in let wide = k.line.wide in let fits = k.each_seat id v at in
+      let zeroth : get_or ws' 0 0 ≡ get_or s.words 0 0 = get_or-set_other s.words 1 0 n 0 (λ e. omega arith) in
+      let first : get_or ws' 1 0 ≡ get_or s.words 1 0 = get_or-set_same s.words 1 n 0 (omega arith) in
+      let second : get_or ws' 2 0 ≡ get_or s.words 2 0 = get_or-set_other s.words 1 2 n 0 (λ e. omega arith) in
+      let third : get_or ws' 3 0 ≡ get_or s.words 3 0 = get_or-set_other s.words 1 3 n 0 (λ e. omega arith) in
+      dite (ℕ_discrete n v.ticket)
+      (λ hit. (resting v.account, keeps, tt, rests s k ws' id v at st (length-set s.words 1 n) zeroth first second third, ((λ _. refl), (λ miss. absurd (miss hit)))))
+      (λ miss. (
+        v,
+        keeps,
+        tt,
+        stays s k ws' s.homes id v v at (line_kept s.words ws' s.views k.line id v v at (length-set s.words 1 n) first second refl refl (k.line.each id v at)) k.one zeroth third refl fits.knows fits.guest (λ m. refl) refl refl
+            (λ quiet. k.home (quiet_before s.views id v v at (ap has_turn st) quiet)),
+        ((λ hit. absurd (miss hit)), (λ _. refl)),
+      ))
+
+  -- words behind the fourth are no part of the rule
+  pub rings : (size id b : ℕ) (me : Sat T) → me.0.stage ≡ Passed → 4 ≤ b → b ≡ bell me.0.ticket → Allows Rule size id me b (λ n. (n + 1) % 2 ^ 64) (λ n w. rang (step size b 1 0 none) me w)
+  rings size id b me st far is s k long at small = let v : View = me.0 in let n : ℕ = (get_or s.words b 0 + 1) % 2 ^ 64 in (
+    resting v.account,
+    keeps,
+    tt,
+    rests s k (set s.words b n) id v at st (length-set s.words b n) (get_or-set_other s.words b 0 n 0 (λ e. omega arith)) (get_or-set_other s.words b 1 n 0 (λ e. omega arith))
+        (get_or-set_other s.words b 2 n 0 (λ e. omega arith)) (get_or-set_other s.words b 3 n 0 (λ e. omega arith)),
+    (is, refl, refl),
+  )
 
   -- what the desk in the slot has become is seen
   shown : (s : State (Option T) View) (k : Rule s) (ws' : List ℕ) (id : ℕ) (v w : View) (log : List Entry) (more : List Entry) (stop : Bool) → get_elem? s.views id ≡ some v → v.stage ≡ HasTurn
@@ -492,7 +533,7 @@ module _ {T : Type 0} (history : T → History) (figures_of : T → Figures) (st
   -- the turn is passed on once the desk was seen and lies in the slot again
   pub passes_after : (size id : ℕ) (slots slots' slots'' : List (ℕ × Option T)) (turn take note me : Sat T) (d d' : T) → Took history figures_of stopped slots turn → turn.1 ≡ (0, Some d) ∷ slots' → take ≡ (turn.0, slots'')
       → figures_of d' ≡ figures_of d → (history d').base ≡ (figures_of d').base → noted (history d').entries (stopped d') take note → me ≡ (note.0, (0, Some d') ∷ []) → turn.0.account.spent ≡ false
-      → Allows Rule size id me 2 (λ n. (n + 1) % 2 ^ 64) (λ n w. passed me w)
+      → Allows Rule size id me 2 (λ n. (n + 1) % 2 ^ 64) (λ n w. passed me n w)
   passes_after size id slots slots' slots'' turn take note me d d' took has is same base w put live =
       let t = taken slots slots' turn d took has in let here = ap (λ (m : Sat T). m.0) put in
       let f : figures_of d' ≡ me.0.account.figures = same ∙ (t.2 ∙ sym (ap (λ (v : View). v.account.figures) here ∙ (ap (λ a. a.figures) w.3 ∙ ap (λ (m : Sat T). m.0.account.figures) is))) in

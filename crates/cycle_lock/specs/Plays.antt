@@ -5,10 +5,11 @@ use Rattle.command_types.specs.declared.ask.Entry.{Entry}
 use Rattle.command_types.specs.declared.figures.Figures.{Figures}
 use Rattle.command_types.specs.History.{History, IsLegal, end_of}
 use Rattle.cycle_lock.specs.declared.rule.View.{View}
-use Rattle.cycle_lock.specs.declared.rule.Stage.TheVariants.{Waiting, HasTurn, Drawn}
+use Rattle.cycle_lock.specs.declared.rule.Stage.TheVariants.{Waiting, HasTurn, Passed, Drawn}
 use Rattle.cycle_lock.specs.Accounts.{whole, opening_count, by, times, longest, Extends}
 use Rattle.cycle_lock.specs.Views.{placed, resting, with_number, merged}
 use Rattle.cycle_lock.specs.Kept.{IsDesk}
+use Rattle.cycle_lock.specs.Line.{bell}
 
 -- The desk's history begins with what the pass has seen, and has no more entries of its numbers. A pass that was never split has seen the desk's stop.
 pub record Newer (v : View) : Type 0 where
@@ -29,8 +30,17 @@ module _ {T : Type 0} where
   abbrev pub drew : Step (Option T) → Sat T → ℕ → Sat T → Type 0
   drew st m n w = (w.0.stage ≡ Waiting) × (n ≡ w.0.ticket % 2 ^ 64) × (w.0.account ≡ m.0.account) × (w.1 ≡ m.1)
 
-  abbrev pub passed : Sat T → Sat T → Type 0
-  passed m w = (w.0 ≡ resting m.0.account) × (w.1 ≡ rest m.1)
+  -- the ticket behind the one that was served is known
+  abbrev pub passed : Sat T → ℕ → Sat T → Type 0
+  passed m n w = (w.0 ≡ placed Passed ((n + 1) % 2 ^ 64) [] false m.0.account) × (w.1 ≡ rest m.1)
+
+  -- the seat rests where the ticket that it knows is still the next to be drawn
+  abbrev pub looked_behind : Sat T → ℕ → Sat T → Type 0
+  looked_behind m n w = (n ≡ m.0.ticket → w ≡ (resting m.0.account, m.1)) × (n ≢ m.0.ticket → w ≡ m)
+
+  -- the bell of the ticket that the seat knows was raised by 1, and the seat rests
+  abbrev pub rang : Step (Option T) → Sat T → Sat T → Type 0
+  rang st m w = (st.word ≡ bell m.0.ticket) × (st.first ≡ 1) × (w ≡ (resting m.0.account, m.1))
 
   -- the number n was drawn, and nobody has made an entry of it
   abbrev pub numbered : Sat T → ℕ → Sat T → Type 0

@@ -54,13 +54,31 @@ impl<T, M: Outcome> Play<Option<T>, View> for Note<M> {
     ghost then = { λ s m n w. noted M.log M.stop m w };
 }
 
-/// The turn is passed on.
+/// The turn is passed on, and the next ticket is known.
 pub struct PassOn;
 
 impl<T> Play<Option<T>, View> for PassOn {
     ghost use Rattle.cycle_lock.specs.Plays.{passed};
 
-    ghost then = { λ s m n w. passed m w };
+    ghost then = { λ s m n w. passed m n w };
+}
+
+/// Behind its turn the seat looks whether the next ticket was drawn. Where it was not, the seat rests.
+pub struct LookBehind;
+
+impl<T> Play<Option<T>, View> for LookBehind {
+    ghost use Rattle.cycle_lock.specs.Plays.{looked_behind};
+
+    ghost then = { λ s m n w. looked_behind m n w };
+}
+
+/// The bell of the next ticket rings, and the seat rests.
+pub struct Ring;
+
+impl<T> Play<Option<T>, View> for Ring {
+    ghost use Rattle.cycle_lock.specs.Plays.{rang};
+
+    ghost then = { λ s m n w. rang s m w };
 }
 
 /// A number is drawn.

@@ -1,11 +1,15 @@
 //! What a seat at the table knows, and the rule that every step keeps. Word 0 of the table is the history's length,
-//! word 1 the next ticket, word 2 the ticket that is served, word 3 the next number. The one slot has the desk.
+//! word 1 the next ticket, word 2 the ticket that is served, word 3 the next number. The others are bells, on which seats sleep,
+//! and may be any numbers. The one slot has the desk.
 
 use atomic_table::TableRule;
 use command_types::{Desk, Entry, Figures};
 use std::collections::LinkedList;
 use std::marker::PhantomData;
 use std::snapshot::Snapshot;
+
+/// How many words the table has. With no more passes than bells, each seat that waits has a bell of its own.
+pub const WORDS: usize = 68;
 
 /// How far a seat has come.
 pub enum Stage {
@@ -15,6 +19,8 @@ pub enum Stage {
     Waiting,
     /// Its ticket is served, and it has the slot.
     HasTurn,
+    /// It has passed its turn on, and has still to ring the bell of the ticket that it knows, or to see that nobody drew it.
+    Passed,
     /// The first of the numbers that it stands for is still to be given.
     Drawn,
     /// It has taken in another pass.

@@ -1,5 +1,6 @@
 //! The lock.
 ghost use Rattle.std.specs.Prelude.{◌≡◌};
+ghost use Rattle.cycle_lock.specs.declared.rule.TheConstants.{WORDS};
 
 use crate::rule::{TurnRule, View};
 use atomic_table::Table;
@@ -16,5 +17,5 @@ mod steps;
 #[derive(Drop)]
 pub struct Turns<T: Desk> {
     table: Table<Option<T>, View, Snapshot<T>, TurnRule<T>, Global>,
-    ghost counts: { (table.shared.table_id.words ≡ 4) × (table.shared.table_id.slots ≡ 1) },
+    ghost counts: { (table.shared.table_id.words ≡ WORDS) × (table.shared.table_id.slots ≡ 1) },
 }

@@ -59,7 +59,7 @@ pub fn split_off(
     Ok(jobs)
 }
 
-/// Each pass makes its trades, in threads.
+/// Each pass makes its trades, in a thread of its own where there are at most 64.
 pub fn work<R: Threads + Wait + Sync, D: Desk>(
     rt: &R,
     turns: &Turns<D>,
@@ -72,7 +72,7 @@ pub fn work<R: Threads + Wait + Sync, D: Desk>(
     thread::for_each_mut(
         rt,
         jobs,
-        4,
+        64,
         &|_, job: &mut Job|
             requires { IsPassOf turns.now job.old.pass }
             ensures { IsPassOf turns.entry.now job.new.pass }

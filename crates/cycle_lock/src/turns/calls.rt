@@ -50,10 +50,7 @@ impl<T: Desk> Turns<T> {
         let reply = desk.ask(pass.number, ask);
         self.note::<Brand>(&mut seat, reply.at > before);
         let ticket = self.table.shared.fetch_add::<PassOn>(&mut seat, 2, 1);
-        // Who draws a ticket after this look finds the turn passed on, and needs no waking.
-        if self.table.shared.peek(1) != ticket.wrapping_add(1) {
-            self.table.shared.wake_all(2);
-        }
+        self.wake(&mut seat, ticket.wrapping_add(1));
         pass.badge = seat.into_badge();
         pass.at = reply.at;
         reply

@@ -6,6 +6,7 @@ ghost use Rattle.cycle_lock.specs.Passes.{IsPassOf, seat_of, figures_of, seen, s
 use super::Turns;
 use super::steps::SeatOf;
 use crate::pass::Pass;
+use crate::rule::WORDS;
 use atomic_table::{Refused, Table};
 use command_types::Desk;
 use std::alloc::{AllocFailed, Global};
@@ -34,7 +35,10 @@ impl<T: Desk> Turns<T> {
             let Some(desk) = value else { unreachable!() };
             return Err(desk);
         }
-        match Table::new(alloc, &[at, 0, 0, 1], slots, &about) {
+        let mut words = [0; WORDS];
+        words[0] = at;
+        words[3] = 1;
+        match Table::new(alloc, &words, slots, &about) {
             Ok((table, seat)) => Ok((
                 Turns { table },
                 Pass {

@@ -1,11 +1,14 @@
 //! One turn, step by step.
 ghost use Rattle.std.specs.Prelude.{◌≡◌, ℕ, ◌+◌, ◌%◌, ◌^◌, ◌<◌, ◌≤◌, Bool, true, false, List, [], ◌∷◌, ◌++◌, length, drop, Some, None};
-ghost use Rattle.cycle_lock.specs.declared.rule.Stage.TheVariants.{Resting, HasTurn};
+ghost use Rattle.cycle_lock.specs.declared.rule.Stage.TheVariants.{Resting, HasTurn, Passed};
+ghost use Rattle.cycle_lock.specs.Line.{bell};
 ghost use Rattle.cycle_lock.specs.Plays.{Took, noted, Becomes};
+ghost use Rattle.cycle_lock.specs.Views.{resting};
+ghost use Rattle.cycle_lock.specs.declared.rule.TheConstants.{WORDS};
 
 use super::Turns;
-use crate::plays::{Draw, Look, Note, Outcome};
-use crate::rule::View;
+use crate::plays::{Draw, Look, LookBehind, Note, Outcome, Ring};
+use crate::rule::{View, WORDS};
 use atomic_table::Seat;
 use command_types::Desk;
 use std::hint::spin_loop;
@@ -21,6 +24,14 @@ const LOOKS: u32 = 200;
 const PAUSES: u32 = 20;
 
 const PAUSE_MICROS: u64 = 50;
+
+// The bell of a ticket.
+fn bell_of(ticket: u64) -> usize
+    ensures is { result ≡ bell ticket }
+    ensures lies { (4 ≤ result) × (result < WORDS) }
+{
+    4 + (ticket % (WORDS as u64 - 4)) as usize
+}
 
 impl<T: Desk> Turns<T> {
     // Looks whether each ticket that was drawn has been served, but not for long.
@@ -71,15 +82,32 @@ impl<T: Desk> Turns<T> {
     {
         self.stand_back(rt);
         let ticket = self.table.shared.fetch_add::<Draw>(seat, 1, 1);
+        let bell = bell_of(ticket);
         for _ in rt.forever() {
             self.watch(ticket);
+            // A bell that rings behind this look is no longer what the seat sleeps on, so no ringing is missed.
+            let rung = self.table.shared.peek(bell);
             let served = self.table.shared.load::<Look<T>>(seat, 2);
             if served == ticket {
                 return;
             }
-            self.table.shared.park(rt, 2, (served % (1 << 32)) as u32);
+            self.table.shared.park(rt, bell, (rung % (1 << 32)) as u32);
         }
         unreachable!()
+    }
+
+    // Wakes the seat of the next ticket, if that was drawn. Who draws it behind this look finds it served.
+    pub(super) fn wake(&self, seat: &mut SeatOf<T>, next: u64)
+        requires own { seat.old.table_id ≡ self.now.table.shared.table_id }
+        requires passed { (seat.old.me.0.stage ≡ Passed) × (seat.old.me.0.ticket ≡ next) }
+        ensures own { (seat.new.table_id ≡ seat.old.table_id) × (seat.new.id ≡ seat.old.id) }
+        ensures rests { seat.new.me ≡ (resting seat.old.me.0.account, seat.old.me.1) }
+    {
+        if self.table.shared.load::<LookBehind>(seat, 1) != next {
+            let bell = bell_of(next);
+            self.table.shared.fetch_add::<Ring>(seat, bell, 1);
+            self.table.shared.wake_all(bell);
+        }
     }
 
     // The desk leaves the slot.

@@ -56,7 +56,7 @@ done g c =
     let from : c.enter.new.seat.me.0.account ≡ account_of p.badge.views = c.enter.ensures.same ∙ ap (λ v. v.account) is in
     let here : c.enter.new.seat.me.1 ≡ (0, Some c.in-Some.desk) ∷ slots = c.slot_mut.ensures.value ∙ ap (λ o. (0, o) ∷ slots) c.in-Some.is in
     called g.T.Desk.history g.T.Desk.figures g.T.Desk.stopped (account_of p.badge.views) c.enter.new.seat.me (c.enter.new.seat.me.0, (0, Some d') ∷ slots) c.note.new.seat.me c.note.new.seat.me c.fetch_add-ticket.new.seat.me
-    _ _ _ c.note.new.seat.me.1 c.into_badge.result.views c.in-Some.desk d' _ from c.enter.ensures.took here refl c.ask-reply.ensures.grows c.note.ensures.noted refl c.fetch_add-ticket.ensures.2 c.into_badge.ensures.2
+    _ _ _ _ c.note.new.seat.me.1 c.into_badge.result.views c.in-Some.desk d' _ from c.enter.ensures.took here refl c.ask-reply.ensures.grows c.note.ensures.noted refl c.fetch_add-ticket.ensures.2 (c.into_badge.ensures.2 ∙ ap (λ m. m.0 ∷ []) c.wake.ensures.rests)
 
 pub returns-clause-told : goal.returns-clause-told
 returns-clause-told g c = told_of _ _ _ _ _ _ _ (done g c) c.args.pass.now.number c.args.ask c.ask-reply.result c.ask-reply.ensures.told c.ask-reply.ensures.stays
