@@ -111,8 +111,9 @@ def number_of(written: str) -> int:
 
 def limits() -> list[str]:
     """What differs between the README's table of limits and the constants."""
-    rows = re.findall(r"^\| [^|]+ \| ([\d,^]+)[^|]* \| `(MOST_\w+)` \|$", text("README.md"), re.M)
-    written = {name: number_of(number) for number, name in rows}
+    rows = re.findall(r"^\|[^|]+\| ([\d,^ ]+) \| (`MOST_\w+`(?:, `MOST_\w+`)*) \|$", text("README.md"), re.M)
+    pairs = [pair for numbers, names in rows for pair in zip(names.split(", "), numbers.split(", "))]
+    written = {name.strip("`"): number_of(number) for name, number in pairs}
     defined = constants()
     missing = [f"README.md: no limit has `{name}`" for name in defined if name not in written]
     wrong = [f"README.md: `{name}` is {defined.get(name)}, and not {number}" for name, number in written.items() if defined.get(name) != number]

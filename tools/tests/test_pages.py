@@ -13,8 +13,8 @@ UNNAMED = "\n```rust\nlet unnamed = 1;\n```\n"
 
 # What is changed in a document, and what is told of it. Where there is no old text, the new one is put behind the document.
 BROKEN: list[tuple[str, str, str, str]] = [
-    ("README.md", "| members | 256 |", "| members | 255 |", "README.md: `MOST_MEMBERS` is 256, and not 255"),
-    ("README.md", " | `MOST_IDLE` |", " | none |", "README.md: no limit has `MOST_IDLE`"),
+    ("README.md", "| 256, 64, 64 |", "| 256, 65, 64 |", "README.md: `MOST_DEALERS` is 64, and not 65"),
+    ("README.md", ", `MOST_IDLE` |", " |", "README.md: no limit has `MOST_IDLE`"),
     ("docs/MODEL.md", "", "\n" + LONG, "docs/MODEL.md: a sentence of 41 words: word word"),
     ("docs/TOOLS.md", "", "\n- " + LONG, "docs/TOOLS.md: a sentence of 41 words: word word"),
     ("docs/THEORY.md", "", "\n" + WIDE, "docs/THEORY.md: a cell of 301 characters: xxx"),
