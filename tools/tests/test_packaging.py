@@ -174,7 +174,7 @@ class DebianPackage(Made):
         """The files of the tree that a package is made from, as git or as the tree has them."""
         tree = self.folder / "tree"
         tree.mkdir()
-        ignored = shutil.ignore_patterns("out", "__pycache__", ".mypy_cache", "*.egg-info", "made", ".debhelper", "delkwoan.service")
+        ignored = shutil.ignore_patterns("out", "__pycache__", ".mypy_cache", "*.egg-info", "made", ".debhelper", "*.service", "*.timer")
         for name in ("debian", "docs", "examples", "packaging", "tools"):
             shutil.copytree(ROOT / name, tree / name, ignore=ignored)
         for name in ("README.md", "CHANGELOG.md", "pyproject.toml"):
@@ -202,7 +202,9 @@ class DebianPackage(Made):
         self.assertEqual(run(["dpkg-deb", "-x", package, root]).status, 0)
         self.assertEqual(sorted(path.name for path in (root / "usr/bin").iterdir()), COMMANDS)
         self.assertEqual(run([root / "usr/bin/compress_cli"]).output, b"stands in\n")
-        self.assertIn("\nExecStart=/usr/bin/compress_cli serve ", (root / "lib/systemd/system/delkwoan.service").read_text())
+        units = root / "lib/systemd/system"
+        self.assertIn("\nExecStart=/usr/bin/compress_cli serve ", (units / "delkwoan.service").read_text())
+        self.assertEqual(sorted(path.name for path in units.iterdir()), sorted(UNITS))
         for name in COMMANDS:
             self.assertTrue((root / f"usr/share/man/man1/{name}.1.gz").exists(), name)
             self.assertTrue((root / f"usr/share/bash-completion/completions/{name}").exists(), name)
@@ -248,6 +250,9 @@ class Types(unittest.TestCase):
         self.assertEqual((ran.status, ran.errors), (0, b""), ran.output)
 
 
+UNITS = ["delkwoan.service", "delkwoan-restart.service", "delkwoan-restart.timer"]
+
+
 def settings_of(unit: Path, name: str) -> list[str]:
     return [line.removeprefix(name + "=") for line in unit.read_text().splitlines() if line.startswith(name + "=")]
 
@@ -258,19 +263,27 @@ class Unit(Made):
         self.unit = self.made / "delkwoan.service"
 
     def test_systemd_finds_nothing(self) -> None:
-        """It looks for the commands, which stand in for a while below another prefix."""
+        """It looks for the commands, and some stand in for a while below another prefix."""
         need("systemd-analyze")
         prefix = self.folder / "prefix"
         (prefix / "bin").mkdir(parents=True)
         for name in ("compress_cli", "compress-wait-ready"):
             shutil.copy2(self.program, prefix / "bin" / name)
         self.assertEqual(run([PACKAGING / "generate", "--prefix", prefix, self.made]), Ran(0, b"", b""))
-        self.assertEqual(run(["systemd-analyze", "verify", "--man=no", self.unit]), Ran(0, b"", b""))
+        units = [self.made / name for name in UNITS]
+        self.assertEqual(run(["systemd-analyze", "verify", "--man=no", *units]), Ran(0, b"", b""))
 
     def test_nothing_is_left_to_fill_in(self) -> None:
-        text = self.unit.read_text()
-        self.assertIn("\nExecStart=/usr/bin/compress_cli serve ", text)
-        self.assertNotIn("@", text.replace("@system-service", "").replace("@privileged @resources", ""))
+        self.assertIn("\nExecStart=/usr/bin/compress_cli serve ", self.unit.read_text())
+        for name in UNITS:
+            text = (self.made / name).read_text()
+            self.assertNotIn("@", text.replace("@system-service", "").replace("@privileged @resources", ""), name)
+
+    def test_each_night_it_is_started_anew_where_it_runs(self) -> None:
+        """The timer's unit is the service of its name, which starts no service that was stopped."""
+        timer, service = self.made / UNITS[2], self.made / UNITS[1]
+        self.assertEqual((settings_of(timer, "OnCalendar"), settings_of(timer, "Unit")), (["*-*-* 03:30:00"], []))
+        self.assertEqual(settings_of(service, "ExecStart"), ["/bin/systemctl try-restart delkwoan.service"])
 
     def test_statuses_are_those_of_the_table(self) -> None:
         """No other start where a person is wanted: statuses of the operator's table, and that of a missing credential."""
