@@ -14,6 +14,7 @@ without, and what was lost or mixed is told (tools/tests/holding.py); the status
 
 import argparse
 import os
+import signal
 import socket
 import statistics
 import subprocess
@@ -216,6 +217,8 @@ def parser() -> argparse.ArgumentParser:
 
 
 def main(words: list[str]) -> int:
+    # So that a server ends with what started it.
+    signal.signal(signal.SIGTERM, lambda number, _: sys.exit(128 + number))
     asked = parser().parse_args(words)
     if asked.changes:
         changes(asked.programs, asked.changes, asked.connections or [1, 16, 64], asked.lines, asked.turns, asked.line)
