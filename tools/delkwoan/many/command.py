@@ -1,0 +1,199 @@
+"""The command compress-many: compresses the trades of any number of products and days, over Dask's workers.
+
+Each market is put away with its files and its proposal, so that anybody can check it again by `compress_cli check`.
+"""
+
+import importlib.util
+import logging
+import multiprocessing
+import os
+import signal
+import tempfile
+import threading
+import time
+from argparse import Namespace
+from concurrent.futures import Executor, ProcessPoolExecutor
+from contextlib import ExitStack
+from functools import partial
+from pathlib import Path
+from types import FrameType
+from typing import Any, Callable, Iterator, NoReturn
+
+from .. import checker
+from ..client import found_program
+from ..ending import Stop, run
+from ..words import Once, Words, plain
+from .folder import Folder
+from .markets import Market, markets_of
+from .pieces import Cutter
+from .tables import Figures, head_of_figures, head_of_trades, names_of, results_of, trades_of
+from .trades import Trades, read_members, read_trades
+from .workers import Distribution, Job, Sent
+
+MOST_WORKERS = 64
+
+
+def count(word: str) -> int:
+    value = checker.number_of(word.encode(), MOST_WORKERS)
+    if not value:
+        raise ValueError(word)
+    return value
+
+
+def words() -> Words:
+    parser = Words(
+        "compress-many",
+        "Compresses the trades of any number of products, days and members, over the workers of Dask, and checks each answer twice. "
+        "A run that was interrupted goes on where it is started again.",
+    )
+    members = "each member's name and role; without it a dealer is who both sells and buys in a connected part of a product"
+    parser.add_argument("--members", metavar="FILE", action=Once, type=plain, help=members)
+    mode = "conservative, hybrid or free; hybrid where it is absent"
+    parser.add_argument("--mode", metavar="MODE", action=Once, choices=checker.MODES, help=mode)
+    scheduler = "where Dask's scheduler listens, as `tcp://127.0.0.1:8786`; without it the workers are processes of this machine"
+    parser.add_argument("--scheduler", metavar="SCHEDULER", action=Once, help=scheduler)
+    workers = "how many processes of this machine check, and solve, where no scheduler is named; one a processor where it is absent"
+    parser.add_argument("--workers", metavar="COUNT", action=Once, type=count, help=workers)
+    parser.add_argument("--program", metavar="FILE", action=Once, type=plain, help="the program that solves and checks")
+    markets = "a file of trades, plain or compressed, or a folder of such files: day, product, seller, buyer, amount"
+    parser.add_argument("markets", metavar="FILE", type=plain, help=markets)
+    parser.add_argument("output", metavar="OUTPUT", type=plain, help="the folder that is written")
+    return parser
+
+
+def need(*modules: str) -> None:
+    for module in modules:
+        if importlib.util.find_spec(module) is None:
+            raise Stop(11, f"no {module}: install python3-{module}")
+
+
+def stop(number: int, _: FrameType | None) -> None:
+    raise SystemExit(128 + number)
+
+
+def begin_check() -> None:
+    """In a process that checks: leaves an interrupt to the run, and ends where the run has."""
+    signal.signal(signal.SIGINT, signal.SIG_IGN)
+    parent = os.getppid()
+
+    def watch() -> None:
+        while os.getppid() == parent:
+            time.sleep(1)
+        os._exit(0)
+
+    threading.Thread(target=watch, daemon=True).start()
+
+
+def checking(processes: int) -> Executor:
+    return ProcessPoolExecutor(processes, multiprocessing.get_context("spawn"), begin_check)
+
+
+def connected(given: Namespace, processes: int, ending: ExitStack) -> Any:
+    """A client of the scheduler that is named, or of workers that are processes of this machine."""
+    from distributed import Client, LocalCluster
+
+    logging.getLogger("distributed").setLevel(logging.CRITICAL)
+    if given.scheduler:
+        try:
+            return ending.enter_context(Client(given.scheduler))
+        except (OSError, ValueError):
+            raise Stop(21, f"no scheduler at {given.scheduler}") from None
+    room = ending.enter_context(tempfile.TemporaryDirectory())
+    settings = {"n_workers": processes, "threads_per_worker": 1, "memory_limit": 0, "local_directory": room}
+    cluster = LocalCluster(**settings, dashboard_address="127.0.0.1:0", silence_logs=logging.CRITICAL)
+    return ending.enter_context(Client(ending.enter_context(cluster)))
+
+
+class Progress:
+    """One line on a terminal that tells how far a run is."""
+
+    def __init__(self, markets: int, dashboard: str) -> None:
+        self.markets = markets
+        self.start = time.monotonic()
+        if os.isatty(2):
+            os.write(2, f"dashboard: {dashboard}\n".encode())
+
+    def show(self, done: int, again: int) -> None:
+        if not os.isatty(2) or not done:
+            return
+        left = (time.monotonic() - self.start) * (self.markets - done) / done
+        bar = "#" * (20 * done // self.markets)
+        told = f"[{bar:<20}] {done:,} of {self.markets:,} markets, {again} solved again, about {left:.0f} s left"
+        os.write(2, f"\r\x1b[K{told}{'' if done < self.markets else chr(10)}".encode())
+
+
+def beginnings(distribution: Distribution, folder: Folder, markets: list[Market]) -> Iterator[Callable[[], None]]:
+    """What begins each market: a check of what is kept of it, or else its way to a worker."""
+    for market in markets:
+        sent = Sent(market, market.roster(), market.trades(), 1)
+        kept = folder.kept(market, sent.roster, sent.trades)
+        yield partial(distribution.send, sent) if kept is None else partial(distribution.check, sent, kept)
+
+
+def solve_all(given: Namespace, folder: Folder, markets: list[Market]) -> int:
+    """Has each market solved, checked and put away, and tells how many answers were not taken."""
+    program = given.program or found_program()
+    processes = given.workers or os.cpu_count() or 1
+    job = Job(given.mode or "hybrid", program if not given.scheduler else given.program)
+
+    def keep(sent: Sent, proposal: bytes) -> None:
+        folder.keep(sent.market, sent.roster, sent.trades, proposal)
+
+    with ExitStack() as ending:
+        client = connected(given, processes, ending)
+        checks = ending.enter_context(checking(processes))
+        distribution = Distribution(client, checks, job, program, keep)
+        progress = Progress(len(markets), client.dashboard_link)
+        for done in distribution.run(beginnings(distribution, folder, markets)):
+            progress.show(done, len(distribution.again))
+    return len(distribution.again)
+
+
+def write_tables(folder: Folder, markets: list[Market], trades: Trades) -> list[Figures]:
+    """Writes the tables from the proposals that were put away, and gives the figures."""
+    figures: list[Figures] = []
+
+    def solved() -> Iterator[tuple[Market, list[checker.Part]]]:
+        for market in markets:
+            yield market, checker.read_proposal(folder.proposal(market), checker.read_roster(market.roster()))
+
+    def left() -> Iterator[str]:
+        yield head_of_trades()
+        for result in results_of(solved()):
+            figures.append(result.figures(trades.networks[result.key]))
+            yield from trades_of(result, trades.names)
+
+    folder.write("names.csv", names_of(markets, trades))
+    folder.write("trades.csv", left())
+    folder.write("figures.csv", [head_of_figures(), *(it.line() for it in figures)])
+    return figures
+
+
+def told(figures: list[Figures], markets: int, again: int) -> str:
+    """The line of a run that ended."""
+    text = f"{len(figures)} products in {markets} markets: gross {sum(it.gross for it in figures)} before, {sum(it.after for it in figures)} after"
+    large = sum(not it.is_least for it in figures)
+    crowded = sum(it.demoted > 0 for it in figures)
+    text += f"; {large} with a part of more than 256 members, not least" if large else ""
+    text += f"; {crowded} with a part of more than 64 dealers" if crowded else ""
+    return text + (f"; {again} answers were not taken" if again else "")
+
+
+def main(line: list[str]) -> int:
+    given = words().parse_args(line)
+    need("scipy", "distributed")
+    signal.signal(signal.SIGINT, signal.default_int_handler)
+    signal.signal(signal.SIGTERM, stop)
+    roles = None if given.members is None else read_members(Path(given.members))
+    trades = read_trades(Path(given.markets), roles)
+    markets = list(markets_of(Cutter(trades, roles).pieces()))
+    folder = Folder(Path(given.output))
+    folder.begin(len(markets))
+    again = solve_all(given, folder, markets)
+    figures = write_tables(folder, markets, trades)
+    print(told(figures, len(markets), again))
+    return 0
+
+
+def command() -> NoReturn:
+    run(main)

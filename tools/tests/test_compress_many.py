@@ -1,0 +1,283 @@
+"""Many markets over Dask: bad input, what is written, how networks are cut, and workers that are lost, lie or are interrupted."""
+
+import bz2
+import gzip
+import lzma
+import os
+import random
+import signal
+import subprocess
+import time
+import unittest
+from pathlib import Path
+
+from many import HEAD, TABLES, Many, Trade, ring, rows_of, text_of
+from running import TOOLS, Ran, run
+from serving import free_port
+
+ROW = "2026-01-01,P,A,B,5\n"
+FAULTS: list[tuple[str, str]] = [
+    ("", "1: columns"),
+    ("day,product,seller,buyer\n", "1: columns"),
+    ("day,product,seller,buyer,amount,venue\n", "1: columns"),
+    ("day,product,seller,buyer,venue\n", "1: columns"),
+    ("day,product,seller,seller,amount\n", "1: columns"),
+    (HEAD + ROW + "2026-01-01,P,A,B\n", "3: columns"),
+    (HEAD + ROW + "2026-01-01,P,A,B,5,6\n", "3: columns"),
+    (HEAD + ROW + "\n2026-13-01,P,A,B,5\n", "3: bad-day"),
+    (HEAD + ",P,A,B,5\n", "2: bad-day"),
+    (HEAD + "2026-01-01,,A,B,5\n", "2: bad-name"),
+    (HEAD + "2026-01-01,P,,B,5\n", "2: bad-name"),
+    (HEAD + "2026-01-01,P,A,,5\n", "2: bad-name"),
+    (HEAD + "2026-01-01,P,A,A,5\n", "2: same-party"),
+    *((HEAD + ROW + f"2026-01-01,P,A,B,{word}\n", "3: bad-amount") for word in ("-5", "0", "05", "", "5.0", "1e3", "+5", " 5", "٥", "x")),
+    (HEAD + ROW + "2026-01-01,P,A,B,1000000000000001\n", "3: bad-amount"),
+    (HEAD + ROW + 1000 * "2026-01-01,P,A,B,1000000000000000\n" + ROW, "1002: gross-limit"),
+]
+"""Files of trades, and the record and the fault that is told."""
+
+MEMBER_FAULTS: list[tuple[str, str]] = [
+    ("name\n", "members.csv row 1: columns"),
+    ("name,role,key\n", "members.csv row 1: columns"),
+    ("name,role\nA,dealer\nB\n", "members.csv row 3: columns"),
+    ("name,role\nA,dealer\nB,broker\n", "members.csv row 3: bad-role"),
+    ("name,role\n,dealer\n", "members.csv row 2: bad-name"),
+    ("name,role\nA,dealer\nA,customer\n", "members.csv row 3: twice"),
+    ("role,name\ndealer,A\n", "trades.csv row 2: unknown-name"),
+]
+
+
+class BadInput(Many):
+    def assert_told(self, status: int, line: str, *words: str | Path) -> None:
+        """One line, and nothing written."""
+        self.assertEqual(self.compress(*words), Ran(status, b"", line.encode() + b"\n"))
+        self.assertFalse(self.out.exists())
+
+    def test_faults_of_trades(self) -> None:
+        for text, told in FAULTS:
+            with self.subTest(text=text[-60:]):
+                self.trades.write_text(text)
+                self.assert_told(3, f"trades.csv row {told}")
+
+    def test_faults_of_members(self) -> None:
+        self.trades.write_text(HEAD + ROW)
+        for text, told in MEMBER_FAULTS:
+            with self.subTest(text=text):
+                (self.folder / "members.csv").write_text(text)
+                self.assert_told(3, told, "--members", self.folder / "members.csv")
+
+    def test_the_file_of_a_folder_is_named(self) -> None:
+        self.trades = self.folder / "trades"
+        self.trades.mkdir()
+        self.assert_told(11, "file fault")
+        (self.trades / "1.csv").write_text(HEAD + ROW)
+        (self.trades / "2.csv.gz").write_bytes(gzip.compress((HEAD + ROW + "2026-01-01,P,A,B,-1\n").encode()))
+        self.assert_told(3, "2.csv.gz row 3: bad-amount")
+        whole = gzip.compress((HEAD + 100 * ROW).encode())
+        for damaged in (whole[:-4], whole[:-8] + 8 * b"?"):
+            (self.trades / "2.csv.gz").write_bytes(damaged)
+            self.assert_told(3, "2.csv.gz: damaged")
+
+    def test_files_that_are_not_there(self) -> None:
+        self.assert_told(11, "file fault")
+        self.trades.write_text(HEAD + ROW)
+        self.assert_told(11, "file fault", "--members", self.folder / "none")
+
+    def test_words_that_are_bad(self) -> None:
+        self.trades.write_text(HEAD + ROW)
+        bad: list[list[str]] = [["--mode", "loose"], ["--workers", "2"], ["--what"], ["x"], ["--mode"], ["--scheduler"]]
+        for words in bad:
+            with self.subTest(words=words):
+                self.assert_told(2, "bad words", *words)
+        for count in ("0", "65", "-1", "x"):
+            self.assertEqual(run(self.tool("--workers", count)), Ran(2, b"", b"bad words\n"))
+
+    def test_packages_that_are_not_there(self) -> None:
+        """-S leaves out all packages but Python's own."""
+        self.trades.write_text(HEAD + ROW)
+        words = self.tool()
+        self.assertEqual(run([words[0], "-S", *words[1:]]), Ran(11, b"", b"no scipy: install python3-scipy\n"))
+        self.assertFalse(self.out.exists())
+
+    def test_a_scheduler_that_is_not_there(self) -> None:
+        self.trades.write_text(HEAD + ROW)
+        address = f"tcp://127.0.0.1:{free_port()}"
+        words = self.tool("--scheduler", address)
+        environ = {**os.environ, "DASK_DISTRIBUTED__COMM__TIMEOUTS__CONNECT": "1s", "COMPRESS_CLI": str(self.program)}
+        done = subprocess.run(words, capture_output=True, env=environ, timeout=60)
+        self.assertEqual((done.returncode, done.stdout, done.stderr), (21, b"", f"no scheduler at {address}\n".encode()))
+
+
+BY_HAND = """\
+2026-01-01,Rates,Bank A,Bank B,10
+2026-01-01,Rates,Bank B,Bank C,10
+2026-01-01,Rates,Bank C,Bank A,7
+2026-01-01,Rates,Bank C,"Fund ""X"", London",7
+2026-01-01,Credit,Bank A,Bank B,10
+2026-01-01,Credit,Bank B,Bank A,4
+2026-01-02,Credit,Bank B,Bank A,4
+2026-01-02,Credit,Bank B,Größte Bank der Welt mit einem langen Namen,1000000000000000
+2026-01-02,Credit,Bank B,Größte Bank der Welt mit einem langen Namen,1000000000000000
+2026-01-02,Credit,Bank B,Größte Bank der Welt mit einem langen Namen,3
+"""
+GREAT = 2 * 10**15 + 3
+FIGURES = {
+    # the roles are those of who both sells and buys, so A, B and C may owe each other anything: 3 from A to C are left, and the fund's 7
+    ("2026-01-01", "Rates"): ["4", "1", "34", "10", "7", "34", "yes", "0"],
+    ("2026-01-01", "Credit"): ["2", "1", "14", "6", "6", "6", "yes", "0"],
+    ("2026-01-02", "Credit"): ["3", "1", *[str(GREAT + 4)] * 4, "yes", "0"],
+}
+"""Figures of these trades, worked out by hand."""
+
+
+class Written(Many):
+    def test_by_hand_and_in_every_form(self) -> None:
+        text = (HEAD + BY_HAND).encode()
+        self.trades.write_bytes(text)
+        figures = self.assert_done(ran := self.compress())
+        self.assertEqual(ran.output.decode(), f"3 products in 1 markets: gross {GREAT + 52} before, {GREAT + 20} after\n")
+        self.assertEqual({(row["day"], row["product"]): [*row.values()][2:] for row in figures}, FIGURES)
+        first = [(self.out / name).read_bytes() for name in TABLES if name != "markets"]
+        turned = "".join(",".join(line.rsplit(",", 1)[::-1]) + "\r\n" for line in text.decode().splitlines())
+        forms = [gzip.compress(text), bz2.compress(text), lzma.compress(text), b"\xef\xbb\xbf" + text, turned.encode()]
+        for form in forms:
+            self.trades.write_bytes(form)
+            self.assertEqual(self.compress(), ran)
+            self.assertEqual([(self.out / name).read_bytes() for name in TABLES if name != "markets"], first)
+
+    def test_what_is_left_is_least(self) -> None:
+        """It is compressed again, in the same roles, and nothing more goes; in a free mode M is left."""
+        draw = random.Random(1)
+        names = [f"M{place}" for place in range(12)]
+        pairs = [draw.sample(names, 2) for _ in range(600)]
+        trades = [Trade("2026-01-01", f"P{place % 20}", a, b, draw.randrange(1, 1000)) for place, (a, b) in enumerate(pairs)]
+        members = self.folder / "members.csv"
+        members.write_text("name,role\n" + "".join(f"{name},{'dealer' if name < 'M4' else 'customer'}\n" for name in names))
+        self.trades.write_text(text_of(trades))
+        figures = self.assert_done(self.compress("--members", members))
+        self.assertEqual(len(figures), 20)
+        self.assertTrue(all(int(row["floor"]) <= int(row["after"]) <= int(row["bilateral"]) for row in figures))
+        self.trades.write_bytes((self.out / "trades.csv").read_bytes())
+        again = self.assert_done(self.compress("--members", members))
+        self.assertEqual([(row["gross"], row["after"]) for row in again], [(row["after"], row["after"]) for row in figures])
+        free = self.assert_done(self.compress("--members", members, "--mode", "free"), "free")
+        self.assertEqual([row["after"] for row in free], [row["floor"] for row in figures])
+
+    def test_a_folder_is_of_one_run_at_a_time(self) -> None:
+        self.trades.write_text(HEAD + ROW)
+        slow = self.stand_in("sleep 3")
+        first = subprocess.Popen(self.tool("--workers", "2", "--program", slow), stdout=subprocess.PIPE, stderr=subprocess.PIPE)
+        while not self.out.exists():
+            time.sleep(0.05)
+        self.assertEqual(self.compress(), Ran(11, b"", f"{self.out} is in use\n".encode()))
+        output, errors = first.communicate(timeout=60)
+        self.assert_done(Ran(first.returncode, output, errors))
+
+
+class Cut(Many):
+    def test_parts_that_are_many_or_large(self) -> None:
+        """Three rings of 100 are three pieces, since each has its 64 dealers. A ring of 300 is compressed by 256 of its members, so that
+        none of it can go; but what lies between two of these can."""
+        rings = [trade._replace(product="Small") for place in range(3) for trade in ring(f"S{place}", 100)]
+        large = ring("Large", 300)
+        opposite = Trade("2026-01-01", "Large", "Large 1", "Large 0", 5)
+        self.trades.write_text(text_of([*rings, *large, opposite]))
+        ran = self.compress("--mode", "conservative")
+        rows = {row["product"]: row for row in self.assert_done(ran, "conservative")}
+        self.assertIn(b"; 1 with a part of more than 256 members, not least; 2 with a part of more than 64 dealers", ran.output)
+        self.assertEqual([rows["Small"][name] for name in ("members", "pieces", "after", "least")], ["300", "3", "0", "yes"])
+        self.assertEqual([rows["Large"][name] for name in ("members", "pieces", "after", "least")], ["300", "1", "1495", "no"])
+        self.assertEqual([row["demoted"] for row in rows.values()], [str(256 - 64), str(3 * 36)])
+
+    def test_products_share_markets(self) -> None:
+        """70 products of the same members are two markets, and three of other members each are three."""
+        same = [trade._replace(product=f"P{place}", seller=trade.seller[2:], buyer=trade.buyer[2:]) for place in range(70) for trade in ring("P", 3)]
+        self.trades.write_text(text_of(same))
+        self.assertIn(b"70 products in 2 markets: gross 1050 before, 0 after\n", self.compress().output)
+        self.trades.write_text(text_of([trade for place in range(3) for trade in ring(f"P{place}", 60)]))
+        self.assertIn(b"3 products in 3 markets: gross 900 before, 0 after\n", self.compress().output)
+
+
+class Workers(Many):
+    """Each market has 60 members of its own, all of them dealers, so that no two have room in one."""
+
+    def setUp(self) -> None:
+        super().setUp()
+        self.trades.write_text(text_of([trade for place in range(6) for trade in ring(f"P{place}", 60)]))
+
+    def test_workers_that_are_killed_lose_nothing(self) -> None:
+        """The first market that is solved, and one more, kill the worker that solves them."""
+        killing = 'for n in 1 2; do if mkdir "$STATE/$n" 2> /dev/null; then kill -9 $PPID; exit 1; fi; done'
+        figures = self.assert_done(self.compress(program=self.stand_in(killing)))
+        self.assertEqual(len(figures), 6)
+        self.assertGreaterEqual(self.solved(), 8)
+
+    def test_answers_that_are_wrong_are_not_taken(self) -> None:
+        """One has another potential, one is empty, and one is that of an earlier market."""
+        wrong = (
+            'if mkdir "$STATE/1" 2> /dev/null; then "$SELF" "$@" | sed "s/^pot M1 .*/pot M1 9/"; exit 0; fi\n'
+            'if mkdir "$STATE/2" 2> /dev/null; then exit 0; fi\n'
+            'if mkdir "$STATE/3" 2> /dev/null; then exit 9; fi'
+        )
+        ran = self.compress(program=self.stand_in(wrong))
+        self.assert_done(ran)
+        self.assertTrue(ran.output.endswith(b"; 3 answers were not taken\n"), ran.output)
+        self.assertEqual(self.solved(), 9)
+
+    def test_a_program_that_is_always_wrong(self) -> None:
+        ran = self.compress(program=self.stand_in('"$SELF" "$@" | sed "s/^bound .*/bound 7/"; exit 0'))
+        self.assertEqual((ran.status, ran.output), (20, b""))
+        self.assertRegex(ran.errors, rb"^market \d: no right answer in 5 tries: the second checker says 'no P0 figures', the program says 'no P0 figures'\n$")
+        self.assertEqual([os.listdir(self.out), os.listdir(self.out / "markets")], [["markets"], []])
+
+    def test_an_interrupt_and_what_goes_on(self) -> None:
+        """What was put away is not solved again, but checked again: one market that was changed since is solved anew."""
+        slow = self.stand_in("sleep 0.5")
+        for number in (signal.SIGINT, signal.SIGTERM):
+            words = self.tool("--workers", "2", "--program", slow)
+            first = subprocess.Popen(words, stdout=subprocess.PIPE, stderr=subprocess.PIPE, start_new_session=True)
+            kept: list[str] = []
+            while len(kept) < (1 if number == signal.SIGINT else 3):
+                time.sleep(0.02)
+                kept = [name for name in os.listdir(self.out / "markets") if name[0] != "."] if self.out.exists() else []
+            os.killpg(first.pid, number)
+            self.assertEqual((first.communicate(timeout=60), first.returncode), ((b"", b""), 128 + number))
+            self.assertEqual(os.listdir(self.out), ["markets"])
+        kept = [name for name in os.listdir(self.out / "markets") if name[0] != "."]
+        self.assertLess(len(kept), 6)
+        changed = self.out / "markets" / kept[0] / "proposal.txt"
+        changed.write_text(changed.read_text().replace("bound 0", "bound 1"))
+        (self.folder / "state/solved").write_text("")
+        self.assert_done(self.compress(program=slow))
+        self.assertEqual(self.solved(), 6 - len(kept) + 1)
+
+
+class Scheduler(Many):
+    def start(self, module: str, *words: str) -> subprocess.Popen[bytes]:
+        environ = {**os.environ, "PYTHONPATH": str(TOOLS), "COMPRESS_CLI": str(self.slow)}
+        line = [self.python, "-m", f"distributed.cli.{module}", *words]
+        started = subprocess.Popen(line, env=environ, cwd=self.folder, stdout=subprocess.DEVNULL, stderr=subprocess.DEVNULL)
+        self.addCleanup(started.wait)
+        self.addCleanup(started.kill)
+        return started
+
+    def test_a_cluster_whose_worker_is_killed(self) -> None:
+        self.trades.write_text(text_of([trade for place in range(8) for trade in ring(f"P{place}", 60)]))
+        self.slow = self.stand_in("sleep 0.3")
+        port = free_port()
+        self.start("dask_scheduler", "--host", "127.0.0.1", "--port", str(port), "--no-dashboard", "--no-show")
+        options = [f"tcp://127.0.0.1:{port}", "--nthreads", "1", "--no-nanny", "--no-dashboard"]
+        workers = [self.start("dask_worker", *options) for _ in range(2)]
+        words = self.tool("--scheduler", f"tcp://127.0.0.1:{port}", "--workers", "2")
+        environ = {**os.environ, "COMPRESS_CLI": str(self.program)}
+        ran = subprocess.Popen(words, env=environ, stdout=subprocess.PIPE, stderr=subprocess.PIPE)
+        while not self.out.exists() or len(os.listdir(self.out / "markets")) < 2:
+            self.assertIsNone(ran.poll(), "ended early")
+            time.sleep(0.02)
+        workers[0].kill()
+        output, errors = ran.communicate(timeout=100)
+        self.assertEqual(len(self.assert_done(Ran(ran.returncode, output, errors))), 8)
+
+
+if __name__ == "__main__":
+    unittest.main()
