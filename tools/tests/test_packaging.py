@@ -20,8 +20,8 @@ from delkwoan import __version__
 
 PACKAGING = ROOT / "packaging"
 HUB = [str(EXAMPLES / "hub-roster.csv"), str(EXAMPLES / "hub-trades.csv"), "hybrid", str(EXAMPLES / "hub-proposal.txt")]
-COMMANDS = ["compress-audit", "compress-check-proposal", "compress-client", "compress-journal", "compress-report", "compress-wait-ready"]
-COMMANDS += ["compress_cli"]
+COMMANDS = ["compress-audit", "compress-check-proposal", "compress-client", "compress-journal", "compress-many", "compress-report"]
+COMMANDS += ["compress-wait-ready", "compress_cli"]
 
 TYPED: list[tuple[list[str], list[str]]] = [
     (["compress_cli", ""], ["check", "gen", "replay", "script", "serve", "solve"]),
@@ -49,6 +49,10 @@ TYPED: list[tuple[list[str], list[str]]] = [
     (["compress-client", "--program", "x", "--raw", "hub-r"], ["hub-roster.csv"]),
     (["compress-report", "--product", "P", "hub-r"], ["hub-roster.csv"]),
     (["compress-report", "--re"], ["--replay"]),
+    (["compress-many", "-"], ["--members", "--mode", "--program", "--scheduler", "--workers"]),
+    (["compress-many", "--mode", "hybrid", "--members", "hub-r"], ["hub-roster.csv"]),
+    (["compress-many", "--scheduler", "tcp://127.0.0.1:8786", "hub-t"], ["hub-trades.csv"]),
+    (["compress-many", "--workers", ""], []),
     (["compress-report", "--replay", "--mode", ""], ["conservative", "free", "hybrid"]),
     (["compress-check-proposal", "a", "b", "h"], ["hybrid"]),
     (["/usr/bin/compress-journal", "rost"], ["roster.csv"]),
@@ -136,13 +140,13 @@ class Pages(Made):
         """By its help, and in the manual page."""
         page = (self.made / "compress-tools.1").read_text()
         told = 0
-        for name in ("audit", "check_proposal", "client", "journal", "report", "wait-ready"):
+        for name in ("audit", "check_proposal", "client", "compress_many", "journal", "report", "wait-ready"):
             shown = run([TOOLS / name, "--help"])
             self.assertEqual((shown.status, shown.errors), (0, b""))
             for option in set(re.findall(r"^  --(\w+)", shown.output.decode(), re.MULTILINE)) - {"version"}:
                 self.assertRegex(page, rf"(?m)^\.It Fl -{option}\b")
                 told += 1
-        self.assertEqual(told, 9)
+        self.assertEqual(told, 14)
 
     def test_the_programs_forms_are_those_of_its_page(self) -> None:
         page = (PACKAGING / "man/compress_cli.1").read_text()

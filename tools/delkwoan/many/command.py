@@ -56,7 +56,7 @@ def words() -> Words:
     parser.add_argument("--workers", metavar="COUNT", action=Once, type=count, help=workers)
     parser.add_argument("--program", metavar="FILE", action=Once, type=plain, help="the program that solves and checks")
     markets = "a file of trades, plain or compressed, or a folder of such files: day, product, seller, buyer, amount"
-    parser.add_argument("markets", metavar="FILE", type=plain, help=markets)
+    parser.add_argument("markets", metavar="MARKETS", type=plain, help=markets)
     parser.add_argument("output", metavar="OUTPUT", type=plain, help="the folder that is written")
     return parser
 
@@ -100,8 +100,12 @@ def connected(given: Namespace, processes: int, ending: ExitStack) -> Any:
             raise Stop(21, f"no scheduler at {given.scheduler}") from None
     room = ending.enter_context(tempfile.TemporaryDirectory())
     settings = {"n_workers": processes, "threads_per_worker": 1, "memory_limit": 0, "local_directory": room}
+    # An interrupt of the terminal is the run's: what Dask starts inherits that it is blocked.
+    signal.pthread_sigmask(signal.SIG_BLOCK, {signal.SIGINT})
     cluster = LocalCluster(**settings, dashboard_address="127.0.0.1:0", silence_logs=logging.CRITICAL)
-    return ending.enter_context(Client(ending.enter_context(cluster)))
+    ending.enter_context(cluster)
+    signal.pthread_sigmask(signal.SIG_UNBLOCK, {signal.SIGINT})
+    return ending.enter_context(Client(cluster))
 
 
 class Progress:
