@@ -15,6 +15,7 @@ from argparse import Namespace
 from concurrent.futures import Executor, ProcessPoolExecutor
 from contextlib import ExitStack
 from functools import partial
+from multiprocessing import resource_tracker
 from pathlib import Path
 from types import FrameType
 from typing import Any, Callable, Iterator, NoReturn
@@ -100,7 +101,8 @@ def connected(given: Namespace, processes: int, ending: ExitStack) -> Any:
             raise Stop(21, f"no scheduler at {given.scheduler}") from None
     room = ending.enter_context(tempfile.TemporaryDirectory())
     settings = {"n_workers": processes, "threads_per_worker": 1, "memory_limit": 0, "local_directory": room}
-    # An interrupt of the terminal is the run's: what Dask starts inherits that it is blocked.
+    # An interrupt of the terminal is the run's: what Dask starts inherits that it is blocked. (Python's tracker would unblock it.)
+    resource_tracker.ensure_running()
     signal.pthread_sigmask(signal.SIG_BLOCK, {signal.SIGINT})
     cluster = LocalCluster(**settings, dashboard_address="127.0.0.1:0", silence_logs=logging.CRITICAL)
     ending.enter_context(cluster)

@@ -93,6 +93,10 @@ class Cutter:
     def pieces_of(self, key: Key) -> Iterator[Piece]:
         """The pieces of a product: all of it at once where it fits, else its parts, as many together as fit."""
         network = self.trades.networks[key]
+        whole = self.piece_of(key, network)
+        if not whole.rest and not whole.demoted:
+            yield whole
+            return
         parts = [self.piece_of(key, part) for part in parts_of(network)]
         gathered: list[Piece] = []
         for piece in parts:

@@ -9,7 +9,6 @@ import csv
 import gzip
 import io
 import lzma
-import sys
 import zlib
 from pathlib import Path
 from typing import BinaryIO, Callable, Iterator, NamedTuple, cast
@@ -42,18 +41,21 @@ class Trades:
         self.grosses: dict[Key, int] = {}
 
     def number(self, name: str) -> int:
-        number = self.numbers.setdefault(name, len(self.names))
-        if number == len(self.names):
+        number = self.numbers.get(name)
+        if number is None:
+            number = self.numbers[name] = len(self.names)
             self.names.append(name)
         return number
 
     def add(self, key: Key, seller: str, buyer: str, amount: int) -> bool:
         """Adds a trade, and tells whether the product's gross stays within its limit."""
         pair = self.number(seller), self.number(buyer)
-        network = self.networks.setdefault(key, {})
+        network = self.networks.get(key)
+        if network is None:
+            network = self.networks[key] = {}
         network[pair] = network.get(pair, 0) + amount
-        self.grosses[key] = self.grosses.get(key, 0) + amount
-        return self.grosses[key] <= MOST_NUMBER
+        gross = self.grosses[key] = self.grosses.get(key, 0) + amount
+        return gross <= MOST_NUMBER
 
 
 class Row(NamedTuple):
@@ -107,7 +109,7 @@ def rows_of(path: Path, columns: tuple[str, ...]) -> Iterator[Row]:
     for row in records:
         if len(row.fields) != len(columns):
             raise row.fault("columns")
-        yield row._replace(fields=[row.fields[place] for place in places])
+        yield Row(row.file, row.number, [row.fields[place] for place in places])
 
 
 def amount_of(word: str) -> int:
@@ -152,9 +154,10 @@ class Reader:
 
     def fault(self, day: str, product: str, seller: str, buyer: str, amount: int) -> str | None:
         """The first fault of a row by itself."""
-        if day not in self.days and not is_day(day.encode(errors="replace")):
-            return "bad-day"
-        self.days.add(day)
+        if day not in self.days:
+            if not is_day(day.encode(errors="replace")):
+                return "bad-day"
+            self.days.add(day)
         if not (product and seller and buyer):
             return "bad-name"
         if self.members is not None and not (seller in self.members and buyer in self.members):
@@ -169,7 +172,7 @@ class Reader:
         fault = self.fault(day, product, seller, buyer, amount)
         if fault is not None:
             raise row.fault(fault)
-        if not self.trades.add(Key(sys.intern(day), sys.intern(product)), seller, buyer, amount):
+        if not self.trades.add(Key(day, product), seller, buyer, amount):
             raise row.fault("gross-limit")
 
 
