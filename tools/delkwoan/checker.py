@@ -235,16 +235,17 @@ def nets_of(network: Network, members: int) -> list[int]:
 def clash_of(roster: Roster, mode: str, old: Network, part: Part) -> str | None:
     """The first clash of a part's certificate beside the product's network."""
     names = [name.decode() for name in roster.members]
-    pairs = [(i, j) for i in range(len(names)) for j in range(len(names)) if i != j]
     grows = [mode == "free" or (mode == "hybrid" and is_dealer) for is_dealer in roster.is_dealer]
     new, prices = part.network, part.potentials
-    for i, j in pairs:
-        if new.get((i, j), 0) > old.get((i, j), 0) and not (grows[i] and grows[j]):
+    for (i, j), amount in sorted(new.items()):
+        if amount > old.get((i, j), 0) and not (grows[i] and grows[j]):
             return f"above {names[i]} {names[j]}"
     for name, before, after in zip(names, nets_of(old, len(names)), nets_of(new, len(names))):
         if before != after:
             return f"net {name}"
-    for i, j in pairs:
+    growing = [i for i in range(len(names)) if grows[i]]
+    steep = {(i, j) for i in growing for j in growing if 1 - prices[i] + prices[j] < 0}
+    for i, j in sorted({*old, *new, *steep}):  # no other pair has an amount, or could grow at a gain
         amount, cost = new.get((i, j), 0), 1 - prices[i] + prices[j]
         if cost < 0 and (amount < old.get((i, j), 0) or (grows[i] and grows[j])):
             return f"open {names[i]} {names[j]}"

@@ -29,7 +29,7 @@ from .markets import Market, markets_of
 from .pieces import Cutter
 from .tables import Figures, head_of_figures, head_of_trades, names_of, results_of, trades_of
 from .trades import Trades, read_members, read_trades
-from .workers import Distribution, Job, Sent
+from .workers import Distribution, Job, Quiet, Sent
 
 MOST_WORKERS = 64
 
@@ -107,7 +107,9 @@ def connected(given: Namespace, processes: int, ending: ExitStack) -> Any:
     cluster = LocalCluster(**settings, dashboard_address="127.0.0.1:0", silence_logs=logging.CRITICAL)
     ending.enter_context(cluster)
     signal.pthread_sigmask(signal.SIG_UNBLOCK, {signal.SIGINT})
-    return ending.enter_context(Client(cluster))
+    client = ending.enter_context(Client(cluster))
+    client.register_worker_plugin(Quiet())
+    return client
 
 
 class Progress:
