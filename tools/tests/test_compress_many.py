@@ -99,6 +99,11 @@ class BadInput(Many):
         self.assertEqual(run([words[0], "-S", *words[1:]]), Ran(11, b"", b"no scipy: install python3-scipy\n"))
         self.assertFalse(self.out.exists())
 
+    def test_a_program_that_is_not_there(self) -> None:
+        self.trades.write_text(HEAD + ROW)
+        none = self.folder / "none"
+        self.assertEqual(self.compress(program=none), Ran(11, b"", f"no program at {none}\n".encode()))
+
     def test_a_scheduler_that_is_not_there(self) -> None:
         self.trades.write_text(HEAD + ROW)
         address = f"tcp://127.0.0.1:{free_port()}"
@@ -135,7 +140,7 @@ class Written(Many):
         text = (HEAD + BY_HAND).encode()
         self.trades.write_bytes(text)
         figures = self.assert_done(ran := self.compress())
-        self.assertEqual(ran.output.decode(), f"3 products in 1 markets: gross {GREAT + 52} before, {GREAT + 20} after\n")
+        self.assertEqual(ran.output.decode(), f"products 3, markets 1: gross {GREAT + 52} before, {GREAT + 20} after\n")
         self.assertEqual({(row["day"], row["product"]): [*row.values()][2:] for row in figures}, FIGURES)
         first = [(self.out / name).read_bytes() for name in TABLES if name != "markets"]
         turned = "".join(",".join(line.rsplit(",", 1)[::-1]) + "\r\n" for line in text.decode().splitlines())
@@ -162,6 +167,11 @@ class Written(Many):
         self.assertEqual([(row["gross"], row["after"]) for row in again], [(row["after"], row["after"]) for row in figures])
         free = self.assert_done(self.compress("--members", members, "--mode", "free"), "free")
         self.assertEqual([row["after"] for row in free], [row["floor"] for row in figures])
+
+    def test_no_trades(self) -> None:
+        self.trades.write_text(HEAD)
+        self.assertEqual(self.assert_done(ran := self.compress()), [])
+        self.assertEqual(ran.output, b"products 0, markets 0: gross 0 before, 0 after\n")
 
     def test_a_folder_is_of_one_run_at_a_time(self) -> None:
         self.trades.write_text(HEAD + ROW)
@@ -193,9 +203,9 @@ class Cut(Many):
         """70 products of the same members are two markets, and three of other members each are three."""
         same = [trade._replace(product=f"P{place}", seller=trade.seller[2:], buyer=trade.buyer[2:]) for place in range(70) for trade in ring("P", 3)]
         self.trades.write_text(text_of(same))
-        self.assertIn(b"70 products in 2 markets: gross 1050 before, 0 after\n", self.compress().output)
+        self.assertIn(b"products 70, markets 2: gross 1050 before, 0 after\n", self.compress().output)
         self.trades.write_text(text_of([trade for place in range(3) for trade in ring(f"P{place}", 60)]))
-        self.assertIn(b"3 products in 3 markets: gross 900 before, 0 after\n", self.compress().output)
+        self.assertIn(b"products 3, markets 3: gross 900 before, 0 after\n", self.compress().output)
 
 
 class Workers(Many):
@@ -253,6 +263,18 @@ class Workers(Many):
 
 
 class Scheduler(Many):
+    """A scheduler and two workers, which solve slowly, and the tool with nothing of its own but the checks."""
+
+    def setUp(self) -> None:
+        super().setUp()
+        self.trades.write_text(text_of([trade for place in range(8) for trade in ring(f"P{place}", 60)]))
+        self.slow = self.stand_in("sleep 0.3")
+        self.address = f"tcp://127.0.0.1:{free_port()}"
+        place = ["--host", "127.0.0.1", "--port", self.address.rpartition(":")[2]]
+        self.scheduler = self.start("dask_scheduler", *place, "--no-dashboard", "--no-show")
+        options = [self.address, "--nthreads", "1", "--no-nanny", "--no-dashboard"]
+        self.workers = [self.start("dask_worker", *options) for _ in range(2)]
+
     def start(self, module: str, *words: str) -> subprocess.Popen[bytes]:
         environ = {**os.environ, "PYTHONPATH": str(TOOLS), "COMPRESS_CLI": str(self.slow)}
         line = [self.python, "-m", f"distributed.cli.{module}", *words]
@@ -261,22 +283,26 @@ class Scheduler(Many):
         self.addCleanup(started.kill)
         return started
 
-    def test_a_cluster_whose_worker_is_killed(self) -> None:
-        self.trades.write_text(text_of([trade for place in range(8) for trade in ring(f"P{place}", 60)]))
-        self.slow = self.stand_in("sleep 0.3")
-        port = free_port()
-        self.start("dask_scheduler", "--host", "127.0.0.1", "--port", str(port), "--no-dashboard", "--no-show")
-        options = [f"tcp://127.0.0.1:{port}", "--nthreads", "1", "--no-nanny", "--no-dashboard"]
-        workers = [self.start("dask_worker", *options) for _ in range(2)]
-        words = self.tool("--scheduler", f"tcp://127.0.0.1:{port}", "--workers", "2")
+    def ran(self, losing: subprocess.Popen[bytes]) -> Ran:
+        """What a run comes to that loses this process once it has put two markets away."""
         environ = {**os.environ, "COMPRESS_CLI": str(self.program)}
+        words = self.tool("--scheduler", self.address, "--workers", "2")
         ran = subprocess.Popen(words, env=environ, stdout=subprocess.PIPE, stderr=subprocess.PIPE)
-        while not self.out.exists() or len(os.listdir(self.out / "markets")) < 2:
+        while not (self.out / "markets").exists() or len(os.listdir(self.out / "markets")) < 2:
             self.assertIsNone(ran.poll(), "ended early")
             time.sleep(0.02)
-        workers[0].kill()
+        losing.kill()
         output, errors = ran.communicate(timeout=100)
-        self.assertEqual(len(self.assert_done(Ran(ran.returncode, output, errors))), 8)
+        return Ran(ran.returncode, output, errors)
+
+    def test_a_worker_that_is_killed(self) -> None:
+        self.assertEqual(len(self.assert_done(self.ran(self.workers[0]))), 8)
+
+    def test_a_scheduler_that_is_killed(self) -> None:
+        """The run ends, and goes on with workers of this machine."""
+        self.assertEqual(self.ran(self.scheduler), Ran(21, b"", b"connection lost to the scheduler\n"))
+        self.assertEqual(os.listdir(self.out), ["markets"])
+        self.assertEqual(len(self.assert_done(self.compress())), 8)
 
 
 if __name__ == "__main__":

@@ -7,6 +7,7 @@ import importlib.util
 import logging
 import multiprocessing
 import os
+import shutil
 import signal
 import tempfile
 import threading
@@ -93,7 +94,7 @@ def connected(given: Namespace, processes: int, ending: ExitStack) -> Any:
     """A client of the scheduler that is named, or of workers that are processes of this machine."""
     from distributed import Client, LocalCluster
 
-    logging.getLogger("distributed").setLevel(logging.CRITICAL)
+    logging.disable(logging.CRITICAL)  # what is lost or ends is the run's to tell
     if given.scheduler:
         try:
             return ending.enter_context(Client(given.scheduler))
@@ -140,9 +141,11 @@ def beginnings(distribution: Distribution, folder: Folder, markets: list[Market]
 
 def solve_all(given: Namespace, folder: Folder, markets: list[Market]) -> int:
     """Has each market solved, checked and put away, and tells how many answers were not taken."""
-    program = given.program or found_program()
+    program = found_program() if given.program is None else shutil.which(given.program)
+    if program is None:
+        raise Stop(11, f"no program at {given.program}")
     processes = given.workers or os.cpu_count() or 1
-    job = Job(given.mode or "hybrid", program if not given.scheduler else given.program)
+    job = Job(given.mode or "hybrid", given.program if given.scheduler else program)
 
     def keep(sent: Sent, proposal: bytes) -> None:
         folder.keep(sent.market, sent.roster, sent.trades, proposal)
@@ -179,7 +182,7 @@ def write_tables(folder: Folder, markets: list[Market], trades: Trades) -> list[
 
 def told(figures: list[Figures], markets: int, again: int) -> str:
     """The line of a run that ended."""
-    text = f"{len(figures)} products in {markets} markets: gross {sum(it.gross for it in figures)} before, {sum(it.after for it in figures)} after"
+    text = f"products {len(figures)}, markets {markets}: gross {sum(it.gross for it in figures)} before, {sum(it.after for it in figures)} after"
     large = sum(not it.is_least for it in figures)
     crowded = sum(it.demoted > 0 for it in figures)
     text += f"; {large} with a part of more than 256 members, not least" if large else ""

@@ -9,7 +9,8 @@ import queue
 import subprocess
 import tempfile
 import time
-from concurrent.futures import Executor
+from asyncio import CancelledError
+from concurrent.futures import BrokenExecutor, Executor
 from pathlib import Path
 from typing import Any, Callable, Iterator, NamedTuple
 
@@ -119,7 +120,10 @@ class Distribution:
         if event.proposal is None:
             self.answered(event)
             return False
-        refused = event.future.result()
+        try:
+            refused = event.future.result()
+        except (OSError, BrokenExecutor):
+            raise Stop(11, "a check could not be run") from None
         if refused is not None:
             self.send_again(event.sent, refused)
             return False
@@ -131,7 +135,7 @@ class Distribution:
         """A worker's answer is checked; where there is none, Dask gave up on a market whose workers were lost."""
         try:
             answer = event.future.result()
-        except Exception as fault:
+        except (Exception, CancelledError) as fault:
             if self.client.status != "running":
                 raise Stop(21, "connection lost to the scheduler") from None
             answer = Answer(b"", type(fault).__name__)
