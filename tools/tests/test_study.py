@@ -14,8 +14,9 @@ from running import ROOT, TOOLS, program
 from test_packaging import python_with
 
 STUDIES = ROOT / "studies"
-sys.path[:0] = [str(TOOLS), str(STUDIES)]
+sys.path[:0] = [str(TOOLS), str(STUDIES), str(ROOT / "docs")]
 
+import pages
 from certified import WAYS, Case, Figures
 from delkwoan.checker import nets_of
 from experiments import EXPERIMENTS, SEEDS, USUAL, Row, places, summary, table
@@ -151,7 +152,7 @@ class Kept(unittest.TestCase):
 class Page(unittest.TestCase):
     def test_its_figures_are_the_kept_ones(self) -> None:
         """Each row of the page's tables has a value of an experiment, and the means in hundredths."""
-        text = (ROOT / "docs/STUDY.md").read_text()
+        text = (STUDIES / "STUDY.md").read_text()
         told = 0
         for name in EXPERIMENTS:
             found = {f"{value:g}": [share, *ways] for value, share, ways in summary(of(name))}
@@ -160,11 +161,14 @@ class Page(unittest.TestCase):
                 told += 1
         self.assertGreaterEqual(told, 12)
 
+    def test_its_sentences_and_cells_are_as_those_of_the_documents(self) -> None:
+        self.assertEqual([part for name in ("STUDY", "README") for part in pages.long_parts(str(STUDIES / f"{name}.md"))], [])
+
     def test_its_pictures(self) -> None:
-        shown = re.findall(r"!\[[^\]]+\]\(study-(\w+)\.png\)", (ROOT / "docs/STUDY.md").read_text())
+        shown = re.findall(r"!\[[^\]]+\]\(study-(\w+)\.png\)", (STUDIES / "STUDY.md").read_text())
         self.assertEqual(sorted(shown), PICTURES)
         for name in PICTURES:
-            picture = (ROOT / f"docs/study-{name}.png").read_bytes()
+            picture = (STUDIES / f"study-{name}.png").read_bytes()
             self.assertTrue(picture.startswith(b"\x89PNG") and len(picture) < MOST_BYTES, name)
 
 
