@@ -20,7 +20,7 @@ static int port, lines, ahead;
 static char *block;
 static size_t line_length;
 static pthread_barrier_t barrier;
-static double *times;  // of each write of each connection
+static double *times;  // of each connection: when it began, and how long each write took
 
 static void stop(const char *what) {
     perror(what);
@@ -75,6 +75,7 @@ static void *client(void *own) {
     send_all(connection, "HELLO A KA\n", 11);
     read_lines(connection, 1);
     pthread_barrier_wait(&barrier);
+    *time++ = now();
     for (int left = lines; left > 0; left -= ahead) {
         int count = left < ahead ? left : ahead;
         double begin = now();
@@ -103,16 +104,22 @@ int main(int count, char **words) {
     line_length = strlen(words[5]) + 1;
     block = malloc(line_length * ahead + 1);
     for (int at = 0; at < ahead; at++) sprintf(block + line_length * at, "%s\n", words[5]);
-    size_t writes = (lines + ahead - 1) / ahead, all = writes * connections;
-    times = malloc(sizeof(double) * (all + 1));
+    size_t writes = (lines + ahead - 1) / ahead, all = 0;
+    times = malloc(sizeof(double) * (writes + 1) * connections);
     pthread_t threads[connections];
     pthread_barrier_init(&barrier, NULL, connections + 1);
     for (int at = 0; at < connections; at++)
-        if (pthread_create(&threads[at], NULL, client, times + writes * at) != 0) stop("pthread_create");
+        if (pthread_create(&threads[at], NULL, client, times + (writes + 1) * at) != 0) stop("pthread_create");
     pthread_barrier_wait(&barrier);
-    double begin = now();
     for (int at = 0; at < connections; at++) pthread_join(threads[at], NULL);
-    double seconds = now() - begin;
+    double end = now(), begin = end;
+    for (int at = 0; at < connections; at++) {
+        double *own = times + (writes + 1) * at;
+        if (*own < begin) begin = *own;
+        memmove(times + all, own + 1, sizeof(double) * writes);
+        all += writes;
+    }
+    double seconds = end - begin;
     qsort(times, all, sizeof(double), by_size);
     printf("%.6f %.1f %.1f %.1f\n", seconds, times[all / 2], times[all * 99 / 100], times[all - 1]);
     return 0;
