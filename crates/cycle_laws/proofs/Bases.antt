@@ -12,10 +12,11 @@ use Rattle.command_types.specs.declared.trade.TradeRow.{TradeRow}
 use Rattle.command_types.specs.Roster.{Rows}
 use Rattle.command_types.specs.Trades.{submitted_count}
 use Rattle.command_types.specs.Machine.{state_after}
-use Rattle.command_types.specs.Bases.{AreRising, IsSettingIn, IsTradeIn, written}
+use Rattle.command_types.specs.Bases.{AreRising, IsSettingIn, IsTradeIn}
 use Rattle.command_types.specs.History.{IsLegalFrom, replayed, replayed_from}
 use Rattle.product_book.specs.Book.{AreTrades}
-use Rattle.cycle_states.proofs.MachineFacts.{roster_after, not_refused}
+use Rattle.trade_history.proofs.Rosters.{roster_after}
+use Rattle.cycle_states.proofs.MachineFacts.{not_refused}
 use Rattle.cycle_laws.specs.Histories.{IsMarketHistory}
 use Rattle.cycle_laws.specs.Bases.{EmptyIsWritable, FoldsAreWritable, WritableFits, WritableComesBack}
 use Rattle.cycle_laws.proofs.Market.{empty_begins_markets, folds_begin_markets}

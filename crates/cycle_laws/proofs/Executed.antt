@@ -5,14 +5,13 @@ use Rattle.network_laws.specs.Solutions.{SolutionData, IsSolution}
 use Rattle.command_types.specs.declared.ask.Entry.{Entry}
 use Rattle.command_types.specs.declared.ask.What.{What}
 use Rattle.command_types.specs.declared.ask.What.TheVariants.{Trade, Affirm, End, Hold, Free, Tol, Freeze, Begin, Post, Accept, Decline, Cancel}
-use Rattle.command_types.specs.declared.figures.Cycle.{Cycle}
 use Rattle.command_types.specs.declared.figures.State.{State}
 use Rattle.command_types.specs.declared.plan.PlanRow.{PlanRow}
 use Rattle.command_types.specs.Roster.{Rows}
 use Rattle.command_types.specs.Trades.{trade_numbered}
 use Rattle.command_types.specs.Plans.{executed, thawed}
 use Rattle.command_types.specs.Cycles.{has_limits, is_proposed, bad_post, posted_plan}
-use Rattle.command_types.specs.CycleSteps.{proposed_answer, touched_in, vote_answer, left_after}
+use Rattle.command_types.specs.CycleSteps.{touched_in, left_after}
 use Rattle.command_types.specs.Machine.{first_of, refusals, changes, accepted, member_of, state_by}
 use Rattle.command_types.specs.History.{solutions_posted}
 use Rattle.trade_history.specs.Laws.{is_execution}

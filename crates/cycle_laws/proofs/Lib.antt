@@ -9,3 +9,4 @@ pub mod Writable
 pub mod WritableSteps
 pub mod Settings
 pub mod Bases
+pub mod Written

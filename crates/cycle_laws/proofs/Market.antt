@@ -1,7 +1,6 @@
 -- What every legal history of a roster's market keeps: its trades are a book's, frozen ones are live while the cycle may break, and the cycle is as its phase tells.
 use Rattle.std.proofs.Common.{◌≡◌, ℕ, Bool, false, List, [], ◌∷◌, length, Option, None, All, IsTrue, unwrap_or, refl, sym, ap, subst, ◌∙◌}
 use Rattle.std.proofs.lemmas.Bool.{false≢true}
-use Rattle.std.proofs.lemmas.List.Elements.{All-head, All-tail}
 use Rattle.network_laws.specs.Solutions.{SolutionData, IsSolution}
 use Rattle.command_types.specs.declared.ask.Ask.{Ask}
 use Rattle.command_types.specs.declared.ask.Entry.{Entry}
@@ -20,7 +19,8 @@ use Rattle.command_types.specs.History.{IsLegalFrom, replayed, replayed_from, so
 use Rattle.command_types.specs.Execution.{IsExecutable}
 use Rattle.posting.specs.Laws.{IsSettled}
 use Rattle.cycle_states.specs.Machine.{IsUnbroken, IsCycle, IsMachine}
-use Rattle.cycle_states.proofs.MachineFacts.{roster_after, not_refused}
+use Rattle.trade_history.proofs.Rosters.{roster_after}
+use Rattle.cycle_states.proofs.MachineFacts.{not_refused}
 use Rattle.cycle_states.proofs.CycleFacts.{stays_unbroken, solving_limits}
 use Rattle.cycle_states.proofs.KeptFacts.{stays_kept, post_solves, post_certified, accept_proposed}
 use Rattle.cycle_states.proofs.SettledFacts.{settled, proposal_settled}

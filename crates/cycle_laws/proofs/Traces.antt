@@ -11,7 +11,6 @@ use Rattle.command_types.specs.declared.cycle.Phase.TheVariants.{None as NoPhase
 use Rattle.command_types.specs.declared.figures.Cycle.{Cycle}
 use Rattle.command_types.specs.declared.figures.State.{State}
 use Rattle.command_types.specs.declared.plan.PlanRow.{PlanRow}
-use Rattle.command_types.specs.Roster.{Rows}
 use Rattle.command_types.specs.Trades.{trade_numbered}
 use Rattle.command_types.specs.Cycles.{closed, has_limits, is_proposed, may_break, broken_at, posted_plan}
 use Rattle.command_types.specs.CycleSteps.{is_frozen_and_marked, proposed_or_done, touched_in, after_vote, left_after}

@@ -1,32 +1,25 @@
 -- What can be written of a state as a base stays so through every legal history that ends where no cycle is open.
-use Rattle.std.proofs.Common.{◌≡◌, ℕ, suc, ◌+◌, ◌-◌, ◌≤◌, ◌<◌, ◌&&◌, ◌||◌, ◌==◌, not, nat_lt, nat_le, Bool, true, false, cond, List, [], ◌∷◌, ◌++◌, length, length-append, filter, map, slice_get, slice_set, Option, Some, None, is_none, is_some, unwrap_or, All, IsTrue, if◌then◌else◌, refl, sym, ap, subst, ◌∙◌, arith}
-use Rattle.std.proofs.lemmas.Bool.{false≢true, ltb-false, eqb-true}
-use Rattle.std.proofs.lemmas.Bool.Decides.{nat_tests}
-use Rattle.std.proofs.lemmas.List.Elements.{All-set, All-nil, All-cons, All-head, All-tail, All-map, All-append, All-weaker, filter-append}
+use Rattle.std.proofs.Common.{◌≡◌, ℕ, suc, ◌+◌, ◌-◌, ◌||◌, Bool, true, false, cond, List, [], ◌∷◌, ◌++◌, length, length-append, filter, map, Option, Some, None, is_some, All, if◌then◌else◌, refl, sym, ap, ◌∙◌}
+use Rattle.std.proofs.lemmas.Bool.{false≢true}
+use Rattle.std.proofs.lemmas.List.Elements.{All-set, All-nil, All-cons, All-map, All-append, All-weaker, filter-append}
 use Rattle.std.proofs.lemmas.Option.{get_or_from_slice_get}
-use Rattle.std.specs.Str.{bytes_eq}
 use Rattle.units_core.specs.Day.{DayParts}
-use Rattle.units_core.specs.declared.limits.TheConstants.{MOST_SUBMITTED}
-use Rattle.network_laws.specs.Solutions.{SolutionData, IsSolution}
-use Rattle.command_types.specs.declared.ask.Entry.{Entry}
-use Rattle.command_types.specs.declared.ask.What.{What}
-use Rattle.command_types.specs.declared.ask.What.TheVariants.{Trade, Affirm, End, Hold, Free, Tol, Freeze, Begin, Post, Accept, Decline, Cancel}
+use Rattle.network_laws.specs.Solutions.{SolutionData}
 use Rattle.command_types.specs.declared.cycle.Phase.{Phase}
-use Rattle.command_types.specs.declared.cycle.Phase.TheVariants.{None as NoPhase, Frozen, Solving, Proposed, Broken}
+use Rattle.command_types.specs.declared.cycle.Phase.TheVariants.{None as NoPhase}
 use Rattle.command_types.specs.declared.figures.Cycle.{Cycle}
 use Rattle.command_types.specs.declared.figures.State.{State}
 use Rattle.command_types.specs.declared.plan.PlanRow.{PlanRow}
 use Rattle.command_types.specs.declared.plan.PlanRow.TheVariants as steps
-use Rattle.command_types.specs.declared.tolerance.ToleranceRow.{ToleranceRow}
 use Rattle.command_types.specs.declared.trade.Side.{Side}
 use Rattle.command_types.specs.declared.trade.Side.TheVariants.{Out, In}
 use Rattle.command_types.specs.declared.trade.TradeRow.{TradeRow}
 use Rattle.command_types.specs.declared.trade.TradeState.{TradeState}
 use Rattle.command_types.specs.declared.trade.TradeState.TheVariants.{Alleged, Live, Ended}
-use Rattle.command_types.specs.Trades.{is_alleged, is_live, submitted_count, trade_numbered, with_row, changed_row, with_changed, alleged_row, live_row, row_ended_by, row_with_hold}
-use Rattle.command_types.specs.Plans.{after_step, executed, ended_row, cut_row, made_row, thawed, thawed_row}
-use Rattle.command_types.specs.Cycles.{closed, is_proposed, may_break, broken_at, posted_plan, row_at_freeze}
-use Rattle.command_types.specs.CycleSteps.{is_frozen_and_marked, proposed_or_done, touched_in, after_vote, left_after}
+use Rattle.command_types.specs.Trades.{is_alleged, is_live, submitted_count, trade_numbered, with_row, changed_row, with_changed, alleged_row, row_with_hold}
+use Rattle.command_types.specs.Plans.{after_step, executed, ended_row, cut_row, made_row}
+use Rattle.command_types.specs.Cycles.{closed, is_proposed, broken_at}
+use Rattle.command_types.specs.CycleSteps.{proposed_or_done, after_vote}
 use Rattle.command_types.specs.Bases.{IsFresh}
 use Rattle.product_book.proofs.BookFacts.{placed, submitted_set, submitted_by_nobody}
 use Rattle.posting.proofs.Places.{all_at}

@@ -17,7 +17,7 @@ use Rattle.command_types.specs.declared.trade.TradeRow.{TradeRow}
 use Rattle.command_types.specs.Roster.{is_party}
 use Rattle.command_types.specs.Trades.{is_alleged, is_live, hold_of, submitted_count, trade_numbered, live_row, row_ended_by, row_with_hold, alleged_row}
 use Rattle.command_types.specs.Plans.{executed, thawed}
-use Rattle.command_types.specs.Cycles.{closed, is_taken, may_break, posted_plan}
+use Rattle.command_types.specs.Cycles.{is_taken, may_break, posted_plan}
 use Rattle.command_types.specs.CycleSteps.{is_frozen_and_marked, proposed_or_done, touched_in, after_vote, left_after}
 use Rattle.command_types.specs.Machine.{first_of, refusals, member_of, product_of, side_at, side_in, side_of, state_by, hold_refusals, free_refusals}
 use Rattle.cycle_states.proofs.MachineFacts.{none_holds, not_false, neither, terms_stand}
