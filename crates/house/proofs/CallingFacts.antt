@@ -15,8 +15,8 @@ use Rattle.command_types.specs.History.{end_of, longer, recorded, is_recorded, r
 use Rattle.command_types.specs.Sizes.{journal_limit, frame_size}
 use Rattle.command_types.specs.Told.{IsTold, house_refusals}
 use Rattle.command_types.proofs.HistoryFacts.{told_memory, told_read}
-use Rattle.house.specs.Storing.{AreStored, AreOnDisk}
-use Rattle.house.specs.House.{HouseView, figures_of, is_stopped, bytes_of, Keeps, IsHouse}
+use Rattle.house.specs.Storing.{AreStored, AreStoredAs, AreOnDisk}
+use Rattle.house.specs.House.{HouseView, JournalNow, figures_of, first_of as first_history, is_stopped, bytes_of, Keeps, IsHouse}
 use Rattle.house.specs.Calling.{is_disk_fault, Calls}
 use Rattle.house.proofs.StoringFacts.{still, stored_now}
 use Rattle.house.proofs.StopFacts.{machine_plain}
@@ -27,14 +27,14 @@ none_of None h = refl
 none_of (Some x) h = absurd (false≢true (sym h))
 
 -- a house stays one over a machine in the same state
-pub stays : (s t : State) (size : ℕ) (v : HouseView) → t ≡ s → IsHouse s size v → IsHouse t size v
-stays s t size v same house = subst (λ (n : State). IsHouse n size v) (sym same) house
+pub stays : (s t : State) (now : JournalNow) (v : HouseView) → t ≡ s → IsHouse s now v → IsHouse t now v
+stays s t now v same house = subst (λ (n : State). IsHouse n now v) (sym same) house
 
 -- a house that runs has its history on the disk
 pub running_stored : (v : HouseView) → Keeps v → is_stopped v ≡ false → AreStored v.disk (bytes_of v) v.history
 running_stored v keeps runs =
-    stored_now v.journal.first_moment v.opening v.disk (bytes_of v) v.history
-    (subst (λ (k : Option Entry). AreOnDisk v.journal.first_moment v.opening v.disk (bytes_of v) v.history k) (none_of v.kept runs) keeps.on_disk)
+    stored_now v.journal.first_moment v.opening (first_history v.journal) v.disk (bytes_of v) v.history
+    (subst (λ (k : Option Entry). AreOnDisk v.journal.first_moment v.opening (first_history v.journal) v.disk (bytes_of v) v.history k) (none_of v.kept runs) keeps.on_disk)
 
 pub grows_by_nothing : (v : HouseView) (seat : ℕ) (ask : Ask) (answer : Answer) → is_recorded ask.what answer ≡ false → v.history ≡ longer v.history (recorded seat ask answer)
 grows_by_nothing v seat ask answer unrecorded =
@@ -57,7 +57,7 @@ unchanged v seat ask reply keeps place told unrecorded no_fault = record {
   keeps = keeps;
 }
 
-module _ (s : State) (size : ℕ) (v : HouseView) (house : IsHouse s size v) (seat : ℕ) (ask : Ask) where
+module _ (s : State) (now : JournalNow) (v : HouseView) (house : IsHouse s now v) (seat : ℕ) (ask : Ask) where
   -- there is no memory
   pub memory_call : (at : ℕ) (reply : Reply) → at ≡ end_of v.history → reply ≡ record { at = at; answer = No Memory } → Calls v v seat ask reply
   memory_call at reply place is =
@@ -85,7 +85,7 @@ module _ (s : State) (size : ℕ) (v : HouseView) (house : IsHouse s size v) (se
         (ap (λ a. is_recorded ask.what a) answer ∙ no_refusal_recorded ask refusal) (ap is_disk_fault answer ∙ plain)
 
     -- the journal has no room
-    pub full_call : (at told : ℕ) (reply : Reply) → at ≡ end_of v.history → told ≡ size → reply ≡ record { at = at; answer = No (JournalFull told) } → nat_lt journal_limit (size + frame_size ask) ≡ true → Calls v v seat ask reply
+    pub full_call : (at told : ℕ) (reply : Reply) → at ≡ end_of v.history → told ≡ now.size → reply ≡ record { at = at; answer = No (JournalFull told) } → nat_lt journal_limit (now.size + frame_size ask) ≡ true → Calls v v seat ask reply
     full_call at told reply place same is full =
         let bytes : told ≡ bytes_of v = same ∙ house.sized in
         let full_here : nat_lt journal_limit (bytes_of v + frame_size ask) ≡ true = ap (λ (n : ℕ). nat_lt journal_limit (n + frame_size ask)) (sym house.sized) ∙ full in
@@ -93,11 +93,11 @@ module _ (s : State) (size : ℕ) (v : HouseView) (house : IsHouse s size v) (se
         (first_full (bytes_of v) at (is_stopped v) (is_stopped v) ask full_here) refl
 
     -- a fault stopped the house before
-    pub stopped_call : (at : ℕ) (reply : Reply) → at ≡ end_of v.history → reply ≡ record { at = at; answer = No (Stopped at) } → size + frame_size ask ≤ journal_limit → is_stopped v ≡ true → Calls v v seat ask reply
+    pub stopped_call : (at : ℕ) (reply : Reply) → at ≡ end_of v.history → reply ≡ record { at = at; answer = No (Stopped at) } → now.size + frame_size ask ≤ journal_limit → is_stopped v ≡ true → Calls v v seat ask reply
     stopped_call at reply place is room was =
-        let room_here : nat_lt journal_limit (bytes_of v + frame_size ask) ≡ false = ap (λ (n : ℕ). nat_lt journal_limit (n + frame_size ask)) (sym house.sized) ∙ room_told size ask room in
+        let room_here : nat_lt journal_limit (bytes_of v + frame_size ask) ≡ false = ap (λ (n : ℕ). nat_lt journal_limit (n + frame_size ask)) (sym house.sized) ∙ room_told now.size ask room in
         refused_call (Stopped at) at reply place is (first_stopped (bytes_of v) at (is_stopped v) (is_stopped v) ask room_here was) refl
 
 -- a house that runs is ready for a change
-pub house_stored : (s : State) (size : ℕ) (v : HouseView) → IsHouse s size v → is_stopped v ≡ false → AreStored v.disk size v.history
-house_stored s size v house runs = subst (λ (n : ℕ). AreStored v.disk n v.history) (sym house.sized) (running_stored v house.keeps runs)
+pub house_stored : (s : State) (now : JournalNow) (v : HouseView) → IsHouse s now v → is_stopped v ≡ false → AreStoredAs v.disk now.form now.size v.history
+house_stored s now v house runs = house.stored (none_of v.kept runs)

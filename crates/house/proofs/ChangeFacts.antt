@@ -21,10 +21,11 @@ use Rattle.recovery.specs.StandsFor.{StandsFor}
 use Rattle.journal_core.specs.Moments.{LeavesOnly, MayLeaveYet}
 use Rattle.cycle_states.specs.Replayed.{IsReplayed}
 use Rattle.cycle_states.proofs.DeskFacts.{replayed_more, grown, told_recorded}
-use Rattle.house.specs.Storing.{AreStored, AreOnDisk, StandsForEither, moment_of}
-use Rattle.house.specs.House.{HouseView, figures_of, bytes_of, Keeps, IsHouse, house_of}
+use Rattle.house.specs.Folding.{OpensWith}
+use Rattle.house.specs.Storing.{AreStored, AreStoredAs, AreOnDisk, StandsForEither, moment_of}
+use Rattle.house.specs.House.{HouseView, JournalNow, figures_of, first_of, bytes_of, Keeps, IsHouse, house_of}
 use Rattle.house.specs.Calling.{is_disk_fault, Calls}
-use Rattle.house.proofs.StoringFacts.{stored_leaves, on_disk_more, on_disk_broken, moments_rise, tells_on}
+use Rattle.house.proofs.StoringFacts.{stored_as, stored_leaves, on_disk_more, on_disk_broken, moments_rise, tells_on}
 use Rattle.house.proofs.GoingFacts.{back_more, back_kept, kept_now, none_kept}
 use Rattle.house.proofs.StopFacts.{machine_plain}
 use Rattle.house.proofs.ToldFacts.{first_failed, told_by_journal, no_refusal_recorded}
@@ -43,8 +44,8 @@ nor true b is h = false≢true h
 nor false true is h = false≢true h
 nor false false is h = false≢true is
 
-module _ (s : State) (h : History) (opening size : ℕ) (journal : JournalFigures) (disk : Option disks.History) (count : ℕ)
-    (house : IsHouse s size (house_of h opening journal None disk count)) (seat : ℕ) (ask : Ask) (change : IsTrue (is_recorded ask.what (answer_to s ask))) where
+module _ (s : State) (h : History) (opening : ℕ) (now : JournalNow) (journal : JournalFigures) (disk : Option disks.History) (count : ℕ)
+    (house : IsHouse s now (house_of h opening journal None disk count)) (seat : ℕ) (ask : Ask) (change : IsTrue (is_recorded ask.what (answer_to s ask))) where
   abbrev entry : Entry
   entry = record { seat = seat; ask = ask }
 
@@ -54,21 +55,24 @@ module _ (s : State) (h : History) (opening size : ℕ) (journal : JournalFigure
   abbrev was : HouseView
   was = house_of h opening journal None disk count
 
-  on_disk : AreOnDisk journal.first_moment opening disk (bytes_of was) h None
+  abbrev first : History
+  first = first_of journal
+
+  on_disk : AreOnDisk journal.first_moment opening first disk (bytes_of was) h None
   on_disk = house.keeps.on_disk
 
   since : journal.first_moment ≤ moment_of disk
   since = omega (arith, house.keeps.moments.0, house.keeps.moments.1)
 
-  bytes_more : (next : ℕ) → next ≡ size + frame_size ask → next ≡ journal.size + frames_size (drop opening (entries ++ entry ∷ []))
+  bytes_more : (next : ℕ) → next ≡ now.size + frame_size ask → next ≡ journal.size + frames_size (drop opening (entries ++ entry ∷ []))
   bytes_more next is =
       let split : frames_size (drop opening (entries ++ entry ∷ [])) ≡ frames_size (drop opening entries) + frames_size (entry ∷ []) =
       ap frames_size (drop-append-le opening entries (entry ∷ []) house.keeps.opened) ∙ sum_by-append (λ (e : Entry). frame_size e.ask) (drop opening entries) (entry ∷ []) in
       omega (arith, is, house.sized, split)
 
-  module _ (after : State) (next : ℕ) (then_disk : Option disks.History) (then_count : ℕ) (on : after ≡ state_after s ask) (sized : next ≡ size + frame_size ask)
+  module _ (after : State) (next : JournalNow) (then_disk : Option disks.History) (then_count : ℕ) (on : after ≡ state_after s ask) (sized : next.size ≡ now.size + frame_size ask)
       (leaves : LeavesOnly disk then_disk (StandsForEither h entry)) (yet : MayLeaveYet disk then_disk (λ image. StandsFor image h))
-      (stored : AreStored then_disk next (longer h (entry ∷ []))) (rises : count ≤ then_count) (sound : All IsSolution (solutions_posted ask.what)) where
+      (stored : AreStoredAs then_disk next.form next.size (longer h (entry ∷ []))) (is_sound : next.sound ≡ true) (rises : count ≤ then_count) (sound : All IsSolution (solutions_posted ask.what)) where
     abbrev done : HouseView
     done = house_of (longer h (entry ∷ [])) opening journal None then_disk then_count
 
@@ -77,20 +81,22 @@ module _ (s : State) (h : History) (opening size : ℕ) (journal : JournalFigure
 
     keeps_on : Keeps done
     keeps_on =
-        let bytes = bytes_more next sized in
-        let stored_there = subst (λ (n : ℕ). AreStored then_disk n (longer h (entry ∷ []))) bytes stored in
+        let bytes = bytes_more next.size sized in
+        let front : take opening (entries ++ entry ∷ []) ≡ take opening entries = take-append-le opening entries (entry ∷ []) house.keeps.opened in
+        let stored_there = subst (λ (n : ℕ). AreStored then_disk n (longer h (entry ∷ []))) bytes (stored_as then_disk next.form next.size (longer h (entry ∷ [])) stored) in
         record {
           legal = goes_on.legal;
           opened = omega (arith, house.keeps.opened, length-append entries (entry ∷ []));
-          first = house.keeps.first ∙ sym (take-append-le opening entries (entry ∷ []) house.keeps.opened);
-          size = house.keeps.size;
+          first = subst (λ (es : List Entry). OpensWith first (record h { entries = es })) (sym front) house.keeps.first;
+          first_legal = house.keeps.first_legal;
+          few = omega (arith, house.keeps.few, ap length front);
           tells = tells_on disk then_disk (StandsForEither h entry) leaves ∙ house.keeps.tells;
-          on_disk = on_disk_more opening h house.keeps.opened journal.first_moment disk then_disk (bytes_of was) (bytes_of done) entry on_disk leaves stored_there;
+          on_disk = on_disk_more opening first h house.keeps.opened journal.first_moment disk then_disk (bytes_of was) (bytes_of done) entry on_disk leaves stored_there;
           moments = (house.keeps.moments.0, omega (arith, house.keeps.moments.1, moments_rise disk then_disk (StandsForEither h entry) leaves));
           leaves = λ _. stored_leaves then_disk (bytes_of done) (longer h (entry ∷ [])) stored_there;
           kept_legal = goes_on.legal;
           leaves_kept = none_kept then_disk (longer h (entry ∷ [])) (stored_leaves then_disk (bytes_of done) (longer h (entry ∷ [])) stored_there);
-          never_back = back_more journal.first_moment opening h entry house.keeps.opened disk then_disk since house.keeps.never_back leaves yet;
+          never_back = back_more journal.first_moment opening first h entry house.keeps.opened disk then_disk since house.keeps.never_back leaves yet;
           counted = omega (arith, house.keeps.counted, rises);
           stopped = λ never. absurd (false≢true never);
         }
@@ -98,7 +104,7 @@ module _ (s : State) (h : History) (opening size : ℕ) (journal : JournalFigure
     pub made_house : (then : History) → then ≡ longer h (entry ∷ []) → IsHouse after next (house_of then opening journal None then_disk then_count)
     made_house then is =
         subst (λ (n : History). IsHouse after next (house_of n opening journal None then_disk then_count)) (sym is)
-        (record { replayed = goes_on; sized = bytes_more next sized; keeps = keeps_on })
+        (record { replayed = goes_on; sized = bytes_more next.size sized; stored = λ _. stored; sound = λ _. is_sound; keeps = keeps_on })
 
     made_literally : (answer : Answer) (at : ℕ) → answer ≡ answer_to s ask → at ≡ end_of h + 1 → Calls was done seat ask (record { at = at; answer = answer })
     made_literally answer at answers place =
@@ -136,22 +142,23 @@ module _ (s : State) (h : History) (opening size : ℕ) (journal : JournalFigure
       legal = house.keeps.legal;
       opened = house.keeps.opened;
       first = house.keeps.first;
-      size = house.keeps.size;
+      first_legal = house.keeps.first_legal;
+      few = house.keeps.few;
       tells = tells_on disk then_disk (StandsForEither h entry) leaves ∙ house.keeps.tells;
-      on_disk = on_disk_broken opening h house.keeps.opened journal.first_moment disk then_disk (bytes_of was) entry on_disk leaves;
+      on_disk = on_disk_broken opening first h house.keeps.opened journal.first_moment disk then_disk (bytes_of was) entry on_disk leaves;
       moments = (house.keeps.moments.0, omega (arith, house.keeps.moments.1, moments_rise disk then_disk (StandsForEither h entry) leaves));
       leaves = λ none. absurd cc;
       kept_legal = (replayed_more s (state_after s ask) h (entries ++ entry ∷ []) entry house.replayed refl refl change sound).legal;
       leaves_kept = kept_now disk then_disk h entry leaves;
-      never_back = back_kept journal.first_moment opening h entry house.keeps.opened disk then_disk since house.keeps.never_back leaves yet;
+      never_back = back_kept journal.first_moment opening first h entry house.keeps.opened disk then_disk since house.keeps.never_back leaves yet;
       counted = omega (arith, house.keeps.counted, rises);
       stopped = λ _. rose_from journal.faults count then_count house.keeps.counted rose;
     }
 
-    pub broken_house : IsHouse s size broken
-    broken_house = record { replayed = house.replayed; sized = house.sized; keeps = keeps_broken }
+    pub broken_house : (then : JournalNow) → then.size ≡ now.size → IsHouse s then broken
+    broken_house then same = record { replayed = house.replayed; sized = same ∙ house.sized; stored = λ none. absurd cc; sound = λ none. absurd cc; keeps = keeps_broken }
 
-    pub failed_call : (at : ℕ) → at ≡ end_of h → nat_lt journal_limit (size + frame_size ask) ≡ false → Calls was broken seat ask (record { at = at; answer = No DiskFault })
+    pub failed_call : (at : ℕ) → at ≡ end_of h → nat_lt journal_limit (now.size + frame_size ask) ≡ false → Calls was broken seat ask (record { at = at; answer = No DiskFault })
     failed_call at place room =
         let reply : Reply = record { at = at; answer = No DiskFault } in
         let changed : IsTrue (is_recorded ask.what (answer_to (replayed h) ask)) = subst (λ (t : State). IsTrue (is_recorded ask.what (answer_to t ask))) house.replayed.same change in
@@ -178,9 +185,9 @@ at_least : (entries : List Entry) → length entries ≤ frames_size entries
 at_least [] = omega arith
 at_least (e ∷ entries) = omega (arith, sum_by-cons (λ (x : Entry). frame_size x.ask) e entries, at_least entries)
 
--- there are no more than the journal has bytes
-pub entries_within : (s : State) (size : ℕ) (v : HouseView) → IsHouse s size v → length v.history.entries ≤ size
-entries_within s size v house =
+-- there are no more than those at the opening and the journal's bytes
+pub entries_within : (s : State) (now : JournalNow) (v : HouseView) → IsHouse s now v → length v.history.entries ≤ journal_limit + now.size
+entries_within s now v house =
     let first = take v.opening v.history.entries in
     let back = drop v.opening v.history.entries in
-    omega (arith, house.sized, house.keeps.size, ap frames_size house.keeps.first, at_least first, at_least back, ap length (take-append-drop v.opening v.history.entries), length-append first back)
+    omega (arith, house.sized, house.keeps.few, at_least back, ap length (take-append-drop v.opening v.history.entries), length-append first back)

@@ -9,54 +9,70 @@ use Rattle.outside.specs.Disk as disks
 use Rattle.journal_core.specs.Moments.{left_at, EachMoment, LeavesOnly, MayLeaveYet}
 use Rattle.journal_core.proofs.MomentFacts.{since_at, some_at}
 use Rattle.recovery.specs.StandsFor.{StandsFor}
+use Rattle.house.specs.Folding.{StandsForOne}
 use Rattle.house.specs.Storing.{StandsForEither, StandsBetween, NeverGoesBack, NeverGoBack, moment_of, LeavesKept, LeavesHistory}
 
 -- ---- fronts
 
--- the whole history
-between_all : (least most : ℕ) (h : History) (image : List ℕ) → least ≤ length h.entries → length h.entries ≤ most → StandsFor image h → StandsBetween least most h image
-between_all least most h image long short stands =
-    record { front = h.entries; back = []; split = sym (append-nil h.entries); long = long; short = short; stands = stands }
+module _ (opening : ℕ) (first : History) where
+  -- the whole history
+  between_all : (least most : ℕ) (h : History) (image : List ℕ) → least ≤ length h.entries → length h.entries ≤ most → StandsFor image h → StandsBetween opening least most first h image
+  between_all least most h image long short stands =
+      record { front = h.entries; back = []; split = sym (append-nil h.entries); long = long; short = short; stands = inl stands }
 
--- the history without the change that came behind it
-between_front : (least most : ℕ) (h : History) (more : List Entry) (image : List ℕ) → least ≤ length h.entries → length h.entries ≤ most → StandsFor image h → StandsBetween least most (longer h more) image
-between_front least most h more image long short stands =
-    record { front = h.entries; back = more; split = refl; long = long; short = short; stands = stands }
+  -- the history without the change that came behind it
+  between_front : (least most : ℕ) (h : History) (more : List Entry) (image : List ℕ) → least ≤ length h.entries → length h.entries ≤ most → StandsFor image h
+      → StandsBetween opening least most first (longer h more) image
+  between_front least most h more image long short stands =
+      record { front = h.entries; back = more; split = refl; long = long; short = short; stands = inl stands }
 
--- a front stays one
-between_longer : (least most : ℕ) (h : History) (more : List Entry) (image : List ℕ) → StandsBetween least most h image → StandsBetween least most (longer h more) image
-between_longer least most h more image b = record {
-  front = b.front;
-  back = b.back ++ more;
-  split = ap (λ (es : List Entry). es ++ more) b.split ∙ append_assoc b.front b.back more;
-  long = b.long;
-  short = b.short;
-  stands = b.stands;
-}
+  -- a front stays one
+  between_longer : (least most : ℕ) (h : History) (more : List Entry) (image : List ℕ) → StandsBetween opening least most first h image → StandsBetween opening least most first (longer h more) image
+  between_longer least most h more image b = record {
+    front = b.front;
+    back = b.back ++ more;
+    split = ap (λ (es : List Entry). es ++ more) b.split ∙ append_assoc b.front b.back more;
+    long = b.long;
+    short = b.short;
+    stands = b.stands;
+  }
 
 -- ---- at the opening
 
-first_back : (o after : disks.History) (h : History) → EachMoment o after (λ image. StandsFor image h) → NeverGoesBack (moment o) (length h.entries) (length h.entries) after h
-first_back o after h leaves = record {
+-- the whole history, or the first one, of which it may be the fold
+between_one : (least most : ℕ) (first h : History) (image : List ℕ) → least ≤ length h.entries → length h.entries ≤ most → StandsForOne h first image
+    → StandsBetween (length h.entries) least most first h image
+between_one least most first h image long short stands = record {
+  front = h.entries;
+  back = [];
+  split = sym (append-nil h.entries);
+  long = long;
+  short = short;
+  stands = ⊎_elim (λ own. inl own) (λ was. inr (refl, was)) stands;
+}
+
+first_back : (o after : disks.History) (first h : History) → EachMoment o after (StandsForOne h first) → NeverGoesBack (moment o) (length h.entries) (length h.entries) after first h
+first_back o after first h leaves = record {
   lengths = λ number. length h.entries;
   rising = λ m n le. omega arith;
   first = omega arith;
   last = λ number. omega arith;
-  each = λ number image from left. between_all (length h.entries) (length h.entries + 1) h image (omega arith) (omega arith) (leaves.each image (since_at after (moment o) number image from left));
+  each = λ number image from left.
+      between_one (length h.entries) (length h.entries + 1) first h image (omega arith) (omega arith) (leaves.each image (since_at after (moment o) number image from left));
   some = λ number from to.
       let there = some_at after number (omega (arith, to)) in
-      (there.0, there.1, between_all (length h.entries) (length h.entries) h there.0 (omega arith) (omega arith) (leaves.each there.0 (since_at after (moment o) number there.0 from there.1)));
+      (there.0, there.1, between_one (length h.entries) (length h.entries) first h there.0 (omega arith) (omega arith) (leaves.each there.0 (since_at after (moment o) number there.0 from there.1)));
 }
 
-pub back_first : (o after : Option disks.History) (h : History) → LeavesOnly o after (λ image. StandsFor image h) → NeverGoBack (moment_of o) (length h.entries) after h None
-back_first None after h leaves = subst (λ (a : Option disks.History). NeverGoBack 0 (length h.entries) a h None) (sym leaves) tt
-back_first (Some disk) None h leaves = absurd leaves
-back_first (Some disk) (Some after) h leaves = first_back disk after h leaves
+pub back_first : (o after : Option disks.History) (first h : History) → LeavesOnly o after (StandsForOne h first) → NeverGoBack (moment_of o) (length h.entries) first after h None
+back_first None after first h leaves = subst (λ (a : Option disks.History). NeverGoBack 0 (length h.entries) first a h None) (sym leaves) tt
+back_first (Some disk) None first h leaves = absurd leaves
+back_first (Some disk) (Some after) first h leaves = first_back disk after first h leaves
 
 -- ---- a change, made or kept
 
-module _ (since opening : ℕ) (old new : disks.History) (h : History) (entry : Entry) (within : opening ≤ length h.entries) (from : since ≤ moment old)
-    (back : NeverGoesBack since opening (length h.entries) old h) (leaves : EachMoment old new (StandsForEither h entry)) (yet : MayLeaveYet (Some old) (Some new) (λ image. StandsFor image h)) where
+module _ (since opening : ℕ) (old new : disks.History) (first h : History) (entry : Entry) (within : opening ≤ length h.entries) (from : since ≤ moment old)
+    (back : NeverGoesBack since opening (length h.entries) old first h) (leaves : EachMoment old new (StandsForEither h entry)) (yet : MayLeaveYet (Some old) (Some new) (λ image. StandsFor image h)) where
   -- the moments of the change have the length from before it
   abbrev lengths : ℕ → ℕ
   lengths number = cond (nat_lt number (moment old)) (back.lengths number) (length h.entries)
@@ -88,32 +104,32 @@ module _ (since opening : ℕ) (old new : disks.History) (h : History) (entry : 
   abbrev all : History
   all = longer h (entry ∷ [])
 
-  each : (number : ℕ) (image : List ℕ) → since ≤ number → left_at new number image → StandsBetween (lengths number) (lengths number + 1) all image
+  each : (number : ℕ) (image : List ℕ) → since ≤ number → left_at new number image → StandsBetween opening (lengths number) (lengths number + 1) first all image
   each number image later left = elim (cases_lt number (moment old)) [
-    | inl lt ↦ subst (λ (n : ℕ). StandsBetween n (n + 1) all image) (sym (early number lt))
-        (between_longer (back.lengths number) (back.lengths number + 1) h (entry ∷ []) image (back.each number image later ((leaves.same number image (omega (arith, lt))).0 left)))
-    | inr past ↦ subst (λ (n : ℕ). StandsBetween n (n + 1) all image) (sym (late number past))
-        (⊎_elim (λ without. between_front (length h.entries) (length h.entries + 1) h (entry ∷ []) image (omega arith) (omega arith) without)
-        (λ with_it. between_all (length h.entries) (length h.entries + 1) all image (omega (arith, length-append h.entries (entry ∷ []))) (omega (arith, length-append h.entries (entry ∷ []))) with_it)
+    | inl lt ↦ subst (λ (n : ℕ). StandsBetween opening n (n + 1) first all image) (sym (early number lt))
+        (between_longer opening first (back.lengths number) (back.lengths number + 1) h (entry ∷ []) image (back.each number image later ((leaves.same number image (omega (arith, lt))).0 left)))
+    | inr past ↦ subst (λ (n : ℕ). StandsBetween opening n (n + 1) first all image) (sym (late number past))
+        (⊎_elim (λ without. between_front opening first (length h.entries) (length h.entries + 1) h (entry ∷ []) image (omega arith) (omega arith) without)
+        (λ with_it. between_all opening first (length h.entries) (length h.entries + 1) all image (omega (arith, length-append h.entries (entry ∷ []))) (omega (arith, length-append h.entries (entry ∷ []))) with_it)
         (leaves.each image (since_at new (moment old) number image past left)))
   ]
 
-  some : (number : ℕ) → since ≤ number → number < moment new → (image : List ℕ) × left_at new number image × StandsBetween (lengths number) (lengths number) all image
+  some : (number : ℕ) → since ≤ number → number < moment new → (image : List ℕ) × left_at new number image × StandsBetween opening (lengths number) (lengths number) first all image
   some number later to = elim (cases_lt number (moment old)) [
     | inl lt ↦ (let there = back.some number later lt in (
       there.0,
       (leaves.same number there.0 (omega (arith, lt))).1 there.1,
-      subst (λ (n : ℕ). StandsBetween n n all there.0) (sym (early number lt)) (between_longer (back.lengths number) (back.lengths number) h (entry ∷ []) there.0 there.2),
+      subst (λ (n : ℕ). StandsBetween opening n n first all there.0) (sym (early number lt)) (between_longer opening first (back.lengths number) (back.lengths number) h (entry ∷ []) there.0 there.2),
     ))
     | inr past ↦ (let there = yet number past to in (
       there.0,
       there.1,
-      subst (λ (n : ℕ). StandsBetween n n all there.0) (sym (late number past))
-          (between_front (length h.entries) (length h.entries) h (entry ∷ []) there.0 (omega arith) (omega arith) there.2),
+      subst (λ (n : ℕ). StandsBetween opening n n first all there.0) (sym (late number past))
+          (between_front opening first (length h.entries) (length h.entries) h (entry ∷ []) there.0 (omega arith) (omega arith) there.2),
     ))
   ]
 
-  pub goes_on : (made : ℕ) → length h.entries ≤ made → NeverGoesBack since opening made new all
+  pub goes_on : (made : ℕ) → length h.entries ≤ made → NeverGoesBack since opening made new first all
   goes_on made more = record {
     lengths = lengths;
     rising = rises;
@@ -123,21 +139,21 @@ module _ (since opening : ℕ) (old new : disks.History) (h : History) (entry : 
     some = some;
   }
 
-module _ (since opening : ℕ) (h : History) (entry : Entry) (within : opening ≤ length h.entries) where
+module _ (since opening : ℕ) (first h : History) (entry : Entry) (within : opening ≤ length h.entries) where
   -- after a change that was made
-  pub back_more : (o after : Option disks.History) → since ≤ moment_of o → NeverGoBack since opening o h None → LeavesOnly o after (StandsForEither h entry)
-      → MayLeaveYet o after (λ image. StandsFor image h) → NeverGoBack since opening after (longer h (entry ∷ [])) None
-  back_more None after from back leaves yet = subst (λ (a : Option disks.History). NeverGoBack since opening a (longer h (entry ∷ [])) None) (sym leaves) tt
+  pub back_more : (o after : Option disks.History) → since ≤ moment_of o → NeverGoBack since opening first o h None → LeavesOnly o after (StandsForEither h entry)
+      → MayLeaveYet o after (λ image. StandsFor image h) → NeverGoBack since opening first after (longer h (entry ∷ [])) None
+  back_more None after from back leaves yet = subst (λ (a : Option disks.History). NeverGoBack since opening first a (longer h (entry ∷ [])) None) (sym leaves) tt
   back_more (Some disk) None from back leaves yet = absurd leaves
   back_more (Some disk) (Some later) from back leaves yet =
-      goes_on since opening disk later h entry within from back leaves yet (length (h.entries ++ entry ∷ [])) (omega (arith, length-append h.entries (entry ∷ [])))
+      goes_on since opening disk later first h entry within from back leaves yet (length (h.entries ++ entry ∷ [])) (omega (arith, length-append h.entries (entry ∷ [])))
 
   -- after one on which the disk failed
-  pub back_kept : (o after : Option disks.History) → since ≤ moment_of o → NeverGoBack since opening o h None → LeavesOnly o after (StandsForEither h entry)
-      → MayLeaveYet o after (λ image. StandsFor image h) → NeverGoBack since opening after h (Some entry)
-  back_kept None after from back leaves yet = subst (λ (a : Option disks.History). NeverGoBack since opening a h (Some entry)) (sym leaves) tt
+  pub back_kept : (o after : Option disks.History) → since ≤ moment_of o → NeverGoBack since opening first o h None → LeavesOnly o after (StandsForEither h entry)
+      → MayLeaveYet o after (λ image. StandsFor image h) → NeverGoBack since opening first after h (Some entry)
+  back_kept None after from back leaves yet = subst (λ (a : Option disks.History). NeverGoBack since opening first a h (Some entry)) (sym leaves) tt
   back_kept (Some disk) None from back leaves yet = absurd leaves
-  back_kept (Some disk) (Some later) from back leaves yet = goes_on since opening disk later h entry within from back leaves yet (length h.entries) (omega arith)
+  back_kept (Some disk) (Some later) from back leaves yet = goes_on since opening disk later first h entry within from back leaves yet (length h.entries) (omega arith)
 
 -- ---- what a crash now leaves
 

@@ -5,6 +5,12 @@ pub mod StopFacts
 pub mod ToldFacts
 pub mod CallingFacts
 pub mod ChangeFacts
+pub mod ReplayFacts
+pub mod DamageFacts
+pub mod DueFacts
+pub mod FoldFacts
+pub mod StartFacts
 pub mod OpeningFacts
+pub mod NewFacts
 pub mod ExecutionFacts
 pub mod Sends

@@ -8,18 +8,25 @@ use Rattle.outside.specs.Disk as disks
 use Rattle.journal_core.specs.Moments.{LeavesOnly}
 use Rattle.journal_core.proofs.MomentFacts.{started}
 use Rattle.recovery.specs.StandsFor.{StandsFor}
-use Rattle.house.specs.Storing.{IsStored, AreStored, StandsForEither, StandsForFront, AreOnDisk, moment_of, LeavesHistory}
+use Rattle.journal_core.specs.declared.form.Form.{Form}
+use Rattle.house.specs.Folding.{StandsForOne}
+use Rattle.house.specs.Storing.{IsStored, AreStored, AreStoredAs, StandsForEither, StandsForFront, AreOnDisk, moment_of, LeavesHistory}
 use Rattle.house.proofs.JournalFacts.{stored_stand}
 
 -- ---- a stored history
 
 -- what a crash now leaves stands for it
 left_now : (disk : disks.History) (size : ℕ) (h : History) → IsStored disk size h → (image : List ℕ) → may_leave disk.now image → StandsFor image h
-left_now disk size h stored image now = subst (λ (file : List ℕ). StandsFor file h) (sym (stored.1.0 image now)) (stored_stand disk size h stored)
+left_now disk size h stored image now = subst (λ (file : List ℕ). StandsFor file h) (sym (stored.1.2.0 image now)) (stored_stand disk size h stored)
 
 pub stored_leaves : (o : Option disks.History) (size : ℕ) (h : History) → AreStored o size h → LeavesHistory o h
 stored_leaves None size h stored = tt
 stored_leaves (Some disk) size h stored = left_now disk size h stored
+
+-- what is stored in a journal of a form is stored
+pub stored_as : (o : Option disks.History) (form : Form) (size : ℕ) (h : History) → AreStoredAs o form size h → AreStored o size h
+stored_as None form size h stored = tt
+stored_as (Some disk) form size h stored = (form, stored)
 
 -- where nothing is done, a crash leaves only what stands for it
 pub still : (o : Option disks.History) (size : ℕ) (h : History) (entry : Entry) → AreStored o size h → LeavesOnly o o (StandsForEither h entry)
@@ -28,12 +35,12 @@ still (Some disk) size h entry stored = started disk (StandsForEither h entry) (
 
 -- ---- since the opening
 
-module _ (opening : ℕ) (h : History) (within : opening ≤ length h.entries) where
+module _ (opening : ℕ) (first h : History) (within : opening ≤ length h.entries) where
   -- all changes are a front
-  front_all : (image : List ℕ) → StandsFor image h → StandsForFront opening h image
-  front_all image stands = record { front = h.entries; back = []; split = sym (append-nil h.entries); long = within; stands = stands }
+  front_all : (image : List ℕ) → StandsFor image h → StandsForFront opening first h image
+  front_all image stands = record { front = h.entries; back = []; split = sym (append-nil h.entries); long = within; stands = inl stands }
 
-  front_more : (more : List Entry) (image : List ℕ) → StandsForFront opening h image → StandsForFront opening (longer h more) image
+  front_more : (more : List Entry) (image : List ℕ) → StandsForFront opening first h image → StandsForFront opening first (longer h more) image
   front_more more image f = record {
     front = f.front;
     back = f.back ++ more;
@@ -42,23 +49,23 @@ module _ (opening : ℕ) (h : History) (within : opening ≤ length h.entries) w
     stands = f.stands;
   }
 
-  front_one_more : (entry : Entry) (image : List ℕ) → StandsFor image (longer h (entry ∷ [])) → StandsForFront opening (longer h (entry ∷ [])) image
+  front_one_more : (entry : Entry) (image : List ℕ) → StandsFor image (longer h (entry ∷ [])) → StandsForFront opening first (longer h (entry ∷ [])) image
   front_one_more entry image stands = record {
     front = h.entries ++ entry ∷ [];
     back = [];
     split = sym (append-nil (h.entries ++ entry ∷ []));
     long = omega (arith, within, length-append h.entries (entry ∷ []));
-    stands = stands;
+    stands = inl stands;
   }
 
-  more_of_either : (entry : Entry) (image : List ℕ) → StandsForEither h entry image → StandsForFront opening (longer h (entry ∷ [])) image
+  more_of_either : (entry : Entry) (image : List ℕ) → StandsForEither h entry image → StandsForFront opening first (longer h (entry ∷ [])) image
   more_of_either entry image = ⊎_elim (λ without. front_more (entry ∷ []) image (front_all image without)) (λ with_it. front_one_more entry image with_it)
 
   module _ (since : ℕ) where
     -- after a change that was made
-    pub on_disk_more : (o after : Option disks.History) (size next : ℕ) (entry : Entry) → AreOnDisk since opening o size h None → LeavesOnly o after (StandsForEither h entry)
-        → AreStored after next (longer h (entry ∷ [])) → AreOnDisk since opening after next (longer h (entry ∷ [])) None
-    on_disk_more None after size next entry on leaves stored = subst (λ (a : Option disks.History). AreOnDisk since opening a next (longer h (entry ∷ [])) None) (sym leaves) tt
+    pub on_disk_more : (o after : Option disks.History) (size next : ℕ) (entry : Entry) → AreOnDisk since opening first o size h None → LeavesOnly o after (StandsForEither h entry)
+        → AreStored after next (longer h (entry ∷ [])) → AreOnDisk since opening first after next (longer h (entry ∷ [])) None
+    on_disk_more None after size next entry on leaves stored = subst (λ (a : Option disks.History). AreOnDisk since opening first a next (longer h (entry ∷ [])) None) (sym leaves) tt
     on_disk_more (Some disk) None size next entry on leaves stored = absurd leaves
     on_disk_more (Some disk) (Some later) size next entry on leaves stored = record {
       later = omega (arith, on.later, leaves.later);
@@ -70,9 +77,9 @@ module _ (opening : ℕ) (h : History) (within : opening ≤ length h.entries) w
     }
 
     -- after one on which the disk failed
-    pub on_disk_broken : (o after : Option disks.History) (size : ℕ) (entry : Entry) → AreOnDisk since opening o size h None → LeavesOnly o after (StandsForEither h entry)
-        → AreOnDisk since opening after size h (Some entry)
-    on_disk_broken None after size entry on leaves = subst (λ (a : Option disks.History). AreOnDisk since opening a size h (Some entry)) (sym leaves) tt
+    pub on_disk_broken : (o after : Option disks.History) (size : ℕ) (entry : Entry) → AreOnDisk since opening first o size h None → LeavesOnly o after (StandsForEither h entry)
+        → AreOnDisk since opening first after size h (Some entry)
+    on_disk_broken None after size entry on leaves = subst (λ (a : Option disks.History). AreOnDisk since opening first a size h (Some entry)) (sym leaves) tt
     on_disk_broken (Some disk) None size entry on leaves = absurd leaves
     on_disk_broken (Some disk) (Some later) size entry on leaves = record {
       later = omega (arith, on.later, leaves.later);
@@ -84,20 +91,26 @@ module _ (opening : ℕ) (h : History) (within : opening ≤ length h.entries) w
     }
 
 -- at the opening
-pub on_disk_first : (o after : Option disks.History) (size : ℕ) (h : History) → LeavesOnly o after (λ image. StandsFor image h) → AreStored after size h
-    → AreOnDisk (moment_of o) (length h.entries) after size h None
-on_disk_first None after size h leaves stored = subst (λ (a : Option disks.History). AreOnDisk 0 (length h.entries) a size h None) (sym leaves) tt
-on_disk_first (Some disk) None size h leaves stored = absurd leaves
-on_disk_first (Some disk) (Some later) size h leaves stored = record {
+pub on_disk_first : (o after : Option disks.History) (size : ℕ) (first h : History) → LeavesOnly o after (StandsForOne h first) → AreStored after size h
+    → AreOnDisk (moment_of o) (length h.entries) first after size h None
+on_disk_first None after size first h leaves stored = subst (λ (a : Option disks.History). AreOnDisk 0 (length h.entries) first a size h None) (sym leaves) tt
+on_disk_first (Some disk) None size first h leaves stored = absurd leaves
+on_disk_first (Some disk) (Some later) size first h leaves stored = record {
   later = leaves.later;
   stored = λ none. stored;
-  each = λ image left. inl (front_all (length h.entries) h (omega arith) image (leaves.each image left));
+  each = λ image left. inl (record {
+    front = h.entries;
+    back = [];
+    split = sym (append-nil h.entries);
+    long = omega arith;
+    stands = ⊎_elim (λ own. inl own) (λ was. inr (refl, was)) (leaves.each image left);
+  });
 }
 
 -- a house in which no entry was kept has its history on the disk
-pub stored_now : (since opening : ℕ) (o : Option disks.History) (size : ℕ) (h : History) → AreOnDisk since opening o size h None → AreStored o size h
-stored_now since opening None size h on = tt
-stored_now since opening (Some disk) size h on = on.stored refl
+pub stored_now : (since opening : ℕ) (first : History) (o : Option disks.History) (size : ℕ) (h : History) → AreOnDisk since opening first o size h None → AreStored o size h
+stored_now since opening first None size h on = tt
+stored_now since opening first (Some disk) size h on = on.stored refl
 
 -- a disk goes on as it is: it tells what it holds, or nothing
 pub tells_on : (o after : Option disks.History) (P : List ℕ → Type 0) → LeavesOnly o after P → is_some after ≡ is_some o

@@ -1,8 +1,10 @@
 pub mod Faults
 pub mod Unstored
+pub mod Folding
 pub mod Storing
-pub mod Journals
+pub mod Due
 pub mod House
 pub mod Opening
+pub mod Journals
 pub mod Calling
 pub mod Executions

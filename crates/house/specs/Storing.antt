@@ -4,26 +4,38 @@ use Rattle.command_types.specs.declared.ask.Entry.{Entry}
 use Rattle.command_types.specs.History.{History, longer}
 use Rattle.outside.specs.Disk.{moment, may_leave, left_since}
 use Rattle.outside.specs.Disk as disks
-use Rattle.journal_core.specs.Journal.{IsAtRest}
+use Rattle.journal_core.specs.Journal.{form_of, size_of, IsAtRest}
 use Rattle.journal_core.specs.Moments.{left_at, LeavesOnly, MayLeaveYet}
-use Rattle.recovery.specs.StandsFor.{SpellAll, first_start, StandsFor}
+use Rattle.journal_core.specs.declared.form.Form.{Form}
+use Rattle.journal_core.specs.declared.journal.Journal.{Journal}
+use Rattle.recovery.specs.StandsFor.{SpellAll, StandsForBase, StandsFor}
 
--- all of the disk's content is on the disk: a journal that ends at this place, whose records spell the history's changes
+-- all of the disk's content is on the disk: a journal of this form that ends at this place, whose base stands for the history's, and
+-- whose records spell its changes
+abbrev pub IsStoredAs : disks.History → Form → ℕ → History → Type 0
+IsStoredAs disk form end h =
+    (base : List ℕ) × (records : List (List ℕ)) × IsAtRest (Some disk) form end base records × StandsForBase base h.base × SpellAll records h.entries
+
+-- a journal of some form
 abbrev pub IsStored : disks.History → ℕ → History → Type 0
-IsStored disk end h =
-    (records : List (List ℕ)) × IsAtRest (Some disk) end records × SpellAll records h.entries × (h.base ≡ first_start h.base.state.roster)
+IsStored disk end h = (form : Form) × IsStoredAs disk form end h
 
 -- the image stands for this history, or for it with the one change more
 abbrev pub StandsForEither : History → Entry → List ℕ → Type 0
 StandsForEither h entry image = StandsFor image h ⊎ StandsFor image (longer h (entry ∷ []))
 
--- the image stands for a front of this history, with at least so many changes
-pub record StandsForFront (least : ℕ) (h : History) (image : List ℕ) : Type 0 where
+-- The image stands for this front of a history. Where it is as long as the history was at the opening, the image may stand for the
+-- first history instead, of which that one may be the fold.
+abbrev pub StandsAs : ℕ → History → History → List Entry → List ℕ → Type 0
+StandsAs opening first h front image = StandsFor image (record h { entries = front }) ⊎ ((length front ≡ opening) × StandsFor image first)
+
+-- the image stands for a front of this history, no shorter than it was at the opening
+pub record StandsForFront (opening : ℕ) (first h : History) (image : List ℕ) : Type 0 where
   pub front : List Entry
   pub back : List Entry
   pub split : h.entries ≡ front ++ back
-  pub long : least ≤ length front
-  pub stands : StandsFor image (record h { entries = front })
+  pub long : opening ≤ length front
+  pub stands : StandsAs opening first h front image
 
 -- the image stands for this history with the change that was kept
 abbrev pub StandsForKept : History → Option Entry → List ℕ → Type 0
@@ -36,39 +48,41 @@ with_kept h None = h
 with_kept h (Some entry) = longer h (entry ∷ [])
 
 -- the image stands for a front of this history that has between so many changes and so many
-pub record StandsBetween (least most : ℕ) (h : History) (image : List ℕ) : Type 0 where
+pub record StandsBetween (opening least most : ℕ) (first h : History) (image : List ℕ) : Type 0 where
   pub front : List Entry
   pub back : List Entry
   pub split : h.entries ≡ front ++ back
   pub long : least ≤ length front
   pub short : length front ≤ most
-  pub stands : StandsFor image (record h { entries = front })
+  pub stands : StandsAs opening first h front image
 
--- What every image of one moment has, every image of a later moment has. Each moment from one number on has a length, which never falls, from that at the
--- opening to how many changes were made. What a crash at the moment leaves stands for a front of all of that length, or of one change
--- more. At each moment but the last a crash may leave no more than that length.
-pub record NeverGoesBack (since opening made : ℕ) (now : disks.History) (all : History) : Type 0 where
+-- What every image of one moment has, every image of a later moment has. Each moment from one number on has a length, which never
+-- falls, from that at the opening to how many changes were made. What a crash at the moment leaves stands for a front of all of that
+-- length, or of one change more. At each moment but the last a crash may leave no more than that length.
+pub record NeverGoesBack (since opening made : ℕ) (now : disks.History) (first_history all : History) : Type 0 where
   pub lengths : ℕ → ℕ
   pub rising : (m n : ℕ) → m ≤ n → lengths m ≤ lengths n
   pub first : opening ≤ lengths since
   pub last : (number : ℕ) → lengths number ≤ made
-  pub each : (number : ℕ) (image : List ℕ) → since ≤ number → left_at now number image → StandsBetween (lengths number) (lengths number + 1) all image
-  pub some : (number : ℕ) → since ≤ number → number < moment now → (image : List ℕ) × left_at now number image × StandsBetween (lengths number) (lengths number) all image
+  pub each : (number : ℕ) (image : List ℕ) → since ≤ number → left_at now number image
+      → StandsBetween opening (lengths number) (lengths number + 1) first_history all image
+  pub some : (number : ℕ) → since ≤ number → number < moment now
+      → (image : List ℕ) × left_at now number image × StandsBetween opening (lengths number) (lengths number) first_history all image
 
--- Of a house with this history, which had so many changes at its opening, from the disk's moment with one number on. Unless an
--- entry was kept, the disk has the history. What a crash at any moment from that number on leaves stands for a front of it, not
--- shorter than at the opening, or for all of it with the entry that was kept.
-pub record IsOnDisk (since opening : ℕ) (now : disks.History) (size : ℕ) (h : History) (kept : Option Entry) : Type 0 where
+-- Of a house with this history, which had so many changes at its opening on the first one, from the disk's moment with one number on.
+-- Unless an entry was kept, the disk has the history. What a crash at any moment from that number on leaves stands for a front of it,
+-- not shorter than at the opening, or for all of it with the entry that was kept.
+pub record IsOnDisk (since opening : ℕ) (first : History) (now : disks.History) (size : ℕ) (h : History) (kept : Option Entry) : Type 0 where
   pub later : since ≤ moment now
   pub stored : kept ≡ None → IsStored now size h
-  pub each : (image : List ℕ) → left_since now since image → StandsForFront opening h image ⊎ StandsForKept h kept image
+  pub each : (image : List ℕ) → left_since now since image → StandsForFront opening first h image ⊎ StandsForKept h kept image
 
 -- Each fact below says nothing where the disk tells nothing.
 
 -- so it is on the disk of a house with this history
-abbrev pub AreOnDisk : ℕ → ℕ → Option disks.History → ℕ → History → Option Entry → Type 0
-AreOnDisk since opening None size h kept = Unit {0}
-AreOnDisk since opening (Some now) size h kept = IsOnDisk since opening now size h kept
+abbrev pub AreOnDisk : ℕ → ℕ → History → Option disks.History → ℕ → History → Option Entry → Type 0
+AreOnDisk since opening first None size h kept = Unit {0}
+AreOnDisk since opening first (Some now) size h kept = IsOnDisk since opening first now size h kept
 
 -- the number of the disk's moment
 abbrev pub moment_of : Option disks.History → ℕ
@@ -80,14 +94,27 @@ abbrev pub ContentStandsFor : Option disks.History → History → Type 0
 ContentStandsFor None h = Unit {0}
 ContentStandsFor (Some disk) h = StandsFor disk.content h
 
+-- the disk has this history, in a journal of this form
+abbrev pub AreStoredAs : Option disks.History → Form → ℕ → History → Type 0
+AreStoredAs None form size h = Unit {0}
+AreStoredAs (Some disk) form size h = IsStoredAs disk form size h
+
 -- the disk has this history
 abbrev pub AreStored : Option disks.History → ℕ → History → Type 0
 AreStored None size h = Unit {0}
 AreStored (Some disk) size h = IsStored disk size h
 
+-- the disk has this history, in the journal as it is
+abbrev pub AreStoredIn : {D : Type 0} → Option disks.History → Journal D → History → Type 0
+AreStoredIn disk journal h = AreStoredAs disk (form_of journal) (size_of journal) h
+
+-- a disk that had this history has it with the one change more
+abbrev pub StoresMore : {D : Type 0} → Option disks.History → Journal D → Option disks.History → Journal D → History → Entry → Type 0
+StoresMore before journal after later h entry = AreStoredIn before journal h → AreStoredIn after later (longer h (entry ∷ []))
+
 -- from a disk that had this history on, what a crash at any moment leaves stands for it, or for it with the one change more
-abbrev pub LeavesEither : Option disks.History → ℕ → Option disks.History → History → Entry → Type 0
-LeavesEither before size after h entry = AreStored before size h → LeavesOnly before after (StandsForEither h entry)
+abbrev pub LeavesEither : {D : Type 0} → Option disks.History → Journal D → Option disks.History → History → Entry → Type 0
+LeavesEither before journal after h entry = AreStoredIn before journal h → LeavesOnly before after (StandsForEither h entry)
 
 -- what a crash now leaves stands for this history
 abbrev pub LeavesHistory : Option disks.History → History → Type 0
@@ -100,10 +127,10 @@ LeavesKept None h kept = Unit {0}
 LeavesKept (Some disk) h kept = (image : List ℕ) → may_leave disk.now image → StandsFor image h ⊎ StandsFor image (with_kept h kept)
 
 -- from a disk that had this history on, a crash may leave it until the last moment
-abbrev pub LeavesYet : Option disks.History → ℕ → Option disks.History → History → Type 0
-LeavesYet before size after h = AreStored before size h → MayLeaveYet before after (λ image. StandsFor image h)
+abbrev pub LeavesYet : {D : Type 0} → Option disks.History → Journal D → Option disks.History → History → Type 0
+LeavesYet before journal after h = AreStoredIn before journal h → MayLeaveYet before after (λ image. StandsFor image h)
 
 -- so crashes go on, of a house with this history and what was kept
-abbrev pub NeverGoBack : ℕ → ℕ → Option disks.History → History → Option Entry → Type 0
-NeverGoBack since opening None h kept = Unit {0}
-NeverGoBack since opening (Some now) h kept = NeverGoesBack since opening (length h.entries) now (with_kept h kept)
+abbrev pub NeverGoBack : ℕ → ℕ → History → Option disks.History → History → Option Entry → Type 0
+NeverGoBack since opening first None h kept = Unit {0}
+NeverGoBack since opening first (Some now) h kept = NeverGoesBack since opening (length h.entries) now first (with_kept h kept)

@@ -22,22 +22,24 @@ pub struct House<D: Disk> {
     pub(crate) kept: Option<Entry>,
     // How many entries there were at the opening.
     pub(crate) opening: u64,
-    // The disk as it was handed in, and the journal at the opening, for contracts alone.
+    // The history for which the disk's content stood, the disk as it was handed in, and the journal at the opening, for contracts alone.
+    pub(crate) first: Snapshot<Past>,
     pub(crate) taken: Snapshot<D>,
     pub(crate) opened: Snapshot<Journal<D>>,
 }
 
 impl<D: Disk> Model for House<D> {
     ghost use Rattle.journal_core.specs.Journal.{disk_of, size_of};
-    ghost use Rattle.std.specs.Prelude.{take};
-    ghost use Rattle.house.specs.House.{HouseView, house_of, journal_of, IsHouse};
+    ghost use Rattle.house.specs.House.{HouseView, house_of, journal_of, now_of, IsHouse};
 
     ghost Value = { HouseView };
 
-    ghost view = { λ h. house_of h.past h.opening (journal_of (size_of h.opened.value) (D.fault_count (disk_of h.opened.value)) (D.history h.taken.value) (D.history (disk_of h.opened.value)) (take h.opening h.past.entries)) h.kept (D.history (disk_of h.journal)) (D.fault_count (disk_of h.journal)) };
+    ghost view = { λ h. house_of h.past h.opening (journal_of (size_of h.opened.value) (D.fault_count (disk_of h.opened.value))
+        (D.history h.taken.value) (D.history (disk_of h.opened.value)) h.first.value) h.kept (D.history (disk_of h.journal)) (D.fault_count (disk_of h.journal)) };
 
-    ghost invariant = { λ h. IsHouse h.machine.state (size_of h.journal)
-        (house_of h.past h.opening (journal_of (size_of h.opened.value) (D.fault_count (disk_of h.opened.value)) (D.history h.taken.value) (D.history (disk_of h.opened.value)) (take h.opening h.past.entries)) h.kept (D.history (disk_of h.journal)) (D.fault_count (disk_of h.journal))) };
+    ghost invariant = { λ h. IsHouse h.machine.state (now_of h.journal)
+        (house_of h.past h.opening (journal_of (size_of h.opened.value) (D.fault_count (disk_of h.opened.value))
+        (D.history h.taken.value) (D.history (disk_of h.opened.value)) h.first.value) h.kept (D.history (disk_of h.journal)) (D.fault_count (disk_of h.journal))) };
 }
 
 impl<D: Disk> House<D> {
@@ -78,6 +80,7 @@ impl<D: Disk> House<D> {
             journal,
             kept: _,
             opening: _,
+            first: _,
             taken: _,
             opened: _,
         } = self;

@@ -4,12 +4,15 @@
 mod calling;
 mod executions;
 pub mod fault;
+pub mod folding;
 pub mod house;
 mod opening;
 pub mod past;
+pub mod recovering;
 mod storing;
 
 pub use executions::Executions;
 pub use fault::OpenFault;
+pub use folding::FEWEST_TO_FOLD;
 pub use house::House;
-pub use opening::{Recovered, recover_noting};
+pub use recovering::{Recovered, recover_noting};

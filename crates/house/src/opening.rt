@@ -1,152 +1,47 @@
 //! A house, opened on what a disk holds.
-ghost use Rattle.std.specs.Prelude.{◌≡◌, ◌≢◌, ◌+◌, ◌≤◌, List, [], ◌∷◌, ◌++◌, option_map, IfOk, IfErr, OnOk, Err};
-ghost use Rattle.command_types.specs.declared.ask.Entry.{Entry};
-ghost use Rattle.command_types.specs.Machine.{empty_state, state_after, answer_to};
-ghost use Rattle.command_types.specs.History.{History, IsAcceptedIn};
-ghost use Rattle.command_types.specs.Sizes.{frames_size};
-ghost use Rattle.cycle_states.specs.Replayed.{base_at, IsReplayed, IsSmall};
-ghost use Rattle.cycle_states.specs.Machine.{IsYoung};
+ghost use Rattle.std.specs.Prelude.{◌≡◌, ◌≢◌, ◌≤◌, length, true, IsTrue, IfOk, IfErr, Err};
+ghost use Rattle.command_types.specs.Sizes.{journal_limit};
+ghost use Rattle.cycle_laws.specs.Bases.{IsWritable};
+ghost use Rattle.cycle_states.specs.Replayed.{IsReplayed};
 ghost use Rattle.outside.specs.Disk.{IsSettled};
 ghost use Rattle.outside.specs.Faults.{Rose};
+ghost use Rattle.journal_core.specs.Journal.{disk_of, size_of, is_sound, EndsAt};
 ghost use Rattle.journal_core.specs.Moments.{LeavesOnly};
-ghost use Rattle.journal_core.specs.Walk.{EndsAt};
-ghost use Rattle.recovery.specs.declared.entries.EntryAt.{EntryAt};
-ghost use Rattle.recovery.specs.StandsFor.{first_start, StandsFor};
-ghost use Rattle.recovery.specs.Reading.{file_of, entries_in, IsRead, HasRead};
 ghost use Rattle.house.specs.declared.fault.OpenFault.TheVariants.{DiskFault};
-ghost use Rattle.house.specs.Opening.{IsReplayFault, StandsForNone, FindsFault, IsOpened};
-ghost use Rattle.house.specs.Storing.{ContentStandsFor};
-ghost use Rattle.house.specs.Executions.{executions_told, told_of};
+ghost use Rattle.house.specs.Due.{IsDue};
+ghost use Rattle.house.specs.Folding.{LeavesOpenedAs, MayBeFolded, OpensOn, StandsForOne, opened_with};
+ghost use Rattle.house.specs.Opening.{LeavesOpened, StandsForNone, FindsFault, IsOpened};
+ghost use Rattle.house.specs.Storing.{AreStoredIn, ContentStandsFor};
 
+use crate::folding::Folding;
 use crate::past::Past;
+use crate::recovering::{Recovered, recover_noting};
 use crate::{Executions, House, OpenFault};
-use command_types::{Answer, Entry, Roster};
-use cycle_states::{Decision, Machine};
-use journal_core::Journal;
-use outside::Disk;
-use recovery::{Entries, EntryAt, read_entries};
+use command_types::Roster;
+use cycle_states::Machine;
+use journal_core::{Form, Journal};
+use outside::{Disk, Failed};
 use std::alloc::Global;
 use std::snapshot::Snapshot;
 
-// Has the machine make the change, if it accepts it, and gives the change and its answer.
-fn accept(machine: &mut Machine, item: EntryAt) -> Result<(Entry, Answer), OpenFault>
-    requires { IsYoung machine.old.state.cycle }
-    ensures entry { IfOk result (λ made. made.0 ≡ item.entry) }
-    ensures answer { IfOk result (λ made. made.1 ≡ answer_to machine.old.state item.entry.ask) }
-    ensures accepted { OnOk result (IsAcceptedIn machine.old.state item.entry) }
-    ensures state { OnOk result (machine.new.state ≡ state_after machine.old.state item.entry.ask) }
-    ensures fault { IfErr result (IsReplayFault machine.old.state (item ∷ [])) }
-{
-    let offset = item.at;
-    let decision = machine.decide(item.entry)?;
-    match decision {
-        Decision::Told(_) => Err(OpenFault::Damaged { offset }),
-        Decision::Ready(ready) => Ok(machine.commit(ready)),
-    }
-}
-
-// Has a machine make the changes that were read, one after another, if it accepts each at its place. They are those of a
-// history that begins at this position with the machine as it is. The replies that tell an execution are noted behind those
-// that were.
-fn replay(
-    alloc: Global,
-    machine: &mut Machine,
-    position: u64,
-    read: &Entries,
-    executions: &mut Executions,
-) -> Result<Past, OpenFault>
-    requires small { IsSmall (base_at position machine.old.state) }
-    requires read { HasRead read.now }
-    ensures base { IfOk result (λ past. past.base ≡ base_at position machine.old.state) }
-    ensures entries { (list : List EntryAt) → IsRead (file_of read.now) list → IfOk result (λ past. past.entries ≡ entries_in list) }
-    ensures replayed { IfOk result (λ past. IsReplayed machine.new.state past) }
-    ensures told { IfOk result (λ past. told_of executions.new ≡ option_map (λ replies. replies ++ executions_told machine.old.state position past.entries) (told_of executions.old)) }
-    ensures fault { (list : List EntryAt) → IsRead (file_of read.now) list → IfErr result (IsReplayFault machine.old.state list) }
-{
-    let mut past = Past::at(machine, position);
-    let mut reader = read.reader();
-    while let Some(item) = reader.next(alloc)? {
-        let (entry, answer) = accept(machine, item)?;
-        past.push(&entry);
-        executions.note(past.length(), answer)?;
-    }
-    Ok(past)
-}
-
-// The machine of this roster after the changes that were read, if it accepts each at its place, and its history.
-fn restore(
-    alloc: Global,
-    roster: Roster,
-    read: &Entries,
-    executions: &mut Executions,
-) -> Result<(Machine, Past), OpenFault>
-    requires read { HasRead read.now }
-    ensures base { IfOk result (λ r. r.1.base ≡ first_start roster) }
-    ensures entries { (list : List EntryAt) → IsRead (file_of read.now) list → IfOk result (λ r. r.1.entries ≡ entries_in list) }
-    ensures replayed { IfOk result (λ r. IsReplayed r.0.state r.1) }
-    ensures told { IfOk result (λ r. told_of executions.new ≡ option_map (λ replies. replies ++ executions_told (empty_state roster) 0 r.1.entries) (told_of executions.old)) }
-    ensures fault { (list : List EntryAt) → IsRead (file_of read.now) list → IfErr result (IsReplayFault (empty_state roster) list) }
-{
-    let mut machine = Machine::new(alloc, roster)?;
-    let past = replay(alloc, &mut machine, 0, read, executions)?;
-    Ok((machine, past))
-}
-
-/// What is read of a disk: the machine after its changes, their history, the place where its journal goes on, and the
-/// executions, where they were to be kept.
-#[derive(Drop)]
-pub struct Recovered {
-    pub machine: Machine,
-    pub past: Past,
-    pub end: u64,
-    pub executions: Executions,
-}
-
-/// Reads a disk's journal, and makes its changes, over this roster. It writes nothing. `Damaged` comes only where the disk's
-/// content stands for no history that is legal for the roster, with the one place that is told. The replies that tell an
-/// execution are noted behind those that were, where they are kept at all.
-pub fn recover_noting<D: Disk>(
-    alloc: Global,
-    roster: Roster,
-    disk: &mut D,
-    mut executions: Executions,
-) -> Result<Recovered, OpenFault>
-    ensures stands { IfOk result (λ r. ContentStandsFor (D.history disk.old) r.past) }
-    ensures replayed { IfOk result (λ r. IsReplayed r.machine.state r.past) }
-    ensures base { IfOk result (λ r. r.past.base ≡ first_start roster) }
-    ensures ends { IfOk result (λ r. EndsAt (D.history disk.old) r.end) }
-    ensures size { IfOk result (λ r. r.end ≡ 9 + frames_size r.past.entries) }
-    ensures told { IfOk result (λ r. told_of r.executions ≡ option_map (λ replies. replies ++ executions_told (empty_state roster) 0 r.past.entries) (told_of executions)) }
-    ensures fault { IfErr result (FindsFault roster (D.history disk.old)) }
-    ensures same { D.history disk.new ≡ D.history disk.old }
-    ensures never_falls { D.fault_count disk.old ≤ D.fault_count disk.new }
-    ensures failed { result ≡ Err DiskFault → Rose (D.fault_count disk.old) (D.fault_count disk.new) }
-{
-    let read = read_entries(alloc, disk)?;
-    let (machine, past) = restore(alloc, roster, &read, &mut executions)?;
-    Ok(Recovered {
-        machine,
-        past,
-        end: read.end(),
-        executions,
-    })
-}
-
-// What a house needs of it.
+// What a house needs of it, and the fold that is due.
 #[derive(Drop)]
 pub(crate) struct Reopened {
     machine: Machine,
     past: Past,
+    form: Form,
     end: u64,
+    folding: Option<Folding>,
 }
 
-// Reads a disk's journal, and makes its changes. It writes nothing.
-fn recover<D: Disk>(alloc: Global, roster: Roster, disk: &mut D) -> Result<Reopened, OpenFault>
+// Reads a disk's journal, and makes its changes and its fold, if one is due. It writes nothing.
+fn reopen<D: Disk>(alloc: Global, roster: Roster, disk: &mut D) -> Result<Reopened, OpenFault>
     ensures stands { IfOk result (λ r. ContentStandsFor (D.history disk.old) r.past) }
     ensures replayed { IfOk result (λ r. IsReplayed r.machine.state r.past) }
-    ensures base { IfOk result (λ r. r.past.base ≡ first_start roster) }
-    ensures ends { IfOk result (λ r. EndsAt (D.history disk.old) r.end) }
-    ensures size { IfOk result (λ r. r.end ≡ 9 + frames_size r.past.entries) }
+    ensures base { IfOk result (λ r. IsWritable roster r.past.base.state) }
+    ensures few { IfOk result (λ r. length r.past.entries ≤ journal_limit) }
+    ensures ends { IfOk result (λ r. EndsAt (D.history disk.old) r.form r.end) }
+    ensures due { IfOk result (λ r. IsDue r.form r.past r.folding) }
     ensures fault { IfErr result (FindsFault roster (D.history disk.old)) }
     ensures same { D.history disk.new ≡ D.history disk.old }
     ensures never_falls { D.fault_count disk.old ≤ D.fault_count disk.new }
@@ -156,47 +51,95 @@ fn recover<D: Disk>(alloc: Global, roster: Roster, disk: &mut D) -> Result<Reope
     let Recovered {
         machine,
         past,
+        form,
         end,
         executions: _,
     } = recovered;
-    Ok(Reopened { machine, past, end })
+    let Ok(folding) = Folding::of(alloc, &machine, &past, form) else {
+        return Err(OpenFault::Memory);
+    };
+    Ok(Reopened {
+        machine,
+        past,
+        form,
+        end,
+        folding,
+    })
+}
+
+// Starts the journal on a settled disk, as it was read, and folds it where a fold is due and fits. The answer tells whether it did.
+fn start<D: Disk>(disk: D, read: &Reopened) -> Result<(Journal<D>, bool), (Failed, D)>
+    requires settled { IsSettled (D.history disk) }
+    requires stands { ContentStandsFor (D.history disk) read.now.past }
+    requires ends { EndsAt (D.history disk) read.now.form read.now.end }
+    requires due { IsDue read.now.form read.now.past read.now.folding }
+    ensures any_moment { IfOk result (λ r. LeavesOnly (D.history disk) (D.history (disk_of r.0)) (StandsForOne (opened_with r.1 read.now.past) read.now.past)) }
+    ensures stored { IfOk result (λ r. AreStoredIn (D.history (disk_of r.0)) r.0 (opened_with r.1 read.now.past)) }
+    ensures opens { IfOk result (λ r. OpensOn (D.history disk) read.now.past (opened_with r.1 read.now.past) (size_of r.0)) }
+    ensures may { IfOk result (λ r. IsTrue r.1 → MayBeFolded read.now.past) }
+    ensures sound { IfOk result (λ r. is_sound r.0 ≡ true) }
+    ensures never_falls { IfOk result (λ r. D.fault_count disk ≤ D.fault_count (disk_of r.0)) }
+    ensures any_moment_failed { IfErr result (λ e. LeavesOpenedAs (D.history disk) (D.history e.1) read.now.past) }
+    ensures never_falls_failed { IfErr result (λ e. D.fault_count disk ≤ D.fault_count e.1) }
+    ensures failed { IfErr result (λ e. Rose (D.fault_count disk) (D.fault_count e.1)) }
+{
+    let mut journal = match Journal::start(disk, read.form, read.end) {
+        Ok(journal) => journal,
+        Err(failed) => return Err(failed),
+    };
+    let Some(folding) = &read.folding else {
+        return Ok((journal, false));
+    };
+    if !journal.fold_fits(folding.size) {
+        return Ok((journal, false));
+    }
+    match folding.apply(&mut journal) {
+        Ok(()) => Ok((journal, true)),
+        Err(failed) => Err((failed, journal.end())),
+    }
 }
 
 impl<D: Disk> House<D> {
     ghost use Rattle.house.specs.House.{Keeps};
 
-    /// A house of this roster on a settled disk, with the history for which the disk's content stands. `Damaged` comes only
-    /// where it stands for no history that is legal for the roster, with the one place that is told. There the content stays
-    /// as it is, whatever fails. A crash at any moment leaves what stands for the same history.
+    /// A house of this roster on a settled disk, with the history for which the disk's content stands, or, exactly where that is to
+    /// be folded, with its fold. `Damaged` comes only where the content stands for no history that is legal for the roster, with
+    /// the one place that is told. There the content stays as it is, whatever fails. A crash at any moment leaves what stands
+    /// for the history or, where it is folded, for its fold.
     pub fn new(alloc: Global, roster: Roster, disk: D) -> Result<House<D>, (OpenFault, D)>
         requires { IsSettled (D.history disk) }
         ensures opened { IfOk result (λ house. IsOpened roster (D.history disk) (D.fault_count disk) house) }
         ensures keeps { IfOk result (λ house. Keeps house) }
-        ensures any_moment { (h : History) → ContentStandsFor (D.history disk) h → IfOk result (λ house. LeavesOnly (D.history disk) house.disk (λ image. StandsFor image h)) }
+        ensures any_moment { IfOk result (λ house. LeavesOpened roster (D.history disk) house.disk) }
         ensures fault { IfErr result (λ e. FindsFault roster (D.history disk) e.0) }
         ensures same { IfErr result (λ e. e.0 ≢ DiskFault → D.history e.1 ≡ D.history disk) }
         ensures untouched { StandsForNone roster (D.history disk) → IfErr result (λ e. D.history e.1 ≡ D.history disk) }
-        ensures any_moment_failed { (h : History) → ContentStandsFor (D.history disk) h → IfErr result (λ e. LeavesOnly (D.history disk) (D.history e.1) (λ image. StandsFor image h)) }
+        ensures any_moment_failed { IfErr result (λ e. LeavesOpened roster (D.history disk) (D.history e.1)) }
         ensures never_falls { IfErr result (λ e. D.fault_count disk ≤ D.fault_count e.1) }
         ensures failed { IfErr result (λ e. e.0 ≡ DiskFault → Rose (D.fault_count disk) (D.fault_count e.1)) }
     {
         let mut disk = disk;
         let taken = Snapshot::of(&disk);
-        let recovered = match recover(alloc, roster, &mut disk) {
-            Ok(recovered) => recovered,
+        let read = match reopen(alloc, roster, &mut disk) {
+            Ok(read) => read,
             Err(fault) => return Err((fault, disk)),
         };
-        match Journal::start(disk, recovered.end) {
-            Ok(journal) => Ok(House {
-                alloc,
-                machine: recovered.machine,
-                opening: recovered.past.count(),
-                past: recovered.past,
-                opened: Snapshot::of(&journal),
-                journal,
-                kept: None,
-                taken,
-            }),
+        match start(disk, &read) {
+            Ok((journal, folded)) => {
+                let first = Snapshot::of(&read.past);
+                let past = read.past.opened(&read.machine, folded);
+                Ok(House {
+                    alloc,
+                    opening: past.count(),
+                    machine: read.machine,
+                    past,
+                    first,
+                    opened: Snapshot::of(&journal),
+                    journal,
+                    kept: None,
+                    taken,
+                })
+            }
             Err((_, disk)) => Err((OpenFault::DiskFault, disk)),
         }
     }

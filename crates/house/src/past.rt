@@ -1,9 +1,10 @@
 //! The history of a house. Contracts see all of it; at run time there is where it begins, and the number of its changes.
-ghost use Rattle.std.specs.Prelude.{◌≡◌, ◌<◌, ◌+◌, ◌^◌, [], ◌∷◌, ◌++◌, List, length};
+ghost use Rattle.std.specs.Prelude.{◌≡◌, ◌<◌, ◌+◌, ◌^◌, [], ◌∷◌, ◌++◌, List, length, IsTrue};
 ghost use Rattle.std.specs.Borrow.{ftrue};
 ghost use Rattle.command_types.specs.declared.ask.Entry.{Entry};
 ghost use Rattle.command_types.specs.History.{end_of, longer};
-ghost use Rattle.cycle_states.specs.Replayed.{base_at, history_from, IsSmall};
+ghost use Rattle.cycle_states.specs.Replayed.{base_at, history_from, IsReplayed, IsSmall};
+ghost use Rattle.house.specs.Folding.{MayBeFolded, opened_with};
 
 use command_types::Entry;
 use cycle_states::Machine;
@@ -71,6 +72,19 @@ impl Past {
             position,
             log: Log::new(),
             count: 0,
+        }
+    }
+
+    /// It, or, where it is folded, the one without a change that begins where the machine stands at its end.
+    pub(crate) fn opened(self, machine: &Machine, folded: bool) -> Past
+        requires replayed { IsReplayed machine.now.state self }
+        requires small { IsTrue folded → MayBeFolded self }
+        ensures { result ≡ opened_with folded self }
+    {
+        if folded {
+            Past::at(machine, self.length())
+        } else {
+            self
         }
     }
 

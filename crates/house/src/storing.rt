@@ -1,5 +1,5 @@
 //! A change, made and kept.
-ghost use Rattle.std.specs.Prelude.{◌≡◌, ◌≤◌, ◌<◌, ◌+◌, ◌^◌, [], ◌∷◌, length, is_some, All, IsTrue, IfOk, IfErr, OnOk, OnErr, Err};
+ghost use Rattle.std.specs.Prelude.{◌≡◌, ◌≤◌, ◌<◌, ◌+◌, ◌^◌, [], ◌∷◌, length, true, is_some, All, IsTrue, IfOk, IfErr, OnOk, OnErr, Err};
 ghost use Rattle.network_laws.specs.Solutions.{IsSolution};
 ghost use Rattle.command_types.specs.Machine.{answer_to, state_after, changes};
 ghost use Rattle.command_types.specs.History.{longer, solutions_posted};
@@ -8,8 +8,9 @@ ghost use Rattle.command_types.specs.Spelling.{Spells, posted, most_solutions};
 ghost use Rattle.cycle_states.specs.Decision.{MayCommit};
 ghost use Rattle.cycle_states.specs.Machine.{IsYoung};
 ghost use Rattle.outside.specs.Faults.{Rose};
-ghost use Rattle.journal_core.specs.Journal.{disk_of, size_of, IsReady as IsReadyAt};
-ghost use Rattle.house.specs.Storing.{AreStored, LeavesEither, LeavesYet};
+ghost use Rattle.journal_core.specs.Journal.{disk_of, form_of, size_of, is_sound, IsReady as IsReadyAt};
+ghost use Rattle.house.specs.House.{now_of};
+ghost use Rattle.house.specs.Storing.{StoresMore, LeavesEither, LeavesYet};
 ghost use Rattle.house.specs.declared.storing.Unstored.TheVariants.{Memory};
 ghost use Rattle.house.specs.Unstored.{Tells};
 
@@ -62,7 +63,8 @@ pub(crate) fn store<D: Disk>(
 ) -> Result<Answer, Unstored>
     requires may { MayCommit machine.old ready }
     requires young { IsYoung machine.old.state.cycle }
-    requires ready { IsReadyAt (D.history (disk_of journal.old)) (size_of journal.old) }
+    requires ready { IsReadyAt (D.history (disk_of journal.old)) (form_of journal.old) (size_of journal.old) }
+    requires sound { is_sound journal.old ≡ true }
     requires fits { size_of journal.old + frame_size ready.entry.ask ≤ journal_limit }
     requires short { length past.old.entries + 1 < 2 ^ 62 }
     ensures answer { IfOk result (λ answer. answer ≡ answer_to machine.old.state ready.entry.ask) }
@@ -70,12 +72,14 @@ pub(crate) fn store<D: Disk>(
     ensures past { OnOk result (past.new ≡ longer past.old (ready.entry ∷ [])) }
     ensures solutions { OnOk result (All IsSolution (solutions_posted ready.entry.ask.what)) }
     ensures size { OnOk result (size_of journal.new ≡ size_of journal.old + frame_size ready.entry.ask) }
-    ensures stored { AreStored (D.history (disk_of journal.old)) (size_of journal.old) past.old → OnOk result (AreStored (D.history (disk_of journal.new)) (size_of journal.new) (longer past.old (ready.entry ∷ []))) }
-    ensures any_moment { LeavesEither (D.history (disk_of journal.old)) (size_of journal.old) (D.history (disk_of journal.new)) past.old ready.entry }
-    ensures yet { LeavesYet (D.history (disk_of journal.old)) (size_of journal.old) (D.history (disk_of journal.new)) past.old }
+    ensures stored { OnOk result (StoresMore (D.history (disk_of journal.old)) journal.old (D.history (disk_of journal.new)) journal.new past.old ready.entry) }
+    ensures sound { OnOk result (is_sound journal.new ≡ true) }
+    ensures any_moment { LeavesEither (D.history (disk_of journal.old)) journal.old (D.history (disk_of journal.new)) past.old ready.entry }
+    ensures yet { LeavesYet (D.history (disk_of journal.old)) journal.old (D.history (disk_of journal.new)) past.old }
     ensures same_state { OnErr result (machine.new.state ≡ machine.old.state) }
     ensures same_past { OnErr result (past.new ≡ past.old) }
     ensures same_size { OnErr result (size_of journal.new ≡ size_of journal.old) }
+    ensures same_journal { result ≡ Err Memory → now_of journal.new ≡ now_of journal.old }
     ensures same_disk { result ≡ Err Memory → (D.history (disk_of journal.new) ≡ D.history (disk_of journal.old)) × (D.fault_count (disk_of journal.new) ≡ D.fault_count (disk_of journal.old)) }
     ensures never_falls { D.fault_count (disk_of journal.old) ≤ D.fault_count (disk_of journal.new) }
     ensures failed { IfErr result (Tells ready.entry (Rose (D.fault_count (disk_of journal.old)) (D.fault_count (disk_of journal.new)) × All IsSolution (solutions_posted ready.entry.ask.what))) }

@@ -21,7 +21,7 @@ use Rattle.standby.specs.declared.follow.FollowEnd.TheVariants.{Caught, SinkFaul
 -- were then, or for all of them with the one that was kept.
 abbrev pub HeldSince : HouseView → HouseView → Type 0
 HeldSince then now =
-    AreOnDisk (moment_of then.disk) (length then.history.entries) now.disk (bytes_of now) now.history now.kept
+    AreOnDisk (moment_of then.disk) (length then.history.entries) then.history now.disk (bytes_of now) now.history now.kept
 
 -- When this was said, what a crash left stood for all entries, and a NEXT names their number; ever since, what a crash leaves
 -- stands for at least these.

@@ -78,11 +78,11 @@ fn a_standby_takes_what_its_machine_accepts(rt: HostRuntime) -> Result<(), Fail>
     Ok(())
 }
 
-// Opening takes five calls of the disk, and each entry four.
+// Opening takes six calls of the disk, and each entry four.
 #[test]
 fn a_fault_of_its_disk_stops_it(rt: HostRuntime) -> Result<(), Fail> {
     let alloc = rt.alloc();
-    for (call, length) in [(6, 0), (8, 0), (10, 1), (13, 1)] {
+    for (call, length) in [(7, 0), (9, 0), (11, 1), (14, 1)] {
         let both = two_entries(&rt, alloc, b"B")?;
         let found = (FollowEnd::DiskFault, length, 0);
         assert!(rt; follows(&rt, alloc, both, call, found)?, "call {call}");

@@ -1,14 +1,13 @@
-use Rattle.std.proofs.Common.{◌≡◌, ◌∙◌, ◌+◌, [], ◌∷◌, take, true, false, Some, None, is_some, IsTrue, arith, ap, sym, subst, length-append}
-use Rattle.std.proofs.lemmas.List.{take-append-le}
+use Rattle.std.proofs.Common.{◌≡◌, ◌∙◌, ◌+◌, [], ◌∷◌, true, false, Some, None, is_some, IsTrue, arith, ap, sym, subst, length-append}
 use Rattle.command_types.specs.declared.ask.Entry.{Entry}
 use Rattle.command_types.specs.declared.figures.JournalFigures.{JournalFigures}
 use Rattle.command_types.specs.declared.figures.State.{State}
 use Rattle.command_types.specs.Machine.{answer_to}
 use Rattle.command_types.specs.History.{History, end_of, is_recorded}
 use Rattle.command_types.specs.Sizes.{record_size}
-use Rattle.journal_core.specs.Journal.{disk_of, size_of}
+use Rattle.journal_core.specs.Journal.{disk_of, form_of, size_of}
 use Rattle.cycle_states.proofs.CycleFacts.{young_small}
-use Rattle.house.specs.House.{HouseView, house_of, journal_of}
+use Rattle.house.specs.House.{HouseView, house_of, journal_of, now_of}
 use Rattle.house.specs.Calling.{Calls}
 use Rattle.house.proofs.JournalFacts.{stored_ready}
 use Rattle.house.proofs.ToldFacts.{no_room, has_room, room_told}
@@ -23,20 +22,20 @@ pub returns-in-Err-clause-calls : goal.returns-in-Err-clause-calls
 returns-in-Err-clause-calls g c =
     let i = c.self.inside in
     let here : HouseView =
-    house_of i.past i.opening (journal_of (size_of i.opened.value) (g.D.Disk.fault_count (disk_of i.opened.value)) (g.D.Disk.history i.taken.value) (g.D.Disk.history (disk_of i.opened.value)) (take i.opening i.past.entries)) i.kept
+    house_of i.past i.opening (journal_of (size_of i.opened.value) (g.D.Disk.fault_count (disk_of i.opened.value)) (g.D.Disk.history i.taken.value) (g.D.Disk.history (disk_of i.opened.value)) i.first.value) i.kept
     (g.D.Disk.history (disk_of i.journal)) (g.D.Disk.fault_count (disk_of i.journal)) in
     subst (λ (v : HouseView). Calls v here c.args.seat c.args.ask c.refused.result) c.self.view_is
-    (memory_call i.machine.state (size_of i.journal) _ c.self.invariant c.args.seat c.args.ask c.length-at.result c.refused.result c.length-at.ensures.length c.refused.ensures)
+    (memory_call i.machine.state (now_of i.journal) _ c.self.invariant c.args.seat c.args.ask c.length-at.result c.refused.result c.length-at.ensures.length c.refused.ensures)
 
 pub returns-in-Ok-Told-clause-calls : goal.returns-in-Ok-Told-clause-calls
 returns-in-Ok-Told-clause-calls g c =
     let i = c.self.inside in
     let here : HouseView =
-    house_of i.past i.opening (journal_of (size_of i.opened.value) (g.D.Disk.fault_count (disk_of i.opened.value)) (g.D.Disk.history i.taken.value) (g.D.Disk.history (disk_of i.opened.value)) (take i.opening i.past.entries)) i.kept
+    house_of i.past i.opening (journal_of (size_of i.opened.value) (g.D.Disk.fault_count (disk_of i.opened.value)) (g.D.Disk.history i.taken.value) (g.D.Disk.history (disk_of i.opened.value)) i.first.value) i.kept
     (g.D.Disk.history (disk_of i.journal)) (g.D.Disk.fault_count (disk_of i.journal)) in
     let nothing = rw c.in-Ok-Told.field-0-is at c.in-Ok-Told.ensures.decides in
     subst (λ (v : HouseView). Calls v here c.args.seat c.args.ask (record { at = c.length-at.result; answer = c.in-Ok-Told.answer })) c.self.view_is
-    (read_call i.machine.state (size_of i.journal) _ c.self.invariant c.args.seat c.args.ask c.length-at.result c.in-Ok-Told.answer c.self.invariant.replayed.same c.length-at.ensures.length
+    (read_call i.machine.state (now_of i.journal) _ c.self.invariant c.args.seat c.args.ask c.length-at.result c.in-Ok-Told.answer c.self.invariant.replayed.same c.length-at.ensures.length
     (nothing.told ∙ ap (λ (s : State). answer_to s c.args.ask) c.decide.ensures.state) nothing.no_change)
 
 pub invariant_of-self-in-Ok-Told : goal.invariant_of-self-in-Ok-Told
@@ -46,17 +45,17 @@ pub returns-then-not-fits-clause-calls : goal.returns-then-not-fits-clause-calls
 returns-then-not-fits-clause-calls g c =
     let i = c.self.inside in
     let here : HouseView =
-    house_of i.past i.opening (journal_of (size_of i.opened.value) (g.D.Disk.fault_count (disk_of i.opened.value)) (g.D.Disk.history i.taken.value) (g.D.Disk.history (disk_of i.opened.value)) (take i.opening i.past.entries)) i.kept
+    house_of i.past i.opening (journal_of (size_of i.opened.value) (g.D.Disk.fault_count (disk_of i.opened.value)) (g.D.Disk.history i.taken.value) (g.D.Disk.history (disk_of i.opened.value)) i.first.value) i.kept
     (g.D.Disk.history (disk_of i.journal)) (g.D.Disk.fault_count (disk_of i.journal)) in
     let decided = rw c.in-Ok-Ready.field-0-is at c.in-Ok-Ready.ensures.decides in
     let entry : Entry = c.in-Ok-Ready.ready.entry in
     let ask = entry.ask in
     let now : State = c.decide.new.self.state in
     let sized : c.length.result ≡ record_size ask = c.length.ensures.size ∙ ap (λ (e : Entry). record_size e.ask) c.entry.ensures in
-    let was = stays i.machine.state now (size_of i.journal) _ c.decide.ensures.state c.self.invariant in
+    let was = stays i.machine.state now (now_of i.journal) _ c.decide.ensures.state c.self.invariant in
     let change = subst (λ (t : State). IsTrue (is_recorded ask.what (answer_to t ask))) was.replayed.same decided.1.accepted in
     let full = no_room c.fits.result (size_of i.journal) c.length.result ask c.if-not-fits.true c.fits.ensures sized in
-    let said = full_call now (size_of i.journal) _ was entry.seat ask change c.length-at.result c.bytes-size.result c.refused-then-not-fits.result c.length-at.ensures.length c.bytes-size.ensures c.refused-then-not-fits.ensures full in
+    let said = full_call now (now_of i.journal) _ was entry.seat ask change c.length-at.result c.bytes-size.result c.refused-then-not-fits.result c.length-at.ensures.length c.bytes-size.ensures c.refused-then-not-fits.ensures full in
     subst (λ (v : HouseView). Calls v here c.args.seat c.args.ask c.refused-then-not-fits.result) c.self.view_is
     (subst (λ (e : Entry). Calls here here e.seat e.ask c.refused-then-not-fits.result) decided.0 said)
 
@@ -64,18 +63,18 @@ pub returns-then-is_some-clause-calls : goal.returns-then-is_some-clause-calls
 returns-then-is_some-clause-calls g c =
     let i = c.self.inside in
     let here : HouseView =
-    house_of i.past i.opening (journal_of (size_of i.opened.value) (g.D.Disk.fault_count (disk_of i.opened.value)) (g.D.Disk.history i.taken.value) (g.D.Disk.history (disk_of i.opened.value)) (take i.opening i.past.entries)) i.kept
+    house_of i.past i.opening (journal_of (size_of i.opened.value) (g.D.Disk.fault_count (disk_of i.opened.value)) (g.D.Disk.history i.taken.value) (g.D.Disk.history (disk_of i.opened.value)) i.first.value) i.kept
     (g.D.Disk.history (disk_of i.journal)) (g.D.Disk.fault_count (disk_of i.journal)) in
     let decided = rw c.in-Ok-Ready.field-0-is at c.in-Ok-Ready.ensures.decides in
     let entry : Entry = c.in-Ok-Ready.ready.entry in
     let ask = entry.ask in
     let now : State = c.decide.new.self.state in
     let sized : c.length.result ≡ record_size ask = c.length.ensures.size ∙ ap (λ (e : Entry). record_size e.ask) c.entry.ensures in
-    let was = stays i.machine.state now (size_of i.journal) _ c.decide.ensures.state c.self.invariant in
+    let was = stays i.machine.state now (now_of i.journal) _ c.decide.ensures.state c.self.invariant in
     let change = subst (λ (t : State). IsTrue (is_recorded ask.what (answer_to t ask))) was.replayed.same decided.1.accepted in
     let room = has_room c.fits.result (size_of i.journal) c.length.result ask c.if-not-fits.false c.fits.ensures sized in
     let stopped : is_some i.kept ≡ true = sym c.is_some.ensures ∙ c.if-is_some.true in
-    let said = stopped_call now (size_of i.journal) _ was entry.seat ask change c.length-at.result c.refused-then-is_some.result c.length-at.ensures.length c.refused-then-is_some.ensures room stopped in
+    let said = stopped_call now (now_of i.journal) _ was entry.seat ask change c.length-at.result c.refused-then-is_some.result c.length-at.ensures.length c.refused-then-is_some.ensures room stopped in
     subst (λ (v : HouseView). Calls v here c.args.seat c.args.ask c.refused-then-is_some.result) c.self.view_is
     (subst (λ (e : Entry). Calls here here e.seat e.ask c.refused-then-is_some.result) decided.0 said)
 
@@ -92,7 +91,13 @@ pub store-requires-clause-ready : goal.store-requires-clause-ready
 store-requires-clause-ready g c =
     let i = c.self.inside in
     let runs : is_some i.kept ≡ false = sym c.is_some.ensures ∙ c.if-is_some.false in
-    stored_ready (g.D.Disk.history (disk_of i.journal)) (size_of i.journal) i.past (house_stored i.machine.state (size_of i.journal) _ c.self.invariant runs)
+    stored_ready (g.D.Disk.history (disk_of i.journal)) (form_of i.journal) (size_of i.journal) i.past (house_stored i.machine.state (now_of i.journal) _ c.self.invariant runs)
+
+pub store-requires-clause-sound : goal.store-requires-clause-sound
+store-requires-clause-sound g c =
+    let i = c.self.inside in
+    let runs : is_some i.kept ≡ false = sym c.is_some.ensures ∙ c.if-is_some.false in
+    c.self.invariant.sound (none_of i.kept runs)
 
 pub store-requires-clause-fits : goal.store-requires-clause-fits
 store-requires-clause-fits g c =
@@ -114,7 +119,7 @@ store-requires-clause-short g c =
     let now : State = c.decide.new.self.state in
     let sized : c.length.result ≡ record_size ask = c.length.ensures.size ∙ ap (λ (e : Entry). record_size e.ask) c.entry.ensures in
     let room = has_room c.fits.result (size_of i.journal) c.length.result ask c.if-not-fits.false c.fits.ensures sized in
-    omega (arith, room, entries_within i.machine.state (size_of i.journal) _ c.self.invariant)
+    omega (arith, room, entries_within i.machine.state (now_of i.journal) _ c.self.invariant)
 
 pub returns-in-Ok-clause-short : goal.returns-in-Ok-clause-short
 returns-in-Ok-clause-short g c =
@@ -125,7 +130,7 @@ returns-in-Ok-clause-short g c =
     let now : State = c.decide.new.self.state in
     let sized : c.length.result ≡ record_size ask = c.length.ensures.size ∙ ap (λ (e : Entry). record_size e.ask) c.entry.ensures in
     let room = has_room c.fits.result (size_of i.journal) c.length.result ask c.if-not-fits.false c.fits.ensures sized in
-    omega (arith, room, entries_within i.machine.state (size_of i.journal) _ c.self.invariant, c.length-at.ensures.small.position, ap end_of c.in-Ok.ensures.past, length-append i.past.entries (entry ∷ []))
+    omega (arith, room, entries_within i.machine.state (now_of i.journal) _ c.self.invariant, c.length-at.ensures.small.position, ap end_of c.in-Ok.ensures.past, length-append i.past.entries (entry ∷ []))
 
 pub invariant_of-self-in-Ok : goal.invariant_of-self-in-Ok
 invariant_of-self-in-Ok g c =
@@ -134,56 +139,52 @@ invariant_of-self-in-Ok g c =
     let entry : Entry = c.in-Ok-Ready.ready.entry in
     let ask = entry.ask in
     let now : State = c.decide.new.self.state in
-    let was = stays i.machine.state now (size_of i.journal) _ c.decide.ensures.state c.self.invariant in
-    let journal : JournalFigures = journal_of (size_of i.opened.value) (g.D.Disk.fault_count (disk_of i.opened.value)) (g.D.Disk.history i.taken.value) (g.D.Disk.history (disk_of i.opened.value)) (take i.opening i.past.entries) in
-    let first : take i.opening c.store.new.past.entries ≡ take i.opening i.past.entries =
-    ap (λ (p : History). take i.opening p.entries) c.in-Ok.ensures.past ∙ take-append-le i.opening i.past.entries (entry ∷ []) was.keeps.opened in
+    let was = stays i.machine.state now (now_of i.journal) _ c.decide.ensures.state c.self.invariant in
+    let journal : JournalFigures = journal_of (size_of i.opened.value) (g.D.Disk.fault_count (disk_of i.opened.value)) (g.D.Disk.history i.taken.value) (g.D.Disk.history (disk_of i.opened.value)) i.first.value in
     let runs : is_some i.kept ≡ false = sym c.is_some.ensures ∙ c.if-is_some.false in
     let none : i.kept ≡ None = none_of i.kept runs in
     let house = rw none at was in
-    let stored = house_stored now (size_of i.journal) _ was runs in
-    rw (none, first)
-    (made_house now i.past i.opening (size_of i.journal) journal (g.D.Disk.history (disk_of i.journal)) (g.D.Disk.fault_count (disk_of i.journal))
-    house entry.seat ask decided.1.accepted c.store.new.machine.state (size_of c.store.new.journal) (g.D.Disk.history (disk_of c.store.new.journal)) (g.D.Disk.fault_count (disk_of c.store.new.journal))
-    c.in-Ok.ensures.state c.in-Ok.ensures.size (c.store.ensures.any_moment stored) (c.store.ensures.yet stored) (c.in-Ok.ensures.stored stored) c.store.ensures.never_falls c.in-Ok.ensures.solutions c.store.new.past c.in-Ok.ensures.past)
+    let stored = house_stored now (now_of i.journal) _ was runs in
+    rw none
+    (made_house now i.past i.opening (now_of i.journal) journal (g.D.Disk.history (disk_of i.journal)) (g.D.Disk.fault_count (disk_of i.journal))
+    house entry.seat ask decided.1.accepted c.store.new.machine.state (now_of c.store.new.journal) (g.D.Disk.history (disk_of c.store.new.journal)) (g.D.Disk.fault_count (disk_of c.store.new.journal))
+    c.in-Ok.ensures.state c.in-Ok.ensures.size (c.store.ensures.any_moment stored) (c.store.ensures.yet stored) (c.in-Ok.ensures.stored stored) c.in-Ok.ensures.sound c.store.ensures.never_falls c.in-Ok.ensures.solutions c.store.new.past c.in-Ok.ensures.past)
 
 pub returns-in-Ok-clause-calls : goal.returns-in-Ok-clause-calls
 returns-in-Ok-clause-calls g c =
     let i = c.self.inside in
     let here : HouseView =
-    house_of i.past i.opening (journal_of (size_of i.opened.value) (g.D.Disk.fault_count (disk_of i.opened.value)) (g.D.Disk.history i.taken.value) (g.D.Disk.history (disk_of i.opened.value)) (take i.opening i.past.entries)) i.kept
+    house_of i.past i.opening (journal_of (size_of i.opened.value) (g.D.Disk.fault_count (disk_of i.opened.value)) (g.D.Disk.history i.taken.value) (g.D.Disk.history (disk_of i.opened.value)) i.first.value) i.kept
     (g.D.Disk.history (disk_of i.journal)) (g.D.Disk.fault_count (disk_of i.journal)) in
     let decided = rw c.in-Ok-Ready.field-0-is at c.in-Ok-Ready.ensures.decides in
     let entry : Entry = c.in-Ok-Ready.ready.entry in
     let ask = entry.ask in
     let now : State = c.decide.new.self.state in
-    let was = stays i.machine.state now (size_of i.journal) _ c.decide.ensures.state c.self.invariant in
-    let journal : JournalFigures = journal_of (size_of i.opened.value) (g.D.Disk.fault_count (disk_of i.opened.value)) (g.D.Disk.history i.taken.value) (g.D.Disk.history (disk_of i.opened.value)) (take i.opening i.past.entries) in
-    let first : take i.opening c.store.new.past.entries ≡ take i.opening i.past.entries =
-    ap (λ (p : History). take i.opening p.entries) c.in-Ok.ensures.past ∙ take-append-le i.opening i.past.entries (entry ∷ []) was.keeps.opened in
+    let was = stays i.machine.state now (now_of i.journal) _ c.decide.ensures.state c.self.invariant in
+    let journal : JournalFigures = journal_of (size_of i.opened.value) (g.D.Disk.fault_count (disk_of i.opened.value)) (g.D.Disk.history i.taken.value) (g.D.Disk.history (disk_of i.opened.value)) i.first.value in
     let runs : is_some i.kept ≡ false = sym c.is_some.ensures ∙ c.if-is_some.false in
     let none : i.kept ≡ None = none_of i.kept runs in
     let house = rw none at was in
-    let stored = house_stored now (size_of i.journal) _ was runs in
+    let stored = house_stored now (now_of i.journal) _ was runs in
     let place : c.length-at.result + 1 ≡ end_of i.past + 1 = ap (λ n. n + 1) c.length-at.ensures.length in
     let done : HouseView =
-    house_of c.store.new.past i.opening (journal_of (size_of i.opened.value) (g.D.Disk.fault_count (disk_of i.opened.value)) (g.D.Disk.history i.taken.value) (g.D.Disk.history (disk_of i.opened.value)) (take i.opening c.store.new.past.entries)) i.kept
+    house_of c.store.new.past i.opening (journal_of (size_of i.opened.value) (g.D.Disk.fault_count (disk_of i.opened.value)) (g.D.Disk.history i.taken.value) (g.D.Disk.history (disk_of i.opened.value)) i.first.value) i.kept
     (g.D.Disk.history (disk_of c.store.new.journal)) (g.D.Disk.fault_count (disk_of c.store.new.journal)) in
     let said =
-    made now i.past i.opening (size_of i.journal) journal (g.D.Disk.history (disk_of i.journal)) (g.D.Disk.fault_count (disk_of i.journal))
-    house entry.seat ask decided.1.accepted c.store.new.machine.state (size_of c.store.new.journal) (g.D.Disk.history (disk_of c.store.new.journal)) (g.D.Disk.fault_count (disk_of c.store.new.journal))
-    c.in-Ok.ensures.state c.in-Ok.ensures.size (c.store.ensures.any_moment stored) (c.store.ensures.yet stored) (c.in-Ok.ensures.stored stored) c.store.ensures.never_falls c.in-Ok.ensures.solutions c.store.new.past c.in-Ok.answer (c.length-at.result + 1)
+    made now i.past i.opening (now_of i.journal) journal (g.D.Disk.history (disk_of i.journal)) (g.D.Disk.fault_count (disk_of i.journal))
+    house entry.seat ask decided.1.accepted c.store.new.machine.state (now_of c.store.new.journal) (g.D.Disk.history (disk_of c.store.new.journal)) (g.D.Disk.fault_count (disk_of c.store.new.journal))
+    c.in-Ok.ensures.state c.in-Ok.ensures.size (c.store.ensures.any_moment stored) (c.store.ensures.yet stored) (c.in-Ok.ensures.stored stored) c.in-Ok.ensures.sound c.store.ensures.never_falls c.in-Ok.ensures.solutions c.store.new.past c.in-Ok.answer (c.length-at.result + 1)
     c.in-Ok.ensures.past c.in-Ok.ensures.answer place in
     subst (λ (v : HouseView). Calls v done c.args.seat c.args.ask (record { at = c.length-at.result + 1; answer = c.in-Ok.answer })) c.self.view_is
     (subst (λ (e : Entry). Calls here done e.seat e.ask (record { at = c.length-at.result + 1; answer = c.in-Ok.answer })) decided.0
-    (rw (none, first) said))
+    (rw none said))
 
 pub invariant_of-self-in-Err-Memory : goal.invariant_of-self-in-Err-Memory
 invariant_of-self-in-Err-Memory g c =
     let i = c.self.inside in
     let memory = rw c.in-Err-Memory.field-0-is at c.in-Err-Memory.is in
     let same = c.store.ensures.same_disk memory in
-    rw (c.in-Err-Memory.ensures.same_state, c.decide.ensures.state, c.in-Err-Memory.ensures.same_past, c.in-Err-Memory.ensures.same_size, same.0, same.1) c.self.invariant
+    rw (c.in-Err-Memory.ensures.same_state, c.decide.ensures.state, c.in-Err-Memory.ensures.same_past, c.store.ensures.same_journal memory, same.0, same.1) c.self.invariant
 
 pub returns-in-Err-Memory-clause-calls : goal.returns-in-Err-Memory-clause-calls
 returns-in-Err-Memory-clause-calls g c =
@@ -191,11 +192,11 @@ returns-in-Err-Memory-clause-calls g c =
     let memory = rw c.in-Err-Memory.field-0-is at c.in-Err-Memory.is in
     let same = c.store.ensures.same_disk memory in
     let done : HouseView =
-    house_of c.store.new.past i.opening (journal_of (size_of i.opened.value) (g.D.Disk.fault_count (disk_of i.opened.value)) (g.D.Disk.history i.taken.value) (g.D.Disk.history (disk_of i.opened.value)) (take i.opening c.store.new.past.entries)) i.kept
+    house_of c.store.new.past i.opening (journal_of (size_of i.opened.value) (g.D.Disk.fault_count (disk_of i.opened.value)) (g.D.Disk.history i.taken.value) (g.D.Disk.history (disk_of i.opened.value)) i.first.value) i.kept
     (g.D.Disk.history (disk_of c.store.new.journal)) (g.D.Disk.fault_count (disk_of c.store.new.journal)) in
     subst (λ (v : HouseView). Calls v done c.args.seat c.args.ask c.refused-in-Err-Memory.result) c.self.view_is
     (rw (c.in-Err-Memory.ensures.same_past, same.0, same.1)
-    (memory_call i.machine.state (size_of i.journal) _ c.self.invariant c.args.seat c.args.ask c.length-at.result c.refused-in-Err-Memory.result c.length-at.ensures.length c.refused-in-Err-Memory.ensures))
+    (memory_call i.machine.state (now_of i.journal) _ c.self.invariant c.args.seat c.args.ask c.length-at.result c.refused-in-Err-Memory.result c.length-at.ensures.length c.refused-in-Err-Memory.ensures))
 
 pub invariant_of-self-in-Err-Failed : goal.invariant_of-self-in-Err-Failed
 invariant_of-self-in-Err-Failed g c =
@@ -204,41 +205,42 @@ invariant_of-self-in-Err-Failed g c =
     let entry : Entry = c.in-Ok-Ready.ready.entry in
     let ask = entry.ask in
     let now : State = c.decide.new.self.state in
-    let was = stays i.machine.state now (size_of i.journal) _ c.decide.ensures.state c.self.invariant in
-    let journal : JournalFigures = journal_of (size_of i.opened.value) (g.D.Disk.fault_count (disk_of i.opened.value)) (g.D.Disk.history i.taken.value) (g.D.Disk.history (disk_of i.opened.value)) (take i.opening i.past.entries) in
+    let was = stays i.machine.state now (now_of i.journal) _ c.decide.ensures.state c.self.invariant in
+    let journal : JournalFigures = journal_of (size_of i.opened.value) (g.D.Disk.fault_count (disk_of i.opened.value)) (g.D.Disk.history i.taken.value) (g.D.Disk.history (disk_of i.opened.value)) i.first.value in
     let runs : is_some i.kept ≡ false = sym c.is_some.ensures ∙ c.if-is_some.false in
     let none : i.kept ≡ None = none_of i.kept runs in
     let house = rw none at was in
-    let stored = house_stored now (size_of i.journal) _ was runs in
+    let stored = house_stored now (now_of i.journal) _ was runs in
     let told = rw c.in-Err-Failed.field-0-is at c.in-Err-Failed.ensures.failed in
-    rw (c.in-Err-Failed.ensures.same_state, c.in-Err-Failed.ensures.same_past, c.in-Err-Failed.ensures.same_size, told.0)
-    (broken_house now i.past i.opening (size_of i.journal) journal (g.D.Disk.history (disk_of i.journal)) (g.D.Disk.fault_count (disk_of i.journal))
-    house entry.seat ask decided.1.accepted (g.D.Disk.history (disk_of c.store.new.journal)) (g.D.Disk.fault_count (disk_of c.store.new.journal)) (c.store.ensures.any_moment stored) (c.store.ensures.yet stored) c.store.ensures.never_falls told.1.0 told.1.1)
+    rw (c.in-Err-Failed.ensures.same_state, c.in-Err-Failed.ensures.same_past, told.0)
+    (broken_house now i.past i.opening (now_of i.journal) journal (g.D.Disk.history (disk_of i.journal)) (g.D.Disk.fault_count (disk_of i.journal))
+    house entry.seat ask decided.1.accepted (g.D.Disk.history (disk_of c.store.new.journal)) (g.D.Disk.fault_count (disk_of c.store.new.journal)) (c.store.ensures.any_moment stored) (c.store.ensures.yet stored) c.store.ensures.never_falls told.1.0 told.1.1
+    (now_of c.store.new.journal) c.in-Err-Failed.ensures.same_size)
 
 pub returns-in-Err-Failed-clause-calls : goal.returns-in-Err-Failed-clause-calls
 returns-in-Err-Failed-clause-calls g c =
     let i = c.self.inside in
     let here : HouseView =
-    house_of i.past i.opening (journal_of (size_of i.opened.value) (g.D.Disk.fault_count (disk_of i.opened.value)) (g.D.Disk.history i.taken.value) (g.D.Disk.history (disk_of i.opened.value)) (take i.opening i.past.entries)) i.kept
+    house_of i.past i.opening (journal_of (size_of i.opened.value) (g.D.Disk.fault_count (disk_of i.opened.value)) (g.D.Disk.history i.taken.value) (g.D.Disk.history (disk_of i.opened.value)) i.first.value) i.kept
     (g.D.Disk.history (disk_of i.journal)) (g.D.Disk.fault_count (disk_of i.journal)) in
     let decided = rw c.in-Ok-Ready.field-0-is at c.in-Ok-Ready.ensures.decides in
     let entry : Entry = c.in-Ok-Ready.ready.entry in
     let ask = entry.ask in
     let now : State = c.decide.new.self.state in
     let sized : c.length.result ≡ record_size ask = c.length.ensures.size ∙ ap (λ (e : Entry). record_size e.ask) c.entry.ensures in
-    let was = stays i.machine.state now (size_of i.journal) _ c.decide.ensures.state c.self.invariant in
-    let journal : JournalFigures = journal_of (size_of i.opened.value) (g.D.Disk.fault_count (disk_of i.opened.value)) (g.D.Disk.history i.taken.value) (g.D.Disk.history (disk_of i.opened.value)) (take i.opening i.past.entries) in
+    let was = stays i.machine.state now (now_of i.journal) _ c.decide.ensures.state c.self.invariant in
+    let journal : JournalFigures = journal_of (size_of i.opened.value) (g.D.Disk.fault_count (disk_of i.opened.value)) (g.D.Disk.history i.taken.value) (g.D.Disk.history (disk_of i.opened.value)) i.first.value in
     let runs : is_some i.kept ≡ false = sym c.is_some.ensures ∙ c.if-is_some.false in
     let none : i.kept ≡ None = none_of i.kept runs in
     let house = rw none at was in
-    let stored = house_stored now (size_of i.journal) _ was runs in
+    let stored = house_stored now (now_of i.journal) _ was runs in
     let told = rw c.in-Err-Failed.field-0-is at c.in-Err-Failed.ensures.failed in
     let room = room_told (size_of i.journal) ask (has_room c.fits.result (size_of i.journal) c.length.result ask c.if-not-fits.false c.fits.ensures sized) in
     let done : HouseView =
-    house_of c.store.new.past i.opening (journal_of (size_of i.opened.value) (g.D.Disk.fault_count (disk_of i.opened.value)) (g.D.Disk.history i.taken.value) (g.D.Disk.history (disk_of i.opened.value)) (take i.opening c.store.new.past.entries)) (Some c.in-Err-Failed.entry)
+    house_of c.store.new.past i.opening (journal_of (size_of i.opened.value) (g.D.Disk.fault_count (disk_of i.opened.value)) (g.D.Disk.history i.taken.value) (g.D.Disk.history (disk_of i.opened.value)) i.first.value) (Some c.in-Err-Failed.entry)
     (g.D.Disk.history (disk_of c.store.new.journal)) (g.D.Disk.fault_count (disk_of c.store.new.journal)) in
     let said =
-    failed_call now i.past i.opening (size_of i.journal) journal (g.D.Disk.history (disk_of i.journal)) (g.D.Disk.fault_count (disk_of i.journal))
+    failed_call now i.past i.opening (now_of i.journal) journal (g.D.Disk.history (disk_of i.journal)) (g.D.Disk.fault_count (disk_of i.journal))
     house entry.seat ask decided.1.accepted (g.D.Disk.history (disk_of c.store.new.journal)) (g.D.Disk.fault_count (disk_of c.store.new.journal)) (c.store.ensures.any_moment stored) (c.store.ensures.yet stored) c.store.ensures.never_falls told.1.0 told.1.1
     c.length-at.result c.length-at.ensures.length room in
     subst (λ (v : HouseView). Calls v done c.args.seat c.args.ask c.refused-in-Err-Failed.result) c.self.view_is
