@@ -1,46 +1,78 @@
-"""The command compress-journal: each record of a journal in words, with the offset of its gate, and where the records end.
+"""The command compress-journal: a journal's slots, its base and each of its records in words, and where the records end.
 
 Where the journal is damaged it stops there, says by which rule, and ends with status 7. It never writes to the file. Written
-from docs/FORMATS.md, "The journal's file" and "Records"; whether the machine accepts a change is not looked at.
+from docs/FORMATS.md, "The journal's file", "Bases" and "Records"; whether the base fits a roster, and whether the machine accepts a
+change, is not looked at.
 """
 
-from typing import NamedTuple, NoReturn
+from typing import Iterator, NoReturn
 
-from .changes import rows_of
+from .bases import Base, Kept, Setting, base_of
+from .changes import Tolerance, rows_of
 from .ending import Stop, read_file, run
+from .frames import MOST_BYTES, SELECTOR, SLOTS, Form, Lead, walk
 from .records import BadField, record_of
 from .words import Words, plain
 
-HEADER = b"OTCJRNL1"
-LIMIT = 268_435_456
+BEGUN_END = 30
+"""Where the journal ends that is begun on a file which is too short."""
 
 
-class Walk(NamedTuple):
-    """The offsets of the open gates with their records, and the closed gate, or where and how the file is damaged."""
-
-    frames: list[tuple[int, bytes]]
-    closed: int
-    damage: str | None
+def name_at(names: list[str], place: int) -> str:
+    """The name at a place, or, where there is none, the place."""
+    return names[place] if place < len(names) else f"number {place}"
 
 
-def walk(file: bytes) -> Walk:
-    """The records that stand in a file of ten bytes or more."""
-    if not file.startswith(HEADER):
-        return Walk([], 0, f"it does not begin with {HEADER.decode()}")
-    frames: list[tuple[int, bytes]] = []
-    at = len(HEADER)
-    while at < len(file) and file[at] == 1:
-        if at + 5 > len(file):
-            return Walk(frames, at, "the length of its record passes the file's end")
-        size = int.from_bytes(file[at + 1 : at + 5], "little")
-        end = at + 5 + size
-        if end >= LIMIT:
-            return Walk(frames, at, f"its record ends at {end}, at or past {LIMIT}")
-        if end > len(file):
-            return Walk(frames, at, f"its record of {size} bytes passes the file's end")
-        frames.append((at, file[at + 5 : end]))
-        at = end
-    return Walk(frames, at, None if at < len(file) else "a gate is due, and the file ends")
+def setting_text(base: Base, setting: Setting) -> str:
+    """The member, and the command that would make the setting."""
+    other, product = name_at(base.members, setting.other), name_at(base.products, setting.product)
+    command = Tolerance(other, product, setting.side, setting.floor, setting.ceiling)
+    return f"{name_at(base.members, setting.member)}: {command}"
+
+
+def trade_text(base: Base, trade: Kept) -> str:
+    seller, buyer = name_at(base.members, trade.seller), name_at(base.members, trade.buyer)
+    sides = {"out": seller, "in": buyer}
+    text = f"{seller} {buyer} {name_at(base.products, trade.product)} {trade.amount} {trade.day} {trade.state}"
+    told = [f"submitted by {sides[trade.submitter]}"] if trade.submitter else []
+    told += [f"marked by {sides[trade.mark]}"] if trade.mark else []
+    told += [f"held by {name}" for name, holds in ((seller, trade.seller_holds), (buyer, trade.buyer_holds)) if holds]
+    return ", ".join([text, *told])
+
+
+def lines_of(base: Base) -> Iterator[str]:
+    """What a base has, as lines."""
+    yield f"  position {base.position}, cycle {base.cycle}, version {base.version}"
+    yield " ".join(["  members", *base.members])
+    yield " ".join(["  products", *base.products])
+    for setting in base.settings:
+        yield f"  setting {setting_text(base, setting)}"
+    for number, trade in enumerate(base.trades, 1):
+        yield f"  trade {number} {trade_text(base, trade)}"
+
+
+def print_base(lead: Lead) -> BadField | None:
+    """A base in words; where its bytes spell none, that."""
+    if not lead.base:
+        print(f"{lead.offset} no base")
+        return None
+    try:
+        base = base_of(lead.base)
+    except BadField as bad:
+        at = lead.offset + 4 + bad.at
+        print(f"{lead.offset} base, {len(lead.base)} bytes: spells no state at offset {at}, {bad.what}")
+        return bad
+    print(f"{lead.offset} base, {len(lead.base)} bytes: settings: {len(base.settings)}, trades: {len(base.trades)}")
+    for line in lines_of(base):
+        print(line)
+    return None
+
+
+def print_slots(file: bytes, lead: Lead) -> None:
+    print(f"{SELECTOR} selector: slot {lead.slot}")
+    for slot, place in enumerate(SLOTS):
+        offset = int.from_bytes(file[place : place + 8], "little")
+        print(f"{place} slot {slot}: offset {offset}")
 
 
 def print_record(at: int, number: int, bytes: bytes) -> BadField | None:
@@ -57,10 +89,16 @@ def print_record(at: int, number: int, bytes: bytes) -> BadField | None:
 
 
 def inspect(file: bytes) -> None:
-    if len(file) < 10:
-        print("no records: fewer than ten bytes; end 9")
-        return
     found = walk(file)
+    if found.lead is None:
+        raise Stop(7, f"damaged at {found.closed}: {found.damage}")
+    if found.lead.form in (Form.SHORT, Form.SHORT_SLOTTED):
+        print(f"no records: {found.lead.form.value}; end {BEGUN_END}")
+        return
+    if found.lead.form == Form.SLOTTED:
+        print_slots(file, found.lead)
+        if print_base(found.lead) is not None and found.damage is None:
+            raise Stop(7, f"damaged at {found.lead.offset}: its base spells no state")
     for number, (at, bytes) in enumerate(found.frames, 1):
         bad = print_record(at, number, bytes)
         if bad is not None and found.damage is None:
@@ -73,14 +111,15 @@ def inspect(file: bytes) -> None:
 def words() -> Words:
     parser = Words(
         "compress-journal",
-        "Prints each record of a journal in words, and where and by which rule it is damaged. It never writes to the file.",
+        "Prints the slots, the base and each record of a journal in words, and where and by which rule it is damaged. It never "
+        "writes to the file.",
     )
     parser.add_argument("file", metavar="FILE", type=plain, help="the journal")
     return parser
 
 
 def main(line: list[str]) -> int:
-    inspect(read_file(words().parse_args(line).file, LIMIT + 5))
+    inspect(read_file(words().parse_args(line).file, MOST_BYTES))
     return 0
 
 

@@ -1,4 +1,4 @@
-"""The journal inspector: by the worked bytes of docs/FORMATS.md, records spelled by hand, the program's journals."""
+"""The journal inspector: by the worked bytes of docs/FORMATS.md, bases and records spelled by hand, the program's journals."""
 
 import tempfile
 import unittest
@@ -11,9 +11,17 @@ HEADER = "4f54434a524e4c31"
 TRADE = "00000000 0141 01 0141 0142 0150 0a00000000000000 ea070302"
 AFFIRM = "00000000 0142 02 0100000000000000"
 ONE = bytes.fromhex(f"{HEADER} 01 19000000 {TRADE} 00")
+PLAIN_TWO = ONE[:-1] + bytes.fromhex(f"01 0f000000 {AFFIRM} 00")
 FIRST = b"8 record 1, 25 bytes: seat 0, A: TRADE A B P 10 2026-03-02\n"
-SHORT = Ran(0, b"no records: fewer than ten bytes; end 9\n", b"")
+SHORT = Ran(0, b"no records: fewer than ten bytes; end 30\n", b"")
 WHOLE = Ran(0, FIRST + b"38 closed gate, end 39; records: 1\n", b"")
+
+SLOTTED = bytes.fromhex("4f54434a524e4c43 00 1900000000000000 0000000000000000 00000000")
+EMPTY = b"8 selector: slot 0\n9 slot 0: offset 25\n17 slot 1: offset 0\n25 no base\n"
+SLOTTED_ONE = SLOTTED + ONE[8:]
+SLOTTED_FIRST = FIRST.replace(b"8 ", b"29 ", 1)
+SHORT_SLOTTED = Ran(0, b"no records: slots, and fewer than 31 bytes; end 30\n", b"")
+SLOTTED_WHOLE = Ran(0, EMPTY + SLOTTED_FIRST + b"59 closed gate, end 60; records: 1\n", b"")
 
 
 def frame(record: str) -> bytes:
@@ -97,6 +105,37 @@ BAD: list[tuple[str, int]] = [
 """Records that spell no change, with the first byte of the first field that breaks the rules."""
 
 
+BASE = (
+    f"01 {number(7)} {number(2)} {number(3)} 0300 0141 0142 0143 0100 0150"
+    f"{number(1)} 0000 0000 0200 00 {number(5)} 01 {number(9)}"
+    f"{number(1)} 0000 0100 0000 {number(10)} ea070302 01 01 00 02"
+)
+BASED = bytes.fromhex(f"4f54434a524e4c43 01 {number(25)} {number(33)} ffffffffffffffff 63000000 {BASE} 00")
+BASED_SLOTS = b"8 selector: slot 1\n9 slot 0: offset 25\n17 slot 1: offset 33\n"
+BASED_TEXT = BASED_SLOTS + (
+    b"33 base, 99 bytes: settings: 1, trades: 1\n  position 7, cycle 2, version 3\n  members A B C\n  products P\n"
+    b"  setting A: TOL C P out 5 9\n  trade 1 A B P 10 2026-03-02 live, submitted by A, held by B\n"
+)
+"""A base at 33, which slot 1 has, and what is told of it."""
+
+BAD_BASES: list[tuple[int, int, int]] = [
+    (37, 2, 37),
+    (65, 0x61, 64),
+    (70, 2, 74),
+    (88, 2, 88),
+    (96, 0x7F, 89),
+    (97, 2, 97),
+    (106, 2, 136),
+    (120, 0, 120),
+    (130, 13, 128),
+    (132, 3, 132),
+    (133, 3, 133),
+    (134, 3, 134),
+    (135, 4, 135),
+]
+"""A byte of the base that is another one, and the first byte of the first field that breaks the rules."""
+
+
 class Inspected(unittest.TestCase):
     def setUp(self) -> None:
         folder = tempfile.TemporaryDirectory()
@@ -130,10 +169,43 @@ class Inspected(unittest.TestCase):
                 else:
                     self.assert_damaged(ONE[:size], 38, FIRST, b"a gate is due, and the file ends")
 
+    def test_each_cut_of_a_file_with_slots(self) -> None:
+        self.assertEqual(self.inspect(SLOTTED_ONE), SLOTTED_WHOLE)
+        for size in range(60):
+            with self.subTest(size=size):
+                if size < 31:
+                    self.assertEqual(self.inspect(SLOTTED_ONE[:size]), SHORT if size < 10 else SHORT_SLOTTED)
+                elif size < 59:
+                    self.assert_damaged(SLOTTED_ONE[:size], 29, EMPTY, b"passes the file's end")
+                else:
+                    self.assert_damaged(SLOTTED_ONE[:size], 59, EMPTY + SLOTTED_FIRST, b"a gate is due, and the file ends")
+
+    def test_slots_and_bases(self) -> None:
+        """A base behind the selected offset, and what is damaged there; the other slot means nothing."""
+        self.assertEqual(self.inspect(BASED), Ran(0, BASED_TEXT + b"136 closed gate, end 137; records: 0\n", b""))
+        behind = BASED[:-1] + frame(AFFIRM) + b"\0"
+        second = b"136 record 1, 15 bytes: seat 0, B: AFFIRM 1\n156 closed gate, end 157; records: 1\n"
+        self.assertEqual(self.inspect(behind), Ran(0, BASED_TEXT + second, b""))
+        self.assert_damaged(BASED[:24] + b"\xff" + BASED[25:], 33 + (255 << 56), b"", b"length of its base passes the file's end")
+        self.assert_damaged(BASED[:17] + b"\x18" + BASED[18:], 24, b"", b"slot 1 leads below 25")
+        self.assert_damaged(BASED[:8] + b"\x02" + BASED[9:], 25, b"", b"at or past 268435456")
+        self.assert_damaged(BASED[:135], 33, b"", b"base of 99 bytes passes the file's end")
+        self.assert_damaged(BASED[:136], 136, BASED_TEXT, b"a gate is due, and the file ends")
+        ran = self.inspect(BASED[:9] + b"\xff" + BASED[10:])
+        self.assertEqual((ran.status, ran.output), (0, ran.output.replace(b"offset 25\n", b"offset 255\n")))
+
+    def test_bases_that_spell_no_state(self) -> None:
+        for place, other, at in BAD_BASES:
+            with self.subTest(place=place, other=other):
+                ran = self.inspect(BASED[:place] + bytes([other]) + BASED[place + 1 :])
+                self.assertEqual((ran.status, ran.errors), (7, b"damaged at 33: its base spells no state\n"))
+                told = f"33 base, 99 bytes: spells no state at offset {at}, ".encode()
+                self.assertTrue(ran.output.startswith(BASED_SLOTS + told), ran.output)
+
     def test_other_bytes(self) -> None:
         for at in range(8):
             with self.subTest(at=at):
-                self.assert_damaged(ONE[:at] + b"\x00" + ONE[at + 1 :], 0, b"", b"begin with OTCJRNL1")
+                self.assert_damaged(ONE[:at] + b"\x00" + ONE[at + 1 :], 0, b"", b"it begins neither with OTCJRNL1 nor")
         for gate in (0, 2, 255):
             changed = ONE[:8] + bytes([gate]) + ONE[9:]
             self.assertEqual(self.inspect(changed), Ran(0, b"8 closed gate, end 9; records: 0\n", b""))
@@ -239,7 +311,13 @@ class OfTheProgram(unittest.TestCase):
 
     def test_the_place_of_damage(self) -> None:
         """Where the inspector tells damage of a journal, the program tells it at the same place, and leaves the file."""
-        whole = (self.folder / "two").read_bytes()
+        far = {33 + (255 << 8 * byte) for byte in range(1, 8)}
+        self.assertEqual(self.places(PLAIN_TWO), {0, 8, 38, 58})
+        self.assertEqual(self.places((self.folder / "two").read_bytes()), {0, 25, 29, 59, 79, 230} | {at - 8 for at in far})
+        self.assertEqual(self.places(BASED), {0, 25, 33, 136, 222} | far)
+
+    def places(self, whole: bytes) -> set[int]:
+        """Where the inspector tells damage of each cut of a journal, and of it with each byte another one."""
         changed = [whole[:size] for size in range(len(whole))]
         changed += [whole[:at] + bytes([255 - whole[at]]) + whole[at + 1 :] for at in range(len(whole))]
         places = set()
@@ -253,8 +331,8 @@ class OfTheProgram(unittest.TestCase):
                     place = inspected.errors.split(b": ")[0] + b"\n"
                     self.assertEqual((ran.status, ran.errors), (7, place))
                     self.assertEqual(journal.read_bytes(), content)
-                    places.add(place)
-        self.assertEqual(places, {b"damaged at %d\n" % at for at in (0, 8, 38, 58)})
+                    places.add(int(place.rsplit(b" ", 1)[1]))
+        return places
 
 
 if __name__ == "__main__":

@@ -12,6 +12,9 @@ from serving import free_port, has_serve
 
 ROSTER = EXAMPLES / "roster.csv"
 EMPTY_JOURNAL = b"OTCJRNL1\0"
+SLOTTED = bytes.fromhex("4f54434a524e4c43 00 1900000000000000 0000000000000000 00000000 00")
+LONG_BASE = SLOTTED[:25] + b"\xff\xff\xff\xff"
+FAR_BASE = SLOTTED[:9] + b"\xff" * 8 + SLOTTED[17:]
 SPARSE_SIZE = 3_000_000_000
 MOST_KILOBYTES = 300_000
 """A journal's limit of 268,435,456 bytes, and what the program takes besides."""
@@ -49,6 +52,9 @@ def make_zero_link(path: Path) -> None:
 
 KINDS: dict[str, tuple[Callable[[Path], None], int, bytes]] = {
     "a sparse file that begins as a journal": (make_sparse(EMPTY_JOURNAL), 0, b""),
+    "a sparse file that begins as a journal with slots": (make_sparse(SLOTTED), 0, b""),
+    "a sparse file with a base of 4,294,967,295 bytes": (make_sparse(LONG_BASE), 7, b"damaged at 25\n"),
+    "a sparse file with a base at the last offset": (make_sparse(FAR_BASE), 7, b"damaged at 18446744073709551615\n"),
     "a sparse file of zeros": (make_sparse(b""), 7, b"damaged at 0\n"),
     "a device that gives bytes without end": (make_zero_link, 6, b"disk fault\n"),
     "a pipe that nobody writes to": (os.mkfifo, 6, b"disk fault\n"),
