@@ -29,9 +29,9 @@ def traded(trades: int, affirmed: int) -> bytes:
     return b"HELLO A KA\n" + b"TRADE A B P 1 2026-03-02\n" * trades + b"HELLO B KB\n" + affirmations
 
 
-def holds(number: int, changes: int = THOUSAND) -> bytes:
-    """A holds this trade and frees it, in so many changes."""
-    return b"HELLO A KA\n" + b"HOLD %d\nFREE %d\n" % (number, number) * (changes // 2)
+def holds(number: int) -> bytes:
+    """A holds this trade and frees it, in so many changes as a fold wants."""
+    return b"HELLO A KA\n" + b"HOLD %d\nFREE %d\n" % (number, number) * (THOUSAND // 2)
 
 
 def body(position: int, trades: int) -> bytes:
@@ -192,6 +192,9 @@ class OldJournals(OfJournals):
                     self.assertEqual(self.journal.read_bytes(), OLD[:size])
 
 
+FIRST = b"HELLO A KA\nTRADE A B P 30 2026-04-02\nHELLO B KB\nAFFIRM 1\nHELLO C KC\nTRADE C A P 30 2026-04-02\n"
+SET_AGAIN = b"HELLO B KB\n" + b"TOL C P in 0 50\n" * 700
+"""So many changes that the second opening from here on folds."""
 SPEAKERS = {"A": "KA", "B": "KB", "C": "KC", "OPS": "KO"}
 
 
@@ -243,13 +246,13 @@ class Lives(OfJournals):
             self.journal.unlink(missing_ok=True)
             plain.unlink(missing_ok=True)
             chance = random.Random(seed)
-            first = self.script(b"HELLO A KA\nTRADE A B P 30 2026-04-02\nHELLO B KB\nAFFIRM 1\nHELLO C KC\nTRADE C A P 30 2026-04-02\n")
-            self.assertEqual(first.status, 0)
+            self.assertEqual(self.script(FIRST).status, 0)
             plain.write_bytes(plain_of(self.journal.read_bytes()))
             trades, cycle = 2, 0
             for _ in range(8):
                 lines = "".join(f"{line}\n" for line in session(chance, trades, cycle)).encode()
-                lines += holds(1, 600) + b"HELLO OPS KO\n" + b"CANCEL %d\nPLAN 0\n" % (cycle + 1)
+                lines += SET_AGAIN + b"HELLO OPS KO\n"
+                lines += b"".join(b"CANCEL %d\n" % (cycle + more) for more in range(13)) + b"PLAN 0\n"
                 before = self.journal.read_bytes()
                 ran = self.script(lines)
                 self.assertEqual(ran, self.script(lines, plain), seed)
@@ -264,7 +267,7 @@ class Lives(OfJournals):
 
 
 class Copies(OfJournals):
-    """A copy that is taken from the front to the end while the journal is opened has the front of what was and the rest of what is."""
+    """A copy that is taken front to end while the journal is opened has the front of what was and the rest of what is."""
 
     def copies(self, old: bytes, new: bytes) -> Iterator[bytes]:
         """Fronts of the old bytes with the rest of the new ones, at each place of the header and at some of the rest."""
@@ -291,7 +294,7 @@ class Copies(OfJournals):
         self.assert_kept(more, front, 2000)
 
     def test_a_copy_of_which_the_service_writes_over_the_old_base_is_damaged(self) -> None:
-        """So much is written behind a fold to the front that it comes to the base before: the front of the copy still leads there."""
+        """Changes behind a fold to the front come to the base before, to which the front of the copy still leads."""
         self.written(traded(500, 500))
         more = self.written(holds(1))
         self.folded()
