@@ -146,16 +146,20 @@ KINDS: list[Callable[[Fields], Change]] = [
 """How the fields behind each kind of change are read, by its tag from 1."""
 
 
-def record_of(bytes: bytes) -> Record:
-    """The record that the bytes spell; raises BadField at the first field that breaks the rules."""
-    at = 5 + bytes[4] if len(bytes) > 4 else 0
-    party = NAMES.get(bytes[4:at])
-    if party is not None and at < len(bytes):
-        change = quick_change(bytes, at)
-        if change is not None:
-            return Record(int.from_bytes(bytes[:4], "little"), party, change)
+def record_by_fields(bytes: bytes) -> Record:
+    """As `record_of`, field by field."""
     fields = Fields(bytes)
     record = Record(fields.number(4, "the seat"), fields.name("the party"), fields.change())
     if fields.at < len(bytes):
         raise BadField(fields.at, "something behind the last field")
     return record
+
+
+def record_of(bytes: bytes) -> Record:
+    """The record that the bytes spell; raises BadField at the first field that breaks the rules."""
+    at = 5 + bytes[4] if len(bytes) > 4 else 0
+    party = NAMES.get(bytes[4:at])
+    change = None if party is None or at >= len(bytes) else quick_change(bytes, at)
+    if party is None or change is None:
+        return record_by_fields(bytes)
+    return Record(int.from_bytes(bytes[:4], "little"), party, change)

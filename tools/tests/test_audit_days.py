@@ -9,7 +9,7 @@ from pathlib import Path
 from typing import Callable, NamedTuple
 
 import spelled
-from days import Day, market_of
+from days import OPERATOR, Day, market_of
 from running import TOOLS, Ran, program, run
 
 sys.path.insert(0, str(TOOLS))
@@ -18,6 +18,7 @@ from delkwoan.changes import Post, Row
 from delkwoan.changes import Solution as Posted
 from delkwoan.frames import walk
 from delkwoan.records import Record, record_of
+from delkwoan.replies import Refused
 from delkwoan.session import Session
 
 AUDIT = TOOLS / "audit"
@@ -85,6 +86,16 @@ SPOILS: dict[str, Spoil] = {
 """What is wrong with a solution of a posting; some of it leaves it certified."""
 
 
+def close(session: Session) -> None:
+    """Cancels the cycle that is open, if one is."""
+    session.hello(OPERATOR, f"K{OPERATOR}")
+    try:
+        session.cancel(0)
+    except Refused as refusal:
+        if refusal.name == "wrong-cycle":
+            session.ask_raw(f"CANCEL {refusal.value}")
+
+
 class Beside(unittest.TestCase):
     """A random day, and its journal as it is, spoilt and folded."""
 
@@ -100,14 +111,16 @@ class Beside(unittest.TestCase):
         self.folder = Path(folder.name)
         self.roster, self.journal = self.folder / "roster", self.folder / "journal"
 
-    def spend(self, number: int, moves: int) -> None:
-        """The day of a number, which is all that it follows from."""
+    def spend(self, number: int, moves: int, is_over: bool = False) -> None:
+        """The day of a number, which is all that it follows from; where it is over, no cycle is left open."""
         chance = random.Random(number)
         market = market_of(chance)
         self.journal.unlink(missing_ok=True)
         self.roster.write_bytes(market.roster(chance.randint(0, len(market.members))))
         with Session.script(self.program, self.roster, self.journal) as session:
             Day(session, market, chance).spend(moves)
+            if is_over:
+                close(session)
 
     def records(self) -> list[tuple[int, Record]]:
         return [(at, record_of(bytes)) for at, bytes in walk(self.journal.read_bytes()).frames]
@@ -187,13 +200,7 @@ class Beside(unittest.TestCase):
                     self.assert_alike(path)
 
     def test_a_journal_that_was_folded(self) -> None:
-        self.spend(9, 12 * MOVES)
-        with Session.script(self.program, self.roster, self.journal) as session:
-            session.ask("HELLO OPS KOPS")
-            session.ask_raw("CANCEL 0")
-            for cycle in range(1, 1000):
-                if session.ask_raw(f"CANCEL {cycle}")[0].startswith(b"ok"):
-                    break
+        self.spend(9, 12 * MOVES, is_over=True)
         before = walk(self.journal.read_bytes())
         if not before.lead or not before.lead.offset:
             self.skipTest("the program writes no slots")
@@ -203,8 +210,7 @@ class Beside(unittest.TestCase):
         self.assertTrue(after.lead and after.lead.base and not after.frames)
         self.assert_postings(self.assert_alike(self.journal))
         with Session.script(self.program, self.roster, self.journal) as session:
-            chance = random.Random(10)
-            Day(session, market_of(random.Random(9)), chance).spend(MOVES)
+            Day(session, market_of(random.Random(9)), random.Random(10)).spend(MOVES)
         self.assert_postings(self.assert_alike(self.journal))
 
 
