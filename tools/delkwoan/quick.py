@@ -19,28 +19,24 @@ FLOOR, LEVELS = struct.Struct("<BQB"), struct.Struct("<BQBQ")
 """The fields behind the names of a change, of which all are there or `unpack` fails."""
 
 
-def quick_names(bytes: bytes, at: int, count: int) -> tuple[list[str], bytes]:
-    """So many names that were read before, and what stands behind them."""
-    names = []
-    for _ in range(count):
-        end = at + 1 + bytes[at]
-        names.append(NAMES[bytes[at:end]])
-        at = end
-    return names, bytes[at:]
-
-
 def quick_trade(bytes: bytes, at: int) -> Trade | None:
-    names, rest = quick_names(bytes, at, 3)
-    amount, day = SOLD.unpack(rest)
-    return Trade(names[0], names[1], names[2], amount, DAYS[day]) if 0 < amount <= MOST_NUMBER else None
+    buyer = at + 1 + bytes[at]
+    product = buyer + 1 + bytes[buyer]
+    end = product + 1 + bytes[product]
+    amount, day = SOLD.unpack(bytes[end:])
+    if not 0 < amount <= MOST_NUMBER:
+        return None
+    return Trade(NAMES[bytes[at:buyer]], NAMES[bytes[buyer:product]], NAMES[bytes[product:end]], amount, DAYS[day])
 
 
 def quick_tolerance(bytes: bytes, at: int) -> Tolerance | None:
-    names, rest = quick_names(bytes, at, 2)
+    product = at + 1 + bytes[at]
+    end = product + 1 + bytes[product]
+    rest = bytes[end:]
     side, floor, is_given, *most = (FLOOR if len(rest) == FLOOR.size else LEVELS).unpack(rest)
     if side > 1 or is_given != len(most) or max(floor, *most, 0) > MOST_NUMBER:
         return None
-    return Tolerance(names[0], names[1], "in" if side else "out", floor, most[0] if most else None)
+    return Tolerance(NAMES[bytes[at:product]], NAMES[bytes[product:end]], "in" if side else "out", floor, most[0] if most else None)
 
 
 def quick_change(bytes: bytes, at: int) -> Change | None:
