@@ -11,7 +11,6 @@ from .certificate import Network, Pair, Problem, first_clash
 from .plans import Frozen, Step, plan_of
 
 
-
 class Posting(NamedTuple):
     """A posting of a version: the gross before and after, and the first thing that is wrong with it, if any is."""
 

@@ -65,7 +65,7 @@ class History:
             self.book.tolerate(member, change)
         elif isinstance(change, changes.Accept | changes.Decline):
             self.cycle.vote(member, change)
-            if not self.cycle.left:
+            if isinstance(change, changes.Accept) and not self.cycle.left:
                 self.execute()
         elif member is not None:
             raise Refused("14 not-operator")
