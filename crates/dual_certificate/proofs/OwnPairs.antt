@@ -1,5 +1,5 @@
 -- All members together, and all but one, say what a certificate says.
-use Rattle.std.proofs.Common.{◌≡◌, ◌≢◌, ℕ, zero, suc, ◌+◌, ◌*◌, ◌<◌, ◌≤◌, get_or, Some, None, List, ℤ, pos, ◌*ℤ◌, refl, sym, ap, ◌∙◌, subst, arith, ◌⊎◌, ⊎_elim}
+use Rattle.std.proofs.Common.{◌≡◌, ◌≢◌, ℕ, zero, suc, ◌+◌, ◌*◌, ◌<◌, ◌≤◌, get_or, Some, List, ℤ, pos, ◌*ℤ◌, sym, ap, ◌∙◌, subst, arith, ⊎_elim}
 use Rattle.std.proofs.lemmas.Bool.{cases_eq}
 use Rattle.std.proofs.lemmas.Int.{ints}
 use Rattle.network_laws.specs.Networks.{NetworkData, at, net, AreInRange, IsNetwork}
@@ -10,7 +10,7 @@ use Rattle.network_laws.proofs.RowSums.{priced_by_nets}
 use Rattle.network_laws.proofs.RowOrder.{amount_none}
 use Rattle.network_laws.proofs.LimitOrder.{is_for-other, lookup_none}
 use Rattle.dual_certificate.specs.Own.{IsPairCertified, IsCertifiedFor}
-use Rattle.dual_certificate.specs.OwnLaws.{AreOfOneMarket, CertifiedWhereAllMembersAre, CertifiedWhereAllButOneAre}
+use Rattle.dual_certificate.specs.OwnLaws.{CertifiedWhereAllMembersAre, CertifiedWhereAllButOneAre}
 
 -- a certificate is what it says of all pairs and of all net positions
 from_pairs : (limits : LimitsData) (old new : NetworkData) (p : List ℤ) → limits.members ≡ old.members → new.members ≡ old.members → ((i j : ℕ) → i < old.members → j < old.members → IsPairCertified limits new p i j) → ((i : ℕ) → i < old.members → net new i ≡ net old i) → IsCertified limits old new p
