@@ -1,5 +1,5 @@
 -- A fold that is due, and its base's bytes.
-use Rattle.std.proofs.Common.{◌≡◌, List, ℕ, Option, Some, None, refl, sym, subst, ap}
+use Rattle.std.proofs.Common.{◌≡◌, List, ℕ, sym, subst}
 use Rattle.command_types.specs.declared.base.Base.{Base}
 use Rattle.command_types.specs.declared.figures.State.{State}
 use Rattle.command_types.specs.Bases.{CanBeWritten, Fits, SpellsBase, base_in, base_spelling, written}
@@ -12,7 +12,7 @@ use Rattle.cycle_laws.proofs.Written.{writable_can_be_written, spellings_stand_f
 use Rattle.cycle_states.specs.Replayed.{IsReplayed, IsSmall}
 use Rattle.recovery.specs.StandsFor.{StandsForBase}
 use Rattle.house.specs.Folding.{MayBeFolded, fold_bytes}
-use Rattle.house.specs.Due.{IsDueBase, IsFoldOf}
+use Rattle.house.specs.Due.{IsFoldOf}
 
 module _ (s : State) (h : History) (replayed_there : IsReplayed s h) (writable : IsWritable h.base.state.roster h.base.state) (may : MayBeFolded h) where
   fold_writable : IsWritable h.base.state.roster (replayed h)

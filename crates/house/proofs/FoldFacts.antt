@@ -1,8 +1,8 @@
 -- When a file is to be folded, and what a fold leaves.
-use Rattle.std.proofs.Common.{◌≡◌, ◌⊎◌, inl, inr, ⊎_elim, ℕ, ◌+◌, ◌≤◌, Bool, true, false, List, [], ◌∷◌, length, Option, Some, None, IfSome, refl, sym, ◌∙◌, subst, ap, arith}
+use Rattle.std.proofs.Common.{◌≡◌, ◌⊎◌, inl, inr, ⊎_elim, ℕ, ◌≤◌, List, [], ◌∷◌, length, Option, Some, None, IfSome, refl, sym, ◌∙◌, subst, ap, arith}
 use Rattle.std.specs.List.{flat_map}
 use Rattle.command_types.specs.declared.ask.Entry.{Entry}
-use Rattle.command_types.specs.Folds.{IsAtRest, folded}
+use Rattle.command_types.specs.Folds.{folded}
 use Rattle.command_types.specs.History.{History}
 use Rattle.outside.specs.Disk as disks
 use Rattle.journal_core.specs.Form.{IsSlots, fold_end}

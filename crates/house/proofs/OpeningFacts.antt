@@ -1,5 +1,5 @@
 -- The disk and the house at the opening.
-use Rattle.std.proofs.Common.{◌≡◌, inl, inr, ⊎_elim, ℕ, ◌+◌, ◌≤◌, Bool, true, List, length, take, drop, Option, Some, None, is_some, refl, sym, ◌∙◌, subst, ap, arith}
+use Rattle.std.proofs.Common.{◌≡◌, inl, ℕ, ◌+◌, ◌≤◌, true, List, length, take, drop, Option, Some, None, is_some, sym, ◌∙◌, subst, ap, arith}
 use Rattle.std.proofs.lemmas.Bool.{false≢true}
 use Rattle.std.proofs.lemmas.List.{drop_all, take_all}
 use Rattle.command_types.specs.declared.ask.Entry.{Entry}

@@ -1,5 +1,5 @@
 -- Entries that are read, and made again one after another.
-use Rattle.std.proofs.Common.{◌≡◌, inl, inr, ℕ, ◌<◌, List, [], ◌∷◌, ◌++◌, length, map, Option, Some, None, refl, sym, ◌∙◌, subst, ap, arith, append_assoc, length-append}
+use Rattle.std.proofs.Common.{◌≡◌, inl, inr, ℕ, ◌<◌, List, [], ◌∷◌, ◌++◌, length, map, Some, None, refl, sym, ◌∙◌, subst, ap, arith, append_assoc, length-append}
 use Rattle.std.proofs.lemmas.List.{append-nil, map-append, length-map}
 use Rattle.command_types.specs.declared.ask.Entry.{Entry}
 use Rattle.command_types.specs.declared.figures.Start.{Start}

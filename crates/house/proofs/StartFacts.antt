@@ -1,5 +1,5 @@
 -- A journal that is started, and folded where that is due.
-use Rattle.std.proofs.Common.{◌≡◌, ◌⊎◌, inl, inr, ⊎_elim, ℕ, ◌≤◌, List, length, Option, Some, None, refl, sym, ◌∙◌, subst, ap}
+use Rattle.std.proofs.Common.{◌≡◌, ◌⊎◌, inl, inr, ⊎_elim, ℕ, ◌≤◌, length, Option, refl, sym, ◌∙◌, subst, ap}
 use Rattle.command_types.specs.Folds.{folded}
 use Rattle.command_types.specs.History.{History}
 use Rattle.outside.specs.Disk as disks
@@ -13,7 +13,6 @@ use Rattle.journal_core.specs.declared.form.Form.TheVariants.{Short, Plain, Slot
 use Rattle.journal_core.proofs.MomentFacts.{leaves_more, leaves_both}
 use Rattle.recovery.specs.StandsFor.{StandsFor}
 use Rattle.house.specs.Folding.{MayBeFolded, fold_bytes, OpensOn, StandsForOne, LeavesOpenedAs}
-use Rattle.house.specs.Due.{IsFoldOf}
 use Rattle.house.specs.Storing.{AreStoredAs, ContentStandsFor}
 use Rattle.house.proofs.JournalFacts.{start_leaves, start_stores}
 use Rattle.house.proofs.FoldFacts.{opens_folded, opens_plainly, folding_opened}
