@@ -5,6 +5,7 @@
     delkwoan.many.markets    the markets that pieces are put into, and their files
     delkwoan.many.verdicts   what two checks say of a proposal
     delkwoan.many.workers    the markets on their way to workers and back
+    delkwoan.many.processes  what checks, and Dask's workers
     delkwoan.many.folder     the folder in which all is put away
     delkwoan.many.command    the command
 

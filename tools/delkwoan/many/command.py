@@ -4,22 +4,16 @@ Each market is put away with its files and its proposal, so that anybody can che
 """
 
 import importlib.util
-import logging
-import multiprocessing
 import os
 import shutil
 import signal
-import tempfile
-import threading
 import time
 from argparse import Namespace
-from concurrent.futures import Executor, ProcessPoolExecutor
 from contextlib import ExitStack
 from functools import partial
-from multiprocessing import resource_tracker
 from pathlib import Path
 from types import FrameType
-from typing import Any, Callable, Iterator, NoReturn
+from typing import Callable, Iterator, NoReturn
 
 from .. import checker
 from ..client import found_program
@@ -28,9 +22,10 @@ from ..words import Once, Words, plain
 from .folder import Folder
 from .markets import Market, markets_of
 from .pieces import Cutter
+from .processes import checking, connected
 from .tables import Figures, head_of_figures, head_of_trades, names_of, results_of, trades_of
 from .trades import Trades, read_members, read_trades
-from .workers import Distribution, Job, Quiet, Sent
+from .workers import Distribution, Job, Sent
 
 MOST_WORKERS = 64
 
@@ -73,46 +68,6 @@ def stop(number: int, _: FrameType | None) -> None:
     raise SystemExit(128 + number)
 
 
-def begin_check() -> None:
-    """In a process that checks: leaves an interrupt to the run, and ends where the run has."""
-    signal.signal(signal.SIGINT, signal.SIG_IGN)
-    parent = os.getppid()
-
-    def watch() -> None:
-        while os.getppid() == parent:
-            time.sleep(1)
-        os._exit(0)
-
-    threading.Thread(target=watch, daemon=True).start()
-
-
-def checking(processes: int) -> Executor:
-    return ProcessPoolExecutor(processes, multiprocessing.get_context("spawn"), begin_check)
-
-
-def connected(given: Namespace, processes: int, ending: ExitStack) -> Any:
-    """A client of the scheduler that is named, or of workers that are processes of this machine."""
-    from distributed import Client, LocalCluster
-
-    logging.disable(logging.CRITICAL)  # what is lost or ends is the run's to tell
-    if given.scheduler:
-        try:
-            return ending.enter_context(Client(given.scheduler))
-        except (OSError, ValueError):
-            raise Stop(21, f"no scheduler at {given.scheduler}") from None
-    room = ending.enter_context(tempfile.TemporaryDirectory())
-    settings = {"n_workers": processes, "threads_per_worker": 1, "memory_limit": 0, "local_directory": room}
-    # An interrupt of the terminal is the run's: what Dask starts inherits that it is blocked. (Python's tracker would unblock it.)
-    resource_tracker.ensure_running()
-    signal.pthread_sigmask(signal.SIG_BLOCK, {signal.SIGINT})
-    cluster = LocalCluster(**settings, dashboard_address="127.0.0.1:0", silence_logs=logging.CRITICAL)
-    ending.enter_context(cluster)
-    signal.pthread_sigmask(signal.SIG_UNBLOCK, {signal.SIGINT})
-    client = ending.enter_context(Client(cluster))
-    client.register_worker_plugin(Quiet())
-    return client
-
-
 class Progress:
     """One line on a terminal that tells how far a run is."""
 
@@ -151,8 +106,8 @@ def solve_all(given: Namespace, folder: Folder, markets: list[Market]) -> int:
         folder.keep(sent.market, sent.roster, sent.trades, proposal)
 
     with ExitStack() as ending:
-        client = connected(given, processes, ending)
-        checks = ending.enter_context(checking(processes))
+        client = connected(given.scheduler, processes, ending)
+        checks = checking(processes, ending)
         distribution = Distribution(client, checks, job, program, keep)
         progress = Progress(len(markets), client.dashboard_link)
         for done in distribution.run(beginnings(distribution, folder, markets)):

@@ -4,7 +4,6 @@ Dask has the workers, gives a lost worker's markets to others, and serves its ow
 before it counts. What one of the checks refuses, and what came without an answer, is solved again, a few times.
 """
 
-import os
 import queue
 import subprocess
 import tempfile
@@ -32,15 +31,6 @@ class Job(NamedTuple):
 
     mode: str
     program: str | None
-
-
-class Quiet:
-    """A plugin of this machine's workers: what Dask's processes say while they end or are lost is told to nobody."""
-
-    name = "quiet"
-
-    def setup(self, worker: Any) -> None:
-        os.dup2(os.open(os.devnull, os.O_WRONLY), 2)
 
 
 class Answer(NamedTuple):

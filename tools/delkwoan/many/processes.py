@@ -1,0 +1,67 @@
+"""The processes of a run: those of this machine that check, and Dask's workers, of this machine or of a cluster."""
+
+import logging
+import multiprocessing
+import os
+import signal
+import tempfile
+import threading
+import time
+from concurrent.futures import Executor, ProcessPoolExecutor
+from contextlib import ExitStack
+from multiprocessing import resource_tracker
+from typing import Any
+
+from ..ending import Stop
+
+
+def begin_check() -> None:
+    """In a process that checks: leaves an interrupt to the run, and ends where the run has."""
+    signal.signal(signal.SIGINT, signal.SIG_IGN)
+    parent = os.getppid()
+
+    def watch() -> None:
+        while os.getppid() == parent:
+            time.sleep(1)
+        os._exit(0)
+
+    threading.Thread(target=watch, daemon=True).start()
+
+
+def checking(count: int, ending: ExitStack) -> Executor:
+    """So many processes of this machine that check; what they have not begun is dropped in the end."""
+    checks = ProcessPoolExecutor(count, multiprocessing.get_context("spawn"), begin_check)
+    ending.callback(checks.shutdown, cancel_futures=True)
+    return checks
+
+
+def connected(scheduler: str | None, count: int, ending: ExitStack) -> Any:
+    """A client of the scheduler that is named, or of so many workers that are processes of this machine."""
+    from distributed import Client, LocalCluster
+
+    logging.disable(logging.CRITICAL)  # what is lost or ends is the run's to tell
+    if scheduler:
+        try:
+            return ending.enter_context(Client(scheduler))
+        except (OSError, ValueError):
+            raise Stop(21, f"no scheduler at {scheduler}") from None
+    room = ending.enter_context(tempfile.TemporaryDirectory())
+    settings = {"n_workers": count, "threads_per_worker": 1, "memory_limit": 0, "local_directory": room}
+    # An interrupt of the terminal is the run's: what Dask starts inherits that it is blocked. (Python's tracker would unblock it.)
+    resource_tracker.ensure_running()
+    signal.pthread_sigmask(signal.SIG_BLOCK, {signal.SIGINT})
+    cluster = LocalCluster(**settings, dashboard_address="127.0.0.1:0", silence_logs=logging.CRITICAL)
+    ending.enter_context(cluster)
+    signal.pthread_sigmask(signal.SIG_UNBLOCK, {signal.SIGINT})
+    client = ending.enter_context(Client(cluster))
+    client.register_worker_plugin(Quiet())
+    return client
+
+
+class Quiet:
+    """A plugin of this machine's workers: what Dask's processes say while they end or are lost is told to nobody."""
+
+    name = "quiet"
+
+    def setup(self, worker: Any) -> None:
+        os.dup2(os.open(os.devnull, os.O_WRONLY), 2)
