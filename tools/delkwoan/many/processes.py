@@ -14,6 +14,13 @@ from typing import Any
 
 from ..ending import Stop
 
+SELDOM = {
+    "distributed.worker.profile.interval": "1s",
+    "distributed.admin.tick.interval": "1s",
+    "distributed.admin.system-monitor.interval": "10s",
+}
+"""How often Dask's processes look at themselves: by its own settings so often that five of them take a fifth of a processor."""
+
 
 def begin_check() -> None:
     """In a process that checks: leaves an interrupt to the run, and ends where the run has."""
@@ -37,6 +44,7 @@ def checking(count: int, ending: ExitStack) -> Executor:
 
 def connected(scheduler: str | None, count: int, ending: ExitStack) -> Any:
     """A client of the scheduler that is named, or of so many workers that are processes of this machine."""
+    import dask
     from distributed import Client, LocalCluster
 
     logging.disable(logging.CRITICAL)  # what is lost or ends is the run's to tell
@@ -45,6 +53,7 @@ def connected(scheduler: str | None, count: int, ending: ExitStack) -> Any:
             return ending.enter_context(Client(scheduler))
         except (OSError, ValueError):
             raise Stop(21, f"no scheduler at {scheduler}") from None
+    dask.config.set(SELDOM)
     room = ending.enter_context(tempfile.TemporaryDirectory())
     settings = {"n_workers": count, "threads_per_worker": 1, "memory_limit": 0, "local_directory": room}
     # An interrupt of the terminal is the run's: what Dask starts inherits that it is blocked. (Python's tracker would unblock it.)
