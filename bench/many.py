@@ -9,7 +9,7 @@
 there are PRODUCTS: each 64 are one market. `measure` runs the tool with so many workers, and by `kill` kills a worker each second, five
 in all; then it does alone what the run did: reading and cutting, writing, and for the first 20 markets their files, solving and both
 checks. It tells the processor seconds of each and, as what is left of the run's own, those of Dask and of starting processes. `dask` has
-the markets solved by workers that are there already, and nothing else, and tells what that takes beside solving them without Dask.
+the markets solved by workers that are there already, and nothing else, and tells what that takes beside solving 20 without Dask.
 """
 
 import os
@@ -121,7 +121,7 @@ def dask(program: str, file: str, workers: str) -> None:
         before, start = seconds(resource.RUSAGE_SELF) + below(os.getpid()), time.monotonic()
         client.gather([client.submit(solve, job, *it, pure=False) for it in files])
         used, clock = seconds(resource.RUSAGE_SELF) + below(os.getpid()) - before, time.monotonic() - start
-    alone = taken(lambda: [solve(job, *it) for it in files])
+    alone = taken(lambda: [solve(job, *it) for it in files[:SAMPLE]]) * len(files) / len(files[:SAMPLE])
     own = 1000 * (used - alone) / len(files)
     print(f"{len(files)} markets, {workers} workers, {clock:.1f} s: {1000 * alone / len(files):.1f} ms a market alone, {own:.1f} more by Dask")
 
