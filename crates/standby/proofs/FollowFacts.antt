@@ -15,7 +15,6 @@ use Rattle.standby.specs.Link.{Offer, World, Lead, moved}
 use Rattle.standby.specs.Link.Event.{Asks, Arrives}
 use Rattle.standby.specs.Sent.{Sent, number_in, numbers_in}
 use Rattle.standby.specs.Following.{HeldSince, IsSaidBefore, Follows, offers_from}
-use Rattle.standby.specs.declared.peer.Heard.TheVariants as hears
 use Rattle.standby.specs.declared.peer.Said.{Said}
 use Rattle.standby.specs.declared.peer.Said.TheVariants.{Hello, Next, Bye}
 use Rattle.standby.proofs.RunFacts.{lead_on, among_left, among_right, moved_twice, moved_not, list_longer, one_asks, asks_and_takes}

@@ -1,5 +1,5 @@
 -- What a crash in following leaves, as the world sees it.
-use Rattle.std.proofs.Common.{◌≡◌, ◌⊎◌, ℕ, ◌+◌, ◌≤◌, List, [], ◌∷◌, ◌++◌, length, Option, Some, None, refl, sym, ap, ◌∙◌, subst, inl, inr, arith, length-append, append_assoc}
+use Rattle.std.proofs.Common.{◌≡◌, ◌⊎◌, ℕ, ◌+◌, ◌≤◌, List, [], ◌∷◌, ◌++◌, length, Option, Some, None, refl, sym, ap, ◌∙◌, subst, inl, inr, ⊎_elim, arith, length-append, append_assoc}
 use Rattle.std.specs.Prelude.{All}
 use Rattle.std.specs.List.{Contains}
 use Rattle.std.proofs.lemmas.List.Elements.{All-nil, All-cons, All-append, All-weaker, All-head, All-tail, All-contains}
@@ -7,7 +7,7 @@ use Rattle.command_types.specs.declared.ask.Entry.{Entry}
 use Rattle.command_types.specs.declared.figures.Start.{Start}
 use Rattle.command_types.specs.declared.figures.State.{State}
 use Rattle.command_types.specs.History.{History, end_of, longer, replayed_from}
-use Rattle.command_types.specs.Machine.{empty_state, state_after}
+use Rattle.command_types.specs.Machine.{empty_state}
 use Rattle.command_types.specs.Roster.{Rows}
 use Rattle.outside.specs.Disk as disks
 use Rattle.outside.specs.Disk.{left_since}
@@ -20,7 +20,7 @@ use Rattle.standby.specs.Link.{Offer, Fits, World, AreAmong, moved, AreAtMost, I
 use Rattle.standby.specs.Sent.{Sent, number_in, numbers_in}
 use Rattle.standby.specs.Following.{HeldSince, IsSaidBefore, IsLinked, Follows}
 use Rattle.standby.specs.declared.peer.Said.TheVariants.{Hello, Next, Bye}
-use Rattle.cycle_states.proofs.MachineFacts.{roster_after}
+use Rattle.trade_history.proofs.Rosters.{roster_on}
 use Rattle.standby.proofs.LinkFacts.{stays_sound, front_and_next, begins_on, folds_keep}
 use Rattle.standby.proofs.HeldFacts.{held_now}
 
@@ -34,11 +34,6 @@ among_contains P sent offers offer all among here = All-contains P offers offer 
     all_among : (P : Offer → Type 0) (sent offers : List Offer) → All P sent → AreAmong offers sent → All P offers
     all_among P sent [] all among = All-nil P
     all_among P sent (x ∷ xs) all (here, others) = All-cons P x xs (All-contains P sent x all here) (all_among P sent xs all others)
-
--- no change changes the roster
-roster_on : (s : State) (entries : List Entry) → (replayed_from s entries).roster ≡ s.roster
-roster_on s [] = refl
-roster_on s (entry ∷ entries) = roster_on (state_after s entry.ask) entries ∙ roster_after s entry.ask
 
 -- a history of a list has its roster
 own_roster : (roster : Rows) (h : History) (entries : List Entry) → IsHistoryOf roster h entries → h.base.state.roster ≡ roster

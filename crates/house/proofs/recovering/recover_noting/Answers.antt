@@ -2,8 +2,7 @@ use Rattle.std.proofs.Common.{◌≡◌, ◌∙◌, Result, Err, IfErr, rules, a
 use Rattle.std.proofs.lemmas.List.{length-map}
 use Rattle.command_types.specs.declared.figures.Start.{Start}
 use Rattle.command_types.specs.declared.figures.State.{State}
-use Rattle.recovery.specs.declared.entries.EntryAt.{EntryAt}
-use Rattle.recovery.specs.Reading.{file_of, start_of}
+use Rattle.recovery.specs.Reading.{file_of}
 use Rattle.recovery.proofs.EntryFacts.{read_few}
 use Rattle.house.specs.declared.fault.OpenFault.{OpenFault}
 use Rattle.house.specs.declared.recovering.Recovered.{Recovered}

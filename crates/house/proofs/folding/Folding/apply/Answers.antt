@@ -1,4 +1,3 @@
-use Rattle.std.proofs.Common.{refl}
 use Rattle.journal_core.specs.Journal.{disk_of, form_of, size_of, staged_of}
 use Rattle.house.proofs.FoldFacts.{staged_only, folds_only, folds_store}
 use Rattle.house.proofs.folding.Folding.apply.Goals as goal

@@ -3,7 +3,7 @@ use Rattle.command_types.specs.declared.ask.Entry.{Entry}
 use Rattle.command_types.specs.declared.figures.JournalFigures.{JournalFigures}
 use Rattle.command_types.specs.declared.figures.State.{State}
 use Rattle.command_types.specs.Machine.{answer_to}
-use Rattle.command_types.specs.History.{History, end_of, is_recorded}
+use Rattle.command_types.specs.History.{end_of, is_recorded}
 use Rattle.command_types.specs.Sizes.{record_size}
 use Rattle.journal_core.specs.Journal.{disk_of, form_of, size_of}
 use Rattle.cycle_states.proofs.CycleFacts.{young_small}
