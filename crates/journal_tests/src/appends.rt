@@ -1,15 +1,15 @@
 //! Appends, and what a crash in one leaves.
 
-ghost use Rattle.std.specs.Prelude.{◌<◌, ◌≤◌, ◌^◌, length, Some, OnOk};
-ghost use Rattle.journal_core.specs.Journal.{disk_of, size_of, IsReady};
+ghost use Rattle.std.specs.Prelude.{◌≡◌, ◌<◌, ◌≤◌, ◌^◌, length, true, Some, OnOk};
+ghost use Rattle.journal_core.specs.Journal.{disk_of, form_of, size_of, is_sound, IsReady};
 
-use crate::disks::{ONE, append_to, disk_of, holds, is_walked};
+use crate::disks::{BEGUN, BEGUN_ONE, ONE, append_to, disk_of, holds, is_walked, started};
 use journal_core::{Frame, Journal, walk};
 use outside::MemoryDisk;
 use std::alloc::Global;
 use std::test::Fail;
 
-// The file of one record, and behind it what an append of the record AB writes, but for the gate at byte 38.
+// The plain file of one record, and behind it what an append of the record AB writes, but for the gate at byte 38.
 const ONE_AND_AB: [u8; 46] =
     *b"OTCJRNL1\x01\x19\0\0\0\0\0\0\0\x01A\x01\x01A\x01B\x01P\x0a\0\0\0\0\0\0\0\xea\x07\x03\x02\0\x02\0\0\0AB\0";
 
@@ -40,8 +40,19 @@ fn is_appended(
 #[test]
 fn a_record_that_was_appended_is_found_after_a_crash(rt: HostRuntime) -> Result<(), Fail> {
     let alloc = rt.alloc();
-    assert!(rt; is_appended(alloc, b"", b"AB", 8, b"OTCJRNL1\x01\x02\0\0\0AB\0")?);
-    assert!(rt; is_appended(alloc, b"OTCJRNL1\0", &ONE[13..38], 8, &ONE)?);
+    let first = b"OTCJRNLC\0\x19\0\0\0\0\0\0\0\0\0\0\0\0\0\0\0\0\0\0\0\x01\x02\0\0\0AB\0";
+    assert!(rt; is_appended(alloc, b"", b"AB", 29, first)?);
+    // A file of fewer than ten bytes is begun with slots, whatever it has; a longer plain one stays plain.
+    assert!(rt; is_appended(alloc, b"OTCJRNL1\0", &BEGUN_ONE[34..59], 29, &BEGUN_ONE)?);
+    assert!(rt;
+        is_appended(
+            alloc,
+            b"OTCJRNL1\0\0",
+            b"AB",
+            8,
+            b"OTCJRNL1\x01\x02\0\0\0AB\0"
+        )?
+    );
     let mut both = ONE_AND_AB;
     both[38] = 1;
     assert!(rt; is_appended(alloc, &ONE, b"AB", 38, &both)?);
@@ -54,9 +65,11 @@ fn fill_and_append(
     frame: &mut Frame,
     record_bytes: &[u8],
 ) -> Result<(), Fail>
-    requires ready { IsReady (Some (disk_of journal.old).history) (size_of journal.old) }
+    requires ready { IsReady (Some (disk_of journal.old).history) (form_of journal.old) (size_of journal.old) }
+    requires sound { is_sound journal.old ≡ true }
     requires short { length record_bytes.now ≤ 64 }
-    ensures ready { OnOk result (IsReady (Some (disk_of journal.new).history) (size_of journal.new)) }
+    ensures ready { OnOk result (IsReady (Some (disk_of journal.new).history) (form_of journal.new) (size_of journal.new)) }
+    ensures sound { OnOk result (is_sound journal.new ≡ true) }
 {
     if !journal.fits(record_bytes.len() as u64) {
         return Err(Fail::new("the record does not fit"));
@@ -69,28 +82,24 @@ fn fill_and_append(
 #[test]
 fn a_frame_is_filled_with_one_record_after_another(rt: HostRuntime) -> Result<(), Fail> {
     let alloc = rt.alloc();
-    let mut disk = disk_of(alloc, b"")?;
-    let end = walk(alloc, &mut disk)?.end;
-    let Ok(mut journal) = Journal::start(disk, end) else {
-        return Err(Fail::new("the journal does not start"));
-    };
+    let mut journal = started(alloc, disk_of(alloc, b"")?)?;
     let mut frame = Frame::short(alloc)?;
     fill_and_append(&mut journal, &mut frame, b"ABC")?;
     fill_and_append(&mut journal, &mut frame, b"")?;
     fill_and_append(&mut journal, &mut frame, b"D")?;
     let mut disk = journal.end().crash();
-    let file = b"OTCJRNL1\x01\x03\0\0\0ABC\x01\0\0\0\0\x01\x01\0\0\0D\0";
+    let file =
+        b"OTCJRNLC\0\x19\0\0\0\0\0\0\0\0\0\0\0\0\0\0\0\0\0\0\0\x01\x03\0\0\0ABC\x01\0\0\0\0\x01\x01\0\0\0D\0";
     assert!(rt; holds(&mut disk, file)?);
     Ok(())
 }
 
 #[test]
-fn a_start_gives_an_empty_disk_its_header(rt: HostRuntime) -> Result<(), Fail> {
-    let Ok(journal) = Journal::start(disk_of(rt.alloc(), b"")?, 9) else {
-        return Err(Fail::new("the journal does not start"));
-    };
+fn a_start_gives_an_empty_disk_its_slots(rt: HostRuntime) -> Result<(), Fail> {
+    let alloc = rt.alloc();
+    let journal = started(alloc, disk_of(alloc, b"")?)?;
     let mut disk = journal.end().crash();
-    assert!(rt; holds(&mut disk, b"OTCJRNL1\0")?);
+    assert!(rt; holds(&mut disk, &BEGUN)?);
     Ok(())
 }
 
@@ -116,9 +125,7 @@ fn a_crash_leaves_the_record_where_its_gate_is_open(rt: HostRuntime) -> Result<(
 
 /// Whether a journal whose records end there says so, and that a record of this length fits, or not.
 fn says(alloc: Global, file: &[u8], end: u64, length: u64, fits: bool) -> Result<bool, Fail> {
-    let Ok(journal) = Journal::start(disk_of(alloc, file)?, end) else {
-        return Ok(false);
-    };
+    let journal = started(alloc, disk_of(alloc, file)?)?;
     Ok(journal.bytes() == end && journal.fits(length) == fits)
 }
 
@@ -127,6 +134,11 @@ fn the_last_record_that_fits_ends_one_byte_below_the_limit(rt: HostRuntime) -> R
     let cases = [(268_435_412, true), (268_435_413, false), (u64::MAX, false)];
     for (length, fits) in cases {
         assert!(rt; says(rt.alloc(), &ONE, 39, length, fits)?, "{length}");
+    }
+    // Behind the slots it is 21 bytes shorter.
+    let cases = [(268_435_391, true), (268_435_392, false)];
+    for (length, fits) in cases {
+        assert!(rt; says(rt.alloc(), &BEGUN_ONE, 60, length, fits)?, "{length}");
     }
     Ok(())
 }

@@ -1,4 +1,4 @@
-//! Each other byte at each place of the file of one record.
+//! Each other byte at each place of the plain file of one record.
 
 use crate::disks::{ONE, damaged, is_read};
 use recovery::RecoverFault;
@@ -29,11 +29,13 @@ fn is_spelling(place: usize, byte: u8) -> bool {
     }
 }
 
-/// The answer to the file with another byte at this place. A smaller length ends the record before the byte 13 + length:
+/// The answer to the file with another byte at this place. With a C in byte 7 it is one with slots, of which byte 8 selects
+/// the second, bytes 17 to 24: no base stands there. A smaller length ends the record before the byte 13 + length:
 /// where that is 01 no record stands behind it, and else the record is cut and spells no change. A length of 26 takes the
 /// closed gate too.
 fn answer_with(place: usize, byte: u8) -> Result<(usize, u64), RecoverFault> {
     match (place, byte) {
+        (7, b'C') => damaged(u64::from_le_bytes([1, b'A', 1, 1, b'A', 1, b'B', 1])),
         (0..=7, _) => damaged(0),
         (8, _) => Ok((0, 9)),
         (9, 4 | 6 | 7 | 9 | 11) => damaged(13 + u64::from(byte)),

@@ -1,12 +1,12 @@
 //! Each call of the disk that fails, with all that a crash may then leave.
 
-use crate::disks::{ONE, disk_of};
+use crate::disks::{BEGUN, BEGUN_ONE, ONE, disk_of};
 use crate::traced_disk::TracedDisk;
 use journal_core::{Frame, Journal, walk};
 use std::alloc::Global;
 use std::test::Fail;
 
-// The file of one record, and bytes behind its closed gate that an append writes over in part.
+// The plain file of one record, and bytes behind its closed gate that an append writes over in part.
 const ONE_AND_MORE: [u8; 42] =
     *b"OTCJRNL1\x01\x19\0\0\0\0\0\0\0\x01A\x01\x01A\x01B\x01P\x0a\0\0\0\0\0\0\0\xea\x07\x03\x02\0\x01\x01\x01";
 
@@ -24,7 +24,7 @@ fn append_until_it_fails(alloc: Global, disk: TracedDisk) -> Result<(TracedDisk,
     let Ok(walked) = walk(alloc, &mut disk) else {
         return Ok((disk, false));
     };
-    let mut journal = match Journal::start(disk, walked.end) {
+    let mut journal = match Journal::start(disk, walked.form, walked.end) {
         Ok(journal) => journal,
         Err((_, disk)) => return Ok((disk, false)),
     };
@@ -109,18 +109,21 @@ fn survives_each_call(
     Ok(held_after(alloc, file, before, 0)? == (Held::With, true))
 }
 
-// A walk has two calls, a start asks the length, and then writes and syncs where the file is short, an append has four.
+// A walk has two calls and an append four. A start has none where the file is long enough, two where it begins as one with
+// slots, and else four.
 #[test]
 fn a_crash_in_each_call_leaves_the_records_or_one_more(rt: HostRuntime) -> Result<(), Fail> {
     let one = [&ONE[13..38]];
     let cases = [
-        (ONE.as_slice(), one.as_slice(), 7),
-        (ONE_AND_MORE.as_slice(), one.as_slice(), 7),
-        (b"".as_slice(), [].as_slice(), 9),
+        (ONE.as_slice(), one.as_slice(), 6),
+        (ONE_AND_MORE.as_slice(), one.as_slice(), 6),
+        (BEGUN_ONE.as_slice(), one.as_slice(), 6),
+        (BEGUN.as_slice(), [].as_slice(), 8),
+        (b"".as_slice(), [].as_slice(), 10),
         (
             b"\x01\x01\x01\x01\x01\x01\x01\x01\x01".as_slice(),
             [].as_slice(),
-            9,
+            10,
         ),
     ];
     for (file, before, calls) in cases {

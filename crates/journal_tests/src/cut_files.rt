@@ -1,14 +1,14 @@
 //! Cut files, and records that spell no change.
 
-use crate::disks::{FIRST_TAG, ONE, SECOND_TAG, TWO, damaged, is_read};
+use crate::disks::{BEGUN_ONE, FIRST_TAG, ONE, SECOND_TAG, TWO, damaged, is_read};
 use recovery::RecoverFault;
 use std::test::Fail;
 
-/// The answer to the file of two records cut to this size. From 10 bytes on a gate is due at byte 8, with 38 one at byte
+/// The answer to the plain file of two records cut to this size. With fewer bytes it will be begun with slots. From 10 bytes on a gate is due at byte 8, with 38 one at byte
 /// 38, and with 58 one at byte 58; a record ends where the next gate is due.
 fn answer_when_cut(size: usize) -> Result<(usize, u64), RecoverFault> {
     match size {
-        0..=9 => Ok((0, 9)),
+        0..=9 => Ok((0, 30)),
         10..=37 => damaged(8),
         38..=57 => damaged(38),
         58 => damaged(58),
@@ -21,6 +21,32 @@ fn each_cut_of_a_file_has_its_answer(rt: HostRuntime) -> Result<(), Fail> {
     for size in 0..=59 {
         assert!(rt;
             is_read(rt.alloc(), &TWO[..size], answer_when_cut(size))?,
+            "cut to {size}"
+        );
+    }
+    Ok(())
+}
+
+/// The answer to the file with slots and one record cut to this size. From 31 bytes on a gate is due at byte 29, and with 59
+/// one at byte 59, where the record ends.
+fn answer_in_slots_when_cut(size: usize) -> Result<(usize, u64), RecoverFault> {
+    match size {
+        0..=30 => Ok((0, 30)),
+        31..=58 => damaged(29),
+        59 => damaged(59),
+        _ => Ok((1, 60)),
+    }
+}
+
+#[test]
+fn each_cut_of_a_file_with_slots_has_its_answer(rt: HostRuntime) -> Result<(), Fail> {
+    for size in 0..=60 {
+        assert!(rt;
+            is_read(
+                rt.alloc(),
+                &BEGUN_ONE[..size],
+                answer_in_slots_when_cut(size)
+            )?,
             "cut to {size}"
         );
     }
@@ -94,10 +120,11 @@ fn what_is_short_or_behind_a_closed_gate_is_not_read(rt: HostRuntime) -> Result<
         (one.as_slice(), (1, 39)),
         (none.as_slice(), (0, 9)),
         (&none[..30], (0, 9)),
-        (b"".as_slice(), (0, 9)),
-        (b"\x01\x01\x01".as_slice(), (0, 9)),
-        (b"OTCJRNL1\0".as_slice(), (0, 9)),
-        (b"OTCJRNL1\x01".as_slice(), (0, 9)),
+        (b"".as_slice(), (0, 30)),
+        (b"\x01\x01\x01".as_slice(), (0, 30)),
+        (b"OTCJRNL1\0".as_slice(), (0, 30)),
+        (b"OTCJRNL1\x01".as_slice(), (0, 30)),
+        (b"OTCJRNLC\x01\x01".as_slice(), (0, 30)),
     ];
     for (file, answer) in cases {
         assert!(rt; is_read(rt.alloc(), file, Ok(answer))?, "{answer:?}");

@@ -1,6 +1,6 @@
 //! Calls of the disk that fail: in an append, a walk, a start and in reading entries.
 
-use crate::disks::{FIRST_TAG, ONE, append_to, count_of, damaged, failing_disk};
+use crate::disks::{BEGUN, FIRST_TAG, ONE, append_to, count_of, damaged, failing_disk};
 use journal_core::{Journal, WalkFault, walk};
 use outside::Disk;
 use recovery::{RecoverFault, read_entries};
@@ -26,13 +26,14 @@ fn append_leaves(
 
 #[test]
 fn an_append_fails_where_one_of_its_four_calls_does(rt: HostRuntime) -> Result<(), Fail> {
-    for call in 4..=7 {
+    // The walk has two calls before, and a start on a file that is long enough has none.
+    for call in 3..=6 {
         assert!(rt;
             append_leaves(rt.alloc(), call, false, 1, 1)?,
             "call {call}"
         );
     }
-    assert!(rt; append_leaves(rt.alloc(), 8, true, 0, 2)?);
+    assert!(rt; append_leaves(rt.alloc(), 7, true, 0, 2)?);
     Ok(())
 }
 
@@ -50,10 +51,11 @@ fn a_walk_fails_where_one_of_its_calls_does(rt: HostRuntime) -> Result<(), Fail>
     Ok(())
 }
 
-/// Whether a start on an empty disk whose call with this number fails leaves so many faults, or is done.
-fn start_leaves(alloc: Global, call: u64, faults: Option<u64>) -> Result<bool, Fail> {
-    let disk = failing_disk(alloc, b"", call)?;
-    match Journal::start(disk, 9) {
+/// Whether a start on a disk with these bytes whose call with this number fails leaves so many faults, or is done.
+fn start_leaves(alloc: Global, bytes: &[u8], call: u64, faults: Option<u64>) -> Result<bool, Fail> {
+    let mut disk = failing_disk(alloc, bytes, call)?;
+    let walked = walk(alloc, &mut disk)?;
+    match Journal::start(disk, walked.form, walked.end) {
         Ok(_) => Ok(faults.is_none()),
         Err((_, disk)) => Ok(faults == Some(disk.faults())),
     }
@@ -61,10 +63,22 @@ fn start_leaves(alloc: Global, call: u64, faults: Option<u64>) -> Result<bool, F
 
 #[test]
 fn a_start_fails_where_one_of_its_calls_does(rt: HostRuntime) -> Result<(), Fail> {
-    for call in 1..=3 {
-        assert!(rt; start_leaves(rt.alloc(), call, Some(1))?, "call {call}");
+    // Behind the walk's two: the header and the slots, each a write and a sync, or the slots alone.
+    for call in 3..=6 {
+        assert!(rt;
+            start_leaves(rt.alloc(), b"", call, Some(1))?,
+            "call {call}"
+        );
     }
-    assert!(rt; start_leaves(rt.alloc(), 4, None)?);
+    assert!(rt; start_leaves(rt.alloc(), b"", 7, None)?);
+    for call in 3..=4 {
+        assert!(rt;
+            start_leaves(rt.alloc(), &BEGUN, call, Some(1))?,
+            "call {call}"
+        );
+    }
+    assert!(rt; start_leaves(rt.alloc(), &BEGUN, 5, None)?);
+    assert!(rt; start_leaves(rt.alloc(), &ONE, 3, None)?);
     Ok(())
 }
 

@@ -1,7 +1,8 @@
 //! Disks in memory that hold small journals, and what is read of them.
 
-ghost use Rattle.std.specs.Prelude.{◌<◌, ◌^◌, length, Some, IfOk};
+ghost use Rattle.std.specs.Prelude.{◌≡◌, ◌<◌, ◌^◌, length, true, Some, IfOk};
 ghost use Rattle.outside.specs.Disk.{IsSettled};
+ghost use Rattle.journal_core.specs.Journal.{disk_of, form_of, size_of, is_sound, IsReady};
 
 use journal_core::{Frame, Journal, WalkFault, Walked, walk};
 use outside::{Disk, Failed, MemoryDisk};
@@ -9,7 +10,14 @@ use recovery::{Entries, RecoverFault, read_entries};
 use std::alloc::Global;
 use std::test::Fail;
 
-/// The header, an open gate, the length 25, and A's command TRADE A B P 10 2026-03-02 from seat 0, with a closed gate.
+/// A file with slots as it is begun: the selector 0, the offset 25 in slot 0, no base, and a closed gate.
+pub const BEGUN: [u8; 30] = *b"OTCJRNLC\0\x19\0\0\0\0\0\0\0\0\0\0\0\0\0\0\0\0\0\0\0\0";
+
+/// The same with A's command TRADE A B P 10 2026-03-02 from seat 0, whose gate is byte 29 and whose record is bytes 34 to 58.
+pub const BEGUN_ONE: [u8; 60] =
+    *b"OTCJRNLC\0\x19\0\0\0\0\0\0\0\0\0\0\0\0\0\0\0\0\0\0\0\x01\x19\0\0\0\0\0\0\0\x01A\x01\x01A\x01B\x01P\x0a\0\0\0\0\0\0\0\xea\x07\x03\x02\0";
+
+/// A plain file: the header, an open gate, the length 25, and A's command TRADE A B P 10 2026-03-02 from seat 0, with a closed gate.
 pub const ONE: [u8; 39] =
     *b"OTCJRNL1\x01\x19\0\0\0\0\0\0\0\x01A\x01\x01A\x01B\x01P\x0a\0\0\0\0\0\0\0\xea\x07\x03\x02\0";
 
@@ -94,7 +102,10 @@ pub fn is_read(
 ) -> Result<bool, Fail> {
     let mut disk = disk_of(alloc, bytes)?;
     let given = match read_entries(alloc, &mut disk) {
-        Ok(entries) => Ok((entries_in(alloc, &entries)?, entries.end())),
+        Ok(contents) => Ok((
+            entries_in(alloc, &contents.entries)?,
+            contents.entries.end(),
+        )),
         Err(fault) => Err(fault),
     };
     Ok(given == answer)
@@ -103,6 +114,20 @@ pub fn is_read(
 /// The answer that the file is damaged at this place.
 pub fn damaged(offset: u64) -> Result<(usize, u64), RecoverFault> {
     Err(RecoverFault::Damaged { offset })
+}
+
+/// The journal that is started on a disk.
+pub fn started<D: Disk>(alloc: Global, disk: D) -> Result<Journal<D>, Fail>
+    requires settled { IsSettled (D.history disk) }
+    ensures ready { IfOk result (λ j. IsReady (D.history (disk_of j)) (form_of j) (size_of j)) }
+    ensures sound { IfOk result (λ j. is_sound j ≡ true) }
+{
+    let mut disk = disk;
+    let walked = walk(alloc, &mut disk)?;
+    match Journal::start(disk, walked.form, walked.end) {
+        Ok(journal) => Ok(journal),
+        Err(_) => Err(Fail::new("the journal does not start")),
+    }
 }
 
 /// Opens the journal of a disk, appends a record, and gives the disk back with the answer.
@@ -114,11 +139,7 @@ pub fn append_to<D: Disk>(
     requires settled { IsSettled (D.history disk) }
     requires small { length record_bytes.now < 2 ^ 32 }
 {
-    let mut disk = disk;
-    let end = walk(alloc, &mut disk)?.end;
-    let Ok(mut journal) = Journal::start(disk, end) else {
-        return Err(Fail::new("the journal does not start"));
-    };
+    let mut journal = started(alloc, disk)?;
     if !journal.fits(record_bytes.len() as u64) {
         return Err(Fail::new("the record does not fit"));
     }

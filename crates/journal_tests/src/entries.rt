@@ -1,9 +1,9 @@
 //! The entries that files have.
 
-use crate::disks::{ONE, TWO, append_to, disk_of};
+use crate::disks::{BEGUN_ONE, ONE, TWO, append_to, disk_of};
 use crate::records::named;
 use command_types::{Entry, What};
-use recovery::{Entries, read_entries};
+use recovery::{Contents, Entries, read_entries};
 use std::alloc::Global;
 use std::test::Fail;
 
@@ -31,14 +31,14 @@ fn is_the_affirmation(entry: &Entry) -> Result<bool, Fail> {
     Ok(is_said_by_b && matches!(entry.ask.what, What::Affirm { trade: 1 }))
 }
 
-/// Whether these are the trade alone, with its gate at byte 8.
-fn are_one(alloc: Global, entries: &Entries) -> Result<bool, Fail> {
+/// Whether these are the trade alone, with its gate at this byte, and this end.
+fn are_one(alloc: Global, entries: &Entries, at: u64, end: u64) -> Result<bool, Fail> {
     let mut reader = entries.reader();
     let Some(only) = reader.next(alloc)? else {
         return Ok(false);
     };
     let is_last = reader.next(alloc)?.is_none();
-    Ok(is_last && entries.end() == 39 && only.at == 8 && is_the_trade(&only.entry)?)
+    Ok(is_last && (only.at, entries.end()) == (at, end) && is_the_trade(&only.entry)?)
 }
 
 /// Whether these are the trade and the affirmation, with their gates at the bytes 8 and 38.
@@ -52,10 +52,14 @@ fn are_two(alloc: Global, entries: &Entries) -> Result<bool, Fail> {
     Ok(is_last && are_placed && is_the_trade(&first.entry)? && is_the_affirmation(&second.entry)?)
 }
 
-/// The entries of a file of these bytes.
+/// The entries of a file of these bytes, which has no base.
 fn entries_of(alloc: Global, bytes: &[u8]) -> Result<Entries, Fail> {
     let mut disk = disk_of(alloc, bytes)?;
-    Ok(read_entries(alloc, &mut disk)?)
+    let Contents { base, entries } = read_entries(alloc, &mut disk)?;
+    match base {
+        None => Ok(entries),
+        Some(_) => Err(Fail::new("there is a base")),
+    }
 }
 
 #[test]
@@ -64,10 +68,12 @@ fn a_file_of_one_record_has_its_entry(rt: HostRuntime) -> Result<(), Fail> {
         let mut file = ONE;
         file[38] = gate;
         assert!(rt;
-            are_one(rt.alloc(), &entries_of(rt.alloc(), &file)?)?,
+            are_one(rt.alloc(), &entries_of(rt.alloc(), &file)?, 8, 39)?,
             "gate {gate}"
         );
     }
+    let slotted = entries_of(rt.alloc(), &BEGUN_ONE)?;
+    assert!(rt; are_one(rt.alloc(), &slotted, 29, 60)?);
     Ok(())
 }
 
@@ -82,6 +88,7 @@ fn a_journal_goes_on_where_the_entries_end(rt: HostRuntime) -> Result<(), Fail> 
     let alloc = rt.alloc();
     let (disk, answer) = append_to(alloc, disk_of(alloc, &ONE)?, &TWO[43..58])?;
     let mut disk = disk.crash();
-    assert!(rt; answer.is_ok() && are_two(alloc, &read_entries(alloc, &mut disk)?)?);
+    let Contents { entries, .. } = read_entries(alloc, &mut disk)?;
+    assert!(rt; answer.is_ok() && are_two(alloc, &entries)?);
     Ok(())
 }

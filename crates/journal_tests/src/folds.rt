@@ -3,17 +3,12 @@
 ghost use Rattle.std.specs.Prelude.{◌≡◌, ◌<◌, ◌^◌, length, true, IfOk, OnOk};
 ghost use Rattle.journal_core.specs.Journal.{is_sound};
 
+use crate::disks::{BEGUN, BEGUN_ONE};
 use crate::traced_disk::TracedDisk;
 use journal_core::{Form, Frame, Journal, WalkFault, walk};
 use outside::Disk;
 use std::alloc::Global;
 use std::test::Fail;
-
-const EMPTY: [u8; 30] = *b"OTCJRNLC\0\x19\0\0\0\0\0\0\0\0\0\0\0\0\0\0\0\0\0\0\0\0";
-
-// With A's command TRADE A B P 10 2026-03-02 from seat 0.
-const ONE: [u8; 60] =
-    *b"OTCJRNLC\0\x19\0\0\0\0\0\0\0\0\0\0\0\0\0\0\0\0\0\0\0\x01\x19\0\0\0\0\0\0\0\x01A\x01\x01A\x01B\x01P\x0a\0\0\0\0\0\0\0\xea\x07\x03\x02\0";
 
 fn content_of(alloc: Global, disk: &mut TracedDisk) -> Result<Vec<u8>, Fail> {
     let length = disk.length()?;
@@ -78,13 +73,13 @@ fn a_short_file_gets_its_slots(rt: HostRuntime) -> Result<(), Fail> {
         b"OTCJRNLC\x01",
         b"OTCJRNLC\x01\x01\x01\x01\x01\x01\x01\x01\x01\x01\x01\x01",
         b"OTCJRNLC\x01\x01\x01\x01\x01\x01\x01\x01\x01\x01\x01\x01\x01\x01\x01\x01\x01\x01\x01\x01\x01\x01",
-        EMPTY.as_slice(),
+        BEGUN.as_slice(),
     ];
     for file in files {
         let journal = opened_on(alloc, file)?;
         assert!(rt; journal.bytes() == 30);
         let mut disk = journal.end();
-        assert!(rt; content_of(alloc, &mut disk)?.as_slice() == EMPTY.as_slice());
+        assert!(rt; content_of(alloc, &mut disk)?.as_slice() == BEGUN.as_slice());
     }
     Ok(())
 }
@@ -104,7 +99,7 @@ fn answer_when_cut(size: usize) -> Result<(Form, u64), WalkFault> {
 fn each_cut_of_a_file_with_slots_has_its_answer(rt: HostRuntime) -> Result<(), Fail> {
     let alloc = rt.alloc();
     for size in 0..=60 {
-        let mut disk = TracedDisk::new(alloc, &ONE[..size], 0)?;
+        let mut disk = TracedDisk::new(alloc, &BEGUN_ONE[..size], 0)?;
         let given = match walk(alloc, &mut disk) {
             Ok(walked) => Ok((walked.form, walked.end)),
             Err(fault) => Err(fault),
@@ -116,7 +111,7 @@ fn each_cut_of_a_file_with_slots_has_its_answer(rt: HostRuntime) -> Result<(), F
 
 /// The file of one record with another byte at a place.
 fn with_byte(place: usize, byte: u8) -> [u8; 60] {
-    let mut file = ONE;
+    let mut file = BEGUN_ONE;
     if let Some(there) = file.get_mut(place) {
         *there = byte;
     }
@@ -208,7 +203,15 @@ fn a_journal_folds_to_its_end_and_to_the_front(rt: HostRuntime) -> Result<(), Fa
     assert!(rt; journal.bytes() == 48);
     let mut disk = journal.end();
     let bytes = content_of(alloc, &mut disk)?;
-    assert!(rt; is_held(alloc, &bytes, (slots(0, 25), 48), b"123456789012345678", &[])?);
+    assert!(rt;
+        is_held(
+            alloc,
+            &bytes,
+            (slots(0, 25), 48),
+            b"123456789012345678",
+            &[]
+        )?
+    );
     // From the front it goes to the end again, over what is left behind it.
     let mut journal = opened(alloc, disk)?;
     append(alloc, &mut journal, b"Q")?;
@@ -239,7 +242,7 @@ enum Held {
 
 /// What a crash leaves of a fold whose call with this number fails, and whether it was done.
 fn held_after(alloc: Global, call: u64) -> Result<(Held, bool), Fail> {
-    let mut journal = opened(alloc, TracedDisk::new(alloc, &ONE, call)?)?;
+    let mut journal = opened(alloc, TracedDisk::new(alloc, &BEGUN_ONE, call)?)?;
     let is_done = folds(alloc, &mut journal, b"BASE")?;
     let disk = journal.end();
     let mut some_before = false;
@@ -247,7 +250,7 @@ fn held_after(alloc: Global, call: u64) -> Result<(Held, bool), Fail> {
     for image in &disk.images()? {
         if is_held(alloc, image, (slots(1, 60), 69), b"BASE", &[])? {
             some_after = true;
-        } else if is_held(alloc, image, (slots(0, 25), 60), b"", &[&ONE[34..59]])? {
+        } else if is_held(alloc, image, (slots(0, 25), 60), b"", &[&BEGUN_ONE[34..59]])? {
             some_before = true;
         } else {
             return Err(Fail::new("an image holds neither"));
@@ -266,10 +269,16 @@ fn held_after(alloc: Global, call: u64) -> Result<(Held, bool), Fail> {
 fn each_call_that_fails_leaves_what_was_held_or_the_base(rt: HostRuntime) -> Result<(), Fail> {
     let alloc = rt.alloc();
     for call in 3..=6 {
-        assert!(rt; held_after(alloc, call)? == (Held::Before, false), "call {call}");
+        assert!(rt;
+            held_after(alloc, call)? == (Held::Before, false),
+            "call {call}"
+        );
     }
     for call in 7..=8 {
-        assert!(rt; held_after(alloc, call)? == (Held::Either, false), "call {call}");
+        assert!(rt;
+            held_after(alloc, call)? == (Held::Either, false),
+            "call {call}"
+        );
     }
     assert!(rt; held_after(alloc, 0)? == (Held::After, true));
     Ok(())

@@ -7,6 +7,10 @@ mod appends;
 #[cfg(test)]
 mod bad_records;
 #[cfg(test)]
+mod based_houses;
+#[cfg(test)]
+mod bases;
+#[cfg(test)]
 mod changed_bytes;
 #[cfg(test)]
 mod crashes;
@@ -18,6 +22,8 @@ mod disk_faults;
 mod disks;
 #[cfg(test)]
 mod entries;
+#[cfg(test)]
+mod folded_houses;
 #[cfg(test)]
 mod folds;
 #[cfg(test)]

@@ -1,6 +1,6 @@
 //! What opening a house finds.
 
-use crate::disks::{ONE, TWO};
+use crate::disks::{BEGUN, BEGUN_ONE, ONE, TWO};
 use crate::houses::{content_of, day, disk_below, house_on, large_disk_of, opened, three_dealers};
 use house::{Executions, OpenFault, recover_noting};
 use outside::Disk;
@@ -9,25 +9,30 @@ use std::process::Abort;
 use std::test::Fail;
 
 #[test]
-fn an_empty_disk_gets_its_header_and_a_closed_gate(rt: HostRuntime) -> Result<(), Fail> {
+fn an_empty_disk_gets_its_slots_and_a_closed_gate(rt: HostRuntime) -> Result<(), Fail> {
     let alloc = rt.alloc();
     let house = house_on(&rt, alloc, large_disk_of(alloc, b"")?)?;
     assert!(rt; house.length() == 0 && !house.is_stopped());
     let mut disk = disk_below(house);
     let bytes = content_of(alloc, &mut disk)?;
-    assert!(rt; bytes.as_slice() == b"OTCJRNL1\0".as_slice());
+    assert!(rt; bytes.as_slice() == BEGUN.as_slice());
     Ok(())
 }
 
 /// How many entries a house on these bytes has, or why it is not opened.
-fn answer_to(rt: &impl Abort, alloc: Global, bytes: &[u8]) -> Result<Result<u64, OpenFault>, Fail> {
+pub fn answer_to(
+    rt: &impl Abort,
+    alloc: Global,
+    bytes: &[u8],
+) -> Result<Result<u64, OpenFault>, Fail> {
     match opened(rt, alloc, large_disk_of(alloc, bytes)?)? {
         Ok(house) => Ok(Ok(house.length())),
         Err((fault, _)) => Ok(Err(fault)),
     }
 }
 
-fn damaged(offset: u64) -> Result<u64, OpenFault> {
+/// The answer that the file is damaged at this place.
+pub fn damaged(offset: u64) -> Result<u64, OpenFault> {
     Err(OpenFault::Damaged { offset })
 }
 
@@ -40,6 +45,9 @@ fn a_journal_has_its_entries_or_its_damage(rt: HostRuntime) -> Result<(), Fail> 
     let cases = [
         (ONE.as_slice(), Ok(1)),
         (TWO.as_slice(), Ok(2)),
+        (BEGUN.as_slice(), Ok(0)),
+        (BEGUN_ONE.as_slice(), Ok(1)),
+        (&BEGUN_ONE[..59], damaged(59)),
         (&ONE[..38], damaged(38)),
         (&ONE[..30], damaged(8)),
         (closed.as_slice(), Ok(1)),
@@ -70,7 +78,8 @@ fn recovered_of(
 #[test]
 fn a_history_is_recovered_without_a_house(rt: HostRuntime) -> Result<(), Fail> {
     let cases = [
-        (b"".as_slice(), Ok([0, 0, 9])),
+        (b"".as_slice(), Ok([0, 0, 30])),
+        (BEGUN_ONE.as_slice(), Ok([1, 1, 60])),
         (ONE.as_slice(), Ok([1, 1, 39])),
         (TWO.as_slice(), Ok([2, 2, 59])),
         (&ONE[..30], Err(OpenFault::Damaged { offset: 8 })),
@@ -118,7 +127,8 @@ fn opening_fails(rt: &impl Abort, alloc: Global, call: u64) -> Result<bool, Fail
 
 #[test]
 fn opening_fails_where_one_of_its_calls_does(rt: HostRuntime) -> Result<(), Fail> {
-    for call in 1..=5 {
+    // The length and a read; then the header and the slots, each a write and a sync.
+    for call in 1..=6 {
         assert!(rt; opening_fails(&rt, rt.alloc(), call)?, "call {call}");
     }
     Ok(())

@@ -1,6 +1,6 @@
 //! Walks over whole, cut and damaged files.
 
-use crate::disks::{ONE, disk_of, is_walked};
+use crate::disks::{BEGUN_ONE, ONE, disk_of, is_walked};
 use journal_core::{WalkFault, walk};
 use std::alloc::Global;
 use std::test::Fail;
@@ -20,14 +20,15 @@ fn has_only(alloc: Global, bytes: &[u8], at: u64, record: &[u8], end: u64) -> Re
 #[test]
 fn a_record_is_found_with_its_gate_and_its_bytes(rt: HostRuntime) -> Result<(), Fail> {
     assert!(rt; has_only(rt.alloc(), &ONE, 8, &ONE[13..38], 39)?);
+    assert!(rt; has_only(rt.alloc(), &BEGUN_ONE, 29, &ONE[13..38], 60)?);
     Ok(())
 }
 
-/// The answer to the file cut to this size. From 10 bytes on a gate is due at byte 8, and only with 38 there stands a
+/// The answer to the plain file cut to this size. With fewer it will be begun with slots, and end at byte 30. From 10 bytes on a gate is due at byte 8, and only with 38 there stands a
 /// whole record behind it. Then the next gate is due at byte 38.
 fn answer_when_cut(size: usize) -> Result<(usize, u64), WalkFault> {
     match size {
-        0..=9 => Ok((0, 9)),
+        0..=9 => Ok((0, 30)),
         10..=37 => Err(WalkFault::Damaged { offset: 8 }),
         38 => Err(WalkFault::Damaged { offset: 38 }),
         _ => Ok((1, 39)),
@@ -50,19 +51,24 @@ fn behind_a_closed_gate_no_cut_matters(rt: HostRuntime) -> Result<(), Fail> {
     let mut file = ONE;
     file[8] = 7;
     for size in 0..=39 {
+        let end = if size < 10 { 30 } else { 9 };
         assert!(rt;
-            is_walked(rt.alloc(), &file[..size], Ok((0, 9)))?,
+            is_walked(rt.alloc(), &file[..size], Ok((0, end)))?,
             "cut to {size}"
         );
     }
     Ok(())
 }
 
-/// The answer to the file with another byte at this place. A smaller length ends the record before the byte 13 + length,
+/// The answer to the plain file with another byte at this place. With a C in byte 7 it is one with slots, of which byte 8
+/// selects the second, bytes 17 to 24. A smaller length ends the record before the byte 13 + length,
 /// which is then the next gate: where it is 01, no record stands behind it. A length of 26 takes the closed gate too.
 fn answer_with(place: usize, byte: u8) -> Result<(usize, u64), WalkFault> {
     let length = u64::from(byte);
     match (place, byte) {
+        (7, b'C') => Err(WalkFault::Damaged {
+            offset: u64::from_le_bytes([1, b'A', 1, 1, b'A', 1, b'B', 1]),
+        }),
         (0..=7, _) => Err(WalkFault::Damaged { offset: 0 }),
         (8, _) => Ok((0, 9)),
         (9, 4 | 6 | 7 | 9 | 11) => Err(WalkFault::Damaged {
@@ -97,7 +103,7 @@ fn each_other_byte_at_each_place_has_its_answer(rt: HostRuntime) -> Result<(), F
 fn a_short_file_holds_no_records_whatever_it_has(rt: HostRuntime) -> Result<(), Fail> {
     let files = [b"\x01\x01\x01".as_slice(), b"OTCJRNL1\x01".as_slice()];
     for file in files {
-        assert!(rt; is_walked(rt.alloc(), file, Ok((0, 9)))?);
+        assert!(rt; is_walked(rt.alloc(), file, Ok((0, 30)))?);
     }
     Ok(())
 }

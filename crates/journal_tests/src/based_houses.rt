@@ -1,0 +1,85 @@
+//! Houses on files that hold a base.
+
+use crate::bases::{AT, based, based_with};
+use crate::houses::{has_gross, house_on, is_found, is_told, large_disk_of};
+use crate::openings::{answer_to, damaged};
+use command_types::What;
+use std::test::Fail;
+
+// The base has position 3 and a live trade of 7; the record behind it makes one of 10 live.
+#[test]
+fn a_house_goes_on_from_a_base(rt: HostRuntime) -> Result<(), Fail> {
+    let alloc = rt.alloc();
+    let file = based();
+    assert!(rt; is_found(&rt, alloc, large_disk_of(alloc, &file)?, 4, 17)?);
+    let mut closed = file;
+    closed[150] = 0;
+    let mut house = house_on(&rt, alloc, large_disk_of(alloc, &closed)?)?;
+    assert!(rt; house.length() == 3 && has_gross(&mut house, 3, 7));
+    assert!(rt; is_told(&mut house, b"B", What::Affirm { trade: 1 }, 4, None));
+    let disk = house.end().crash();
+    assert!(rt; is_found(&rt, alloc, disk, 4, 17)?);
+    Ok(())
+}
+
+#[test]
+fn a_base_that_does_not_fit_the_roster_is_damage_at_its_offset(
+    rt: HostRuntime,
+) -> Result<(), Fail> {
+    let all = [0xff; 8];
+    let much = 999_999_999_999_999_994u64.to_le_bytes();
+    let cases = [
+        // Another member, and another product.
+        (32, b"D".as_slice()),
+        (36, b"Q"),
+        // A position, a cycle and a version past 10^18.
+        (1, &all),
+        (9, &all),
+        (17, &all),
+        // A setting of no member, of no product, with no member, with the member itself, and from 4 to 3.
+        (45, &[3]),
+        (47, &[1]),
+        (49, &[3]),
+        (49, &[0]),
+        (61, &[3]),
+        // A trade of no seller, to no buyer, in no product, and to the seller.
+        (77, &[3]),
+        (79, &[3]),
+        (81, &[1]),
+        (79, &[0]),
+        // With the live one of 7 the product has more than 10^18.
+        (83, &much),
+        // An alleged trade without a submitter, with a mark, with a hold.
+        (96, &[0]),
+        (97, &[2]),
+        (98, &[1]),
+    ];
+    for (place, bytes) in cases {
+        let file = based_with(AT + place, bytes);
+        assert!(rt;
+            answer_to(&rt, rt.alloc(), &file)? == damaged(25),
+            "{bytes:?} at {place}"
+        );
+    }
+    Ok(())
+}
+
+// Byte 161 is the change's tag, and byte 162 the trade's number: 2 is live already.
+#[test]
+fn a_bad_record_then_the_base_then_a_refused_change_is_told(rt: HostRuntime) -> Result<(), Fail> {
+    let alloc = rt.alloc();
+    let mut refused = based();
+    refused[162] = 2;
+    let mut misfit = refused;
+    misfit[AT + 32] = b'D';
+    let mut unreadable = misfit;
+    unreadable[161] = 13;
+    let cases = [(refused, 150), (misfit, 25), (unreadable, 150)];
+    for (file, place) in cases {
+        assert!(rt;
+            answer_to(&rt, alloc, &file)? == damaged(place),
+            "at {place}"
+        );
+    }
+    Ok(())
+}

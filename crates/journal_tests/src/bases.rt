@@ -1,0 +1,321 @@
+//! Bases, read from bytes that were written by hand and written again, and files that hold one in front of their records.
+
+ghost use Rattle.command_types.specs.Bases.{CanBeWritten};
+
+use crate::disks::{BEGUN, TWO, damaged, disk_of, is_read};
+use crate::records::named;
+use command_types::{Base, Listed, Side, ToleranceRow, TradeRow, TradeState};
+use record_codec::{DecodeFault, decode_base, encode_base};
+use recovery::{BaseAt, Contents, RecoverFault, read_entries};
+use std::alloc::Global;
+use std::test::Fail;
+use units_core::{MemberNo, ProductNo};
+
+/// A base of three members and a product, with a setting and two trades, field by field.
+pub const BASE: [u8; 121] = [
+    // The mark of the form; position 3, cycle 1, version 2.
+    1, 3, 0, 0, 0, 0, 0, 0, 0, 1, 0, 0, 0, 0, 0, 0, 0, 2, 0, 0, 0, 0, 0, 0, 0,
+    // Three members A, B and C, and one product P.
+    3, 0, 1, b'A', 1, b'B', 1, b'C', 1, 0, 1, b'P',
+    // One setting: of member 0 and product 0, with member 1, going out, from 4 to 9.
+    1, 0, 0, 0, 0, 0, 0, 0, 0, 0, 0, 0, 1, 0, 0, 4, 0, 0, 0, 0, 0, 0, 0, 1, 9, 0, 0, 0, 0, 0, 0, 0,
+    // Two trades.
+    2, 0, 0, 0, 0, 0, 0, 0,
+    // Member 0 sells 10 to member 1 on 2026-03-02: alleged by the seller.
+    0, 0, 1, 0, 0, 0, 10, 0, 0, 0, 0, 0, 0, 0, 0xea, 0x07, 3, 2, 0, 1, 0, 0,
+    // Member 1 sells 7 to member 2 on 2026-03-03: live, submitted by the buyer, marked by the seller, both hold.
+    1, 0, 2, 0, 0, 0, 7, 0, 0, 0, 0, 0, 0, 0, 0xea, 0x07, 3, 3, 1, 2, 1, 3,
+];
+
+/// The place of the base in the file below, and that of the gate behind it.
+pub const AT: usize = 29;
+
+const GATE: usize = 150;
+
+/// The file with that base in slot 0, and B's command AFFIRM 1 behind it, whose gate is byte 150.
+pub fn based() -> [u8; 171] {
+    let mut file = [0; 171];
+    file[..25].copy_from_slice(&BEGUN[..25]);
+    file[25] = 121;
+    file[AT..GATE].copy_from_slice(&BASE);
+    file[GATE..].copy_from_slice(&TWO[38..]);
+    file
+}
+
+/// Whether the setting is that of the base.
+fn is_the_setting(row: &ToleranceRow) -> bool {
+    let is_pair = (row.member, row.other) == (MemberNo(0), MemberNo(1));
+    let is_side = row.product == ProductNo(0) && matches!(row.side, Side::Out);
+    let most = row.ceiling.map_or(0, |ceiling| ceiling.get());
+    is_pair && is_side && (row.floor.get(), most) == (4, 9)
+}
+
+/// A trade's number, its parties and its product, its amount, and its month and day.
+fn terms_of(row: &TradeRow) -> [u64; 7] {
+    let (seller, buyer, product) = (row.seller.0, row.buyer.0, row.product.0);
+    [
+        row.number,
+        u64::from(seller),
+        u64::from(buyer),
+        u64::from(product),
+        row.amount.get(),
+        u64::from(row.day.month()),
+        u64::from(row.day.day()),
+    ]
+}
+
+/// Whether the trade is the live one of the base.
+fn is_the_live_trade(row: &TradeRow) -> bool {
+    let is_live = matches!(row.state, TradeState::Live);
+    let is_marked = row.submitter == Some(Side::In) && row.mark == Some(Side::Out);
+    let is_held = row.hold_out && row.hold_in && !row.frozen;
+    terms_of(row) == [2, 1, 2, 0, 7, 3, 3] && is_live && is_marked && is_held
+}
+
+/// Whether the trade is the one that waits for the buyer.
+fn is_the_alleged_trade(row: &TradeRow) -> bool {
+    let is_alleged = matches!(row.state, TradeState::Alleged);
+    let is_marked = row.submitter == Some(Side::Out) && row.mark.is_none();
+    let is_free = !row.hold_out && !row.hold_in && !row.frozen;
+    terms_of(row) == [1, 0, 1, 0, 10, 3, 2] && is_alleged && is_marked && is_free
+}
+
+/// Whether all that the bytes say stands in the base.
+fn is_the_base(base: &Base) -> Result<bool, Fail> {
+    let is_numbered = (base.position, base.cycle, base.version) == (3, 1, 2);
+    let members = [named(b"A")?, named(b"B")?, named(b"C")?];
+    let is_named = base.members.rows() == members.as_slice();
+    let products = [named(b"P")?];
+    let has_products = base.products.rows() == products.as_slice();
+    let has_rows = match (base.tolerances.rows(), base.trades.rows()) {
+        ([setting], [alleged, live]) => {
+            is_the_setting(setting) && is_the_alleged_trade(alleged) && is_the_live_trade(live)
+        }
+        _ => false,
+    };
+    Ok(is_numbered && is_named && has_products && has_rows)
+}
+
+#[test]
+fn a_base_is_read(rt: HostRuntime) -> Result<(), Fail> {
+    let base = decode_base(rt.alloc(), &BASE)?;
+    assert!(rt; is_the_base(&base)?);
+    Ok(())
+}
+
+#[test]
+fn a_base_stands_in_front_of_the_records(rt: HostRuntime) -> Result<(), Fail> {
+    let alloc = rt.alloc();
+    let mut disk = disk_of(alloc, &based())?;
+    let Contents { base, entries } = read_entries(alloc, &mut disk)?;
+    let Some(BaseAt { at, base }) = base else {
+        return Err(Fail::new("there is no base"));
+    };
+    let mut reader = entries.reader();
+    let first = reader.next(alloc)?.map(|found| found.at);
+    assert!(rt; at == 25 && is_the_base(&base)? && first == Some(150) && entries.end() == 171);
+    Ok(())
+}
+
+/// The base that is read of a file, written again.
+fn written_again(alloc: Global, file: &[u8]) -> Result<Vec<u8>, Fail> {
+    let mut disk = disk_of(alloc, file)?;
+    let Contents { base, entries: _ } = read_entries(alloc, &mut disk)?;
+    let Some(BaseAt { at: _, base }) = base else {
+        return Err(Fail::new("there is no base"));
+    };
+    Ok(encode_base(alloc, &base)?)
+}
+
+#[test]
+fn a_base_is_written_as_it_was_read(rt: HostRuntime) -> Result<(), Fail> {
+    assert!(rt; written_again(rt.alloc(), &based())?.as_slice() == BASE.as_slice());
+    Ok(())
+}
+
+/// A base of nobody and nothing.
+fn empty(alloc: Global) -> Base
+    ensures { CanBeWritten result }
+{
+    Base {
+        position: 7,
+        cycle: 8,
+        version: 9,
+        members: Listed::new(Vec::new(alloc)),
+        products: Listed::new(Vec::new(alloc)),
+        tolerances: Listed::new(Vec::new(alloc)),
+        trades: Listed::new(Vec::new(alloc)),
+    }
+}
+
+#[test]
+fn an_empty_base_is_written(rt: HostRuntime) -> Result<(), Fail> {
+    let alloc = rt.alloc();
+    let mut bytes = [0; 45];
+    (bytes[0], bytes[1], bytes[9], bytes[17]) = (1, 7, 8, 9);
+    assert!(rt; encode_base(alloc, &empty(alloc))?.as_slice() == bytes.as_slice());
+    assert!(rt; decode_base(alloc, &bytes)?.position == 7);
+    Ok(())
+}
+
+/// The base with other bytes from a place on.
+fn with(place: usize, bytes: &[u8]) -> [u8; 121] {
+    let mut base = BASE;
+    let mut place = place;
+    for byte in bytes {
+        if let Some(there) = base.get_mut(place) {
+            *there = *byte;
+        }
+        place = place.saturating_add(1);
+    }
+    base
+}
+
+/// Whether these bytes spell a base, or are told as none at this byte.
+fn is_told(alloc: Global, bytes: &[u8], offset: Option<usize>) -> bool {
+    match decode_base(alloc, bytes) {
+        Ok(_) => offset.is_none(),
+        Err(fault) => offset.map(|at| DecodeFault::BadRecord { at }) == Some(fault),
+    }
+}
+
+#[test]
+fn each_field_of_a_base_has_its_limits(rt: HostRuntime) -> Result<(), Fail> {
+    let all = [0xff; 8];
+    let cases = [
+        // The mark; a member more, which would begin at the products' number; names of no byte, of a small letter, of 17 bytes.
+        (0, [2].as_slice(), Some(0)),
+        (25, &[4], Some(33)),
+        (27, &[0], Some(27)),
+        (28, b"a", Some(27)),
+        (35, &[17], Some(35)),
+        // More settings than stand there, of which a third would have its side in the year; the side, the floor, the ceiling's byte
+        // and the ceiling.
+        (37, &all, Some(91)),
+        (51, &[2], Some(51)),
+        (52, &all, Some(52)),
+        (60, &[2], Some(60)),
+        (61, &all, Some(61)),
+        // More trades than stand there, and fewer.
+        (69, &[3], Some(121)),
+        (69, &all, Some(121)),
+        (69, &[1], Some(99)),
+        // The amount, the day, the state, the submitter, the mark and the holds.
+        (83, &[0], Some(83)),
+        (83, &all, Some(83)),
+        (93, &[13], Some(91)),
+        (95, &[3], Some(95)),
+        (96, &[3], Some(96)),
+        (97, &[3], Some(97)),
+        (98, &[4], Some(98)),
+        // What no roster has is spelled all the same: a position, and members past the last.
+        (1, &all, None),
+        (77, &[0xff, 0xff], None),
+    ];
+    for (place, bytes, offset) in cases {
+        assert!(rt;
+            is_told(rt.alloc(), &with(place, bytes), offset),
+            "{bytes:?} at {place}"
+        );
+    }
+    Ok(())
+}
+
+#[test]
+fn each_cut_of_a_base_spells_none(rt: HostRuntime) -> Result<(), Fail> {
+    for size in 0..121 {
+        assert!(rt;
+            decode_base(rt.alloc(), &BASE[..size]).is_err(),
+            "cut to {size}"
+        );
+    }
+    Ok(())
+}
+
+/// The file with other bytes from a place on.
+pub fn based_with(place: usize, bytes: &[u8]) -> [u8; 171] {
+    let mut file = based();
+    let mut place = place;
+    for byte in bytes {
+        if let Some(there) = file.get_mut(place) {
+            *there = *byte;
+        }
+        place = place.saturating_add(1);
+    }
+    file
+}
+
+#[test]
+fn a_base_that_is_not_spelled_is_damage_at_its_offset(rt: HostRuntime) -> Result<(), Fail> {
+    let alloc = rt.alloc();
+    let (few, all) = ([0xff; 4], [0xff; 8]);
+    let cases = [
+        (AT, [2].as_slice(), damaged(25)),
+        // Settings and trades of a count that passes the file's end.
+        (AT + 37, &all, damaged(25)),
+        (AT + 69, &all, damaged(25)),
+        // A base of 2^32 - 1 bytes; an offset of 2^64 - 1, and one below 25.
+        (25, &few, damaged(25)),
+        (9, &all, damaged(u64::MAX)),
+        (9, &[24], damaged(24)),
+        // The other slot is selected, and holds 0.
+        (8, &[1], damaged(0)),
+        // It is not read.
+        (17, &all, Ok((1, 171))),
+    ];
+    for (place, bytes, answer) in cases {
+        assert!(rt;
+            is_read(alloc, &based_with(place, bytes), answer)?,
+            "{bytes:?} at {place}"
+        );
+    }
+    Ok(())
+}
+
+// Byte 161 is the change's tag.
+#[test]
+fn damage_of_the_journal_then_of_the_base_then_of_a_record_is_told(
+    rt: HostRuntime,
+) -> Result<(), Fail> {
+    let alloc = rt.alloc();
+    let mut record = based();
+    record[161] = 13;
+    let mut both = record;
+    both[AT] = 2;
+    let mut open = both;
+    open[170] = 1;
+    let cases = [
+        (record.as_slice(), damaged(150)),
+        (both.as_slice(), damaged(25)),
+        (open.as_slice(), damaged(170)),
+        (&both[..170], damaged(170)),
+        (&both[..160], damaged(150)),
+    ];
+    for (file, answer) in cases {
+        assert!(rt; is_read(alloc, file, answer)?, "{answer:?}");
+    }
+    Ok(())
+}
+
+/// The answer to the file cut to this size. With fewer than 151 bytes the base or the gate behind it is cut.
+fn answer_when_cut(size: usize) -> Result<(usize, u64), RecoverFault> {
+    match size {
+        0..=30 => Ok((0, 30)),
+        31..=149 => damaged(25),
+        150..=169 => damaged(150),
+        170 => damaged(170),
+        _ => Ok((1, 171)),
+    }
+}
+
+#[test]
+fn each_cut_of_a_file_with_a_base_has_its_answer(rt: HostRuntime) -> Result<(), Fail> {
+    let file = based();
+    for size in 0..=171 {
+        assert!(rt;
+            is_read(rt.alloc(), &file[..size], answer_when_cut(size))?,
+            "cut to {size}"
+        );
+    }
+    Ok(())
+}
