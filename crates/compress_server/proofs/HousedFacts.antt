@@ -4,24 +4,21 @@ use Rattle.outside.specs.Disk.{IsSettled}
 use Rattle.outside.specs.Disk as disks
 use Rattle.outside.specs.Faults.{Rose}
 use Rattle.outside.specs.Flow.{Flow}
-use Rattle.journal_core.specs.Moments.{LeavesOnly}
-use Rattle.recovery.specs.StandsFor.{StandsFor}
 use Rattle.command_types.specs.declared.ask.Entry.{Entry}
-use Rattle.command_types.specs.declared.figures.Start.{Start}
 use Rattle.command_types.specs.declared.figures.Figures.{Figures}
 use Rattle.command_types.specs.declared.figures.JournalFigures.{JournalFigures}
 use Rattle.command_types.specs.declared.figures.State.{State}
 use Rattle.command_types.specs.History.{History, end_of}
 use Rattle.command_types.specs.Roster.{Rows, IsRoster}
 use Rattle.cycle_laws.specs.Histories.{IsMarketBase}
-use Rattle.cycle_laws.proofs.Market.{empty_begins_markets}
-use Rattle.house.specs.House.{HouseView, figures_of, is_stopped, bytes_of, Keeps}
-use Rattle.house.specs.Opening.{IsOpened, FindsFault, StandsForNone}
+use Rattle.house.specs.Folding.{LeavesOpenedAs, OpensOn}
+use Rattle.house.specs.House.{HouseView, figures_of, first_of, is_stopped, bytes_of, Keeps}
+use Rattle.house.specs.Opening.{IsOpened, FindsFault, LeavesOpened, StandsForNone}
 use Rattle.house.specs.declared.fault.OpenFault.{OpenFault}
 use Rattle.house.specs.declared.fault.OpenFault.TheVariants as opens
 use Rattle.house.specs.Storing.{ContentStandsFor, AreOnDisk, LeavesHistory, LeavesKept, StandsForFront, StandsForKept, NeverGoBack, moment_of}
 use Rattle.house.proofs.JournalFacts.{stored_stand}
-use Rattle.house.proofs.OpeningFacts.{still_standing}
+use Rattle.house.proofs.OpeningFacts.{still_standing, only_opened}
 use Rattle.session.specs.declared.serve.SessionEnd.{SessionEnd}
 use Rattle.session.specs.declared.serve.SessionEnd.TheVariants.{Ended, SourceFault, SinkFault, Limit, Memory}
 use Rattle.compress_server.specs.Housed.{DiskState, disk_of, AtAnyMoment, IsHoused, IsUnopened, IsDamaged}
@@ -33,22 +30,22 @@ use Rattle.compress_server.proofs.CycleFacts.{keeps_laws}
 -- a disk on which nothing was written
 pub unopened_still : (rows : Rows) (o now : Option disks.History) (n m : ℕ) → now ≡ o → IsSettled o → IsUnopened rows (disk_of o n) (disk_of now m)
 unopened_still rows o now n m same settled = record {
-  any_moment = λ h stands. still_standing o now h same settled stands;
+  any_moment = λ h own stands. only_opened o now h (still_standing o now h same settled stands);
   untouched = λ none. same;
 }
 
 -- ---- what a house keeps, of its disk
 
-content_stands : (since opening : ℕ) (o : Option disks.History) (size : ℕ) (h : History) (kept : Option Entry) → AreOnDisk since opening o size h kept → kept ≡ None → ContentStandsFor o h
-content_stands since opening None size h kept on none = tt
-content_stands since opening (Some disk) size h kept on none = stored_stand disk size h (on.stored none)
+content_stands : (since opening : ℕ) (first : History) (o : Option disks.History) (size : ℕ) (h : History) (kept : Option Entry) → AreOnDisk since opening first o size h kept → kept ≡ None → ContentStandsFor o h
+content_stands since opening first None size h kept on none = tt
+content_stands since opening first (Some disk) size h kept on none = stored_stand disk size h (on.stored none)
 
-moments_left : (o : Option disks.History) (opening : ℕ) (now : Option disks.History) (size : ℕ) (h : History) (kept : Option Entry) → is_some now ≡ is_some o → AreOnDisk (moment_of o) opening now size h kept
-    → AtAnyMoment o now (λ image. StandsForFront opening h image ⊎ StandsForKept h kept image)
-moments_left None opening None size h kept tells on = refl
-moments_left None opening (Some later) size h kept tells on = absurd cc
-moments_left (Some disk) opening None size h kept tells on = absurd cc
-moments_left (Some disk) opening (Some later) size h kept tells on = (on.later, on.each)
+moments_left : (o : Option disks.History) (opening : ℕ) (first : History) (now : Option disks.History) (size : ℕ) (h : History) (kept : Option Entry) → is_some now ≡ is_some o → AreOnDisk (moment_of o) opening first now size h kept
+    → AtAnyMoment o now (λ image. StandsForFront opening first h image ⊎ StandsForKept h kept image)
+moments_left None opening first None size h kept tells on = refl
+moments_left None opening first (Some later) size h kept tells on = absurd cc
+moments_left (Some disk) opening first None size h kept tells on = absurd cc
+moments_left (Some disk) opening first (Some later) size h kept tells on = (on.later, on.each)
 
 abbrev journal_in : JournalFigures → Option JournalFigures → JournalFigures
 journal_in other None = other
@@ -69,21 +66,27 @@ module _ (rows : Rows) (o now : Option disks.History) (before count : ℕ) (rost
   tells_now : is_some w.disk ≡ is_some o
   tells_now = last.tells ∙ ap (λ (j : JournalFigures). j.tells) same_journal ∙ is.tells
 
-  on_disk : AreOnDisk (moment_of o) v.opening w.disk (bytes_of w) w.history w.kept
-  on_disk = subst (λ n. AreOnDisk (moment_of o) n w.disk (bytes_of w) w.history w.kept) same_opening
-      (subst (λ n. AreOnDisk n w.opening w.disk (bytes_of w) w.history w.kept) since last.on_disk)
+  same_first : first_of w.journal ≡ first_of v.journal
+  same_first = ap first_of same_journal
 
-  left_at_any_moment : AtAnyMoment o w.disk (λ image. StandsForFront v.opening w.history image ⊎ StandsForKept w.history w.kept image)
-  left_at_any_moment = moments_left o v.opening w.disk (bytes_of w) w.history w.kept tells_now on_disk
+  on_disk : AreOnDisk (moment_of o) v.opening (first_of v.journal) w.disk (bytes_of w) w.history w.kept
+  on_disk = subst (λ n. AreOnDisk (moment_of o) n (first_of v.journal) w.disk (bytes_of w) w.history w.kept) same_opening
+      (subst (λ n. AreOnDisk n w.opening (first_of v.journal) w.disk (bytes_of w) w.history w.kept) since
+      (subst (λ (f : History). AreOnDisk w.journal.first_moment w.opening f w.disk (bytes_of w) w.history w.kept) same_first last.on_disk))
 
-  goes_on : NeverGoBack (moment_of o) v.opening w.disk w.history w.kept
-  goes_on = subst (λ n. NeverGoBack (moment_of o) n w.disk w.history w.kept) same_opening
-      (subst (λ n. NeverGoBack n w.opening w.disk w.history w.kept) since last.never_back)
+  abbrev Left : List ℕ → Type 0
+  Left image = StandsForFront v.opening (first_of v.journal) w.history image ⊎ StandsForKept w.history w.kept image
+
+  left_at_any_moment : AtAnyMoment o w.disk Left
+  left_at_any_moment = moments_left o v.opening (first_of v.journal) w.disk (bytes_of w) w.history w.kept tells_now on_disk
+
+  goes_on : NeverGoBack (moment_of o) v.opening (first_of v.journal) w.disk w.history w.kept
+  goes_on = subst (λ n. NeverGoBack (moment_of o) n (first_of v.journal) w.disk w.history w.kept) same_opening
+      (subst (λ n. NeverGoBack n w.opening (first_of v.journal) w.disk w.history w.kept) since
+      (subst (λ (f : History). NeverGoBack w.journal.first_moment w.opening f w.disk w.history w.kept) same_first last.never_back))
 
   market_base : IsMarketBase rows w.history.base.state
-  market_base =
-      subst (λ (s : State). IsMarketBase rows s) (sym (ap (λ (f : Figures). f.base.state) figures ∙ ap (λ (b : Start). b.state) is.base))
-      (empty_begins_markets rows roster.few_members roster.few_products)
+  market_base = subst (λ (s : State). IsMarketBase rows s) (sym (ap (λ (f : Figures). f.base.state) figures)) is.base.market
 
   faults_rose : is_stopped w ≡ true → Rose before count
   faults_rose stopped =
@@ -97,23 +100,25 @@ module _ (rows : Rows) (o now : Option disks.History) (before count : ℕ) (rost
     figures = figures;
     legal_first = first.legal;
     legal = last.legal;
-    stands = λ none. subst (λ (d : Option disks.History). ContentStandsFor d w.history) (sym disk) (content_stands w.journal.first_moment w.opening w.disk (bytes_of w) w.history w.kept last.on_disk none);
+    stands = λ none. subst (λ (d : Option disks.History). ContentStandsFor d w.history) (sym disk) (content_stands w.journal.first_moment w.opening (first_of w.journal) w.disk (bytes_of w) w.history w.kept last.on_disk none);
     leaves = λ none. subst (λ (d : Option disks.History). LeavesHistory d w.history) (sym disk) (last.leaves none);
     kept_legal = last.kept_legal;
     leaves_kept = subst (λ (d : Option disks.History). LeavesKept d w.history w.kept) (sym disk) last.leaves_kept;
-    never_back = subst (λ (d : Option disks.History). NeverGoBack (moment_of o) v.opening d w.history w.kept) (sym disk) goes_on;
-    any_moment = subst (λ (d : Option disks.History). AtAnyMoment o d (λ image. StandsForFront v.opening w.history image ⊎ StandsForKept w.history w.kept image)) (sym disk) left_at_any_moment;
+    never_back = subst (λ (d : Option disks.History). NeverGoBack (moment_of o) v.opening (first_of v.journal) d w.history w.kept) (sym disk) goes_on;
+    any_moment = subst (λ (d : Option disks.History). AtAnyMoment o d Left) (sym disk) left_at_any_moment;
     stopped = faults_rose;
+    first_cycles = keeps_laws rows (first_of v.journal) is.first_base.market is.first_legal;
     cycles = keeps_laws rows w.history market_base last.legal;
   }
 
 -- A house was asked for with a copy of the rows, on the disk once it was attached, which changes nothing.
 module _ (rows copy : Rows) (o mid : Option disks.History) (before after : ℕ) (copied : copy ≡ rows) (same : mid ≡ o) (never_fell : before ≤ after) where
   -- none was opened
-  pub unopened_later : (now : Option disks.History) (n m : ℕ) → ((h : History) → ContentStandsFor mid h → LeavesOnly mid now (λ image. StandsFor image h))
+  pub unopened_later : (now : Option disks.History) (n m : ℕ) → LeavesOpened copy mid now
       → (StandsForNone copy mid → now ≡ mid) → IsUnopened rows (disk_of o n) (disk_of now m)
   unopened_later now n m any untouched = record {
-    any_moment = λ h stands. subst (λ (d : Option disks.History). LeavesOnly d now (λ image. StandsFor image h)) same (any h (subst (λ (d : Option disks.History). ContentStandsFor d h) (sym same) stands));
+    any_moment = λ h own stands. subst (λ (d : Option disks.History). LeavesOpenedAs d now h) same
+        (any h (own ∙ sym copied) (subst (λ (d : Option disks.History). ContentStandsFor d h) (sym same) stands));
     untouched = λ none. untouched (subst (λ (d : Option disks.History). StandsForNone copy d) (sym same) (subst (λ (r : Rows). StandsForNone r o) (sym copied) none)) ∙ same;
   }
 
@@ -128,11 +133,13 @@ module _ (rows copy : Rows) (o mid : Option disks.History) (before after : ℕ) 
   -- one was opened, as on the disk that came in
   pub opened_later : (v : HouseView) → IsOpened copy mid after v → IsOpened rows o before v
   opened_later v is = record {
+    first_base = (subst (λ (r : Rows). IsOpened r mid after v) copied is).first_base;
+    first_legal = is.first_legal;
+    stands = subst (λ (d : Option disks.History). ContentStandsFor d (first_of v.journal)) same is.stands;
+    opens = subst (λ (d : Option disks.History). OpensOn d (first_of v.journal) v.history v.journal.size) same is.opens;
     base = (subst (λ (r : Rows). IsOpened r mid after v) copied is).base;
     opening = is.opening;
-    stands = subst (λ (d : Option disks.History). ContentStandsFor d v.history) same is.stands;
     running = is.running;
-    size = is.size;
     tells = is.tells ∙ ap (λ (d : Option disks.History). is_some d) same;
     first_moment = is.first_moment ∙ ap (λ (d : Option disks.History). moment_of d) same;
     moment = is.moment;
@@ -145,7 +152,7 @@ module _ (rows : Rows) (o : Option disks.History) (count : ℕ) (v : HouseView) 
   at_opening = ap (λ n. v.history.base.position + n) (sym is.opening)
 
   pub has_rows : v.history.base.state.roster ≡ rows
-  has_rows = ap (λ (b : Start). b.state.roster) is.base
+  has_rows = is.base.market.same
 
   pub runs_yet : is_stopped v ≡ false
   runs_yet = ap (λ (k : Option Entry). is_some k) is.running

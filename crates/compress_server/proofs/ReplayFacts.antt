@@ -11,7 +11,6 @@ use Rattle.command_types.specs.declared.answer.Reply.{Reply}
 use Rattle.command_types.specs.declared.ask.Entry.{Entry}
 use Rattle.command_types.specs.declared.ask.What.{What}
 use Rattle.command_types.specs.declared.ask.What.TheVariants.{Post}
-use Rattle.command_types.specs.declared.figures.Start.{Start}
 use Rattle.command_types.specs.declared.figures.State.{State}
 use Rattle.command_types.specs.declared.plan.PlanRow.{PlanRow}
 use Rattle.command_types.specs.declared.trade.TradeRow.{TradeRow}
@@ -19,11 +18,11 @@ use Rattle.command_types.specs.Roster.{Rows}
 use Rattle.command_types.specs.Books.{listed_below}
 use Rattle.command_types.specs.CycleSteps.{rows_of_member}
 use Rattle.command_types.specs.History.{History, IsLegal, IsLegalFrom, end_of, replayed, replayed_from}
-use Rattle.command_types.specs.Machine.{answer_to, empty_state}
+use Rattle.command_types.specs.Machine.{answer_to}
 use Rattle.command_types.specs.Plans.{thawed, thawed_row}
 use Rattle.command_types.specs.Details.{lines_text, trade_line}
 use Rattle.cycle_states.specs.Replayed.{IsReplayed}
-use Rattle.recovery.specs.StandsFor.{first_start}
+use Rattle.cycle_laws.specs.Bases.{IsWritable}
 use Rattle.cycle_states.proofs.DeskFacts.{roster_replayed}
 use Rattle.trade_history.specs.Book.{IsClosedBase, Book, book_from, own_rows, execution_row, executions_from}
 use Rattle.trade_history.specs.Laws.{is_execution, execution_answer, TellsExecution, ExecutesAfter}
@@ -31,7 +30,7 @@ use Rattle.trade_history.specs.Search.{Execution, execution_at}
 use Rattle.trade_history.proofs.Listed.{own_rows_are_the_historys, executions_are_listed, others_are_not_listed}
 use Rattle.trade_history.proofs.Replay.{answers_tell_executions, legal-front, run-none, run-on}
 use Rattle.trade_history.proofs.Whole.{found-at, moments-push, search_finds_executions}
-use Rattle.house.specs.declared.opening.Recovered.{Recovered}
+use Rattle.house.specs.declared.recovering.Recovered.{Recovered}
 use Rattle.house.specs.Executions.{told_by, executions_told, told_of}
 use Rattle.house.specs.Storing.{ContentStandsFor}
 use Rattle.house.specs.Opening.{FindsFault}
@@ -161,21 +160,22 @@ module _ (rows : Rows) (h : History) (closed_base : IsClosedBase h.base.state) (
       (λ i. listed_below (members i) (λ member. own_told member i) ++ (lines i ++ end_text (end_of h)))
 
 -- what was read of a disk, for these rows, is what it keeps
-pub replay_told : (rows : Rows) (o : Option disks.History) (read : Recovered) → ContentStandsFor o read.past → IsReplayed read.machine.state read.past → read.past.base ≡ first_start rows
-    → told_of read.executions ≡ option_map (λ replies. replies ++ executions_told (empty_state rows) 0 read.past.entries) (Some [])
+pub replay_told : (rows : Rows) (o : Option disks.History) (read : Recovered) → ContentStandsFor o read.past → IsReplayed read.machine.state read.past → IsWritable rows read.past.base.state
+    → told_of read.executions ≡ option_map (λ replies. replies ++ executions_told read.past.base.state read.past.base.position read.past.entries) (Some [])
     → (h : History) × IsKept rows o h × (recovered_text read ≡ replay_text rows h)
 replay_told rows o read stands replayed base told =
     let h = read.past in
-    let closed : IsClosedBase h.base.state = subst (λ (b : Start). IsClosedBase b.state) (sym base) (record { phase = refl; free = refl; numbered = tt }) in
-    let roster : read.machine.state.roster ≡ rows = roster_replayed read.machine.state h replayed ∙ ap (λ (b : Start). b.state.roster) base in
-    let executions : unwrap_or (told_of read.executions) [] ≡ executions_told h.base.state h.base.position h.entries =
-    ap (λ o. unwrap_or o []) told ∙ ap (λ (b : Start). executions_told b.state b.position h.entries) (sym base) in
-    (h, record { base = base; legal = replayed.legal; stands = stands }, text_told rows h closed replayed.legal read.machine.state replayed.same roster (unwrap_or (told_of read.executions) []) executions)
+    let roster : read.machine.state.roster ≡ rows = roster_replayed read.machine.state h replayed ∙ base.market.same in
+    (
+      h,
+      record { base = base; legal = replayed.legal; stands = stands },
+      text_told rows h base.market.closed replayed.legal read.machine.state replayed.same roster (unwrap_or (told_of read.executions) []) (ap (λ o. unwrap_or o []) told),
+    )
 
 -- ---- how a replay ends, over a disk that was attached, which changes nothing
 module _ (rows : Rows) (o mid now : Option disks.History) (before after : ℕ) (same : mid ≡ o) (stays : now ≡ mid) (begun taken : Option (List ℕ)) where
-  module _ (read : Recovered) (text : List ℕ) (stands : ContentStandsFor mid read.past) (replayed : IsReplayed read.machine.state read.past) (base : read.past.base ≡ first_start rows)
-      (told : told_of read.executions ≡ option_map (λ replies. replies ++ executions_told (empty_state rows) 0 read.past.entries) (Some [])) (is : text ≡ recovered_text read) where
+  module _ (read : Recovered) (text : List ℕ) (stands : ContentStandsFor mid read.past) (replayed : IsReplayed read.machine.state read.past) (base : IsWritable rows read.past.base.state)
+      (told : told_of read.executions ≡ option_map (λ replies. replies ++ executions_told read.past.base.state read.past.base.position read.past.entries) (Some [])) (is : text ≡ recovered_text read) where
     pub replays : Takes begun taken text → JournalReplays rows (disk_of o before) (disk_of now after) begun taken Done
     replays takes =
         let k = replay_told rows o read (subst (λ (d : Option disks.History). ContentStandsFor d read.past) same stands) replayed base told in

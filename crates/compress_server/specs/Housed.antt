@@ -1,14 +1,12 @@
 -- A script over its disk.
 use Rattle.std.specs.Prelude.{◌≡◌, ◌⊎◌, ℕ, ◌≤◌, true, List, Option, Some, None}
-use Rattle.command_types.specs.History.{History, IsLegal}
+use Rattle.command_types.specs.History.{IsLegal}
 use Rattle.command_types.specs.Roster.{Rows}
 use Rattle.outside.specs.Disk as disks
 use Rattle.outside.specs.declared.disk.Disk.{Ghosts as DiskTells}
 use Rattle.outside.specs.Faults.{Rose}
-use Rattle.journal_core.specs.Moments.{LeavesOnly}
-use Rattle.recovery.specs.StandsFor.{StandsFor}
-use Rattle.house.specs.House.{HouseView, figures_of, is_stopped}
-use Rattle.house.specs.Opening.{IsOpened, FindsFault, StandsForNone}
+use Rattle.house.specs.House.{HouseView, figures_of, first_of, is_stopped}
+use Rattle.house.specs.Opening.{IsOpened, FindsFault, LeavesOpened, StandsForNone}
 use Rattle.house.specs.Storing.{ContentStandsFor, LeavesHistory, LeavesKept, StandsForFront, StandsForKept, NeverGoBack, with_kept, moment_of}
 use Rattle.compress_server.specs.declared.ending.End.{End}
 use Rattle.compress_server.specs.declared.ending.End.TheVariants.{Damaged, DiskFault, Memory}
@@ -35,7 +33,7 @@ AtAnyMoment (Some before) (Some after) P = (disks.moment before ≤ disks.moment
 
 -- On the disk that came in a house was opened, with the view v, and it came back with the view w; this is what it left.
 pub record IsHoused (rows : Rows) (disk left : DiskState) (v w : HouseView) : Type 0 where
-  -- the history at the opening is the one for which the content stands
+  -- the first history is the one for which the content stands, and that at the opening is the same or, exactly where the file is to be folded, its fold
   pub opened : IsOpened rows disk.history disk.faults v
   pub figures : figures_of w ≡ figures_of v
   pub legal_first : IsLegal v.history
@@ -47,15 +45,17 @@ pub record IsHoused (rows : Rows) (disk left : DiskState) (v w : HouseView) : Ty
   pub kept_legal : IsLegal (with_kept w.history w.kept)
   pub leaves_kept : LeavesKept left.history w.history w.kept
   -- what every crash at one moment of the run left, every crash at a later moment left
-  pub never_back : NeverGoBack (moment_of disk.history) v.opening left.history w.history w.kept
-  -- what a crash at any moment of the run left stands for a front of the history, no shorter than the one at the opening, or, where a fault stopped the house, for all of it with the entry that was kept
-  pub any_moment : AtAnyMoment disk.history left.history (λ image. StandsForFront v.opening w.history image ⊎ StandsForKept w.history w.kept image)
+  pub never_back : NeverGoBack (moment_of disk.history) v.opening (first_of v.journal) left.history w.history w.kept
+  -- What a crash at any moment of the run left stands for a front of the history, no shorter than the one at the opening. Or, where a fault stopped the house, it stands for all of it with the entry that was kept. In place of the one at the opening it may stand for the first history
+  pub any_moment : AtAnyMoment disk.history left.history (λ image. StandsForFront v.opening (first_of v.journal) w.history image ⊎ StandsForKept w.history w.kept image)
   pub stopped : is_stopped w ≡ true → Rose disk.faults left.faults
+  -- the laws of cycles hold in the first history and in the last
+  pub first_cycles : KeepsLaws rows (first_of v.journal)
   pub cycles : KeepsLaws rows w.history
 
--- No house was opened: a crash at any moment leaves what stands for the history for which the content stood; where it stood for no legal history, it is as it was.
+-- No house was opened: a crash at any moment leaves what stands for the history of these rows for which the content stood, or, where the file was to be folded, for its fold; where it stood for no legal history, it is as it was.
 pub record IsUnopened (rows : Rows) (disk left : DiskState) : Type 0 where
-  pub any_moment : (h : History) → ContentStandsFor disk.history h → LeavesOnly disk.history left.history (λ image. StandsFor image h)
+  pub any_moment : LeavesOpened rows disk.history left.history
   pub untouched : StandsForNone rows disk.history → left.history ≡ disk.history
 
 -- the disk's content stands for no legal history, with the one place that is told, and is as it was

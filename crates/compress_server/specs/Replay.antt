@@ -7,7 +7,7 @@ use Rattle.command_types.specs.Books.{listed_below}
 use Rattle.command_types.specs.Details.{lines_text, trade_line}
 use Rattle.command_types.specs.History.{History, IsLegal, end_of}
 use Rattle.command_types.specs.Roster.{Rows}
-use Rattle.recovery.specs.StandsFor.{first_start}
+use Rattle.cycle_laws.specs.Bases.{IsWritable}
 use Rattle.trade_history.specs.Book.{ExecutionRow, own_rows, executions_of}
 use Rattle.statements.specs.Details.{member_text, execution_text}
 use Rattle.house.specs.Storing.{ContentStandsFor}
@@ -26,13 +26,13 @@ abbrev pub execution_line : ExecutionRow → List ℕ
 execution_line row =
     execution_text (record { position = row.position; cycle = row.cycle; version = row.version; ended = row.ended; cut = row.cut; made = row.made })
 
--- each member with its rows, then each execution, then the length of the history
+-- each member with its rows, then each execution since the base, then the length of the history
 abbrev pub replay_text : Rows → History → List ℕ
 replay_text rows h = listed_below (length rows.members) (rows_text rows h) ++ (lines_text execution_line (executions_of h) ++ end_text (end_of h))
 
--- the disk's content stands for this history, which is legal for these rows
+-- the disk's content stands for this history, which is legal, and begins where one of these rows may begin
 pub record IsKept (rows : Rows) (disk : Option disks.History) (h : History) : Type 0 where
-  pub base : h.base ≡ first_start rows
+  pub base : IsWritable rows h.base.state
   pub legal : IsLegal h
   pub stands : ContentStandsFor disk h
 

@@ -9,7 +9,7 @@ use Rattle.command_types.specs.CycleSteps.{rows_of_member}
 use Rattle.command_types.specs.History.{end_of}
 use Rattle.command_types.specs.Details.{lines_text, trade_line}
 use Rattle.statements.specs.Details.{member_text, execution_text}
-use Rattle.house.specs.declared.opening.Recovered.{Recovered}
+use Rattle.house.specs.declared.recovering.Recovered.{Recovered}
 use Rattle.house.specs.Executions.{told_of}
 
 -- a member, and the rows that the machine has of it

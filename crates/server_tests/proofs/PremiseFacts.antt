@@ -6,7 +6,8 @@ use Rattle.outside.specs.Faults.{Rose}
 use Rattle.command_types.specs.Lines.{cut_of}
 use Rattle.command_types.specs.Roster.{IsRoster}
 use Rattle.command_types.specs.Session.{IsSession}
-use Rattle.cycle_laws.proofs.Market.{empty_begins_markets}
+use Rattle.cycle_laws.specs.Bases.{IsWritable}
+use Rattle.cycle_laws.proofs.Bases.{empty_is_writable}
 use Rattle.house.specs.House.{figures_of}
 use Rattle.session.specs.declared.serve.SessionEnd.TheVariants as session_end
 use Rattle.session.specs.Serving.{Sight, Written}
@@ -46,9 +47,24 @@ says_untold = (header, tt, reads)
 is_roster : IsRoster nobody_there
 is_roster = record { few_members = omega arith; few_dealers = omega arith; few_products = omega arith; different = refl }
 
+writable : IsWritable nobody_there first_history.base.state
+writable = empty_is_writable nobody_there (omega arith) (omega arith)
+
 housed : IsHoused nobody_there (disk_of None 0) (disk_of None 0) first_house first_house
 housed = record {
-  opened = record { base = refl; opening = refl; stands = tt; running = refl; size = refl; tells = refl; first_moment = refl; moment = refl; counted = (omega arith, refl) };
+  opened = record {
+    first_base = writable;
+    first_legal = tt;
+    stands = tt;
+    opens = inl refl;
+    base = writable;
+    opening = refl;
+    running = refl;
+    tells = refl;
+    first_moment = refl;
+    moment = refl;
+    counted = (omega arith, refl);
+  };
   figures = refl;
   legal_first = tt;
   legal = tt;
@@ -59,7 +75,8 @@ housed = record {
   never_back = tt;
   any_moment = refl;
   stopped = λ e. absurd cc;
-  cycles = keeps_laws nobody_there first_history (empty_begins_markets nobody_there (omega arith) (omega arith)) tt;
+  first_cycles = keeps_laws nobody_there first_history writable.market tt;
+  cycles = keeps_laws nobody_there first_history writable.market tt;
 }
 
 -- ---- the script

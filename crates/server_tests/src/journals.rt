@@ -1,5 +1,4 @@
-//! Scripts over a journal: what it holds byte for byte, how a script goes on from it, what a damaged one is told, and what
-//! each call of the disk that fails comes to.
+//! Scripts over a journal: what it holds byte for byte, how a script goes on from it, and what a damaged one is told.
 
 ghost use Rattle.std.specs.Prelude.{Some, IfOk};
 ghost use Rattle.outside.specs.Disk.{IsSettled};
@@ -11,15 +10,23 @@ use std::sync::Wait;
 use std::test::Fail;
 use std::thread::Threads;
 
-// The header and a closed gate.
-const NONE: &[u8] = b"OTCJRNL1\0";
+// The header, slot 0 selected, its offset 25 and that of slot 1, no base, and a closed gate.
+const NONE: &[u8] = b"OTCJRNLC\0\x19\0\0\0\0\0\0\0\0\0\0\0\0\0\0\0\0\0\0\0\0";
 
-// A's command TRADE A B P 10 2026-03-02 from seat 0, and a closed gate.
-const ONE: &[u8] =
+/// The same with A's command TRADE A B P 10 2026-03-02 from seat 0.
+pub const ONE: &[u8] =
+    b"OTCJRNLC\0\x19\0\0\0\0\0\0\0\0\0\0\0\0\0\0\0\0\0\0\0\x01\x19\0\0\0\0\0\0\0\x01A\x01\x01A\x01B\x01P\x0a\0\0\0\0\0\0\0\xea\x07\x03\x02\0";
+
+// And with B's command AFFIRM 1.
+const TWO: &[u8] =
+    b"OTCJRNLC\0\x19\0\0\0\0\0\0\0\0\0\0\0\0\0\0\0\0\0\0\0\x01\x19\0\0\0\0\0\0\0\x01A\x01\x01A\x01B\x01P\x0a\0\0\0\0\0\0\0\xea\x07\x03\x02\x01\x0f\0\0\0\0\0\0\0\x01B\x02\x01\0\0\0\0\0\0\0\0";
+
+/// A's command in a plain journal, which has the header, the records and a closed gate.
+pub const PLAIN_ONE: &[u8] =
     b"OTCJRNL1\x01\x19\0\0\0\0\0\0\0\x01A\x01\x01A\x01B\x01P\x0a\0\0\0\0\0\0\0\xea\x07\x03\x02\0";
 
-// The same with B's command AFFIRM 1.
-const TWO: &[u8] =
+// Both commands in one.
+const PLAIN_TWO: &[u8] =
     b"OTCJRNL1\x01\x19\0\0\0\0\0\0\0\x01A\x01\x01A\x01B\x01P\x0a\0\0\0\0\0\0\0\xea\x07\x03\x02\x01\x0f\0\0\0\0\0\0\0\x01B\x02\x01\0\0\0\0\0\0\0\0";
 
 const TRADE: &str = "HELLO A KA\nTRADE A B P 10 2026-03-02\n";
@@ -96,6 +103,13 @@ const SCRIPTS: &[(&[u8], &str, &str, &[u8])] = &[
     (b"", "", "", NONE),
     (NONE, "", "", NONE),
     (b"OTC", "", "", NONE),
+    (b"OTCJRNL1\0", "", "", NONE),
+    (
+        b"OTCJRNLC\x01\x01\x01\x01\x01\x01\x01\x01\x01\x01\x01\x01",
+        "",
+        "",
+        NONE,
+    ),
     (b"\x01\x01\x01\x01\x01\x01\x01\x01\x01", "", "", NONE),
     (b"", TRADE, TRADE_REPLIES, ONE),
     (
@@ -109,6 +123,12 @@ const SCRIPTS: &[(&[u8], &str, &str, &[u8])] = &[
         AFFIRM,
         "ok 1 hello B\nok 2 live 1\nok 2 nets 0 10 -10\n",
         TWO,
+    ),
+    (
+        PLAIN_ONE,
+        AFFIRM,
+        "ok 1 hello B\nok 2 live 1\nok 2 nets 0 10 -10\n",
+        PLAIN_TWO,
     ),
     (
         TWO,
@@ -142,31 +162,42 @@ fn a_script_goes_on_from_its_journal_and_keeps_each_change(rt: HostRuntime) -> R
     Ok(())
 }
 
-// What a script over the first bytes of a journal of one change ends with: so few stand for no change, then the one record
-// is cut, and then the gate behind it is missing.
-fn end_at_cut(bytes: usize) -> (u8, &'static str, &'static str) {
-    match bytes {
-        0..=9 => (0, "ok 0 hello A\n", ""),
-        10..=37 => (7, "", "damaged at 8\n"),
-        38 => (7, "", "damaged at 38\n"),
-        _ => (0, "ok 1 hello A\n", ""),
-    }
+// A journal of one change that is cut: its bytes, how many of them at most stand for no change, the place of the record's gate,
+// which is told while the record is cut, and what is told where the gate behind it is missing.
+const CUT: &[(&[u8], usize, &str, &str)] = &[
+    (ONE, 30, "damaged at 29\n", "damaged at 59\n"),
+    (PLAIN_ONE, 9, "damaged at 8\n", "damaged at 38\n"),
+];
+
+// Whether a script over the journal's first bytes, so many of them, ends so, and leaves these.
+fn is_told_where_cut<R: Threads + Wait + Sync + AllocGlobal>(
+    rt: &R,
+    cut: &[u8],
+    end: (u8, &str, &str),
+    after: &[u8],
+) -> Result<bool, Fail> {
+    let disk = disk_of(rt.alloc(), cut)?;
+    let mut disk = left_by(rt, disk, "HELLO A KA\n", end)?;
+    holds(&mut disk, after)
 }
 
 fn each_cut_is_told<R: Threads + Wait + Sync + AllocGlobal>(rt: &R) -> Result<bool, Fail> {
-    for (size, _) in ONE.iter().enumerate() {
-        let cut = &ONE[..size];
-        let end = end_at_cut(size);
-        let disk = disk_of(rt.alloc(), cut)?;
-        let mut disk = left_by(rt, disk, "HELLO A KA\n", end)?;
-        let after = if size < 10 { NONE } else { cut };
-        if !holds(&mut disk, after)? {
-            return Ok(false);
+    let mut told = true;
+    for (file, short, in_record, at_end) in CUT {
+        for size in 0..file.len() {
+            let cut = file.get(..size).unwrap_or(file);
+            told = told
+                && if size <= *short {
+                    is_told_where_cut(rt, cut, (0, "ok 0 hello A\n", ""), NONE)?
+                } else if size < file.len().saturating_sub(1) {
+                    is_told_where_cut(rt, cut, (7, "", in_record), cut)?
+                } else {
+                    is_told_where_cut(rt, cut, (7, "", at_end), cut)?
+                };
         }
+        told = told && is_told_where_cut(rt, file, (0, "ok 1 hello A\n", ""), file)?;
     }
-    let disk = disk_of(rt.alloc(), ONE)?;
-    let mut disk = left_by(rt, disk, "HELLO A KA\n", end_at_cut(ONE.len()))?;
-    holds(&mut disk, ONE)
+    Ok(told)
 }
 
 #[test]
@@ -174,87 +205,4 @@ fn a_journal_that_is_cut_is_told_its_damage_and_stays(rt: HostRuntime) -> Result
     let told = each_cut_is_told(&rt)?;
     assert!(rt; told);
     Ok(())
-}
-
-const TWO_CHANGES: &str =
-    "HELLO A KA\nTRADE A B P 10 2026-03-02\nTRADE A B P 10 2026-03-02\nNETS P\n";
-
-// Whether a script of two changes, whose disk fails at that call, ends so, and the next finds so much where a crash loses
-// what no sync followed, and where it keeps all.
-fn fails_at<R: Threads + Wait + Sync + AllocGlobal>(
-    rt: &R,
-    call: u64,
-    end: (u8, &str, &str),
-    found: (&str, &str),
-) -> Result<(), Fail> {
-    let mut disk = empty_disk(rt.alloc())?;
-    disk.fail_at(call)?;
-    let mut disk = left_by(rt, disk, TWO_CHANGES, end)?;
-    let all = kept(rt.alloc(), &mut disk)?;
-    let _ = left_by(rt, all, "HELLO A KA\n", (0, found.1, ""))?;
-    let _ = left_by(rt, crashed(disk), "HELLO A KA\n", (0, found.0, ""))?;
-    Ok(())
-}
-
-const STOPPED_AT_FIRST: &str =
-    "ok 0 hello A\nno 0 27 disk-fault\nno 0 26 stopped 0\nok 0 nets 0 0 0\n";
-
-const STOPPED_AT_SECOND: &str = "ok 0 hello A\nok 1 trade 1\nno 1 27 disk-fault\nok 1 nets 0 0 0\n";
-
-const UNSTOPPED: &str = "ok 0 hello A\nok 1 trade 1\nok 2 trade 2\nok 2 nets 0 0 0\n";
-
-// What a session finds after so many changes.
-const FOUND: [&str; 3] = ["ok 0 hello A\n", "ok 1 hello A\n", "ok 2 hello A\n"];
-
-// An opening has the attaching, two calls of a walk and three of a start, and a change has four: its record is written and
-// synced, and then its gate.
-fn each_call_fails<R: Threads + Wait + Sync + AllocGlobal>(rt: &R) -> Result<(), Fail> {
-    for call in 1..=6 {
-        fails_at(rt, call, (6, "", "disk fault\n"), (FOUND[0], FOUND[0]))?;
-    }
-    for call in 7..=10 {
-        let at_most = if call == 10 { FOUND[1] } else { FOUND[0] };
-        fails_at(
-            rt,
-            call,
-            (6, STOPPED_AT_FIRST, "disk fault\n"),
-            (FOUND[0], at_most),
-        )?;
-    }
-    for call in 11..=14 {
-        let at_most = if call == 14 { FOUND[2] } else { FOUND[1] };
-        fails_at(
-            rt,
-            call,
-            (6, STOPPED_AT_SECOND, "disk fault\n"),
-            (FOUND[1], at_most),
-        )?;
-    }
-    Ok(())
-}
-
-// A script of two changes makes fourteen calls: the next one, which fails, is the test's own.
-fn no_call_is_left<R: Threads + Wait + Sync + AllocGlobal>(rt: &R) -> Result<bool, Fail> {
-    let mut disk = empty_disk(rt.alloc())?;
-    disk.fail_at(15)?;
-    let mut disk = left_by(rt, disk, TWO_CHANGES, (0, UNSTOPPED, ""))?;
-    let is_the_next = disk.faults() == 0 && disk.length().is_err();
-    let all = kept(rt.alloc(), &mut disk)?;
-    let _ = left_by(rt, all, "HELLO A KA\n", (0, FOUND[2], ""))?;
-    let _ = left_by(rt, crashed(disk), "HELLO A KA\n", (0, FOUND[2], ""))?;
-    Ok(is_the_next)
-}
-
-#[test]
-fn a_script_makes_no_call_of_its_disk_behind_its_changes(rt: HostRuntime) -> Result<(), Fail> {
-    let is_none_left = no_call_is_left(&rt)?;
-    assert!(rt; is_none_left);
-    Ok(())
-}
-
-#[test]
-fn each_call_of_the_disk_that_fails_ends_a_script_that_goes_on_later(
-    rt: HostRuntime,
-) -> Result<(), Fail> {
-    each_call_fails(&rt)
 }

@@ -2,6 +2,8 @@
 #![tactic(auto)]
 
 #[cfg(test)]
+mod behind_bases;
+#[cfg(test)]
 mod checks;
 #[cfg(test)]
 mod exchanges;
@@ -10,6 +12,8 @@ mod failing_streams;
 #[cfg(test)]
 mod file_faults;
 #[cfg(test)]
+mod folds;
+#[cfg(test)]
 mod gates;
 #[cfg(test)]
 mod gathering;
@@ -17,6 +21,10 @@ mod gathering;
 mod generated_markets;
 #[cfg(test)]
 mod in_step;
+#[cfg(test)]
+mod journal_faults;
+#[cfg(test)]
+mod journal_files;
 #[cfg(test)]
 mod journals;
 #[cfg(test)]

@@ -3,19 +3,16 @@
 ghost use Rattle.std.specs.Prelude.{Some};
 ghost use Rattle.outside.specs.Disk.{IsSettled};
 
-use crate::journals::{crashed, disk_of};
+use crate::journals::{ONE, PLAIN_ONE, crashed, disk_of};
 use crate::program::{ROSTER, run_on};
+use crate::torn_cycles::with_other;
 use outside::{Disk, MemoryDisk, MemorySink, MemorySource};
 use std::alloc::AllocGlobal;
 use std::sync::Wait;
 use std::test::Fail;
 use std::thread::Threads;
 
-// A's command TRADE A B P 10 2026-03-02 from seat 0, and a closed gate.
-const ONE: &[u8] =
-    b"OTCJRNL1\x01\x19\0\0\0\0\0\0\0\x01A\x01\x01A\x01B\x01P\x0a\0\0\0\0\0\0\0\xea\x07\x03\x02\0";
-
-// The same with another byte at the last gate, and at the first one.
+// A plain journal of one change with another byte at the last gate, and at the first one.
 const ENDED_BY_SEVEN: &[u8] =
     b"OTCJRNL1\x01\x19\0\0\0\0\0\0\0\x01A\x01\x01A\x01B\x01P\x0a\0\0\0\0\0\0\0\xea\x07\x03\x02\x07";
 
@@ -25,6 +22,14 @@ const BEGUN_BY_SEVEN: &[u8] =
 // C's command TRADE A B P 10 2026-03-02, which is no trade of C.
 const REFUSED: &[u8] =
     b"OTCJRNL1\x01\x19\0\0\0\0\0\0\0\x01C\x01\x01A\x01B\x01P\x0a\0\0\0\0\0\0\0\xea\x07\x03\x02\0";
+
+// A base at 33, which slot 1 has: position 7, two cycles, three versions, the roster's names, A's setting of at least 5 and at most
+// 9 that it sells to C, and a live trade of A and B that B holds. Slot 0 names a place that has none.
+const BASED: &[u8] =
+    b"OTCJRNLC\x01\x19\0\0\0\0\0\0\0\x21\0\0\0\0\0\0\0\xff\xff\xff\xff\xff\xff\xff\xff\x63\0\0\0\x01\x07\0\0\0\0\0\0\0\x02\0\0\0\0\0\0\0\x03\0\0\0\0\0\0\0\x03\0\x01A\x01B\x01C\x01\0\x01P\x01\0\0\0\0\0\0\0\0\0\0\0\x02\0\0\x05\0\0\0\0\0\0\0\x01\x09\0\0\0\0\0\0\0\x01\0\0\0\0\0\0\0\0\0\x01\0\0\0\x0a\0\0\0\0\0\0\0\xea\x07\x03\x02\x01\x01\0\x02\0";
+
+const BASED_TEXT: &str =
+    "member A 1\ntrade 1 A B P 10 2026-03-02 live held\nmember B 1\ntrade 1 A B P 10 2026-03-02 live held\nmember C 0\nend 7\n";
 
 const ONE_TEXT: &str =
     "member A 1\ntrade 1 A B P 10 2026-03-02 alleged -\nmember B 1\ntrade 1 A B P 10 2026-03-02 alleged -\nmember C 0\nend 1\n";
@@ -60,7 +65,7 @@ fn ends<R: Threads + Wait + Sync + AllocGlobal>(
 ) -> Result<bool, Fail> {
     let disk = disk_of(rt.alloc(), bytes)?;
     let mut disk = replayed(rt, disk, 256, end)?;
-    let mut into = [0; 64];
+    let mut into = [0; 256];
     let read = disk.read(0, &mut into)?;
     Ok(into.get(..read) == Some(bytes))
 }
@@ -69,16 +74,75 @@ fn ends<R: Threads + Wait + Sync + AllocGlobal>(
 const JOURNALS: &[(&[u8], usize, u8, &str, &str)] = &[
     (b"", 0, 0, NONE_TEXT, ""),
     (b"OTCJRNL1\0", 9, 0, NONE_TEXT, ""),
-    (ONE, 39, 0, ONE_TEXT, ""),
+    (b"OTCJRNLC\0\xff\xff\xff", 12, 0, NONE_TEXT, ""),
+    (ONE, 60, 0, ONE_TEXT, ""),
+    (ONE, 30, 0, NONE_TEXT, ""),
+    (ONE, 31, 7, "", "damaged at 29\n"),
+    (ONE, 58, 7, "", "damaged at 29\n"),
+    (ONE, 59, 7, "", "damaged at 59\n"),
+    (PLAIN_ONE, 39, 0, ONE_TEXT, ""),
     (ENDED_BY_SEVEN, 39, 0, ONE_TEXT, ""),
     (BEGUN_BY_SEVEN, 39, 0, NONE_TEXT, ""),
     (BEGUN_BY_SEVEN, 30, 0, NONE_TEXT, ""),
-    (ONE, 9, 0, NONE_TEXT, ""),
-    (ONE, 30, 7, "", "damaged at 8\n"),
-    (ONE, 38, 7, "", "damaged at 38\n"),
+    (PLAIN_ONE, 9, 0, NONE_TEXT, ""),
+    (PLAIN_ONE, 30, 7, "", "damaged at 8\n"),
+    (PLAIN_ONE, 38, 7, "", "damaged at 38\n"),
     (REFUSED, 39, 7, "", "damaged at 8\n"),
     (b"OTCJRNL2\0\0", 10, 7, "", "damaged at 0\n"),
+    (BASED, 137, 0, BASED_TEXT, ""),
+    (BASED, 136, 7, "", "damaged at 136\n"),
+    (BASED, 135, 7, "", "damaged at 33\n"),
+    (BASED, 36, 7, "", "damaged at 33\n"),
+    (BASED, 31, 7, "", "damaged at 33\n"),
 ];
+
+// A byte of it that is another one, and what is told. The slot that is not selected means nothing; the other one, the selector, and
+// each field of a base that is spelled otherwise, or fits no roster with these names, are damage where the base stands.
+const CHANGED: &[(usize, u8, u8, &str)] = &[
+    (8, 2, 7, "damaged at 25\n"),
+    (9, 7, 0, ""),
+    (17, 24, 7, "damaged at 24\n"),
+    (24, 0xff, 7, "damaged at 18374686479671623713\n"),
+    (33, 0x62, 7, "damaged at 33\n"),
+    (36, 0xff, 7, "damaged at 33\n"),
+    (37, 2, 7, "damaged at 33\n"),
+    (45, 0xff, 7, "damaged at 33\n"),
+    (53, 0xff, 7, "damaged at 33\n"),
+    (61, 0xff, 7, "damaged at 33\n"),
+    (62, 2, 7, "damaged at 33\n"),
+    (65, b'D', 7, "damaged at 33\n"),
+    (73, b'Q', 7, "damaged at 33\n"),
+    (82, 3, 7, "damaged at 33\n"),
+    (86, 0, 7, "damaged at 33\n"),
+    (98, 4, 7, "damaged at 33\n"),
+    (113, 0xff, 7, "damaged at 33\n"),
+    (114, 1, 7, "damaged at 33\n"),
+    (118, 1, 7, "damaged at 33\n"),
+    (120, 0, 7, "damaged at 33\n"),
+    (130, 13, 7, "damaged at 33\n"),
+    (132, 0, 7, "damaged at 33\n"),
+    (133, 3, 7, "damaged at 33\n"),
+    (135, 4, 7, "damaged at 33\n"),
+    (136, 1, 7, "damaged at 136\n"),
+];
+
+fn changes_are_told<R: Threads + Wait + Sync + AllocGlobal>(rt: &R) -> Result<bool, Fail> {
+    for (place, other, status, told) in CHANGED {
+        let changed = with_other(rt.alloc(), BASED, *place, *other)?;
+        let text = if *status == 0 { BASED_TEXT } else { "" };
+        if !ends(rt, &changed, (*status, text, told))? {
+            return Ok(false);
+        }
+    }
+    Ok(true)
+}
+
+#[test]
+fn a_base_that_is_changed_is_damage_where_it_stands(rt: HostRuntime) -> Result<(), Fail> {
+    let told = changes_are_told(&rt)?;
+    assert!(rt; told);
+    Ok(())
+}
 
 fn all_are_told<R: Threads + Wait + Sync + AllocGlobal>(rt: &R) -> Result<bool, Fail> {
     for (bytes, size, status, text, told) in JOURNALS {

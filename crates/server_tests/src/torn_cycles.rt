@@ -32,8 +32,8 @@ fn finds<R: Threads + Wait + Sync + AllocGlobal>(
     Ok(())
 }
 
-// Some bytes with another one at a place, if there is one.
-fn with_other(alloc: Global, bytes: &[u8], place: usize, other: u8) -> Result<Vec<u8>, Fail> {
+/// Some bytes with another one at a place, if there is one.
+pub fn with_other(alloc: Global, bytes: &[u8], place: usize, other: u8) -> Result<Vec<u8>, Fail> {
     let mut changed = bytes.to_vec(alloc)?;
     if let Some(byte) = changed.get_mut(place) {
         *byte = other;
@@ -93,14 +93,14 @@ fn around<R: Threads + Wait + Sync + AllocGlobal>(
     Ok((old, new))
 }
 
-// An opening has six calls, and a change four: its record is written and synced, and then its gate. A call that writes and
+// An opening has seven calls, and a change four: its record is written and synced, and then its gate. A call that writes and
 // fails leaves what the sync behind it may leave.
 fn each_write_is_torn<R: Threads + Wait + Sync + AllocGlobal>(rt: &R) -> Result<(), Fail> {
     for change in 0..12u64 {
         let done = market_after(change);
-        let (old, new) = around(rt, 8 + 4 * change)?;
+        let (old, new) = around(rt, 9 + 4 * change)?;
         finds_torn(rt, &old, &new, done)?;
-        let (old, new) = around(rt, 10 + 4 * change)?;
+        let (old, new) = around(rt, 11 + 4 * change)?;
         finds_gate(rt, &old, &new, (done, market_after(change + 1)))?;
     }
     Ok(())

@@ -1,6 +1,5 @@
 use Rattle.std.proofs.Common.{◌∙◌, ◌++◌, ap}
 use Rattle.std.specs.Prelude.{option_map}
-use Rattle.command_types.specs.Machine.{empty_state}
 use Rattle.house.specs.Executions.{executions_told}
 use Rattle.compress_server.proofs.ReplayFacts.{replays, replays_front}
 use Rattle.compress_server.proofs.ServeFacts.{ok_holds, err_holds}
@@ -12,7 +11,7 @@ returns-then-is_err-2-clause-runs g c =
     let count = g.D.Disk.fault_count in
     let e = c.in-Ok.ensures in
     let read = c.in-Ok.read in
-    let told = e.told ∙ ap (option_map (λ replies. replies ++ executions_told (empty_state c.args.roster) 0 read.past.entries)) c.none.ensures in
+    let told = e.told ∙ ap (option_map (λ replies. replies ++ executions_told read.past.base.state read.past.base.position read.past.entries)) c.none.ensures in
     replays_front c.args.roster (history c.args.disk.now) (history c.attach.new.self) (history c.recover_noting.new.disk) (count c.args.disk.now) (count c.recover_noting.new.disk) c.attach.ensures.same e.same
     (g.K.Sink.taken c.args.output.now) (g.K.Sink.taken c.write_all.new.sink) read c.deref.result.now e.stands e.replayed e.base told (c.deref.ensures.value ∙ c.in-Ok-text_of.ensures)
     (err_holds c.write_all.result c.is_err-2.result _ c.is_err-2.ensures.value c.if-is_err-2.true c.write_all.ensures.front)
@@ -26,7 +25,7 @@ returns-clause-runs g c =
     let count = g.D.Disk.fault_count in
     let e = c.in-Ok.ensures in
     let read = c.in-Ok.read in
-    let told = e.told ∙ ap (option_map (λ replies. replies ++ executions_told (empty_state c.args.roster) 0 read.past.entries)) c.none.ensures in
+    let told = e.told ∙ ap (option_map (λ replies. replies ++ executions_told read.past.base.state read.past.base.position read.past.entries)) c.none.ensures in
     replays c.args.roster (history c.args.disk.now) (history c.attach.new.self) (history c.recover_noting.new.disk) (count c.args.disk.now) (count c.recover_noting.new.disk) c.attach.ensures.same e.same
     (g.K.Sink.taken c.args.output.now) (g.K.Sink.taken c.write_all.new.sink) read c.deref.result.now e.stands e.replayed e.base told (c.deref.ensures.value ∙ c.in-Ok-text_of.ensures)
     (ok_holds c.write_all.result c.is_err-2.result _ c.is_err-2.ensures.value c.if-is_err-2.false c.write_all.ensures.takes)

@@ -1,0 +1,175 @@
+//! Journals that begin again from a base: what a fold writes byte for byte, and each call of the disk that fails in it.
+
+use crate::journal_files::{content_of, file_after, holds, plain_of, replay_of};
+use crate::journals::{crashed, disk_of, left_by};
+use outside::Disk;
+use std::alloc::{AllocError, AllocGlobal, Global};
+use std::sync::Wait;
+use std::test::Fail;
+use std::thread::Threads;
+
+// So many trades by which A sells 1 to B, of which B affirms the first so many.
+fn lines_of(alloc: Global, trades: u64, affirmed: u64) -> Result<String, AllocError> {
+    let mut lines = String::from_str(alloc, "HELLO A KA\n")?;
+    for _ in 0..trades {
+        lines.push_str("TRADE A B P 1 2026-03-02\n")?;
+    }
+    lines.push_str("HELLO B KB\n")?;
+    for k in 0..affirmed {
+        let number = k.saturating_add(1);
+        lines.push_str(&format!(in alloc; "AFFIRM {number}\n")?)?;
+    }
+    Ok(lines)
+}
+
+// The body behind these changes: the base's length, its mark, a position, no cycle and no version, the roster's names, no
+// setting, 500 trades of A and B, which A submitted and which are live, and a closed gate.
+fn body_of(alloc: Global, position: u64) -> Result<Vec<u8>, AllocError> {
+    let mut body = b"\x2d\x2b\0\0\x01".to_vec(alloc)?;
+    body.extend_from_slice(&position.to_le_bytes())?;
+    body.extend_from_slice(&[0; 16])?;
+    body.extend_from_slice(b"\x03\0\x01A\x01B\x01C\x01\0\x01P")?;
+    body.extend_from_slice(&[0; 8])?;
+    body.extend_from_slice(&500u64.to_le_bytes())?;
+    for _ in 0..500 {
+        body.extend_from_slice(b"\0\0\x01\0\0\0\x01\0\0\0\0\0\0\0\xea\x07\x03\x02\x01\x01\0\0")?;
+    }
+    body.push(0)?;
+    Ok(body)
+}
+
+// Whether these bytes stand at that place.
+fn has_at(file: &[u8], place: usize, bytes: &[u8]) -> bool {
+    file.get(place..)
+        .is_some_and(|rest| rest.starts_with(bytes))
+}
+
+// The file with this body at the place, which slot 1 has, selected.
+fn folded_to(alloc: Global, file: &[u8], place: usize, body: &[u8]) -> Result<Vec<u8>, Fail> {
+    let mut disk = disk_of(alloc, file)?;
+    disk.write_at(8, b"\x01")?;
+    disk.write_at(17, &(place as u64).to_le_bytes())?;
+    disk.write_at(place as u64, body)?;
+    content_of(alloc, &mut disk)
+}
+
+// The journal of 500 live trades, which has 1,000 changes.
+fn thousand<R: Threads + Wait + Sync + AllocGlobal>(rt: &R) -> Result<Vec<u8>, Fail> {
+    let lines = lines_of(rt.alloc(), 500, 500)?;
+    file_after(rt, b"", lines.as_str())
+}
+
+const GOES_ON: &str = "HELLO A KA\nTRADE A B P 1 2026-03-02\n";
+
+const GOES_ON_REPLIES: &str = "ok 1000 hello A\nok 1001 trade 501\n";
+
+fn is_folded_byte_for_byte<R: Threads + Wait + Sync + AllocGlobal>(rt: &R) -> Result<bool, Fail> {
+    let alloc = rt.alloc();
+    let whole = thousand(rt)?;
+    let after = file_after(rt, &whole, "")?;
+    let want = folded_to(alloc, &whole, 25030, &body_of(alloc, 1000)?)?;
+    let told = replay_of(rt, &after)?;
+    let disk = disk_of(alloc, &after)?;
+    let _ = left_by(rt, disk, GOES_ON, (0, GOES_ON_REPLIES, ""))?;
+    Ok(
+        whole.len() == 25030
+            && after.len() == 36088
+            && after == want
+            && told.ends_with(b"\nend 1000\n")
+            && told == replay_of(rt, &whole)?,
+    )
+}
+
+#[test]
+fn a_journal_of_a_thousand_changes_is_folded_when_it_is_opened(
+    rt: HostRuntime,
+) -> Result<(), Fail> {
+    let is_folded = is_folded_byte_for_byte(&rt)?;
+    assert!(rt; is_folded);
+    Ok(())
+}
+
+// One change fewer; an open cycle; a plain journal: each stays as it is.
+fn stay<R: Threads + Wait + Sync + AllocGlobal>(rt: &R) -> Result<bool, Fail> {
+    let alloc = rt.alloc();
+    let fewer = file_after(rt, b"", lines_of(alloc, 500, 499)?.as_str())?;
+    let whole = thousand(rt)?;
+    let frozen = file_after(rt, &fewer, "HELLO OPS KO\nFREEZE 2026-03-31\n")?;
+    let plain = plain_of(alloc, &whole)?;
+    for file in [&fewer, &frozen, &plain] {
+        if file_after(rt, file, "")? != *file {
+            return Ok(false);
+        }
+    }
+    let disk = disk_of(alloc, &plain)?;
+    let _ = left_by(rt, disk, GOES_ON, (0, GOES_ON_REPLIES, ""))?;
+    Ok(fewer.len() == 25010)
+}
+
+#[test]
+fn a_journal_with_fewer_changes_an_open_cycle_or_the_old_header_is_not_folded(
+    rt: HostRuntime,
+) -> Result<(), Fail> {
+    let all_stay = stay(&rt)?;
+    assert!(rt; all_stay);
+    Ok(())
+}
+
+// The next body fits in front of the first one, and the one behind that goes to the end again.
+fn folds_to_the_front_and_to_the_end<R: Threads + Wait + Sync + AllocGlobal>(
+    rt: &R,
+) -> Result<bool, Fail> {
+    let alloc = rt.alloc();
+    let more = holds(alloc, 1)?;
+    let first = file_after(rt, &thousand(rt)?, more.as_str())?;
+    let second = file_after(rt, &first, "")?;
+    let body = body_of(alloc, 2000)?;
+    let third = file_after(rt, &file_after(rt, &second, more.as_str())?, "")?;
+    let late = body_of(alloc, 3000)?;
+    Ok(
+        first.len() == 56088
+            && second.len() == 56088
+            && has_at(&second, 8, b"\0\x19\0\0\0\0\0\0\0")
+            && has_at(&second, 25, &body)
+            && third.len() == 56088
+            && has_at(&third, 8, b"\x01\x19\0\0\0\0\0\0\0\x6b\x79\0\0\0\0\0\0")
+            && has_at(&third, 31083, &late),
+    )
+}
+
+#[test]
+fn a_fold_goes_to_the_front_where_it_fits_and_else_to_the_end(rt: HostRuntime) -> Result<(), Fail> {
+    let both = folds_to_the_front_and_to_the_end(&rt)?;
+    assert!(rt; both);
+    Ok(())
+}
+
+const MARKET: &str = "HELLO OPS KO\nNETS P\n";
+
+const MARKET_REPLIES: &str = "ok 1000 hello OPS\nok 1000 market 500 500 0 500\n";
+
+// An opening with a fold has the attaching, two calls of a walk, and three writes, each with its sync.
+fn each_call_fails<R: Threads + Wait + Sync + AllocGlobal>(rt: &R) -> Result<(), Fail> {
+    let alloc = rt.alloc();
+    let whole = thousand(rt)?;
+    for call in 1..=9 {
+        let mut disk = disk_of(alloc, &whole)?;
+        disk.fail_at(call)?;
+        let mut disk = left_by(rt, disk, "", (6, "", "disk fault\n"))?;
+        let kept = content_of(alloc, &mut disk)?;
+        let synced = content_of(alloc, &mut crashed(disk))?;
+        for image in [&kept, &synced] {
+            let disk = disk_of(alloc, image)?;
+            let disk = left_by(rt, disk, MARKET, (0, MARKET_REPLIES, ""))?;
+            let _ = left_by(rt, crashed(disk), GOES_ON, (0, GOES_ON_REPLIES, ""))?;
+        }
+    }
+    Ok(())
+}
+
+#[test]
+fn each_call_of_the_disk_that_fails_in_a_fold_leaves_the_trades_and_the_position(
+    rt: HostRuntime,
+) -> Result<(), Fail> {
+    each_call_fails(&rt)
+}
