@@ -1,7 +1,7 @@
 //! Houses on files that hold a base.
 
 use crate::bases::{AT, based, based_with};
-use crate::houses::{has_gross, house_on, is_found, is_told, large_disk_of};
+use crate::houses::{crashed, disk_below, has_gross, house_on, is_found, is_told, large_disk_of};
 use crate::openings::{answer_to, damaged};
 use command_types::What;
 use std::test::Fail;
@@ -17,8 +17,7 @@ fn a_house_goes_on_from_a_base(rt: HostRuntime) -> Result<(), Fail> {
     let mut house = house_on(&rt, alloc, large_disk_of(alloc, &closed)?)?;
     assert!(rt; house.length() == 3 && has_gross(&mut house, 3, 7));
     assert!(rt; is_told(&mut house, b"B", What::Affirm { trade: 1 }, 4, None));
-    let disk = house.end().crash();
-    assert!(rt; is_found(&rt, alloc, disk, 4, 17)?);
+    assert!(rt; is_found(&rt, alloc, crashed(disk_below(house)), 4, 17)?);
     Ok(())
 }
 
@@ -55,7 +54,7 @@ fn a_base_that_does_not_fit_the_roster_is_damage_at_its_offset(
         (98, &[1]),
     ];
     for (place, bytes) in cases {
-        let file = based_with(AT + place, bytes);
+        let file = based_with(AT.saturating_add(place), bytes);
         assert!(rt;
             answer_to(&rt, rt.alloc(), &file)? == damaged(25),
             "{bytes:?} at {place}"

@@ -65,12 +65,12 @@ fn file_of(alloc: Global, trades: u64) -> Result<Vec<u8>, AllocError> {
 
 /// Whether this selector is written, and this offset in its slot, at which a base of this length stands, with a closed gate
 /// behind it.
-fn is_selected(file: &[u8], selector: u8, offset: usize, length: usize) -> bool {
+fn is_selected(file: &[u8], selector: u8, offset: u32, length: u32) -> bool {
     let slot = if selector == 1 { 17 } else { 9 };
-    let gate = offset.saturating_add(4).saturating_add(length);
-    let named = file.get(slot..slot + 8) == Some((offset as u64).to_le_bytes().as_slice());
-    let sized = file.get(offset..offset.saturating_add(4))
-        == Some((length as u32).to_le_bytes().as_slice());
+    let body = offset as usize;
+    let gate = body.saturating_add(4).saturating_add(length as usize);
+    let named = file.get(slot..slot + 8) == Some(u64::from(offset).to_le_bytes().as_slice());
+    let sized = file.get(body..body.saturating_add(4)) == Some(length.to_le_bytes().as_slice());
     file.get(8) == Some(&selector) && named && sized && file.get(gate) == Some(&0)
 }
 
@@ -81,7 +81,8 @@ fn a_thousand_changes_are_folded(rt: HostRuntime) -> Result<(), Fail> {
     assert!(rt; file.len() == 25_030);
     let folded = content_opened(&rt, alloc, &file)?;
     assert!(rt; folded.len() == 36_088 && is_selected(&folded, 1, 25_030, 11_053));
-    assert!(rt; folded[9..17] == file[9..17] && folded[25..25_030] == file[25..]);
+    let slot = folded.get(9..17) == file.get(9..17);
+    assert!(rt; slot && folded.get(25..25_030) == file.get(25..));
     // What was folded is not folded again.
     assert!(rt; content_opened(&rt, alloc, &folded)?.as_slice() == folded.as_slice());
     let mut house = house_on(&rt, alloc, disk_of(alloc, &folded)?)?;
