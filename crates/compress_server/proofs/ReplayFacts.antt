@@ -165,8 +165,7 @@ pub replay_told : (rows : Rows) (o : Option disks.History) (read : Recovered) �
     → (h : History) × IsKept rows o h × (recovered_text read ≡ replay_text rows h)
 replay_told rows o read stands replayed base told =
     let h = read.past in
-    let roster : read.machine.state.roster ≡ rows = roster_replayed read.machine.state h replayed ∙ base.market.same in
-    (
+    let roster : read.machine.state.roster ≡ rows = roster_replayed read.machine.state h replayed ∙ base.market.same in (
       h,
       record { base = base; legal = replayed.legal; stands = stands },
       text_told rows h base.market.closed replayed.legal read.machine.state replayed.same roster (unwrap_or (told_of read.executions) []) (ap (λ o. unwrap_or o []) told),
