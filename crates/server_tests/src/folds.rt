@@ -2,7 +2,6 @@
 
 use crate::journal_files::{content_of, file_after, holds, plain_of, replay_of};
 use crate::journals::{crashed, disk_of, left_by};
-use outside::Disk;
 use std::alloc::{AllocError, AllocGlobal, Global};
 use std::sync::Wait;
 use std::test::Fail;
@@ -44,13 +43,13 @@ fn has_at(file: &[u8], place: usize, bytes: &[u8]) -> bool {
         .is_some_and(|rest| rest.starts_with(bytes))
 }
 
-// The file with this body at the place, which slot 1 has, selected.
-fn folded_to(alloc: Global, file: &[u8], place: usize, body: &[u8]) -> Result<Vec<u8>, Fail> {
-    let mut disk = disk_of(alloc, file)?;
-    disk.write_at(8, b"\x01")?;
-    disk.write_at(17, &(place as u64).to_le_bytes())?;
-    disk.write_at(place as u64, body)?;
-    content_of(alloc, &mut disk)
+// The file of 25,030 bytes with this body behind it, and slot 1, which has that place, selected.
+fn folded_to(alloc: Global, file: &[u8], body: &[u8]) -> Result<Vec<u8>, AllocError> {
+    let mut whole = file.get(..8).unwrap_or(file).to_vec(alloc)?;
+    whole.extend_from_slice(b"\x01\x19\0\0\0\0\0\0\0\xc6\x61\0\0\0\0\0\0")?;
+    whole.extend_from_slice(file.get(25..).unwrap_or(&[]))?;
+    whole.extend_from_slice(body)?;
+    Ok(whole)
 }
 
 // The journal of 500 live trades, which has 1,000 changes.
@@ -67,7 +66,7 @@ fn is_folded_byte_for_byte<R: Threads + Wait + Sync + AllocGlobal>(rt: &R) -> Re
     let alloc = rt.alloc();
     let whole = thousand(rt)?;
     let after = file_after(rt, &whole, "")?;
-    let want = folded_to(alloc, &whole, 25030, &body_of(alloc, 1000)?)?;
+    let want = folded_to(alloc, &whole, &body_of(alloc, 1000)?)?;
     let told = replay_of(rt, &after)?;
     let disk = disk_of(alloc, &after)?;
     let _ = left_by(rt, disk, GOES_ON, (0, GOES_ON_REPLIES, ""))?;
