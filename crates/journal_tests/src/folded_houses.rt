@@ -14,7 +14,8 @@ use std::process::Abort;
 use std::test::Fail;
 
 /// The frame of A's command TRADE A B P 1 2026-03-02 from seat 0, but for the closed gate behind it.
-const TRADE: [u8; 30] = *b"\x01\x19\0\0\0\0\0\0\0\x01A\x01\x01A\x01B\x01P\x01\0\0\0\0\0\0\0\xea\x07\x03\x02";
+const TRADE: [u8; 30] =
+    *b"\x01\x19\0\0\0\0\0\0\0\x01A\x01\x01A\x01B\x01P\x01\0\0\0\0\0\0\0\xea\x07\x03\x02";
 
 /// The front of that of B's command AFFIRM, up to the trade's number.
 const AFFIRM: [u8; 12] = *b"\x01\x0f\0\0\0\0\0\0\0\x01B\x02";
