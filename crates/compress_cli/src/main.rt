@@ -3,8 +3,7 @@
 
 use compress_server::run;
 use doors::SocketListener;
-use outside::{Access, FileDisk, Sink, StreamSink, StreamSource, SystemFiles, write_all};
-use parallel_solver::OpenGate;
+use outside::{Access, FileDisk, OpenGate, Sink, StreamSink, StreamSource, SystemFiles, write_all};
 use std::alloc::AllocGlobal;
 use std::env::Env;
 use std::fs::File;

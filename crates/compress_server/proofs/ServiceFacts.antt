@@ -1,5 +1,5 @@
 -- What a service comes to over a house that was just opened.
-use Rattle.std.proofs.Common.{◌≡◌, ◌∙◌, ◌⊎◌, inl, inr, refl, sym, subst, ap, ℕ, suc, ◌<◌, Bool, true, false, List, [], ◌∷◌, ◌++◌, take, drop, length, map, Option, Some, None, All, arith}
+use Rattle.std.proofs.Common.{◌≡◌, ◌∙◌, ◌⊎◌, inl, inr, refl, sym, subst, ap, ℕ, suc, ◌<◌, Bool, true, false, List, [], ◌∷◌, ◌++◌, take, drop, length, map, Option, All, arith}
 use Rattle.std.specs.Prelude.{nat_lt, ◌||◌}
 use Rattle.std.specs.List.{list_any}
 use Rattle.std.proofs.lemmas.List.{length-map}
@@ -18,7 +18,7 @@ use Rattle.compress_server.specs.declared.ending.End.{End}
 use Rattle.compress_server.specs.declared.ending.End.TheVariants.{ListenerFault, Memory}
 use Rattle.compress_server.specs.Seen.{OutputState, ListenerState}
 use Rattle.compress_server.specs.Runs.{run_of, runs_of}
-use Rattle.compress_server.specs.Serve.{SeatRun, LendsMany, TakesBackAll, Returned, IsUnasked, IsUnbegun, had_door_fault, service_end, trouble_end}
+use Rattle.compress_server.specs.Serve.{SeatRun, LendsMany, TakesBackAll, Returned, IsUnasked, IsUnbegun, had_door_fault, trouble_end}
 
 -- a vector whose elements were all written anew has the new ones
 pub written_anew : {P : Type 0} (n : ℕ) (new old : List P) → length new ≡ n → take n (new ++ drop (length new) old) ≡ new

@@ -1,14 +1,25 @@
 //! What a form runs with.
 
+use crate::count::Count;
+use network_laws::Solver;
 use outside::Gate;
+use parallel_solver::Workers;
 use std::alloc::Global;
 use std::sync::Wait;
 use std::thread::Threads;
 
-/// The threads that a form runs on, its memory, and the gate that a worker passes before it solves a problem.
+/// The threads that a form runs on, its memory, the solver, and the gate that a worker passes before it solves a piece.
 #[derive(Drop)]
-pub struct Resources<'a, R: Threads + Wait + Sync, G: Gate> {
+pub struct Resources<'a, R: Threads + Wait + Sync, V: Solver, G: Gate> {
     pub rt: &'a R,
     pub alloc: Global,
+    pub solver: &'a V,
     pub gate: &'a G,
+}
+
+impl<'a, R: Threads + Wait + Sync, V: Solver, G: Gate> Resources<'a, R, V, G> {
+    /// So many workers, who solve with this solver.
+    pub fn workers(&self, count: Count) -> Workers<'a, R, V, G> {
+        Workers::new(self.rt, count.value, self.solver, self.gate)
+    }
 }

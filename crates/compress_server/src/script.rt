@@ -19,10 +19,9 @@ use crate::resources::Resources;
 use command_types::Roster;
 use cycle_lock::Turns;
 use house::House;
-use outside::{Disk, Files, Sink, Source};
-use parallel_solver::Gate;
-use path_solver::PathSolver;
-use session::{SessionEnd, serve_session};
+use network_laws::Solver;
+use outside::{Disk, Files, Gate, Sink, Source};
+use session::{Host, SessionEnd};
 use std::sync::Wait;
 use std::thread::Threads;
 
@@ -50,13 +49,13 @@ fn end_of_script(end: SessionEnd, stopped: bool) -> End
 
 /// A script whose roster was read: what it runs with, that roster, and the form's words.
 #[derive(Drop)]
-pub struct Script<'a, R: Threads + Wait + Sync, G: Gate> {
-    pub with: &'a Resources<'a, R, G>,
+pub struct Script<'a, R: Threads + Wait + Sync, V: Solver, G: Gate> {
+    pub with: &'a Resources<'a, R, V, G>,
     pub roster: &'a Roster,
     pub words: &'a ScriptWords<'a>,
 }
 
-impl<'a, R: Threads + Wait + Sync, G: Gate> Script<'a, R, G> {
+impl<'a, R: Threads + Wait + Sync, V: Solver, G: Gate> Script<'a, R, V, G> {
     // Serves one session under seat 0, over a house that was just opened. Where memory for the lock or the session's buffers
     // is not to be had, nothing is read or written.
     fn serve_house<D: Disk + Send, S: Source, K: Sink>(
@@ -77,18 +76,12 @@ impl<'a, R: Threads + Wait + Sync, G: Gate> Script<'a, R, G> {
             Ok(lock) => lock,
             Err(house) => return (SessionEnd::Memory, house),
         };
-        let (end, pass) = serve_session(
-            self.with.rt,
-            self.with.alloc,
-            &turns,
-            self.words.workers.value,
-            &PathSolver::new(self.with.alloc),
-            self.with.gate,
-            self.roster,
-            pass,
-            input,
-            output,
-        );
+        let host = Host {
+            alloc: self.with.alloc,
+            workers: self.with.workers(self.words.workers),
+            roster: self.roster,
+        };
+        let (end, pass) = host.serve(&turns, pass, input, output);
         (end, turns.close(self.with.rt, pass))
     }
 
@@ -118,8 +111,16 @@ impl<'a, R: Threads + Wait + Sync, G: Gate> Script<'a, R, G> {
 
 /// Reads the roster of the file with this name, opens the journal with that one, and serves one session. No file changes but
 /// the journal, whose disk comes back.
-pub fn run_script<R: Threads + Wait + Sync, F: Files, S: Source, K: Sink, D: Disk + Send, G: Gate>(
-    with: &Resources<'_, R, G>,
+pub fn run_script<
+    R: Threads + Wait + Sync,
+    V: Solver,
+    G: Gate,
+    F: Files,
+    S: Source,
+    K: Sink,
+    D: Disk + Send,
+>(
+    with: &Resources<'_, R, V, G>,
     files: &mut F,
     words: &ScriptWords<'_>,
     input: &mut S,

@@ -30,9 +30,10 @@ use cycle_lock::Turns;
 use doors::{Door, Listener};
 use house::House;
 use itoa::Buffer;
+use network_laws::Solver;
 use outside::{Disk, Files, Gate, Sink, Trouble, write_all};
-use path_solver::PathSolver;
 use seats::{Place, SeatEnd, Service};
+use session::Host;
 use std::sync::Wait;
 use std::thread::Threads;
 
@@ -82,13 +83,13 @@ fn end_of_service<C: Door + Drop>(places: &[Place<C>], stopped: bool, written: b
 
 /// What all seats have in common: what they run with, the desk's roster, and the form's words.
 #[derive(Drop)]
-pub struct Seating<'a, R: Threads + Wait + Sync, G: Gate> {
-    pub with: &'a Resources<'a, R, G>,
+pub struct Seating<'a, R: Threads + Wait + Sync, V: Solver, G: Gate> {
+    pub with: &'a Resources<'a, R, V, G>,
     pub roster: &'a Roster,
     pub words: &'a ServiceWords<'a>,
 }
 
-impl<'a, R: Threads + Wait + Sync, G: Gate> Seating<'a, R, G> {
+impl<'a, R: Threads + Wait + Sync, V: Solver, G: Gate> Seating<'a, R, V, G> {
     // Has the seats serve over a house that was just opened. Where there is no memory for the lock, none begins.
     fn serve_house<D: Disk + Send, C: Door + Drop>(
         &self,
@@ -111,13 +112,13 @@ impl<'a, R: Threads + Wait + Sync, G: Gate> Seating<'a, R, G> {
             Ok(lock) => lock,
             Err(house) => return Err(house),
         };
-        let service = Service {
-            rt: self.with.rt,
+        let host = Host {
             alloc: self.with.alloc,
-            workers: self.words.workers.value,
-            solver: &PathSolver::new(self.with.alloc),
-            gate: self.with.gate,
+            workers: self.with.workers(self.words.workers),
             roster: self.roster,
+        };
+        let service = Service {
+            host,
             most: self.words.connections,
         };
         Ok(service.serve(turns, pass, places))
@@ -179,13 +180,14 @@ fn end_of_trouble(trouble: Trouble) -> End
 // Reads the roster, opens the journal and has seats serve, at a listener that was told the idle time.
 fn open_and_serve<
     R: Threads + Wait + Sync,
+    V: Solver,
+    G: Gate,
     F: Files,
     K: Sink,
     D: Disk + Send,
     L: Listener,
-    G: Gate,
 >(
-    with: &Resources<'_, R, G>,
+    with: &Resources<'_, R, V, G>,
     files: &mut F,
     words: &ServiceWords<'_>,
     output: &mut K,
@@ -221,8 +223,16 @@ fn open_and_serve<
 
 /// Tells the listener for how long a connection may be silent, reads the roster of the file with this name, opens the
 /// journal with that one, and has seats serve at the address. No file changes but the journal, whose disk comes back.
-pub fn run_serve<R: Threads + Wait + Sync, F: Files, K: Sink, D: Disk + Send, L: Listener, G: Gate>(
-    with: &Resources<'_, R, G>,
+pub fn run_serve<
+    R: Threads + Wait + Sync,
+    V: Solver,
+    G: Gate,
+    F: Files,
+    K: Sink,
+    D: Disk + Send,
+    L: Listener,
+>(
+    with: &Resources<'_, R, V, G>,
     files: &mut F,
     words: &ServiceWords<'_>,
     output: &mut K,

@@ -9,18 +9,20 @@ ghost use Rattle.compress_server.specs.Ending.{SolveRuns};
 use crate::ending::End;
 use crate::load::{LoadFault, load_roster, load_trades};
 use crate::words::MarketFiles;
-use file_market::{Workers, solve};
+use file_market::solve;
+use network_laws::Solver;
 use outside::{Files, Gate, Sink, write_all};
+use parallel_solver::Workers;
 use std::alloc::Global;
 use std::thread::Threads;
 
 /// Reads the market's files, has the workers solve the market, and writes the proposal. No file changes.
-pub fn run_solve<R: Threads + Sync, F: Files, K: Sink, G: Gate>(
+pub fn run_solve<R: Threads + Sync, V: Solver, G: Gate, F: Files, K: Sink>(
     alloc: Global,
     files: &mut F,
     market: &MarketFiles<'_>,
     output: &mut K,
-    workers: &Workers<'_, R, G>,
+    workers: &Workers<'_, R, V, G>,
 ) -> End
     ensures runs { SolveRuns (F.folder files.old) (read_market market.now) (K.taken output.old) (K.taken output.new) result }
     ensures stays { F.folder files.new ≡ F.folder files.old }

@@ -24,10 +24,9 @@ use crate::solve::run_solve;
 use crate::words::{Form, read_words};
 use command_types::FileFault;
 use doors::Listener;
-use file_market::Workers;
-use outside::sink::write_all;
-use outside::{Disk, Files, Sink, Source};
-use parallel_solver::Gate;
+use network_laws::Solver;
+use outside::{Disk, Files, Gate, Sink, Source, write_all};
+use path_solver::PathSolver;
 use std::alloc::Global;
 use std::sync::Wait;
 use std::thread::Threads;
@@ -86,14 +85,15 @@ fn tell_end<E: Sink>(alloc: Global, errors: &mut E, end: End) -> u8
 // Does what the words ask for.
 fn run_form<
     R: Threads + Wait + Sync,
+    V: Solver,
+    G: Gate,
     F: Files,
     S: Source,
     K: Sink,
     D: Disk + Send,
     L: Listener,
-    G: Gate,
 >(
-    with: &Resources<'_, R, G>,
+    with: &Resources<'_, R, V, G>,
     words: &[String],
     files: &mut F,
     input: &mut S,
@@ -156,14 +156,14 @@ fn run_form<
             )
         }
         Some(Form::Solve { market, workers }) => {
-            let workers = Workers::new(with.rt, workers.value, with.gate);
+            let workers = with.workers(workers);
             (
                 run_solve(with.alloc, files, &market, output, &workers),
                 disk,
             )
         }
         Some(Form::Gen { number, workers }) => {
-            let workers = Workers::new(with.rt, workers.value, with.gate);
+            let workers = with.workers(workers);
             (run_gen(with.alloc, number, output, &workers), disk)
         }
         Some(Form::Replay { roster, journal }) => {
@@ -196,7 +196,7 @@ fn run_form<
 ///
 /// The files are read in the order of the words of the form, the proposal last, and the first that can't be had ends the
 /// call. The disk, which a script attaches to its journal, has to be settled: a crash now would leave what a read gives. It is
-/// handed back in each case. A worker passes the gate before it solves a problem. It answers the status:
+/// handed back in each case. A worker passes the gate before it solves a piece. It answers the status:
 ///
 /// - 0: all was done and written: a script's input was read to its end, or a BYE was accepted; a check says yes;
 /// - 1: a check says no;
@@ -244,7 +244,13 @@ pub fn run<
     ensures idle { L.idle listener.new ≡ idle_after (form_of (map string_bytes words.now)) (L.idle listener.old) }
     ensures files { F.folder files.new ≡ F.folder files.old }
 {
-    let with = Resources { rt, alloc, gate };
+    let solver = PathSolver::new(alloc);
+    let with = Resources {
+        rt,
+        alloc,
+        solver: &solver,
+        gate,
+    };
     let (end, disk) = run_form(&with, words, files, input, output, disk, listener);
     (tell_end(alloc, errors, end), disk)
 }

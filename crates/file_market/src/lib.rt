@@ -9,7 +9,6 @@ mod limits;
 mod solving;
 mod summing;
 mod verdict_text;
-mod workers;
 
 pub use checking::check;
 pub use failing::{Failing, Failure};
@@ -19,4 +18,3 @@ pub use laws::{
 pub use solving::solve;
 pub use summing::summarize;
 pub use verdict_text::verdict;
-pub use workers::Workers;

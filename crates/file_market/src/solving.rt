@@ -6,12 +6,11 @@ ghost use Rattle.dual_certificate.specs.Writing.{HaveMembers};
 ghost use Rattle.file_market.specs.Solve.{problem_for, FirstHasLimits, AreProblemsOf, AreSolutions, IsSolvedText};
 
 use crate::limits::limits_for;
-use crate::workers::Workers;
 use command_types::{Mode, Roster};
 use dual_certificate::write_proposal;
-use network_laws::{Network, Problem, Solution};
+use network_laws::{Network, Problem, Solution, Solver};
 use outside::Gate;
-use path_solver::PathSolver;
+use parallel_solver::Workers;
 use std::alloc::{AllocError, Global};
 use std::thread::Threads;
 use trade_file::{FileTrade, networks};
@@ -67,31 +66,31 @@ fn problems_of(
 }
 
 /// A solution for each product, by the workers.
-pub(crate) fn solutions_of<R: Threads + Sync, G: Gate>(
+pub(crate) fn solutions_of<R: Threads + Sync, V: Solver, G: Gate>(
     alloc: Global,
     roster: &Roster,
     mode: Mode,
     networks: &[Network],
-    workers: &Workers<'_, R, G>,
+    workers: &Workers<'_, R, V, G>,
 ) -> Result<Vec<Solution>, AllocError>
     requires count { length networks.now ≡ length roster.now.products }
     requires members { HaveMembers roster.now networks.now }
     ensures { IfOk result (λ solutions. AreSolutions roster.now mode networks.now solutions.items) }
 {
     let problems = problems_of(alloc, roster, mode, networks)?;
-    let solutions = workers.solve_all(alloc, &problems, &PathSolver::new(alloc))?;
+    let solutions = workers.solve_all(alloc, &problems)?;
     Ok(solutions)
 }
 
 /// The text of a proposal that has, for each product of the roster, a certified network for that of the trades, within
 /// the limits of the mode: no network within them that keeps every net position has less gross. Where the gross cannot
 /// fall, it is the trades' own network. However many workers solve, the only error is want of memory.
-pub fn solve<R: Threads + Sync, G: Gate>(
+pub fn solve<R: Threads + Sync, V: Solver, G: Gate>(
     alloc: Global,
     roster: &Roster,
     mode: Mode,
     trades: &[FileTrade],
-    workers: &Workers<'_, R, G>,
+    workers: &Workers<'_, R, V, G>,
 ) -> Result<Vec<u8>, AllocError>
     requires { AreFileTrades roster.now trades.now }
     ensures { IfOk result (λ text. IsSolvedText roster.now mode trades.now text.items) }

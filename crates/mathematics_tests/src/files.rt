@@ -4,8 +4,10 @@ ghost use Rattle.std.specs.Prelude.{◌≤◌};
 
 use command_types::{Mode, Roster};
 use dual_certificate::read_proposal;
-use file_market::{Workers, check, solve, verdict};
+use file_market::{check, solve, verdict};
 use outside::{Gate, OpenGate};
+use parallel_solver::Workers;
+use path_solver::PathSolver;
 use std::alloc::{AllocGlobal, Global};
 use std::test::Fail;
 use std::thread::Threads;
@@ -68,7 +70,8 @@ pub fn solved_text<R: Threads + Sync + AllocGlobal>(
     requires { (1 ≤ workers) × (workers ≤ 64) }
 {
     let trades = read_trades(rt.alloc(), text, roster)?;
-    let workers = Workers::new(rt, workers, &OpenGate);
+    let solver = PathSolver::new(rt.alloc());
+    let workers = Workers::new(rt, workers, &solver, &OpenGate);
     let proposal = solve(rt.alloc(), roster, mode, &trades, &workers)?;
     Ok(proposal)
 }
@@ -82,7 +85,8 @@ pub fn solved_through<R: Threads + Sync + AllocGlobal, G: Gate>(
     let roster = read_roster(rt.alloc(), market.parties.as_bytes())?;
     let text = trades_text(rt.alloc(), market.trades)?;
     let trades = read_trades(rt.alloc(), &text, &roster)?;
-    let workers = Workers::new(rt, 2, gate);
+    let solver = PathSolver::new(rt.alloc());
+    let workers = Workers::new(rt, 2, &solver, gate);
     let proposal = solve(rt.alloc(), &roster, market.mode, &trades, &workers)?;
     Ok(proposal)
 }

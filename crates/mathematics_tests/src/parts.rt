@@ -4,7 +4,7 @@ use crate::networks::{Bound, Market, Sale, has_rows, unbounded};
 use crate::problems::problem_of;
 use network_laws::Solution;
 use outside::OpenGate;
-use parallel_solver::solve_all;
+use parallel_solver::Workers;
 use path_solver::PathSolver;
 use split_parts::{Parts, merge, split};
 use std::alloc::AllocGlobal;
@@ -81,7 +81,8 @@ fn is_solved_apart<R: Threads + Sync + AllocGlobal>(
     let solver = PathSolver::new(rt.alloc());
     let problem = problem_of(rt.alloc(), market)?;
     let parts = split(rt.alloc(), problem.limits(), problem.network())?;
-    let solutions = solve_all(rt, rt.alloc(), 2, parts.problems(), &solver, &OpenGate)?;
+    let workers = Workers::new(rt, 2, &solver, &OpenGate);
+    let solutions = workers.solve_all(rt.alloc(), parts.problems())?;
     let merged = merge(rt.alloc(), &parts, problem.network().members(), &solutions)?;
     Ok(are_parts(&parts, members) && suits(&merged, members, least))
 }
@@ -95,7 +96,7 @@ fn is_solved<R: Threads + Sync + AllocGlobal>(
 ) -> Result<bool, Fail> {
     let solver = PathSolver::new(rt.alloc());
     let problems = Vec::from_array(rt.alloc(), [problem_of(rt.alloc(), market)?])?;
-    let solved = solve_all(rt, rt.alloc(), 2, &problems, &solver, &OpenGate)?;
+    let solved = Workers::new(rt, 2, &solver, &OpenGate).solve_all(rt.alloc(), &problems)?;
     match solved.first() {
         Some(whole) => Ok(suits(whole, members, least)),
         None => Ok(false),

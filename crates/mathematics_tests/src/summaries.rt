@@ -3,8 +3,10 @@
 ghost use Rattle.std.specs.Prelude.{◌≤◌};
 
 use command_types::Mode;
-use file_market::{Workers, summarize};
+use file_market::summarize;
 use outside::OpenGate;
+use parallel_solver::Workers;
+use path_solver::PathSolver;
 use std::alloc::{AllocError, AllocGlobal};
 use std::test::Fail;
 use std::thread::Threads;
@@ -47,9 +49,10 @@ fn are_summed_up<R: Threads + Sync + AllocGlobal>(
 ) -> Result<bool, AllocError>
     requires { (1 ≤ workers) × (workers ≤ 64) }
 {
+    let solver = PathSolver::new(rt.alloc());
+    let workers = Workers::new(rt, workers, &solver, &OpenGate);
     for (number, summary) in summaries {
         let (roster, trades) = generate(rt.alloc(), *number)?;
-        let workers = Workers::new(rt, workers, &OpenGate);
         let text = summarize(rt.alloc(), &roster, Mode::Hybrid, &trades, &workers)?;
         if text.as_slice() != summary.as_bytes() {
             return Ok(false);

@@ -1,10 +1,11 @@
 //! Solves many problems, by workers beside one another.
 #![tactic(auto)]
 
+mod found;
 mod job;
 mod pieces;
 mod solving;
 mod workers;
 
-pub use outside::{Gate, OpenGate};
 pub use solving::solve_all;
+pub use workers::Workers;

@@ -7,7 +7,7 @@ ghost use Rattle.parallel_solver.specs.Cuts.{pieces_in, pieces_of, AreCuts};
 ghost use Rattle.units_core.specs.declared.limits.TheConstants.{MOST_WORKERS};
 
 use crate::pieces::{Pieces, cuts_of};
-use crate::workers::solve_pieces;
+use crate::workers::Workers;
 use network_laws::{Problem, Solution, Solver};
 use outside::Gate;
 use split_parts::{Partition, merge_parts, settle_others};
@@ -83,8 +83,24 @@ fn merged(
     Ok(merged)
 }
 
-/// A certified solution for each problem, in order, by at most so many workers, each of which claims one piece after
-/// another: a part of a problem, or a problem that has just one part. The only error is want of memory.
+impl<'a, R: Threads + Sync, V: Solver, G: Gate> Workers<'a, R, V, G> {
+    /// A certified solution for each problem, in order, by these workers, each of which claims one piece after another: a
+    /// part of a problem, or a problem that has just one part. The only error is want of memory.
+    pub fn solve_all(
+        &self,
+        alloc: Global,
+        problems: &[Problem],
+    ) -> Result<Vec<Solution>, AllocError>
+        ensures { IfOk result (λ solutions. AreSolved problems.now solutions.items) }
+    {
+        let cuts = cuts_of(alloc, problems)?;
+        let pieces = Pieces::of(alloc, problems, &cuts)?;
+        let solutions = self.solve_pieces(alloc, &pieces)?;
+        merged(alloc, problems, &cuts, solutions)
+    }
+}
+
+/// What so many workers solve with this solver, passing this gate. The only error is want of memory.
 pub fn solve_all<R: Threads + Sync, V: Solver, G: Gate>(
     rt: &R,
     alloc: Global,
@@ -96,8 +112,5 @@ pub fn solve_all<R: Threads + Sync, V: Solver, G: Gate>(
     requires { (1 ≤ workers) × (workers ≤ MOST_WORKERS) }
     ensures { IfOk result (λ solutions. AreSolved problems.now solutions.items) }
 {
-    let cuts = cuts_of(alloc, problems)?;
-    let pieces = Pieces::of(alloc, problems, &cuts)?;
-    let solutions = solve_pieces(rt, alloc, workers, &pieces, solver, gate)?;
-    merged(alloc, problems, &cuts, solutions)
+    Workers::new(rt, workers, solver, gate).solve_all(alloc, problems)
 }

@@ -9,7 +9,7 @@ use command_types::Desk;
 use cycle_lock::Turns;
 use doors::Door;
 use network_laws::Solver;
-use parallel_solver::Gate;
+use outside::Gate;
 use std::sync::Wait;
 use std::thread;
 use std::thread::Threads;
@@ -17,7 +17,7 @@ use std::thread::Threads;
 impl<'a, R: Threads + Wait + Sync, V: Solver, G: Gate> Service<'a, R, V, G> {
     // One seat serves the connections of its door.
     fn serve_place<T: Desk, D: Door + Drop>(&self, turns: &Turns<T>, place: &mut Place<D>)
-        requires { IsReady turns.now self.now.roster.now place.old.pass }
+        requires { IsReady turns.now self.now.host.roster.now place.old.pass }
         ensures { Works D.visits D.faults self.now.most turns.now place.old place.new }
     {
         let Some(pass) = place.pass.take() else {
@@ -34,15 +34,15 @@ impl<'a, R: Threads + Wait + Sync, V: Solver, G: Gate> Service<'a, R, V, G> {
         turns: &Turns<T>,
         places: &mut [Place<D>],
     )
-        requires { All (λ place. IsReady turns.now self.now.roster.now place.pass) places.old }
+        requires { All (λ place. IsReady turns.now self.now.host.roster.now place.pass) places.old }
         ensures { EachPlace (λ k. Works D.visits D.faults self.now.most turns.now) places.old places.new }
     {
         thread::for_each_mut(
-            self.rt,
+            self.host.workers.rt,
             places,
             64,
             &|_, place: &mut Place<D>|
-                requires { IsReady turns.now self.now.roster.now place.old.pass }
+                requires { IsReady turns.now self.now.host.roster.now place.old.pass }
                 ensures { Works D.visits D.faults self.entry.now.most turns.entry.now place.old place.new }
             { self.serve_place(turns, place) },
         );

@@ -6,16 +6,13 @@ ghost use Rattle.cycle_lock.specs.Passes.{IsPassOf, seen};
 ghost use Rattle.outside.specs.Faults.{Rose};
 ghost use Rattle.session.specs.Serving.{of_pass, Grows};
 ghost use Rattle.seats.specs.Sessions.{SeatServes};
-ghost use Rattle.units_core.specs.declared.limits.TheConstants.{MOST_WORKERS};
 
-use command_types::{Desk, Roster};
+use command_types::Desk;
 use cycle_lock::{Pass, Turns};
 use doors::Door;
 use network_laws::Solver;
-use outside::Trouble;
-use parallel_solver::Gate;
-use session::{SessionEnd, serve_session};
-use std::alloc::Global;
+use outside::{Gate, Trouble};
+use session::{Host, SessionEnd};
 use std::sync::Wait;
 use std::thread::Threads;
 
@@ -32,18 +29,11 @@ pub enum SeatEnd {
     Memory,
 }
 
-/// What all seats of a service serve with: workers who solve, from 1 to 64, the solver and the gate before it, the
-/// desk's roster, and how many connections a seat serves at most.
+/// What all seats of a service serve with: the host of their sessions, and how many connections a seat serves at most.
 #[derive(Drop)]
 pub struct Service<'a, R: Threads + Wait + Sync, V: Solver, G: Gate> {
-    pub rt: &'a R,
-    pub alloc: Global,
-    pub workers: u32,
-    pub solver: &'a V,
-    pub gate: &'a G,
-    pub roster: &'a Roster,
+    pub host: Host<'a, R, V, G>,
     pub most: u64,
-    pub ghost few: { (1 ≤ workers) × (workers ≤ MOST_WORKERS) },
 }
 
 impl<'a, R: Threads + Wait + Sync, V: Solver, G: Gate> Service<'a, R, V, G> {
@@ -57,7 +47,7 @@ impl<'a, R: Threads + Wait + Sync, V: Solver, G: Gate> Service<'a, R, V, G> {
         door: &mut D,
     ) -> (SeatEnd, Pass)
         requires own { IsPassOf turns.now pass }
-        requires roster { self.now.roster.now ≡ (seen pass).base.state.roster }
+        requires roster { self.now.host.roster.now ≡ (seen pass).base.state.roster }
         ensures own { IsPassOf turns.now result.1 }
         ensures grows { (made : List Entry) × Grows (of_pass pass) (of_pass result.1) made }
         ensures serves { SeatServes (of_pass pass) (of_pass result.1) (D.visits door.old) (D.visits door.new) self.now.most result.0 }
@@ -72,18 +62,7 @@ impl<'a, R: Threads + Wait + Sync, V: Solver, G: Gate> Service<'a, R, V, G> {
                 Err(Trouble::Failed) => return (SeatEnd::DoorFault, pass),
                 Err(Trouble::Memory) => return (SeatEnd::Memory, pass),
             };
-            let (end, after) = serve_session(
-                self.rt,
-                self.alloc,
-                turns,
-                self.workers,
-                self.solver,
-                self.gate,
-                self.roster,
-                pass,
-                &mut input,
-                &mut output,
-            );
+            let (end, after) = self.host.serve(turns, pass, &mut input, &mut output);
             door.give_back(input, output);
             pass = after;
             if end == SessionEnd::Memory {

@@ -14,7 +14,7 @@ use command_types::Desk;
 use cycle_lock::{Pass, Turns};
 use doors::Door;
 use network_laws::Solver;
-use parallel_solver::Gate;
+use outside::Gate;
 use std::sync::Wait;
 use std::thread::Threads;
 
@@ -92,7 +92,7 @@ impl<'a, R: Threads + Wait + Sync, V: Solver, G: Gate> Service<'a, R, V, G> {
         places: &mut [Place<D>],
     ) -> T
         requires own { IsPassOf turns pass }
-        requires roster { self.now.roster.now ≡ roster_of (of_pass pass) }
+        requires roster { self.now.host.roster.now ≡ roster_of (of_pass pass) }
         requires first { may_split pass + 1 ≡ 2 ^ 32 }
         requires few { length places.old ≤ MOST_SEATS }
         ensures figures { T.figures result ≡ figures_of pass }
@@ -106,6 +106,6 @@ impl<'a, R: Threads + Wait + Sync, V: Solver, G: Gate> Service<'a, R, V, G> {
         seat_all(&turns, &mut main, places);
         self.serve_places(&turns, places);
         take_in_all(&turns, &mut main, places);
-        turns.close(self.rt, main)
+        turns.close(self.host.workers.rt, main)
     }
 }

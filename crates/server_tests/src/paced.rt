@@ -2,8 +2,7 @@
 
 ghost use Rattle.std.specs.Prelude.{◌≡◌};
 
-use outside::{Failed, MemorySink, Sink, Source};
-use parallel_solver::Gate;
+use outside::{Failed, Gate, MemorySink, Sink, Source};
 use std::alloc::{AllocError, Global};
 use std::hint::spin_loop;
 use std::sync::atomic::{AtomicU64, Ordering};

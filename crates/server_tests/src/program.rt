@@ -5,8 +5,7 @@ ghost use Rattle.outside.specs.Disk.{IsSettled};
 
 use compress_server::run;
 use doors::{Listener, MemoryListener};
-use outside::{MemoryDisk, MemoryFiles, MemorySink, MemorySource, Sink, Source};
-use parallel_solver::{Gate, OpenGate};
+use outside::{Gate, MemoryDisk, MemoryFiles, MemorySink, MemorySource, OpenGate, Sink, Source};
 use std::alloc::{AllocError, AllocGlobal, Global};
 use std::sync::Wait;
 use std::thread::Threads;

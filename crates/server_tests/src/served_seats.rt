@@ -7,10 +7,11 @@ use crate::lock::opened;
 use crate::program::ROSTER;
 use command_types::Desk;
 use doors::{Door, MemoryConnection, MemoryDoor};
-use outside::{MemorySink, MemorySource};
-use parallel_solver::OpenGate;
+use outside::{MemorySink, MemorySource, OpenGate};
+use parallel_solver::Workers;
 use path_solver::PathSolver;
 use seats::{Place, SeatEnd, Service};
+use session::Host;
 use std::alloc::{AllocError, AllocGlobal, Global};
 use std::sync::Wait;
 use std::test::Fail;
@@ -32,15 +33,12 @@ pub fn history_served<R: Threads + Wait + Sync, D: Door + Drop>(
     };
     let (turns, pass) = opened(alloc, &roster)?;
     let solver = PathSolver::new(alloc);
-    let service = Service {
-        rt,
+    let host = Host {
         alloc,
-        workers: 2,
-        solver: &solver,
-        gate: &OpenGate,
+        workers: Workers::new(rt, 2, &solver, &OpenGate),
         roster: &roster,
-        most,
     };
+    let service = Service { host, most };
     Ok(service.serve(turns, pass, places).length())
 }
 

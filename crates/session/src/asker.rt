@@ -1,16 +1,16 @@
 //! What a session asks with.
 
-ghost use Rattle.std.specs.Prelude.{◌≡◌, ◌≤◌, IfOk};
+ghost use Rattle.std.specs.Prelude.{◌≡◌, IfOk};
 ghost use Rattle.command_types.specs.History.{end_of};
 ghost use Rattle.network_laws.specs.Solved.{AreSolved};
 ghost use Rattle.cycle_lock.specs.Passes.{IsPassOf, seen};
 ghost use Rattle.session.specs.Serving.{of_pass, Asks};
-ghost use Rattle.units_core.specs.declared.limits.TheConstants.{MOST_WORKERS};
 
 use command_types::{Ask, Desk, Reply};
 use cycle_lock::{Pass, Turns};
 use network_laws::{Problem, Solution, Solver};
-use parallel_solver::{Gate, solve_all};
+use outside::Gate;
+use parallel_solver::Workers;
 use std::alloc::{AllocError, Global};
 use std::sync::Wait;
 use std::thread::Threads;
@@ -18,37 +18,26 @@ use std::thread::Threads;
 /// A pass of a lock, which asks the desk in its turn, and the workers that solve, with no turn held.
 #[derive(Drop)]
 pub struct Asker<'a, T: Desk, R: Threads + Wait + Sync, V: Solver, G: Gate> {
-    rt: &'a R,
+    workers: &'a Workers<'a, R, V, G>,
     turns: &'a Turns<T>,
-    workers: u32,
-    solver: &'a V,
-    gate: &'a G,
     pass: Pass,
-    ghost few: { (1 ≤ workers) × (workers ≤ MOST_WORKERS) },
     ghost own: { IsPassOf turns.now pass },
 }
 
 impl<'a, T: Desk, R: Threads + Wait + Sync, V: Solver, G: Gate> Asker<'a, T, R, V, G> {
     /// What asks with this pass.
     pub fn new(
-        rt: &'a R,
+        workers: &'a Workers<'a, R, V, G>,
         turns: &'a Turns<T>,
-        workers: u32,
-        solver: &'a V,
-        gate: &'a G,
         pass: Pass,
     ) -> Asker<'a, T, R, V, G>
-        requires own { IsPassOf turns.now pass }
-        requires workers { (1 ≤ workers) × (workers ≤ MOST_WORKERS) }
+        requires { IsPassOf turns.now pass }
         ensures pass { result.pass ≡ pass }
         ensures turns { result.turns.now ≡ turns.entry.now }
     {
         Asker {
-            rt,
-            turns,
             workers,
-            solver,
-            gate,
+            turns,
             pass,
         }
     }
@@ -72,7 +61,7 @@ impl<'a, T: Desk, R: Threads + Wait + Sync, V: Solver, G: Gate> Asker<'a, T, R, 
     pub fn ask(&mut self, ask: Ask) -> Reply
         ensures { Asks (of_pass self.old.pass) (of_pass self.new.pass) ask result }
     {
-        self.turns.call(self.rt, &mut self.pass, ask)
+        self.turns.call(self.workers.rt, &mut self.pass, ask)
     }
 
     /// The length of the history that the pass has seen.
@@ -90,13 +79,6 @@ impl<'a, T: Desk, R: Threads + Wait + Sync, V: Solver, G: Gate> Asker<'a, T, R, 
     ) -> Result<Vec<Solution>, AllocError>
         ensures { IfOk result (λ solutions. AreSolved problems.now solutions.items) }
     {
-        solve_all(
-            self.rt,
-            alloc,
-            self.workers,
-            problems,
-            self.solver,
-            self.gate,
-        )
+        self.workers.solve_all(alloc, problems)
     }
 }

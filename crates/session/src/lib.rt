@@ -7,6 +7,7 @@ mod draft;
 mod draft_potentials;
 mod draft_rows;
 mod given;
+mod host;
 mod laws;
 mod line_buffer;
 mod outbox;
@@ -20,5 +21,6 @@ mod solutions;
 mod speaker;
 mod taking;
 
+pub use host::Host;
 pub use laws::every_line_is_answered;
 pub use serve::{SessionEnd, serve_session};

@@ -6,8 +6,7 @@ ghost use Rattle.outside.specs.Flow.{Takes, TakesFront};
 ghost use Rattle.session.specs.Pending.{Says};
 ghost use Rattle.units_core.specs.declared.limits.TheConstants.{MOST_LINE};
 
-use outside::sink::write_all;
-use outside::{Failed, Sink};
+use outside::{Failed, Sink, write_all};
 use std::alloc::{AllocError, Global};
 use std::marker::Model;
 

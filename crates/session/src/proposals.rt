@@ -7,7 +7,7 @@ ghost use Rattle.session.specs.Proposing.{begun_version, has_problems, Proposes,
 use crate::asker::Asker;
 use command_types::{Answer, Ask, Desk, Listed, Mode, Refusal, Reply, What};
 use network_laws::{Problem, Solver};
-use parallel_solver::Gate;
+use outside::Gate;
 use std::alloc::Global;
 use std::sync::Wait;
 use std::thread::Threads;

@@ -16,7 +16,7 @@ use crate::speaker::Speaker;
 use command_text::BadLine;
 use command_types::{Answer, Ask, Desk, Line, Mode, Refusal, Reply, Roster, What};
 use network_laws::Solver;
-use parallel_solver::Gate;
+use outside::Gate;
 use std::alloc::Global;
 use std::sync::Wait;
 use std::thread::Threads;

@@ -1,4 +1,4 @@
-//! A session over a pass, from its memory to the pass that comes back.
+//! A session that is served with a runtime, workers, solver and gate.
 
 ghost use Rattle.std.specs.Prelude.{◌≡◌, ◌≤◌};
 ghost use Rattle.outside.specs.Faults.{Rose};
@@ -7,16 +7,12 @@ ghost use Rattle.session.specs.Ending.{Ends};
 ghost use Rattle.session.specs.Serving.{of_pass};
 ghost use Rattle.units_core.specs.declared.limits.TheConstants.{MOST_WORKERS};
 
-use crate::asker::Asker;
-use crate::line_buffer::LineBuffer;
-use crate::reply_writer::ReplyWriter;
-use crate::session::Session;
-use crate::speaker::Speaker;
+use crate::host::Host;
 use command_types::{Desk, Roster};
 use cycle_lock::{Pass, Turns};
 use network_laws::Solver;
-use outside::{Sink, Source};
-use parallel_solver::Gate;
+use outside::{Gate, Sink, Source};
+use parallel_solver::Workers;
 use std::alloc::Global;
 use std::sync::Wait;
 use std::thread::Threads;
@@ -36,10 +32,7 @@ pub enum SessionEnd {
     Memory,
 }
 
-/// Replies to the lines of a source with a pass, up to the input's end, an accepted BYE or the session's limit of 2^30
-/// bytes. Every whole line that was read is answered, and the replies are written, before more is read; replies to lines
-/// that were read together are written together. What was read behind an accepted BYE is dropped. It takes its memory
-/// before it reads. The roster is the desk's, and the pass comes back.
+/// Replies to the lines of a source with a pass, as `Host::serve` does, with so many workers, this solver and this gate.
 pub fn serve_session<T: Desk, R: Threads + Wait + Sync, V: Solver, G: Gate, S: Source, K: Sink>(
     rt: &R,
     alloc: Global,
@@ -60,22 +53,11 @@ pub fn serve_session<T: Desk, R: Threads + Wait + Sync, V: Solver, G: Gate, S: S
     ensures source_fault { result.0 ≡ SessionEnd.SourceFault → Rose (S.faults source.old) (S.faults source.new) }
     ensures sink_fault { result.0 ≡ SessionEnd.SinkFault → Rose (K.faults sink.old) (K.faults sink.new) }
 {
-    let Ok(mut line) = LineBuffer::new(alloc) else {
-        return (SessionEnd::Memory, pass);
-    };
-    let Ok(mut piece) = vec![in alloc; 0u8; 65536] else {
-        return (SessionEnd::Memory, pass);
-    };
-    let Ok(writer) = ReplyWriter::new(alloc) else {
-        return (SessionEnd::Memory, pass);
-    };
-    let mut session = Session {
+    let workers = Workers::new(rt, workers, solver, gate);
+    let host = Host {
         alloc,
-        asker: Asker::new(rt, turns, workers, solver, gate, pass),
+        workers,
         roster,
-        speaker: Speaker::nobody(alloc),
-        writer,
     };
-    let end = session.serve(&mut line, &mut piece, source, sink);
-    (end, session.asker.into_pass())
+    host.serve(turns, pass, source, sink)
 }

@@ -13,7 +13,7 @@ use crate::reply_writer::ReplyWriter;
 use crate::speaker::Speaker;
 use command_types::{Desk, Roster};
 use network_laws::Solver;
-use parallel_solver::Gate;
+use outside::Gate;
 use std::alloc::Global;
 use std::sync::Wait;
 use std::thread::Threads;

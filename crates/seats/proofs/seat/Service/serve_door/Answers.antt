@@ -13,7 +13,7 @@ pub returns-then-eq-clause-serves : goal.returns-then-eq-clause-serves
 returns-then-eq-clause-serves g c =
     let visits = g.D.Door.visits in
     let given = c.in-Ok-Some in
-    let s = c.serve_session-end in
+    let s = c.serve-end in
     let round = round_of (of_pass c.loop.pass) (of_pass s.result.1) (visits c.loop.door) (visits c.accept.new.self) (visits c.give_back.new.self) _ _ _ _ s.result.0 _ _ _ _ (some_holds _ _ _ given.field-0-is given.ensures.opens)
     (some_holds _ _ _ given.field-0-is given.ensures.fresh) s.ensures.ends s.ensures.source_fault s.ensures.sink_fault c.give_back.ensures.returns in
     serves_on _ _ _ _ _ _ _ _ c.loop.counter _ seat_end.Memory c.loop.invariant.serves round (omega (arith, c.loop-test.true)) (λ e. absurd cc) (λ e. absurd cc) (λ e. refl)
@@ -23,12 +23,12 @@ loop-preserved g c =
     let before = c.loop.invariant in
     let visits = g.D.Door.visits in
     let given = c.in-Ok-Some in
-    let s = c.serve_session-end in
+    let s = c.serve-end in
     let round = round_of (of_pass c.loop.pass) (of_pass s.result.1) (visits c.loop.door) (visits c.accept.new.self) (visits c.give_back.new.self) _ _ _ _ s.result.0 _ _ _ _ (some_holds _ _ _ given.field-0-is given.ensures.opens)
     (some_holds _ _ _ given.field-0-is given.ensures.fresh) s.ensures.ends s.ensures.source_fault s.ensures.sink_fault c.give_back.ensures.returns in
-    let came = ends_grow (of_pass c.loop.pass) _ _ _ _ (of_pass c.serve_session-end.result.1) c.serve_session-end.result.0 c.serve_session-end.ensures.ends in
+    let came = ends_grow (of_pass c.loop.pass) _ _ _ _ (of_pass c.serve-end.result.1) c.serve-end.result.0 c.serve-end.ensures.ends in
     record {
-      own = c.serve_session-end.ensures.own;
+      own = c.serve-end.ensures.own;
       roster = before.roster ∙ sym (same_roster _ _ came.0 came.1);
       grows = (before.grows.0 ++ came.0, grows_both _ _ _ before.grows.0 came.0 before.grows.1 came.1);
       serves = serves_on _ _ _ _ _ _ _ _ c.loop.counter _ seat_end.Most before.serves round (omega arith) (λ e. refl) not_over (λ e. absurd (false≢true (sym c.if-eq.false ∙ (c.eq.ensures ∙ ap (λ x. sameb the_type x session_end.Memory) e))));

@@ -2,7 +2,7 @@ use Rattle.std.proofs.Common.{◌≡◌, List, Option, length, drop, subst, sym,
 use Rattle.network_laws.specs.Solutions.{SolutionData}
 use Rattle.parallel_solver.specs.Jobs.{AreFound}
 use Rattle.parallel_solver.proofs.Rights.{whole_front}
-use Rattle.parallel_solver.proofs.workers.solve_pieces.Goals as goal
+use Rattle.parallel_solver.proofs.workers.Workers.solve_pieces.Goals as goal
 
 pub collected-requires-clause-all : goal.collected-requires-clause-all
 collected-requires-clause-all g c =

@@ -1,6 +1,6 @@
 use Rattle.std.proofs.Common.{◌<◌, length, arith}
 use Rattle.parallel_solver.proofs.Rights.{put_right, found_put}
-use Rattle.parallel_solver.proofs.workers.put.Goals as goal
+use Rattle.parallel_solver.proofs.found.put.Goals as goal
 
 pub returns-clause-right : goal.returns-clause-right
 returns-clause-right c = put_right c.args.pieces.now c.args.found.now c.args.done c.requires.right c.requires.found

@@ -3,7 +3,7 @@ use Rattle.cycle_lock.specs.declared.pass.Pass.{Pass}
 use Rattle.session.specs.Serving.{of_pass}
 use Rattle.session.specs.Ending.{Ends}
 use Rattle.session.proofs.EndFacts.{seat_stays}
-use Rattle.session.proofs.serve.serve_session.Goals as goal
+use Rattle.session.proofs.host.Host.serve.Goals as goal
 
 pub returns-clause-ends : goal.returns-clause-ends
 returns-clause-ends g c =

@@ -1,7 +1,7 @@
 use Rattle.std.proofs.Common.{List, Option, sym, subst, arith}
 use Rattle.network_laws.specs.Solutions.{SolutionData}
 use Rattle.parallel_solver.proofs.Rights.{AreEmpty, empty_none, empty_more, empty_right}
-use Rattle.parallel_solver.proofs.workers.places.Goals as goal
+use Rattle.parallel_solver.proofs.found.places.Goals as goal
 
 pub loop-init : goal.loop-init
 loop-init c = let P : List (Option SolutionData) → Type 0 = λ xs. AreEmpty xs 0 in subst P (sym c.in_ok-found.ensures.items) empty_none

@@ -1,7 +1,7 @@
 use Rattle.std.proofs.Common.{◌∙◌, ◌+◌, ap, arith, refl}
 use Rattle.parallel_solver.specs.Jobs.{MayWork}
 use Rattle.parallel_solver.proofs.Rights.{all_more, new_work}
-use Rattle.parallel_solver.proofs.workers.jobs.Goals as goal
+use Rattle.parallel_solver.proofs.job.jobs.Goals as goal
 
 pub loop-preserved : goal.loop-preserved
 loop-preserved c =

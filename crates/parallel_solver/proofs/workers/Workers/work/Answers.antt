@@ -1,6 +1,6 @@
 use Rattle.std.proofs.Common.{◌∙◌, ◌<◌, length, sym, arith, refl}
 use Rattle.parallel_solver.proofs.Rights.{more_work, pushed, ok_where_no_err}
-use Rattle.parallel_solver.proofs.workers.work.Goals as goal
+use Rattle.parallel_solver.proofs.workers.Workers.work.Goals as goal
 
 pub loop-job-preserved : goal.loop-job-preserved
 loop-job-preserved g c =

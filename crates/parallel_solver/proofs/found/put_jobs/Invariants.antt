@@ -3,7 +3,7 @@ use Rattle.std.specs.Prelude.{All}
 use Rattle.claim_counter.specs.Workers.{IsWorkerOf, view_of}
 use Rattle.parallel_solver.specs.Jobs.{HasWorked, HasPassed, AreRight}
 use Rattle.parallel_solver.proofs.Rights.{FindsClaims}
-use Rattle.parallel_solver.proofs.workers.put_jobs.Given as goal
+use Rattle.parallel_solver.proofs.found.put_jobs.Given as goal
 
 abbrev pub invariant-loop-job : goal.invariant-loop-job
 invariant-loop-job l = record {

@@ -1,5 +1,5 @@
 use Rattle.parallel_solver.proofs.Rights.{AreEmpty}
-use Rattle.parallel_solver.proofs.workers.places.Given as goal
+use Rattle.parallel_solver.proofs.found.places.Given as goal
 
 abbrev pub invariant-loop : goal.invariant-loop
 invariant-loop l = AreEmpty l.found.items l.counter

@@ -1,6 +1,6 @@
 use Rattle.std.proofs.Common.{◌≡◌, ◌++◌, length, take}
 use Rattle.network_laws.specs.Solved.{AreSolved}
-use Rattle.parallel_solver.proofs.workers.collected.Given as goal
+use Rattle.parallel_solver.proofs.found.collected.Given as goal
 
 abbrev pub invariant-loop-slot : goal.invariant-loop-slot
 invariant-loop-slot l = record {

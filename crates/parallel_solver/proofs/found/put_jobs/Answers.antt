@@ -2,7 +2,7 @@ use Rattle.std.proofs.Common.{◌≡◌, true, ◌∷◌, [], inr, ap, arith}
 use Rattle.claim_counter.specs.Workers.{view_of}
 use Rattle.parallel_solver.specs.Jobs.{HasWorked}
 use Rattle.parallel_solver.proofs.Rights.{all_front, all_last, more_claims, passes_too}
-use Rattle.parallel_solver.proofs.workers.put_jobs.Goals as goal
+use Rattle.parallel_solver.proofs.found.put_jobs.Goals as goal
 
 pub loop-job-preserved : goal.loop-job-preserved
 loop-job-preserved c =

@@ -1,6 +1,6 @@
 use Rattle.std.proofs.Common.{◌≡◌, ◌++◌, ◌∷◌, [], sym, ◌∙◌, append_assoc, ap}
 use Rattle.parallel_solver.proofs.Placed.{collected_step, never_missing}
-use Rattle.parallel_solver.proofs.workers.collected.Goals as goal
+use Rattle.parallel_solver.proofs.found.collected.Goals as goal
 
 pub loop-slot-preserved : goal.loop-slot-preserved
 loop-slot-preserved c =

@@ -2,7 +2,7 @@ use Rattle.std.proofs.Common.{◌≡◌, ◌+◌, [], length, vec_len}
 use Rattle.std.specs.Prelude.{All}
 use Rattle.claim_counter.specs.Workers.{IsWorkerOf, view_of}
 use Rattle.parallel_solver.specs.Jobs.{MayWork}
-use Rattle.parallel_solver.proofs.workers.jobs.Given as goal
+use Rattle.parallel_solver.proofs.job.jobs.Given as goal
 
 abbrev pub invariant-loop : goal.invariant-loop
 invariant-loop l = record {

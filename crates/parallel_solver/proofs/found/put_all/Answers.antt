@@ -2,7 +2,7 @@ use Rattle.std.proofs.Common.{◌≡◌, ◌-◌, ◌∷◌, [], take, ap, ◌�
 use Rattle.std.proofs.lemmas.List.{append-nil}
 use Rattle.parallel_solver.specs.Jobs.{IsRight}
 use Rattle.parallel_solver.proofs.Rights.{all_front, all_last, one_put, all_put}
-use Rattle.parallel_solver.proofs.workers.put_all.Goals as goal
+use Rattle.parallel_solver.proofs.found.put_all.Goals as goal
 
 pub put-requires-clause-right : goal.put-requires-clause-right
 put-requires-clause-right c = all_last (IsRight c.args.pieces.now) c.pop.new.self.items c.loop-one.done.items c.in-Some.one c.in-Some.ensures.items c.loop-one.invariant.1
