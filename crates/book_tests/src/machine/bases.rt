@@ -1,0 +1,170 @@
+//! A machine's base and back: it stands as the base says, and tells the same base.
+
+use super::commands::TRADED;
+use super::words::Word::{A, B, C, D, P, Q};
+use super::written::{Deal, Sheet, base_of, can_be_written, is_base};
+use crate::market::{three_dealers, two_products};
+use command_types::{Roster, Side, TradeState};
+use cycle_states::Machine;
+use std::alloc::Global;
+use std::test::Fail;
+
+/// A owes B 10, and B has affirmed.
+pub const LIVE: Deal = Deal {
+    seller: 0,
+    buyer: 1,
+    product: 0,
+    amount: 10,
+    day: TRADED,
+    state: TradeState::Live,
+    submitter: Some(Side::Out),
+    mark: None,
+    hold_out: false,
+    hold_in: false,
+};
+
+/// B has not affirmed yet.
+pub const ALLEGED: Deal = Deal {
+    state: TradeState::Alleged,
+    ..LIVE
+};
+
+/// Nothing was done yet.
+pub const EMPTY: Sheet = Sheet {
+    position: 0,
+    cycle: 0,
+    version: 0,
+    members: &[A, B, C],
+    products: &[P],
+    settings: &[],
+    deals: &[],
+};
+
+// Each kind of trade, and settings of both sides, with and without a ceiling.
+const MIXED: Sheet = Sheet {
+    position: 40,
+    cycle: 3,
+    version: 2,
+    members: &[A, B, C],
+    products: &[P],
+    settings: &[
+        (0, 0, 1, Side::Out, 4, None),
+        (0, 0, 1, Side::In, 0, Some(0)),
+        (0, 0, 2, Side::Out, 7, Some(7)),
+        (2, 0, 0, Side::In, 0, Some(1_000_000_000_000_000_000)),
+    ],
+    deals: &[
+        LIVE,
+        ALLEGED,
+        Deal {
+            submitter: Some(Side::In),
+            seller: 2,
+            buyer: 0,
+            ..ALLEGED
+        },
+        Deal {
+            mark: Some(Side::In),
+            ..LIVE
+        },
+        Deal {
+            mark: Some(Side::Out),
+            hold_out: true,
+            hold_in: true,
+            ..LIVE
+        },
+        Deal {
+            hold_in: true,
+            amount: 1,
+            ..LIVE
+        },
+        Deal {
+            submitter: None,
+            seller: 1,
+            buyer: 2,
+            ..LIVE
+        },
+        Deal {
+            state: TradeState::Ended,
+            submitter: None,
+            hold_out: true,
+            ..LIVE
+        },
+        Deal {
+            state: TradeState::Ended,
+            mark: Some(Side::Out),
+            amount: 1_000_000_000_000_000_000,
+            ..LIVE
+        },
+        Deal {
+            state: TradeState::Ended,
+            amount: 1_000_000_000_000_000_000,
+            ..LIVE
+        },
+    ],
+};
+
+// The largest numbers, and a product at its most.
+const MOST: Sheet = Sheet {
+    position: 1_000_000_000_000_000_000,
+    cycle: 1_000_000_000_000_000_000,
+    version: 1_000_000_000_000_000_000,
+    deals: &[
+        Deal {
+            amount: 999_999_999_999_999_990,
+            ..ALLEGED
+        },
+        LIVE,
+    ],
+    ..EMPTY
+};
+
+// Two products, each at its most, and a customer.
+const TWO: Sheet = Sheet {
+    position: 7,
+    cycle: 1,
+    version: 0,
+    members: &[A, D],
+    products: &[P, Q],
+    settings: &[
+        (0, 1, 1, Side::In, 1, Some(2)),
+        (1, 0, 0, Side::Out, 0, None),
+    ],
+    deals: &[
+        Deal {
+            amount: 1_000_000_000_000_000_000,
+            ..LIVE
+        },
+        Deal {
+            amount: 1_000_000_000_000_000_000,
+            product: 1,
+            seller: 1,
+            buyer: 0,
+            ..LIVE
+        },
+    ],
+};
+
+/// Whether a machine of the roster that stands so tells the same base.
+fn comes_back(alloc: Global, roster: Roster, sheet: &Sheet) -> Result<bool, Fail> {
+    let base = base_of(alloc, sheet)?;
+    if !can_be_written(&base) {
+        return Ok(false);
+    }
+    let Ok(machine) = Machine::of_base(alloc, roster, base) else {
+        return Ok(false);
+    };
+    let Some(back) = machine.base(alloc, sheet.position)? else {
+        return Ok(false);
+    };
+    Ok(is_base(&back, sheet))
+}
+
+#[test]
+fn bases_come_back(rt: HostRuntime) -> Result<(), Fail> {
+    let alloc = rt.alloc();
+    for sheet in [EMPTY, MIXED, MOST] {
+        assert!(rt; comes_back(alloc, three_dealers(alloc)?, &sheet)?);
+    }
+    assert!(rt; comes_back(alloc, two_products(alloc)?, &TWO)?);
+    Ok(())
+}
