@@ -1,17 +1,22 @@
-//! A machine tells no base while a cycle is open.
+//! A machine tells no base while a cycle is open, and behind it the trades as its plan left them.
 
-ghost use Rattle.std.specs.Prelude.{IfOk};
+ghost use Rattle.std.specs.Prelude.{◌<◌, ◌^◌, length};
+ghost use Rattle.book_tests.specs.Changes.{LeadTo};
 ghost use Rattle.cycle_states.specs.Machine.{IsYoung};
 
 use super::bases::{EMPTY, LIVE};
-use super::words::Word::Ops;
+use super::commands::Said::{Accept, Begin, Cancel, Decline, End, Freeze, Post};
+use super::commands::{MARCH, Said, command_of};
+use super::words::Word;
+use super::words::Word::{A, B, C, Ops};
 use super::written::{Deal, Sheet, base_of, can_be_written, is_base};
+use crate::market::Posted::ShortChain;
 use crate::market::three_dealers;
-use command_types::{Ask, Entry, What};
+use command_types::Mode::Hybrid;
+use command_types::{Ask, Entry, Side, TradeState};
 use cycle_states::{Decision, Machine};
-use std::alloc::{AllocError, Global};
+use std::alloc::Global;
 use std::test::Fail;
-use units_core::Day;
 
 // A owes B 10, and B owes C 7.
 const CHAIN: Sheet = Sheet {
@@ -28,24 +33,82 @@ const CHAIN: Sheet = Sheet {
     ..EMPTY
 };
 
-fn standing(alloc: Global) -> Result<Machine, Fail>
-    ensures { IfOk result (λ machine. IsYoung machine.state.cycle) }
-{
-    let base = base_of(alloc, &CHAIN)?;
-    if !can_be_written(&base) {
-        return Err(AllocError.into());
-    }
-    let Ok(machine) = Machine::of_base(alloc, three_dealers(alloc)?, base) else {
-        return Err(AllocError.into());
-    };
-    Ok(machine)
-}
+// Who asks, what it asks, and whether a cycle is open then.
+type Turn = (Word, Said, bool);
 
-// Whether the operator's command is accepted.
-fn is_changed(machine: &mut Machine, what: What) -> Result<bool, Fail>
+// The chain is compressed in the second version.
+const COMPRESSED: [Turn; 9] = [
+    (Ops, Freeze(MARCH), true),
+    (Ops, Begin(1, Hybrid), true),
+    (Ops, Post(1, ShortChain), true),
+    (A, Decline(1, 1), true),
+    (Ops, Begin(1, Hybrid), true),
+    (Ops, Post(2, ShortChain), true),
+    (A, Accept(1, 2), true),
+    (B, Accept(1, 2), true),
+    (C, Accept(1, 2), false),
+];
+
+const AFTER: Sheet = Sheet {
+    position: 13,
+    cycle: 1,
+    version: 2,
+    deals: &[
+        Deal { amount: 3, ..LIVE },
+        Deal {
+            seller: 1,
+            buyer: 2,
+            amount: 7,
+            state: TradeState::Ended,
+            ..LIVE
+        },
+        Deal {
+            buyer: 2,
+            amount: 7,
+            day: MARCH,
+            submitter: None,
+            ..LIVE
+        },
+    ],
+    ..EMPTY
+};
+
+// A frozen trade ends, and the cycle is cancelled.
+const BROKEN: [Turn; 4] = [
+    (Ops, Freeze(MARCH), true),
+    (A, End(1), true),
+    (B, End(1), true),
+    (Ops, Cancel(1), false),
+];
+
+const UNCHANGED: Sheet = Sheet {
+    position: 8,
+    cycle: 1,
+    version: 0,
+    deals: &[
+        Deal {
+            state: TradeState::Ended,
+            mark: Some(Side::Out),
+            ..LIVE
+        },
+        Deal {
+            seller: 1,
+            buyer: 2,
+            amount: 7,
+            ..LIVE
+        },
+    ],
+    ..EMPTY
+};
+
+fn is_changed(alloc: Global, machine: &mut Machine, by: Word, said: Said) -> Result<bool, Fail>
     requires { IsYoung machine.old.state.cycle }
+    ensures { LeadTo 1 machine.old.state machine.new.state }
 {
-    let by = Some(Ops.name());
+    let Some(what) = command_of(alloc, said)? else {
+        return Ok(false);
+    };
+    let by = Some(by.name());
     let entry = Entry {
         seat: 7,
         ask: Ask { by, what },
@@ -53,27 +116,51 @@ fn is_changed(machine: &mut Machine, what: What) -> Result<bool, Fail>
     match machine.decide(entry)? {
         Decision::Told(_) => Ok(false),
         Decision::Ready(ready) => {
-            let _told = machine.commit(ready);
+            machine.commit(ready);
             Ok(true)
         }
     }
 }
 
-// Whether there is a base before a freeze, and none after it.
-fn is_told_until_a_freeze(alloc: Global) -> Result<bool, Fail> {
-    let mut machine = standing(alloc)?;
-    let Some(base) = machine.base(alloc, 4)? else {
-        return Ok(false);
-    };
-    let day = Day::new(2026, 3, 31).ok_or(AllocError)?;
-    if !is_base(&base, &CHAIN) || !is_changed(&mut machine, What::Freeze { day })? {
+fn goes(alloc: Global, machine: &mut Machine, turns: &[Turn]) -> Result<bool, Fail>
+    requires few { length turns.now < 2 ^ 62 }
+    requires number { machine.old.state.cycle.number < 2 ^ 62 }
+    requires version { machine.old.state.cycle.version < 2 ^ 62 }
+{
+    for (by, said, is_open) in turns {
+        if !is_changed(alloc, machine, *by, *said)? {
+            return Ok(false);
+        }
+        if machine.base(alloc, 0)?.is_none() != *is_open {
+            return Ok(false);
+        }
+    }
+    Ok(true)
+}
+
+// Whether the chain comes by these changes to stand so.
+fn comes_to(alloc: Global, turns: &[Turn], sheet: &Sheet) -> Result<bool, Fail>
+    requires { length turns.now < 2 ^ 62 }
+{
+    let base = base_of(alloc, &CHAIN)?;
+    if !can_be_written(&base) {
         return Ok(false);
     }
-    Ok(machine.base(alloc, 5)?.is_none())
+    let Ok(mut machine) = Machine::of_base(alloc, three_dealers(alloc)?, base) else {
+        return Ok(false);
+    };
+    if !goes(alloc, &mut machine, turns)? {
+        return Ok(false);
+    }
+    let Some(back) = machine.base(alloc, sheet.position)? else {
+        return Ok(false);
+    };
+    Ok(is_base(&back, sheet))
 }
 
 #[test]
 fn no_base_is_told_while_a_cycle_is_open(rt: HostRuntime) -> Result<(), Fail> {
-    assert!(rt; is_told_until_a_freeze(rt.alloc())?);
+    let alloc = rt.alloc();
+    assert!(rt; comes_to(alloc, &COMPRESSED, &AFTER)? && comes_to(alloc, &BROKEN, &UNCHANGED)?);
     Ok(())
 }
