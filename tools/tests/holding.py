@@ -12,6 +12,7 @@ import time
 from io import BufferedRWPair
 from typing import NamedTuple
 
+from running import PATIENCE
 from serving import Kept
 
 MEMBERS = "ABC"
@@ -70,10 +71,10 @@ class Holder:
     def hold(self, port: int, greeted: threading.Barrier, seconds: float, pause: float) -> None:
         """One session, which begins when all have greeted, with pauses of at most so many seconds."""
         try:
-            with socket.create_connection(("127.0.0.1", port), 60) as connection:
+            with socket.create_connection(("127.0.0.1", port), PATIENCE) as connection:
                 file = connection.makefile("rwb")
                 self.ask(file, [Line(f"HELLO {self.speaker} K{self.speaker}", f"ok {NUMBER} hello {self.speaker}")])
-                greeted.wait(60)
+                greeted.wait(PATIENCE)
                 end = time.monotonic() + seconds
                 while time.monotonic() < end:
                     self.ask(file, [self.line() for _ in range(self.chance.randint(1, 16))])

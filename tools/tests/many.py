@@ -75,6 +75,19 @@ class Many(unittest.TestCase):
         path.chmod(0o755)
         return path
 
+    def let_solve(self, count: int) -> None:
+        """Has a stand-in that waits solve just so many markets more."""
+        state = self.folder / "state"
+        for slot in state.glob("slot*"):
+            slot.rmdir()
+        for number in range(count):
+            (state / f"slot{number}").mkdir()
+
+    def kept(self) -> list[str]:
+        """The markets that were put away."""
+        markets = self.out / "markets"
+        return sorted(path.name for path in markets.iterdir() if not path.name.startswith(".")) if markets.exists() else []
+
     def solved(self) -> int:
         """How often the stand-in was asked to solve."""
         return (self.folder / "state/solved").read_text().count("\n")

@@ -9,6 +9,8 @@ from typing import NamedTuple, Sequence
 ROOT = Path(__file__).resolve().parents[2]
 TOOLS = ROOT / "tools"
 EXAMPLES = ROOT / "examples"
+PATIENCE = 300
+"""Seconds behind which what is waited for counts as lost: more than anything takes, however busy the machine is."""
 
 
 class Ran(NamedTuple):
@@ -18,7 +20,7 @@ class Ran(NamedTuple):
 
 
 def run(words: Sequence[str | bytes | Path], input: bytes = b"", folder: Path | None = None) -> Ran:
-    done = subprocess.run(words, input=input, capture_output=True, cwd=folder, timeout=120)
+    done = subprocess.run(words, input=input, capture_output=True, cwd=folder, timeout=PATIENCE)
     return Ran(done.returncode, done.stdout, done.stderr)
 
 

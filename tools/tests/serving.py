@@ -11,7 +11,7 @@ import unittest
 from pathlib import Path
 from typing import Callable, NamedTuple
 
-from running import EXAMPLES, TOOLS, Ran, program, run
+from running import EXAMPLES, PATIENCE, TOOLS, Ran, program, run
 
 sys.path.insert(0, str(TOOLS))
 
@@ -87,11 +87,11 @@ class InService(unittest.TestCase):
     def start(self, *options: str) -> None:
         """Starts a service over the journal, and waits until it takes connections."""
         self.service = started([*self.words(), *options])
-        self.assertEqual(run([TOOLS / "wait-ready", self.address, "30"]), Ran(0, b"", b""))
+        self.assertEqual(run([TOOLS / "wait-ready", self.address, str(PATIENCE)]), Ran(0, b"", b""))
 
     def session(self, name: str = "") -> Session:
         """A session with the service, greeted by this name."""
-        session = Session.connect("127.0.0.1", self.port, 60)
+        session = Session.connect("127.0.0.1", self.port, PATIENCE)
         self.addCleanup(session.close)
         if name:
             session.hello(name, "KO" if name == "OPS" else f"K{name}")
@@ -118,5 +118,5 @@ class InService(unittest.TestCase):
 
     def client(self, *words: str | Path, input: bytes = b"") -> Ran:
         environ = {**os.environ, "COMPRESS_CLI": str(self.program)}
-        done = subprocess.run([TOOLS / "client", *words], input=input, capture_output=True, env=environ, timeout=60)
+        done = subprocess.run([TOOLS / "client", *words], input=input, capture_output=True, env=environ, timeout=PATIENCE)
         return Ran(done.returncode, done.stdout, done.stderr)

@@ -11,7 +11,7 @@ import time
 import unittest
 from typing import NamedTuple
 
-from running import TOOLS, Ran, run
+from running import PATIENCE, TOOLS, Ran, run
 from serving import ROSTER, InService
 
 sys.path.insert(0, str(TOOLS))
@@ -105,7 +105,7 @@ class BadInput(InService):
         self.member = self.session("A")
 
     def connection(self) -> socket.socket:
-        return socket.create_connection(("127.0.0.1", self.port), 60)
+        return socket.create_connection(("127.0.0.1", self.port), PATIENCE)
 
     def told(self, *pieces: bytes) -> bytes:
         """The replies to a text, which is sent in these pieces and ends behind the last. Between them the member is served."""
@@ -164,7 +164,7 @@ class BadInput(InService):
                 with self.assertRaises(TimeoutError):
                     connection.recv(1)
                 self.assert_member_is_served()
-                connection.settimeout(60)
+                connection.settimeout(PATIENCE)
                 connection.sendall(case.rest)
                 self.assertEqual(end_of(connection), case.replies)
         self.assert_all_are_served()
@@ -206,7 +206,7 @@ class BadInput(InService):
                     sent += connection.send(text[sent % len(text) :])
             for _ in range(100):
                 self.assert_member_is_served()
-            connection.settimeout(60)
+            connection.settimeout(PATIENCE)
             due = b"no 0 1 not-greeted\n" * (sent // len(b"NETS P\n"))
             given = bytearray()
             while len(given) < len(due) and (piece := connection.recv(65_536)):
@@ -226,7 +226,7 @@ class BadInput(InService):
                 self.session("B").close()
                 self.assert_member_is_served()
         self.assert_all_are_served()
-        end = time.monotonic() + 30
+        end = time.monotonic() + PATIENCE
         while self.descriptors() != IDLE + 1 and time.monotonic() < end:
             time.sleep(0.01)
         self.assertEqual(self.descriptors(), IDLE + 1)

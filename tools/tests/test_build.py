@@ -8,7 +8,7 @@ import tempfile
 import unittest
 from pathlib import Path
 
-from running import TOOLS, Ran
+from running import PATIENCE, TOOLS, Ran
 
 # It begins each crate that has no library, says how far it is, and answers as the program does.
 PROVER = """#!/bin/sh
@@ -50,7 +50,7 @@ class Build(unittest.TestCase):
 
     def build(self, fails: str = "") -> Ran:
         settings = {**os.environ, "PATH": f"{self.top / 'bin'}:{os.environ['PATH']}", "FAILS": fails}
-        done = subprocess.run([self.tree / "tools/build"], env=settings, capture_output=True, timeout=60)
+        done = subprocess.run([self.tree / "tools/build"], env=settings, capture_output=True, timeout=PATIENCE)
         return Ran(done.returncode, done.stdout, done.stderr)
 
     def assert_shown(self, ran: Ran, crates: list[tuple[str, str, str]]) -> None:

@@ -10,7 +10,7 @@ import unittest
 from pathlib import Path
 from typing import Any
 
-from running import EXAMPLES, TOOLS, Ran, program, sessions
+from running import EXAMPLES, PATIENCE, TOOLS, Ran, program, sessions
 
 sys.path.insert(0, str(TOOLS))
 
@@ -179,7 +179,7 @@ def read_to(terminal: int, end: bytes) -> bytes:
     """What comes from a terminal up to these bytes, as a prompt, or, where they are none, to its end."""
     text = b""
     while not (end and text.endswith(end)):
-        if not select.select([terminal], [], [], 60)[0]:
+        if not select.select([terminal], [], [], PATIENCE)[0]:
             raise AssertionError(f"nothing comes behind {text!r}")
         try:
             piece = os.read(terminal, 4096)
@@ -200,7 +200,7 @@ class InFolder(unittest.TestCase):
 
     def client(self, *words: str | Path, input: bytes = b"", example: str = "ring-cycle", **more: str) -> Ran:
         environ = environment(example, **more)
-        done = subprocess.run([CLIENT, *words], input=input, capture_output=True, env=environ, timeout=60)
+        done = subprocess.run([CLIENT, *words], input=input, capture_output=True, env=environ, timeout=PATIENCE)
         return Ran(done.returncode, done.stdout, done.stderr)
 
 

@@ -12,7 +12,7 @@ import unittest
 from pathlib import Path
 
 from many import HEAD, TABLES, Many, Trade, ring, rows_of, text_of
-from running import TOOLS, Ran, run
+from running import PATIENCE, TOOLS, Ran, run
 from serving import free_port
 
 ROW = "2026-01-01,P,A,B,5\n"
@@ -109,9 +109,15 @@ class BadInput(Many):
         address = f"tcp://127.0.0.1:{free_port()}"
         words = self.tool("--scheduler", address)
         environ = {**os.environ, "DASK_DISTRIBUTED__COMM__TIMEOUTS__CONNECT": "1s", "COMPRESS_CLI": str(self.program)}
-        done = subprocess.run(words, capture_output=True, env=environ, timeout=60)
+        done = subprocess.run(words, capture_output=True, env=environ, timeout=PATIENCE)
         self.assertEqual((done.returncode, done.stdout, done.stderr), (21, b"", f"no scheduler at {address}\n".encode()))
 
+
+WAITING = (
+    'for slot in "$STATE"/slot*; do if rmdir "$slot" 2> /dev/null; then exec "$SELF" "$@"; fi; done\n'
+    'while [ -d "$STATE" ] && [ ! -e "$STATE/go" ]; do [ ! -e "$STATE/stop" ] || exit 1; sleep 0.1; done'
+)
+"""A stand-in that solves as many markets as there are slots, and then waits until it goes on, or has to fail."""
 
 BY_HAND = """\
 2026-01-01,Rates,Bank A,Bank B,10
@@ -175,12 +181,14 @@ class Written(Many):
 
     def test_a_folder_is_of_one_run_at_a_time(self) -> None:
         self.trades.write_text(HEAD + ROW)
-        slow = self.stand_in("sleep 3")
+        slow = self.stand_in(WAITING)
         first = subprocess.Popen(self.tool("--workers", "2", "--program", slow), stdout=subprocess.PIPE, stderr=subprocess.PIPE)
-        while not self.out.exists():
+        while not (self.folder / "state/solved").exists():
+            self.assertIsNone(first.poll(), "ended early")
             time.sleep(0.05)
         self.assertEqual(self.compress(), Ran(11, b"", f"{self.out} is in use\n".encode()))
-        output, errors = first.communicate(timeout=60)
+        (self.folder / "state/go").touch()
+        output, errors = first.communicate(timeout=PATIENCE)
         self.assert_done(Ran(first.returncode, output, errors))
 
 
@@ -242,33 +250,39 @@ class Workers(Many):
 
     def test_an_interrupt_and_what_goes_on(self) -> None:
         """What was put away is not solved again, but checked again: one market that was changed since is solved anew."""
-        slow = self.stand_in("sleep 0.5")
-        for number in (signal.SIGINT, signal.SIGTERM):
+        slow = self.stand_in(WAITING)
+        state = self.folder / "state"
+        kept: list[str] = []
+        for number, least, most in ((signal.SIGINT, 1, 2), (signal.SIGTERM, 3, 4)):
+            self.let_solve(most - len(kept))
             words = self.tool("--workers", "2", "--program", slow)
             first = subprocess.Popen(words, stdout=subprocess.PIPE, stderr=subprocess.PIPE, start_new_session=True)
-            kept: list[str] = []
-            while len(kept) < (1 if number == signal.SIGINT else 3):
+            while len(kept := self.kept()) < least:
+                self.assertIsNone(first.poll(), "ended early")
                 time.sleep(0.02)
-                kept = [name for name in os.listdir(self.out / "markets") if name[0] != "."] if self.out.exists() else []
             os.killpg(first.pid, number)
-            self.assertEqual((first.communicate(timeout=60), first.returncode), ((b"", b""), 128 + number))
+            (state / "stop").touch()
+            self.assertEqual((first.communicate(timeout=PATIENCE), first.returncode), ((b"", b""), 128 + number))
+            (state / "stop").unlink()
             self.assertEqual(os.listdir(self.out), ["markets"])
-        kept = [name for name in os.listdir(self.out / "markets") if name[0] != "."]
-        self.assertLess(len(kept), 6)
+            kept = self.kept()
+            self.assertIn(len(kept), range(least, most + 1))
         changed = self.out / "markets" / kept[0] / "proposal.txt"
         changed.write_text(changed.read_text().replace("bound 0", "bound 1"))
-        (self.folder / "state/solved").write_text("")
+        (state / "solved").write_text("")
+        (state / "go").touch()
         self.assert_done(self.compress(program=slow))
         self.assertEqual(self.solved(), 6 - len(kept) + 1)
 
 
 class Scheduler(Many):
-    """A scheduler and two workers, which solve slowly, and the tool with nothing of its own but the checks."""
+    """A scheduler and two workers, which solve three markets and then wait, and the tool with nothing of its own but the checks."""
 
     def setUp(self) -> None:
         super().setUp()
         self.trades.write_text(text_of([trade for place in range(8) for trade in ring(f"P{place}", 60)]))
-        self.slow = self.stand_in("sleep 0.3")
+        self.slow = self.stand_in(WAITING)
+        self.let_solve(3)
         self.address = f"tcp://127.0.0.1:{free_port()}"
         place = ["--host", "127.0.0.1", "--port", self.address.rpartition(":")[2]]
         self.scheduler = self.start("dask_scheduler", *place, "--no-dashboard", "--no-show")
@@ -292,7 +306,9 @@ class Scheduler(Many):
             self.assertIsNone(ran.poll(), "ended early")
             time.sleep(0.02)
         losing.kill()
-        output, errors = ran.communicate(timeout=100)
+        losing.wait()
+        (self.folder / "state/go").touch()
+        output, errors = ran.communicate(timeout=PATIENCE)
         return Ran(ran.returncode, output, errors)
 
     def test_a_worker_that_is_killed(self) -> None:

@@ -1,5 +1,6 @@
 """What others install: manual pages, completion and the unit, as they are made, and the packages of Debian and of Python, each in a fresh tree."""
 
+import functools
 import os
 import re
 import shutil
@@ -10,7 +11,7 @@ import tempfile
 import unittest
 from pathlib import Path
 
-from running import EXAMPLES, ROOT, TOOLS, Ran, program, run
+from running import EXAMPLES, PATIENCE, ROOT, TOOLS, Ran, program, run
 from serving import InService, has_serve
 from test_journal import ONE, WHOLE
 
@@ -69,6 +70,7 @@ def need(*tools: str) -> None:
             raise unittest.SkipTest(f"no {tool}")
 
 
+@functools.cache
 def python_with(*modules: str) -> str:
     """This Python, or else the system's, if it has these modules; where neither has, skips."""
     for python in (sys.executable, "/usr/bin/python3"):
@@ -188,7 +190,7 @@ class DebianPackage(Made):
     def build(self, program: Path) -> Ran:
         environ = {**os.environ, "PROGRAM": str(program)}
         words = ["dpkg-buildpackage", "-b", "-uc", "-us"]
-        done = subprocess.run(words, cwd=self.copied(), env=environ, capture_output=True, timeout=300)
+        done = subprocess.run(words, cwd=self.copied(), env=environ, capture_output=True, timeout=PATIENCE)
         return Ran(done.returncode, done.stdout, done.stderr)
 
     def setUp(self) -> None:
@@ -323,10 +325,10 @@ class UnitServes(InService):
         for command in commands("ExecStartPost"):
             self.assertEqual(run(command), Ran(0, b"", b""))
         self.assertEqual([path.name for path in state.iterdir()], ["journal"])
-        with socket.create_connection(("127.0.0.1", self.port), 60) as silent:
+        with socket.create_connection(("127.0.0.1", self.port), PATIENCE) as silent:
             self.assertEqual(silent.recv(64), b"")
         self.service.terminate()
-        self.assertEqual(self.service.communicate(timeout=30), (b"", b""))
+        self.assertEqual(self.service.communicate(timeout=PATIENCE), (b"", b""))
 
 
 class Completion(Made):

@@ -11,7 +11,7 @@ import time
 import unittest
 from pathlib import Path
 
-from running import TOOLS, Ran, run
+from running import PATIENCE, TOOLS, Ran, run
 from serving import ROSTER, InService, started
 
 GONE = ["ENETDOWN", "EPROTO", "ENOPROTOOPT", "EHOSTDOWN", "ENONET", "EHOSTUNREACH", "EOPNOTSUPP", "ENETUNREACH"]
@@ -26,6 +26,10 @@ MANY = 100
 FOR_EVER = 1_000_000_000
 SEATS = 4
 MINUTE = 60_000
+READY = 120
+"""Seconds in which seats answer."""
+LACKING = 10
+"""Seconds that are waited for seats that do not."""
 
 
 class Refused(InService):
@@ -64,7 +68,7 @@ class Refused(InService):
     def ended(self) -> Ran:
         """How the service ended by itself."""
         assert self.service is not None
-        output, errors = self.service.communicate(timeout=60)
+        output, errors = self.service.communicate(timeout=PATIENCE)
         ran = Ran(self.service.returncode, output, errors)
         self.service = None
         return ran
@@ -76,7 +80,7 @@ class RefusedConnections(Refused):
             for count in (1, MANY):
                 with self.subTest(error=name, count=count):
                     self.refuse(f"REFUSE_ACCEPT={getattr(errno, name)}:{count}")
-                    self.assertEqual(self.ready(SEATS, 30), Ran(0, b"", b""))
+                    self.assertEqual(self.ready(SEATS, READY), Ran(0, b"", b""))
                     self.assertEqual(self.sleeps(), [])
                     self.kill()
 
@@ -85,7 +89,7 @@ class RefusedConnections(Refused):
             for count in (1, MANY):
                 with self.subTest(error=name, count=count):
                     self.refuse(f"REFUSE_ACCEPT={getattr(errno, name)}:{count}")
-                    self.assertEqual(self.ready(SEATS, 60), Ran(0, b"", b""))
+                    self.assertEqual(self.ready(SEATS, READY), Ran(0, b"", b""))
                     self.assertEqual(len(self.sleeps()), count)
                     self.kill()
 
@@ -109,12 +113,12 @@ class RefusedConnections(Refused):
 
     def test_a_signal_ends_a_seat_that_waits(self) -> None:
         self.refuse(f"REFUSE_ACCEPT={errno.EMFILE}:{FOR_EVER}", "--seats", "1")
-        deadline = time.monotonic() + 30
+        deadline = time.monotonic() + PATIENCE
         while not self.sleeps() and time.monotonic() < deadline:
             time.sleep(0.01)
         assert self.service is not None
         self.service.terminate()
-        self.assertEqual(self.service.wait(30), -15)
+        self.assertEqual(self.service.wait(PATIENCE), -15)
 
 
 class Descriptors(InService):
@@ -126,8 +130,8 @@ class Descriptors(InService):
             resource.setrlimit(resource.RLIMIT_NOFILE, (few, few))
 
         self.service = service = started(self.words(), limit=limit)
-        self.assertEqual(run([TOOLS / "wait-ready", self.address, "30"]), Ran(0, b"", b""))
-        waiting = [socket.create_connection(("127.0.0.1", self.port), 30) for _ in range(SEATS)]
+        self.assertEqual(run([TOOLS / "wait-ready", self.address, str(PATIENCE)]), Ran(0, b"", b""))
+        waiting = [socket.create_connection(("127.0.0.1", self.port), PATIENCE) for _ in range(SEATS)]
         for connection in waiting:
             connection.sendall(b"\n")
         answered = 0
@@ -142,7 +146,7 @@ class Descriptors(InService):
 
     def next_answered(self, waiting: list[socket.socket]) -> socket.socket:
         """The first of these to which something comes."""
-        deadline = time.monotonic() + 60
+        deadline = time.monotonic() + PATIENCE
         while time.monotonic() < deadline:
             for connection in waiting:
                 connection.settimeout(0.05)
@@ -158,21 +162,21 @@ class RefusedThreads(Refused):
     def test_seats_without_threads_are_told(self) -> None:
         """Seats that can't have a thread share one: each connection is served, but not all at once, and that is told."""
         self.refuse(f"REFUSE_THREAD={errno.EAGAIN}:{FOR_EVER}", "--seats", "3")
-        self.assertEqual(run([TOOLS / "wait-ready", self.address, "30"]), Ran(0, b"", b""))
-        self.assertEqual(self.ready(3, 3), Ran(1, b"1 of 3 answered\n", b""))
+        self.assertEqual(run([TOOLS / "wait-ready", self.address, str(PATIENCE)]), Ran(0, b"", b""))
+        self.assertEqual(self.ready(3, LACKING), Ran(1, b"1 of 3 answered\n", b""))
         for _ in range(3):
-            self.assertEqual(self.ready(1, 30), Ran(0, b"", b""))
+            self.assertEqual(self.ready(1, READY), Ran(0, b"", b""))
         self.kill()
 
     def test_one_refused_thread_is_told(self) -> None:
         self.refuse(f"REFUSE_THREAD={errno.EAGAIN}:1", "--seats", "3")
-        self.assertEqual(run([TOOLS / "wait-ready", self.address, "30"]), Ran(0, b"", b""))
-        told = self.ready(3, 3)
+        self.assertEqual(run([TOOLS / "wait-ready", self.address, str(PATIENCE)]), Ran(0, b"", b""))
+        told = self.ready(3, LACKING)
         self.assertEqual((told.status, told.errors), (1, b""))
         self.assertIn(told.output, (b"1 of 3 answered\n", b"2 of 3 answered\n"))
         self.kill()
         self.start("--seats", "3")
-        self.assertEqual(self.ready(3, 30), Ran(0, b"", b""))
+        self.assertEqual(self.ready(3, READY), Ran(0, b"", b""))
 
 
 LINES = b"HELLO A KA\nTRADE A B P 10 2026-03-02\n"
@@ -189,7 +193,7 @@ class RefusedMemory(Refused):
         """A script over a new journal, whose request for memory with this number is refused."""
         environ = {**os.environ, "LD_PRELOAD": str(self.library), "REFUSE_MEMORY": str(number)}
         words = [self.program, "script", ROSTER, self.folder / f"journal{number}"]
-        done = subprocess.run(words, input=LINES, env=environ, capture_output=True, timeout=60)
+        done = subprocess.run(words, input=LINES, env=environ, capture_output=True, timeout=PATIENCE)
         return Ran(done.returncode, done.stdout, done.stderr)
 
     def test_want_of_memory_is_no_fault_of_the_disk(self) -> None:

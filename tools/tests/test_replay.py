@@ -75,7 +75,7 @@ class Beside(InService):
             while not enough.is_set() and asked < MOST_TRADES:
                 asked += 1
                 acknowledged = session.trade("A", "B", "P", asked, "2026-03-02").position
-                time.sleep(0.001)
+                time.sleep(0.005)
 
         thread = threading.Thread(target=trade)
         thread.start()

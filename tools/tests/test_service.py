@@ -8,7 +8,7 @@ import threading
 import unittest
 from pathlib import Path
 
-from running import EXAMPLES, TOOLS, Ran, run
+from running import EXAMPLES, PATIENCE, TOOLS, Ran, run
 from serving import ROSTER, InService, free_port
 from test_client import whole_cycle
 
@@ -82,7 +82,7 @@ class Service(InService):
         with self.assertRaises(subprocess.TimeoutExpired):
             waiting.wait(0.5)
         self.service.kill()
-        self.assertEqual(waiting.communicate(timeout=30), (b"", b"connection lost behind position 0\n"))
+        self.assertEqual(waiting.communicate(timeout=PATIENCE), (b"", b"connection lost behind position 0\n"))
         self.assertEqual(waiting.returncode, 21)
 
     def test_an_end_of_the_service_while_a_fifth_waits(self) -> None:
@@ -108,7 +108,7 @@ class Service(InService):
         thread.join(0.5)
         self.assertEqual(greeted, [])
         self.assertEqual(seated[1].bye(), replies.Bye(0))
-        thread.join(30)
+        thread.join(PATIENCE)
         self.assertEqual(greeted, [replies.Hello(0, "B")])
 
     def test_no_service(self) -> None:
@@ -133,7 +133,7 @@ class Service(InService):
                 while True:
                     amount += 1
                     acknowledged[session.trade("A", "B", "P", amount, "2026-03-02").position] = amount
-            self.assertEqual(self.service.wait(30), -end)
+            self.assertEqual(self.service.wait(PATIENCE), -end)
             self.kill()
             records = self.records()
             self.assertIn(len(records) - max(acknowledged), (0, 1))

@@ -12,7 +12,7 @@ import unittest
 from io import BufferedRWPair
 from typing import NamedTuple
 
-from running import TOOLS, run
+from running import PATIENCE, TOOLS, run
 from serving import ROSTER, InService
 
 sys.path.insert(0, str(TOOLS))
@@ -99,7 +99,7 @@ class SideBySide(InService):
         """Some sessions one after another."""
         left = LINES
         while left > 0:
-            with socket.create_connection(("127.0.0.1", self.port), 60) as connection:
+            with socket.create_connection(("127.0.0.1", self.port), PATIENCE) as connection:
                 file = connection.makefile("rwb")
                 speaker = ""
                 for _ in range(min(left, chance.randint(20, 200))):

@@ -4,9 +4,11 @@ import socket
 import time
 import unittest
 
+from running import PATIENCE
 from serving import InService
 
 IDLE = 2
+LONG_IDLE = 5
 NO_LINE = b"no 0 3 bad-line 0\n"
 CLOCKS = 0.1
 """By how much the system's clock for a call may differ from the test's."""
@@ -14,7 +16,7 @@ CLOCKS = 0.1
 
 class Silence(InService):
     def connect(self) -> socket.socket:
-        connection = socket.create_connection(("127.0.0.1", self.port), 60)
+        connection = socket.create_connection(("127.0.0.1", self.port), PATIENCE)
         self.addCleanup(connection.close)
         return connection
 
@@ -31,7 +33,7 @@ class Silence(InService):
         self.assertTrue(self.is_answered(ninth))
         took = time.monotonic() - begun
         self.assertGreaterEqual(took, 2 * IDLE - CLOCKS)
-        self.assertLess(took, 20 * IDLE)
+        self.assertLess(took, 60 * IDLE)
         for connection in silent:
             self.assertEqual(connection.recv(64), b"")
 
@@ -43,11 +45,13 @@ class Silence(InService):
         self.assertEqual(half.recv(64), b"")
 
     def test_a_byte_in_time_is_enough_to_stay(self) -> None:
-        self.start("--idle", str(IDLE))
+        """For as long as two such times it sends, with more room for each byte than a busy machine takes."""
+        self.start("--idle", str(LONG_IDLE))
         connection = self.connect()
-        for _ in range(8):
+        end = time.monotonic() + 2 * LONG_IDLE
+        while time.monotonic() < end:
             connection.sendall(b"X")
-            time.sleep(IDLE / 4)
+            time.sleep(0.2)
         self.assertTrue(self.is_answered(connection))
 
     def test_one_that_takes_nothing_is_closed(self) -> None:
@@ -76,7 +80,7 @@ class Silence(InService):
         with self.assertRaises(TimeoutError):
             self.is_answered(waiting)
         silent.close()
-        waiting.settimeout(60)
+        waiting.settimeout(PATIENCE)
         self.assertEqual(waiting.recv(64), NO_LINE)
 
 

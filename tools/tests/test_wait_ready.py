@@ -5,7 +5,7 @@ import threading
 import time
 import unittest
 
-from running import TOOLS, Ran, run
+from running import PATIENCE, TOOLS, Ran, run
 from serving import free_port
 
 WAIT = TOOLS / "wait-ready"
@@ -45,18 +45,19 @@ class Waiting(unittest.TestCase):
         servers: list[socket.socket] = []
         later = threading.Timer(0.7, lambda: servers.append(socket.create_server(("127.0.0.1", port))))
         later.start()
-        self.assertEqual(run([WAIT, f"127.0.0.1:{port}", "20"]), Ran(0, b"", b""))
+        self.assertEqual(run([WAIT, f"127.0.0.1:{port}", str(PATIENCE)]), Ran(0, b"", b""))
         later.join()
         servers[0].close()
 
     def test_seats(self) -> None:
         """A server that answers so many connections, all open, and lets the others wait."""
-        for answered, asked, told in ((3, 3, Ran(0, b"", b"")), (2, 3, Ran(1, b"2 of 3 answered\n", b""))):
+        lacking = Ran(1, b"2 of 3 answered\n", b"")
+        for answered, asked, seconds, told in ((3, 3, PATIENCE, Ran(0, b"", b"")), (2, 3, 5, lacking)):
             with self.subTest(answered=answered), socket.create_server(("127.0.0.1", 0)) as server:
                 thread = threading.Thread(target=answer, args=(server, answered, asked))
                 thread.start()
                 address = f"127.0.0.1:{server.getsockname()[1]}"
-                self.assertEqual(run([WAIT, "--seats", str(asked), address, "3"]), told)
+                self.assertEqual(run([WAIT, "--seats", str(asked), address, str(seconds)]), told)
                 thread.join()
 
     def test_words(self) -> None:

@@ -8,7 +8,7 @@ import tempfile
 import unittest
 from pathlib import Path
 
-from running import TOOLS, Ran
+from running import PATIENCE, TOOLS, Ran
 
 # It refuses an edit whose name begins with `wrong`, and says what it was given.
 PROVER = """#!/bin/sh
@@ -18,7 +18,7 @@ status=0
 for edit in crates/"$2"/must-fail/*.edit; do
     case "$edit" in
     */wrong*) echo "rt: must-fail $2/${edit##*/}: refused, as it must be: src/lib.rt" ;;
-    */slow*) echo slow; exec sleep 60 ;;
+    */slow*) echo slow; exec sleep 6000 ;;
     *) echo "rt: must-fail $2/${edit##*/}: NOT REFUSED: the crate is still proved"; status=1 ;;
     esac
 done
@@ -72,7 +72,7 @@ class WrongBodies(unittest.TestCase):
     def assert_ran(self, words: list[str], status: int, output: str, errors: str = "") -> None:
         """A run says this, and leaves the tree as it was and nothing beside it."""
         with self.subTest(words=words), self.start(*words) as tool:
-            said, complained = tool.communicate(timeout=60)
+            said, complained = tool.communicate(timeout=PATIENCE)
             self.assertEqual(Ran(tool.returncode, said, complained), Ran(status, output.encode(), errors.encode()))
             self.assert_clean()
 
@@ -104,7 +104,7 @@ class WrongBodies(unittest.TestCase):
             assert found is not None
             (bare / name).symlink_to(found)
         with self.start("low", path=str(bare)) as tool:
-            self.assertEqual(tool.communicate(timeout=60), (b"", b"no rt on the path\n"))
+            self.assertEqual(tool.communicate(timeout=PATIENCE), (b"", b"no rt on the path\n"))
             self.assertEqual(tool.returncode, 1)
         self.assert_clean()
 
@@ -115,7 +115,7 @@ class WrongBodies(unittest.TestCase):
                 while tool.stdout.readline() != b"slow\n":
                     pass
                 tool.send_signal(number)
-                self.assertEqual(tool.wait(timeout=20), 128 + number)
+                self.assertEqual(tool.wait(timeout=PATIENCE), 128 + number)
                 self.assert_clean()
 
 
