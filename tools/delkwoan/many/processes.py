@@ -7,12 +7,15 @@ import signal
 import tempfile
 import threading
 import time
-from concurrent.futures import Executor, ProcessPoolExecutor
-from contextlib import ExitStack
+from concurrent.futures import Executor, Future, ProcessPoolExecutor
+from contextlib import ExitStack, contextmanager
 from multiprocessing import resource_tracker
-from typing import Any
+from typing import Any, Callable, Iterator, ParamSpec, TypeVar
 
 from ..ending import Stop
+
+P = ParamSpec("P")
+T = TypeVar("T")
 
 SELDOM = {
     "distributed.worker.profile.interval": "1s",
@@ -35,9 +38,28 @@ def begin_check() -> None:
     threading.Thread(target=watch, daemon=True).start()
 
 
+@contextmanager
+def uninterrupted() -> Iterator[None]:
+    """An interrupt of the terminal is the run's: what is started meanwhile inherits that it is blocked."""
+    resource_tracker.ensure_running()  # it would unblock the interrupt
+    signal.pthread_sigmask(signal.SIG_BLOCK, {signal.SIGINT})
+    try:
+        yield
+    finally:
+        signal.pthread_sigmask(signal.SIG_UNBLOCK, {signal.SIGINT})
+
+
+class Checks(ProcessPoolExecutor):
+    """Processes that check, each started once it is wanted."""
+
+    def submit(self, act: Callable[P, T], /, *given: P.args, **named: P.kwargs) -> Future[T]:
+        with uninterrupted():
+            return super().submit(act, *given, **named)
+
+
 def checking(count: int, ending: ExitStack) -> Executor:
     """So many processes of this machine that check; what they have not begun is dropped in the end."""
-    checks = ProcessPoolExecutor(count, multiprocessing.get_context("spawn"), begin_check)
+    checks = Checks(count, multiprocessing.get_context("spawn"), begin_check)
     ending.callback(checks.shutdown, cancel_futures=True)
     return checks
 
@@ -56,12 +78,8 @@ def connected(scheduler: str | None, count: int, ending: ExitStack) -> Any:
     dask.config.set(SELDOM)
     room = ending.enter_context(tempfile.TemporaryDirectory())
     settings = {"n_workers": count, "threads_per_worker": 1, "memory_limit": 0, "local_directory": room}
-    # An interrupt of the terminal is the run's: what Dask starts inherits that it is blocked. (Python's tracker would unblock it.)
-    resource_tracker.ensure_running()
-    signal.pthread_sigmask(signal.SIG_BLOCK, {signal.SIGINT})
-    cluster = LocalCluster(**settings, dashboard_address="127.0.0.1:0", silence_logs=logging.CRITICAL)
-    ending.enter_context(cluster)
-    signal.pthread_sigmask(signal.SIG_UNBLOCK, {signal.SIGINT})
+    with uninterrupted():
+        cluster = ending.enter_context(LocalCluster(**settings, dashboard_address="127.0.0.1:0", silence_logs=logging.CRITICAL))
     client = ending.enter_context(Client(cluster))
     client.register_worker_plugin(Quiet())
     return client
