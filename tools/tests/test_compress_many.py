@@ -4,11 +4,15 @@ import bz2
 import gzip
 import lzma
 import os
+import pty
 import random
+import re
+import select
 import signal
 import subprocess
 import time
 import unittest
+import urllib.request
 from pathlib import Path
 
 from many import HEAD, TABLES, Many, Trade, ring, rows_of, text_of
@@ -216,6 +220,16 @@ class Cut(Many):
         self.assertIn(b"products 3, markets 3: gross 900 before, 0 after\n", self.compress().output)
 
 
+def shown(terminal: int, last: bytes) -> bytes:
+    """What comes on a terminal up to these bytes."""
+    text = b""
+    while last not in text:
+        if not select.select([terminal], [], [], PATIENCE)[0]:
+            raise AssertionError(f"nothing comes behind {text!r}")
+        text += os.read(terminal, 4096)
+    return text
+
+
 class Workers(Many):
     """Each market has 60 members of its own, all of them dealers, so that no two have room in one."""
 
@@ -229,6 +243,24 @@ class Workers(Many):
         figures = self.assert_done(self.compress(program=self.stand_in(killing)))
         self.assertEqual(len(figures), 6)
         self.assertGreaterEqual(self.solved(), 8)
+
+    def test_a_terminal_shows_how_far_a_run_is(self) -> None:
+        """And where Dask's own pages are, which are served meanwhile."""
+        slow = self.stand_in(WAITING)
+        self.let_solve(1)
+        terminal, end = pty.openpty()
+        ran = subprocess.Popen(self.tool("--workers", "2", "--program", slow), stdout=subprocess.PIPE, stderr=end)
+        os.close(end)
+        text = shown(terminal, b"about")
+        bar = rb"dashboard: (http://127.0.0.1:\d+/\S+)\r\n\r\x1b\[K\[###                 \] 1 of 6 markets, 0 solved again, about"
+        self.assertRegex(text, bar)
+        link = re.findall(bar, text)[0].decode()
+        with urllib.request.urlopen(link, timeout=PATIENCE) as page:
+            self.assertIn(b"Workers", page.read())
+        (self.folder / "state/go").touch()
+        self.assertTrue(shown(terminal, b"left\r\n").endswith(b"[####################] 6 of 6 markets, 0 solved again, about 0 s left\r\n"))
+        self.assertEqual((ran.communicate(timeout=PATIENCE)[0][:21], ran.returncode), (b"products 6, markets 6", 0))
+        os.close(terminal)
 
     def test_answers_that_are_wrong_are_not_taken(self) -> None:
         """One has another potential, one is empty, and one is that of an earlier market."""

@@ -13,8 +13,8 @@ from typing import Any
 from running import ROOT, TOOLS, program
 from test_packaging import python_with
 
-STUDIES = ROOT / "studies"
-sys.path[:0] = [str(TOOLS), str(STUDIES), str(ROOT / "docs")]
+STUDIES, DOCS = ROOT / "studies", ROOT / "docs"
+sys.path[:0] = [str(TOOLS), str(STUDIES), str(DOCS)]
 
 import pages
 from certified import WAYS, Case, Figures
@@ -151,8 +151,8 @@ class Kept(unittest.TestCase):
 
 class Page(unittest.TestCase):
     def test_its_figures_are_the_kept_ones(self) -> None:
-        """Each row of the page's tables has a value of an experiment, and the means in hundredths."""
-        text = (STUDIES / "STUDY.md").read_text()
+        """Each row of the table has a value of an experiment, and the means in hundredths."""
+        text = (STUDIES / "README.md").read_text()
         told = 0
         for name in EXPERIMENTS:
             found = {f"{value:g}": [share, *ways] for value, share, ways in summary(of(name))}
@@ -162,13 +162,13 @@ class Page(unittest.TestCase):
         self.assertGreaterEqual(told, 12)
 
     def test_its_sentences_and_cells_are_as_those_of_the_documents(self) -> None:
-        self.assertEqual([part for name in ("STUDY", "README") for part in pages.long_parts(str(STUDIES / f"{name}.md"))], [])
+        self.assertEqual(pages.long_parts(str(STUDIES / "README.md")), [])
 
     def test_its_pictures(self) -> None:
-        shown = re.findall(r"!\[[^\]]+\]\(study-(\w+)\.png\)", (STUDIES / "STUDY.md").read_text())
+        shown = re.findall(r"!\[[^\]]+\]\(study-(\w+)\.png\)", (DOCS / "STUDY.md").read_text())
         self.assertEqual(sorted(shown), PICTURES)
         for name in PICTURES:
-            picture = (STUDIES / f"study-{name}.png").read_bytes()
+            picture = (DOCS / f"study-{name}.png").read_bytes()
             self.assertTrue(picture.startswith(b"\x89PNG") and len(picture) < MOST_BYTES, name)
 
 

@@ -68,6 +68,11 @@ def stop(number: int, _: FrameType | None) -> None:
     raise SystemExit(128 + number)
 
 
+def pages_of(link: str) -> str:
+    """Dask's own pages of a run on this machine: its dashboard, or without bokeh, which that wants, the page of workers."""
+    return link if importlib.util.find_spec("bokeh") else link.removesuffix("status") + "info/main/workers.html"
+
+
 class Progress:
     """One line on a terminal that tells how far a run is."""
 
@@ -109,7 +114,7 @@ def solve_all(given: Namespace, folder: Folder, markets: list[Market]) -> int:
         client = connected(given.scheduler, processes, ending)
         checks = checking(processes, ending)
         distribution = Distribution(client, checks, job, program, keep)
-        progress = Progress(len(markets), client.dashboard_link)
+        progress = Progress(len(markets), client.dashboard_link if given.scheduler else pages_of(client.dashboard_link))
         for done in distribution.run(beginnings(distribution, folder, markets)):
             progress.show(done, len(distribution.again))
     return len(distribution.again)
