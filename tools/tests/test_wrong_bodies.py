@@ -4,6 +4,7 @@ import os
 import shutil
 import signal
 import subprocess
+import sys
 import tempfile
 import unittest
 from pathlib import Path
@@ -99,10 +100,10 @@ class WrongBodies(unittest.TestCase):
     def test_no_prover(self) -> None:
         bare = self.top / "bin/bare"
         bare.mkdir()
-        for name in ["env", "python3"]:
-            found = shutil.which(name)
-            assert found is not None
-            (bare / name).symlink_to(found)
+        env = shutil.which("env")
+        assert env is not None
+        (bare / "env").symlink_to(env)
+        (bare / "python3").symlink_to(sys.executable)
         with self.start("low", path=str(bare)) as tool:
             self.assertEqual(tool.communicate(timeout=PATIENCE), (b"", b"no rt on the path\n"))
             self.assertEqual(tool.returncode, 1)
