@@ -2,6 +2,7 @@
 
 import bz2
 import gzip
+import itertools
 import lzma
 import os
 import pty
@@ -210,6 +211,17 @@ class Cut(Many):
         self.assertEqual([rows["Small"][name] for name in ("members", "pieces", "after", "least")], ["300", "3", "0", "yes"])
         self.assertEqual([rows["Large"][name] for name in ("members", "pieces", "after", "least")], ["300", "1", "1495", "no"])
         self.assertEqual([row["demoted"] for row in rows.values()], [str(256 - 64), str(3 * 36)])
+
+    def test_a_large_market(self) -> None:
+        """64 products in which each of 32 members owes each other one: files of more than a megabyte, and nothing is told of it."""
+        names = [f"M{place}" for place in range(32)]
+        pairs = list(itertools.permutations(names, 2))
+        trades = [Trade("2026-01-01", f"P{place}", a, b, 10**8 + place) for place in range(64) for a, b in pairs]
+        self.trades.write_text(text_of(trades))
+        gross = sum(trade.amount for trade in trades)
+        ran = self.compress()
+        self.assertEqual(ran.output.decode(), f"products 64, markets 1: gross {gross} before, 0 after\n")
+        self.assert_done(ran)
 
     def test_products_share_markets(self) -> None:
         """70 products of the same members are two markets, and three of other members each are three."""

@@ -7,6 +7,7 @@ import signal
 import tempfile
 import threading
 import time
+import warnings
 from concurrent.futures import Executor, Future, ProcessPoolExecutor
 from contextlib import ExitStack, contextmanager
 from multiprocessing import resource_tracker
@@ -70,6 +71,7 @@ def connected(scheduler: str | None, count: int, ending: ExitStack) -> Any:
     from distributed import Client, LocalCluster
 
     logging.disable(logging.CRITICAL)  # what is lost or ends is the run's to tell
+    warnings.filterwarnings("ignore", "Large object", UserWarning)  # a market's files go to one worker alone
     if scheduler:
         try:
             return ending.enter_context(Client(scheduler))
