@@ -35,8 +35,8 @@ impl<'a, R: Threads + Wait + Sync, V: Solver, G: Gate> Host<'a, R, V, G> {
     /// that were read together are written together. What was read behind an accepted BYE is dropped. It takes its memory
     /// before it reads. The roster is the desk's, and the pass comes back.
     pub fn serve<T: Desk, S: Source, K: Sink>(
-        &self,
-        turns: &Turns<T>,
+        &'a self,
+        turns: &'a Turns<T>,
         pass: Pass,
         source: &mut S,
         sink: &mut K,
