@@ -4,13 +4,15 @@
 pub mod answers;
 mod bases;
 pub mod commands;
+mod matching;
 mod misfits;
 mod open_cycles;
 mod rests;
+mod sheets;
 mod starts;
 mod unsaid;
 pub mod words;
-mod written;
+mod writable;
 
 ghost use Rattle.std.specs.Prelude.{◌≡◌, IfOk};
 ghost use Rattle.command_types.specs.History.{end_of};

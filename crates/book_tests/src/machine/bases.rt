@@ -1,44 +1,14 @@
 //! A machine's base and back: it stands as the base says, and tells the same base.
 
-use super::commands::TRADED;
+use super::matching::is_base;
+use super::sheets::{ALLEGED, Deal, EMPTY, LIVE, Sheet, base_of};
 use super::words::Word::{A, B, C, D, P, Q};
-use super::written::{Deal, Sheet, base_of, can_be_written, is_base};
+use super::writable::can_be_written;
 use crate::market::{three_dealers, two_products};
 use command_types::{Roster, Side, TradeState};
 use cycle_states::Machine;
 use std::alloc::Global;
 use std::test::Fail;
-
-/// A owes B 10, and B has affirmed.
-pub const LIVE: Deal = Deal {
-    seller: 0,
-    buyer: 1,
-    product: 0,
-    amount: 10,
-    day: TRADED,
-    state: TradeState::Live,
-    submitter: Some(Side::Out),
-    mark: None,
-    hold_out: false,
-    hold_in: false,
-};
-
-/// B has not affirmed yet.
-pub const ALLEGED: Deal = Deal {
-    state: TradeState::Alleged,
-    ..LIVE
-};
-
-/// Nothing was done yet.
-pub const EMPTY: Sheet = Sheet {
-    position: 0,
-    cycle: 0,
-    version: 0,
-    members: &[A, B, C],
-    products: &[P],
-    settings: &[],
-    deals: &[],
-};
 
 // Each kind of trade, and settings of both sides, with and without a ceiling.
 const MIXED: Sheet = Sheet {

@@ -1,8 +1,9 @@
 //! Bases that a roster does not fit, one fault in each, and those that just fit.
 
-use super::bases::{ALLEGED, EMPTY, LIVE};
+use super::sheets::{ALLEGED, Deal, EMPTY, LIVE, Limit, Sheet, base_of};
+use super::words::Word;
 use super::words::Word::{A, B, C, D, P, Q};
-use super::written::{Deal, Sheet, base_of, can_be_written};
+use super::writable::can_be_written;
 use crate::market::three_dealers;
 use command_types::{Side, TradeState};
 use cycle_states::{BaseFault, Machine};
@@ -11,141 +12,59 @@ use std::test::Fail;
 
 const MOST: u64 = 1_000_000_000_000_000_000;
 
-const NUMBERS: [Sheet; 3] = [
-    Sheet {
-        position: MOST + 1,
-        ..EMPTY
-    },
-    Sheet {
-        cycle: MOST + 1,
-        ..EMPTY
-    },
-    Sheet {
-        version: MOST + 1,
-        ..EMPTY
-    },
+// Positions, cycles and versions.
+const NUMBERS: [(u64, u64, u64); 3] = [(MOST + 1, 0, 0), (0, MOST + 1, 0), (0, 0, MOST + 1)];
+
+// Members and products.
+const NAMES: [(&[Word], &[Word]); 8] = [
+    (&[], &[P]),
+    (&[A, B], &[P]),
+    (&[A, B, C, D], &[P]),
+    (&[A, C, B], &[P]),
+    (&[A, B, D], &[P]),
+    (&[A, B, C], &[]),
+    (&[A, B, C], &[Q]),
+    (&[A, B, C], &[P, Q]),
 ];
 
-const NAMES: [Sheet; 8] = [
-    Sheet {
-        members: &[],
-        ..EMPTY
-    },
-    Sheet {
-        members: &[A, B],
-        ..EMPTY
-    },
-    Sheet {
-        members: &[A, B, C, D],
-        ..EMPTY
-    },
-    Sheet {
-        members: &[A, C, B],
-        ..EMPTY
-    },
-    Sheet {
-        members: &[A, B, D],
-        ..EMPTY
-    },
-    Sheet {
-        products: &[],
-        ..EMPTY
-    },
-    Sheet {
-        products: &[Q],
-        ..EMPTY
-    },
-    Sheet {
-        products: &[P, Q],
-        ..EMPTY
-    },
+const SETTINGS: [Limit; 5] = [
+    (3, 0, 1, Side::Out, 0, None),
+    (0, 1, 1, Side::Out, 0, None),
+    (0, 0, 3, Side::Out, 0, None),
+    (1, 0, 1, Side::Out, 0, None),
+    (0, 0, 1, Side::Out, 5, Some(4)),
 ];
 
-const SETTINGS: [Sheet; 5] = [
-    Sheet {
-        settings: &[(3, 0, 1, Side::Out, 0, None)],
-        ..EMPTY
+// The first trade, behind which the live one stands.
+const TRADES: [Deal; 10] = [
+    Deal { seller: 3, ..LIVE },
+    Deal { buyer: 3, ..LIVE },
+    Deal { product: 1, ..LIVE },
+    Deal { buyer: 0, ..LIVE },
+    Deal {
+        seller: 3,
+        state: TradeState::Ended,
+        ..LIVE
     },
-    Sheet {
-        settings: &[(0, 1, 1, Side::Out, 0, None)],
-        ..EMPTY
+    Deal {
+        submitter: None,
+        ..ALLEGED
     },
-    Sheet {
-        settings: &[(0, 0, 3, Side::Out, 0, None)],
-        ..EMPTY
+    Deal {
+        mark: Some(Side::In),
+        ..ALLEGED
     },
-    Sheet {
-        settings: &[(1, 0, 1, Side::Out, 0, None)],
-        ..EMPTY
+    Deal {
+        hold_out: true,
+        ..ALLEGED
     },
-    Sheet {
-        settings: &[(0, 0, 1, Side::Out, 5, Some(4))],
-        ..EMPTY
+    Deal {
+        hold_in: true,
+        ..ALLEGED
     },
-];
-
-const TRADES: [Sheet; 10] = [
-    Sheet {
-        deals: &[Deal { seller: 3, ..LIVE }],
-        ..EMPTY
-    },
-    Sheet {
-        deals: &[Deal { buyer: 3, ..LIVE }],
-        ..EMPTY
-    },
-    Sheet {
-        deals: &[Deal { product: 1, ..LIVE }],
-        ..EMPTY
-    },
-    Sheet {
-        deals: &[Deal { buyer: 0, ..LIVE }],
-        ..EMPTY
-    },
-    Sheet {
-        deals: &[Deal {
-            seller: 3,
-            state: TradeState::Ended,
-            ..LIVE
-        }],
-        ..EMPTY
-    },
-    Sheet {
-        deals: &[Deal {
-            submitter: None,
-            ..ALLEGED
-        }],
-        ..EMPTY
-    },
-    Sheet {
-        deals: &[Deal {
-            mark: Some(Side::In),
-            ..ALLEGED
-        }],
-        ..EMPTY
-    },
-    Sheet {
-        deals: &[Deal {
-            hold_out: true,
-            ..ALLEGED
-        }],
-        ..EMPTY
-    },
-    Sheet {
-        deals: &[Deal {
-            hold_in: true,
-            ..ALLEGED
-        }],
-        ..EMPTY
-    },
-    Sheet {
-        deals: &[
-            Deal {
-                amount: MOST - 9,
-                ..ALLEGED
-            },
-            LIVE,
-        ],
-        ..EMPTY
+    Deal {
+        amount: MOST - 9,
+        ..ALLEGED
     },
 ];
 
@@ -158,9 +77,55 @@ fn is_misfit(alloc: Global, sheet: &Sheet) -> Result<bool, Fail> {
     Ok(matches!(made, Err(BaseFault::Misfit)))
 }
 
-fn are_misfits(alloc: Global, sheets: &[Sheet]) -> Result<bool, Fail> {
-    for sheet in sheets {
-        if !is_misfit(alloc, sheet)? {
+fn are_numbers_misfits(alloc: Global) -> Result<bool, Fail> {
+    for (position, cycle, version) in NUMBERS {
+        let sheet = Sheet {
+            position,
+            cycle,
+            version,
+            ..EMPTY
+        };
+        if !is_misfit(alloc, &sheet)? {
+            return Ok(false);
+        }
+    }
+    Ok(true)
+}
+
+fn are_names_misfits(alloc: Global) -> Result<bool, Fail> {
+    for (members, products) in NAMES {
+        let sheet = Sheet {
+            members,
+            products,
+            ..EMPTY
+        };
+        if !is_misfit(alloc, &sheet)? {
+            return Ok(false);
+        }
+    }
+    Ok(true)
+}
+
+fn are_settings_misfits(alloc: Global) -> Result<bool, Fail> {
+    for limit in SETTINGS {
+        let sheet = Sheet {
+            settings: &[limit],
+            ..EMPTY
+        };
+        if !is_misfit(alloc, &sheet)? {
+            return Ok(false);
+        }
+    }
+    Ok(true)
+}
+
+fn are_trades_misfits(alloc: Global) -> Result<bool, Fail> {
+    for deal in TRADES {
+        let sheet = Sheet {
+            deals: &[deal, LIVE],
+            ..EMPTY
+        };
+        if !is_misfit(alloc, &sheet)? {
             return Ok(false);
         }
     }
@@ -177,21 +142,18 @@ fn is_misfit_of(alloc: Global, count: u32) -> Result<bool, Fail> {
         submitter: None,
         ..LIVE
     })?;
-    is_misfit(
-        alloc,
-        &Sheet {
-            deals: &deals,
-            ..EMPTY
-        },
-    )
+    let sheet = Sheet {
+        deals: &deals,
+        ..EMPTY
+    };
+    is_misfit(alloc, &sheet)
 }
 
 #[test]
 fn other_bases_are_misfits(rt: HostRuntime) -> Result<(), Fail> {
     let alloc = rt.alloc();
-    for sheets in [&NUMBERS[..], &NAMES[..], &SETTINGS[..], &TRADES[..]] {
-        assert!(rt; are_misfits(alloc, sheets)?);
-    }
+    assert!(rt; are_numbers_misfits(alloc)? && are_names_misfits(alloc)?);
+    assert!(rt; are_settings_misfits(alloc)? && are_trades_misfits(alloc)?);
     Ok(())
 }
 

@@ -4,12 +4,13 @@ ghost use Rattle.std.specs.Prelude.{◌<◌, ◌^◌, length};
 ghost use Rattle.book_tests.specs.Changes.{LeadTo};
 ghost use Rattle.cycle_states.specs.Machine.{IsYoung};
 
-use super::bases::{EMPTY, LIVE};
 use super::commands::Said::{Accept, Begin, Cancel, Decline, End, Freeze, Post};
 use super::commands::{MARCH, Said, command_of};
+use super::matching::is_base;
+use super::sheets::{Deal, EMPTY, LIVE, Sheet, base_of};
 use super::words::Word;
 use super::words::Word::{A, B, C, Ops};
-use super::written::{Deal, Sheet, base_of, can_be_written, is_base};
+use super::writable::can_be_written;
 use crate::market::Posted::ShortChain;
 use crate::market::three_dealers;
 use command_types::Mode::Hybrid;
