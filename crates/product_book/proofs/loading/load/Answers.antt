@@ -119,22 +119,22 @@ loop-row-preserved c =
     let spare : after.spare + (c.loop-row.row-index + 1) ≡ c.args.links.now.spare = omega (arith, more.spare, some, loop.spare) in
     let Kept : Links → List TradeRow → Type 0 = λ l list. IsRunning m n sums l.by_product l.by_pair l.spare list in
     elim c.if-has_ended.branch [
-    | then-has_ended w ↦
-        let left = w.leave.new.self in
-        let out = running_ended m n c.loop-row.sums links.by_product links.by_pair links.spare front row loop.running is sums after.by_product after.by_pair after.spare entered more.products second some more.spare
-        left.by_product left.by_pair left.spare w.leave.ensures.products w.leave.ensures.pairs w.leave.ensures.spare
-        (not_counted (counts row.state) w.if-has_ended.ensures) in
-        record {
-          members = members;
-          spare = ap (λ (l : Links). l.spare + (c.loop-row.row-index + 1)) w.links-is ∙ ap (λ (k : ℕ). k + (c.loop-row.row-index + 1)) w.leave.ensures.spare ∙ spare;
-          running = subst (λ (l : Links). Kept l (take (c.loop-row.row-index + 1) rows)) (sym w.links-is) (subst (Kept left) (sym long) out);
-        }
-    | else-has_ended w ↦
-        let out = running_open m n c.loop-row.sums links.by_product links.by_pair links.spare front row loop.running is sums after.by_product after.by_pair after.spare entered more.products second some more.spare
-        (still_counted (counts row.state) w.if-has_ended.ensures) in
-        record {
-          members = members;
-          spare = ap (λ (l : Links). l.spare + (c.loop-row.row-index + 1)) w.links-is ∙ spare;
-          running = subst (λ (l : Links). Kept l (take (c.loop-row.row-index + 1) rows)) (sym w.links-is) (subst (Kept after) (sym long) out);
-        }
+      | then-has_ended w ↦
+          let left = w.leave.new.self in
+          let out = running_ended m n c.loop-row.sums links.by_product links.by_pair links.spare front row loop.running is sums after.by_product after.by_pair after.spare entered more.products second some more.spare
+          left.by_product left.by_pair left.spare w.leave.ensures.products w.leave.ensures.pairs w.leave.ensures.spare
+          (not_counted (counts row.state) w.if-has_ended.ensures) in
+          record {
+            members = members;
+            spare = ap (λ (l : Links). l.spare + (c.loop-row.row-index + 1)) w.links-is ∙ ap (λ (k : ℕ). k + (c.loop-row.row-index + 1)) w.leave.ensures.spare ∙ spare;
+            running = subst (λ (l : Links). Kept l (take (c.loop-row.row-index + 1) rows)) (sym w.links-is) (subst (Kept left) (sym long) out);
+          }
+      | else-has_ended w ↦
+          let out = running_open m n c.loop-row.sums links.by_product links.by_pair links.spare front row loop.running is sums after.by_product after.by_pair after.spare entered more.products second some more.spare
+          (still_counted (counts row.state) w.if-has_ended.ensures) in
+          record {
+            members = members;
+            spare = ap (λ (l : Links). l.spare + (c.loop-row.row-index + 1)) w.links-is ∙ spare;
+            running = subst (λ (l : Links). Kept l (take (c.loop-row.row-index + 1) rows)) (sym w.links-is) (subst (Kept after) (sym long) out);
+          }
     ]
