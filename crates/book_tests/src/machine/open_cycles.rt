@@ -1,6 +1,6 @@
 //! A machine tells no base while a cycle is open, and behind it the trades as its plan left them.
 
-ghost use Rattle.std.specs.Prelude.{◌<◌, ◌^◌, length};
+ghost use Rattle.std.specs.Prelude.{◌<◌, ◌^◌, length, OnOk};
 ghost use Rattle.book_tests.specs.Changes.{LeadTo};
 ghost use Rattle.cycle_states.specs.Machine.{IsYoung};
 
@@ -102,22 +102,27 @@ const UNCHANGED: Sheet = Sheet {
     ..EMPTY
 };
 
-fn is_changed(alloc: Global, machine: &mut Machine, by: Word, said: Said) -> Result<bool, Fail>
-    requires { IsYoung machine.old.state.cycle }
-    ensures { LeadTo 1 machine.old.state machine.new.state }
-{
+fn entry_of(alloc: Global, by: Word, said: Said) -> Result<Entry, Fail> {
     let Some(what) = command_of(alloc, said)? else {
-        return Ok(false);
+        return Err(Fail::new("no command"));
     };
     let by = Some(by.name());
-    let entry = Entry {
+    Ok(Entry {
         seat: 7,
         ask: Ask { by, what },
-    };
-    match machine.decide(entry)? {
+    })
+}
+
+// Has the machine make the change, and says whether it accepted it.
+fn makes(machine: &mut Machine, entry: Entry) -> Result<bool, Fail>
+    requires { IsYoung machine.old.state.cycle }
+    ensures { OnOk result (LeadTo 1 machine.old.state machine.new.state) }
+{
+    let decision = machine.decide(entry)?;
+    match decision {
         Decision::Told(_) => Ok(false),
         Decision::Ready(ready) => {
-            machine.commit(ready);
+            let _made = machine.commit(ready);
             Ok(true)
         }
     }
@@ -129,10 +134,9 @@ fn goes(alloc: Global, machine: &mut Machine, turns: &[Turn]) -> Result<bool, Fa
     requires version { machine.old.state.cycle.version < 2 ^ 62 }
 {
     for (by, said, is_open) in turns {
-        if !is_changed(alloc, machine, *by, *said)? {
-            return Ok(false);
-        }
-        if machine.base(alloc, 0)?.is_none() != *is_open {
+        let entry = entry_of(alloc, *by, *said)?;
+        let is_made = makes(machine, entry)?;
+        if !is_made || machine.base(alloc, 0)?.is_none() != *is_open {
             return Ok(false);
         }
     }
