@@ -21,8 +21,8 @@ from delkwoan import __version__
 
 PACKAGING = ROOT / "packaging"
 HUB = [str(EXAMPLES / "hub-roster.csv"), str(EXAMPLES / "hub-trades.csv"), "hybrid", str(EXAMPLES / "hub-proposal.txt")]
-COMMANDS = ["compress-audit", "compress-check-proposal", "compress-client", "compress-journal", "compress-many", "compress-report"]
-COMMANDS += ["compress-wait-ready", "compress_cli"]
+COMMANDS = ["compress-audit", "compress-check-proposal", "compress-client", "compress-gateway", "compress-journal", "compress-many"]
+COMMANDS += ["compress-report", "compress-wait-ready", "compress_cli"]
 
 TYPED: list[tuple[list[str], list[str]]] = [
     (["compress_cli", ""], ["check", "gen", "replay", "script", "serve", "solve"]),
@@ -142,13 +142,13 @@ class Pages(Made):
         """By its help, and in the manual page."""
         page = (self.made / "compress-tools.1").read_text()
         told = 0
-        for name in ("audit", "check_proposal", "client", "compress_many", "journal", "report", "wait-ready"):
+        for name in ("audit", "check_proposal", "client", "compress_many", "gateway", "journal", "report", "wait-ready"):
             shown = run([TOOLS / name, "--help"])
             self.assertEqual((shown.status, shown.errors), (0, b""))
             for option in set(re.findall(r"^  --(\w+)", shown.output.decode(), re.MULTILINE)) - {"version"}:
                 self.assertRegex(page, rf"(?m)^\.It Fl -{option}\b")
                 told += 1
-        self.assertEqual(told, 14)
+        self.assertEqual(told, 22)
 
     def test_the_programs_forms_are_those_of_its_page(self) -> None:
         page = (PACKAGING / "man/compress_cli.1").read_text()
@@ -214,7 +214,7 @@ class DebianPackage(Made):
         for name in COMMANDS:
             self.assertTrue((root / f"usr/share/man/man1/{name}.1.gz").exists(), name)
             self.assertTrue((root / f"usr/share/bash-completion/completions/{name}").exists(), name)
-        for name in ("copyright", "changelog.gz", "examples/roster.csv", "OPERATIONS.md"):
+        for name in ("copyright", "changelog.gz", "examples/roster.csv", "examples/haproxy.cfg", "GATEWAY.md", "OPERATIONS.md"):
             self.assertTrue((root / "usr/share/doc/delkwoan" / name).exists(), name)
         package_folder = root / "usr/lib/python3/dist-packages"
         self.assertTrue((package_folder / "delkwoan/py.typed").exists())
@@ -256,7 +256,7 @@ class Types(unittest.TestCase):
         self.assertEqual((ran.status, ran.errors), (0, b""), ran.output)
 
 
-UNITS = ["delkwoan.service", "delkwoan-restart.service", "delkwoan-restart.timer"]
+UNITS = ["delkwoan.service", "delkwoan-gateway.service", "delkwoan-restart.service", "delkwoan-restart.timer"]
 
 
 def settings_of(unit: Path, name: str) -> list[str]:
@@ -273,7 +273,7 @@ class Unit(Made):
         need("systemd-analyze")
         prefix = self.folder / "prefix"
         (prefix / "bin").mkdir(parents=True)
-        for name in ("compress_cli", "compress-wait-ready"):
+        for name in ("compress_cli", "compress-gateway", "compress-wait-ready"):
             shutil.copy2(self.program, prefix / "bin" / name)
         self.assertEqual(run([PACKAGING / "generate", "--prefix", prefix, self.made]), Ran(0, b"", b""))
         units = [self.made / name for name in UNITS]
@@ -287,7 +287,7 @@ class Unit(Made):
 
     def test_each_night_it_is_started_anew_where_it_runs(self) -> None:
         """The timer's unit is the service of its name, which starts no service that was stopped."""
-        timer, service = self.made / UNITS[2], self.made / UNITS[1]
+        timer, service = self.made / "delkwoan-restart.timer", self.made / "delkwoan-restart.service"
         self.assertEqual((settings_of(timer, "OnCalendar"), settings_of(timer, "Unit")), (["*-*-* 03:30:00"], []))
         self.assertEqual(settings_of(service, "ExecStart"), ["/bin/systemctl try-restart delkwoan.service"])
 

@@ -1,0 +1,21 @@
+"""A gateway in front of a `serve`: the command compress-gateway, an API over HTTP for members and the operator.
+
+    delkwoan.gateway.calls       what can be called, and the line of docs/PROTOCOL.md that each call is
+    delkwoan.gateway.fields      a reply as fields
+    delkwoan.gateway.document    the calls as an OpenAPI document, and as a page
+    delkwoan.gateway.connection  a connection that has a seat, and lines that go ahead over it
+    delkwoan.gateway.seats       the connections, and who gets which
+    delkwoan.gateway.sessions    who is signed in, and how wrong keys are slowed
+    delkwoan.gateway.kept        calls with an Idempotency-Key, in SQLite
+    delkwoan.gateway.desk        a call's lines: sent once, or looked for where their replies were lost
+    delkwoan.gateway.requests    a request's body, session and words
+    delkwoan.gateway.server      the routes, and what becomes of each request
+    delkwoan.gateway.silence     an end for peers that say or take nothing
+    delkwoan.gateway.follower    how full the journal is, by its file
+    delkwoan.gateway.metrics     figures for Prometheus
+    delkwoan.gateway.answers     what is answered, also to what can't be served
+    delkwoan.gateway.serving     all of these together
+    delkwoan.gateway.command     the command
+
+It wants Debian's python3-starlette, python3-uvicorn and python3-prometheus-client, which nothing else of the package does.
+"""

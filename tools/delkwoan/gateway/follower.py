@@ -1,0 +1,88 @@
+"""How full a journal is, by its file: read on from where it was read to, so that asking again is cheap.
+
+Written from docs/FORMATS.md, "The journal's file".
+"""
+
+import os
+from typing import BinaryIO, NamedTuple
+
+from ..bases import base_of
+from ..book import MOST_SUBMITTED
+from ..frames import LIMIT, PLAIN, SELECTOR, SLOTS, SLOTTED
+from ..records import BadField
+
+TRADE = 1
+"""The tag of a TRADE's record."""
+PIECE = 4_194_304
+"""The bytes that are read at once, behind the first."""
+HEAD = 25
+"""The bytes that tell which base holds."""
+
+
+class Fill(NamedTuple):
+    """The bytes of a journal and those left, and the trades that were submitted and those left."""
+
+    bytes: int
+    bytes_left: int
+    trades: int
+    trades_left: int
+
+
+def is_trade(record: bytes) -> bool:
+    """Whether a record is of a TRADE: its tag stands behind the seat and the party."""
+    at = 5 + record[4] if len(record) > 4 else len(record)
+    return record[at : at + 1] == bytes([TRADE])
+
+
+class Follower:
+    """Where in a journal's file the next gate is, and how many trades were submitted before it."""
+
+    def __init__(self, path: str) -> None:
+        self.path = path
+        self.head: bytes | None = None
+        self.gate = 0
+        self.trades = 0
+
+    def fill(self) -> Fill | None:
+        """How full the journal is now; none where it can't be read."""
+        try:
+            with open(self.path, "rb") as file:
+                head = file.read(HEAD)
+                if head != self.head or os.fstat(file.fileno()).st_size < self.gate:
+                    self.begin(file, head)
+                self.go_on(file)
+        except (OSError, BadField):
+            self.head = None
+            return None
+        end = self.gate + 1
+        return Fill(end, LIMIT - end, self.trades, MOST_SUBMITTED - self.trades)
+
+    def begin(self, file: BinaryIO, head: bytes) -> None:
+        """Reads what stands before the first gate: nothing, or the base that the selected slot leads to."""
+        self.head, self.gate, self.trades = head, len(PLAIN), 0
+        if head.startswith(SLOTTED):
+            slot = SLOTS[head[SELECTOR] == 1]
+            offset = int.from_bytes(head[slot : slot + 8], "little")
+            file.seek(offset)
+            base = file.read(int.from_bytes(file.read(4), "little"))
+            self.gate = offset + 4 + len(base)
+            self.trades = sum(trade.submitter is not None for trade in base_of(base).trades) if base else 0
+        elif not head.startswith(PLAIN):
+            raise OSError("no journal")
+
+    def go_on(self, file: BinaryIO) -> None:
+        """Reads the open gates and their records from where they were read to."""
+        file.seek(self.gate)
+        bytes = file.read(PIECE)
+        at = 0
+        while bytes[at : at + 1] == b"\1":
+            end = at + 5 + int.from_bytes(bytes[at + 1 : at + 5], "little")
+            if end + 1 > len(bytes):
+                more = file.read(max(PIECE, end + 1 - len(bytes)))
+                if not more:
+                    break
+                bytes, at = bytes[at:] + more, 0
+                continue
+            self.trades += is_trade(bytes[at + 5 : end])
+            self.gate += end - at
+            at = end

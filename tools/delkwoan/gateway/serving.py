@@ -1,0 +1,74 @@
+"""The gateway as its words say it, served by uvicorn."""
+
+import socket
+import ssl
+from argparse import Namespace
+from typing import Any
+
+import uvicorn
+
+from ..ending import Stop
+from .desk import Desk
+from .follower import Follower
+from .kept import Faulty, Kept
+from .metrics import Figures
+from .seats import Seats
+from .server import Parts, application
+from .sessions import Sessions, Slowing
+from .silence import SLACK, Silence
+
+SEATS = 4
+WAIT, IDLE, PATIENCE = 10.0, 1800.0, 20.0
+"""What holds where the words say nothing."""
+LOOKS = 1.0
+"""The seconds between two looks for silent peers."""
+
+
+def or_else(given: float | None, otherwise: float) -> float:
+    return otherwise if given is None else given
+
+
+def parts_of(given: Namespace) -> Parts:
+    try:
+        kept = Kept(given.calls)
+    except Faulty:
+        raise Stop(6, "disk fault") from None
+    seats = Seats(given.service, given.seats or SEATS, or_else(given.wait, WAIT))
+    sessions = Sessions(or_else(given.idle, IDLE))
+    figures = Figures(seats, sessions, None if given.journal is None else Follower(given.journal))
+    return Parts(Desk(seats, sessions, kept), sessions, Slowing(), figures, or_else(given.patience, PATIENCE))
+
+
+def secured(given: Namespace) -> dict[str, Any]:
+    """What the server is told of TLS."""
+    if given.certificate is None:
+        return {}
+    told = {"ssl_certfile": given.certificate, "ssl_keyfile": given.key}
+    return {**told, **({"ssl_ca_certs": given.clients, "ssl_cert_reqs": ssl.CERT_REQUIRED} if given.clients else {})}
+
+
+def serve(given: Namespace, bound: socket.socket) -> None:
+    """Serves over a socket that listens, until a signal ends it."""
+    parts = parts_of(given)
+    silence = Silence(parts.patience)
+
+    async def look() -> None:
+        silence.sweep(server.server_state.connections)
+
+    config = uvicorn.Config(
+        application(parts),
+        log_config=None,
+        access_log=False,
+        server_header=False,
+        ws="none",
+        timeout_keep_alive=SLACK * parts.patience,
+        callback_notify=look,
+        timeout_notify=LOOKS,
+        **secured(given),
+    )
+    try:
+        config.load()
+    except (OSError, ssl.SSLError):
+        raise Stop(11, "file fault") from None
+    server = uvicorn.Server(config)
+    server.run(sockets=[bound])

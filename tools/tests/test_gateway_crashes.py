@@ -1,0 +1,253 @@
+"""What a kill of the gateway or of the service leaves: nothing that was acknowledged is lost, and nothing is sent twice."""
+
+import http.client
+import socket
+import sys
+import threading
+import time
+import unittest
+
+from gateways import Answered, Caller, InGateway
+from running import TOOLS
+
+sys.path.insert(0, str(TOOLS))
+
+from delkwoan.gateway.desk import candidates_of, largest_of
+from delkwoan.gateway.kept import Row
+
+TERMS = "TRADE A B P 10 2026-03-02"
+
+
+class Keyed:
+    """Who alleges trades with a key each, and calls again with the same key until it is answered. Its amounts are no other's."""
+
+    def __init__(self, gate: int, name: str, place: int) -> None:
+        self.gate, self.name, self.place = gate, name, place
+        self.other = "ABC"[("ABC".index(name) + 1) % 3]
+        self.outcomes: dict[str, Answered] = {}
+        self.is_over = False
+        self.caller = Caller(gate)
+
+    def answered(self, line: str, key: str) -> Answered:
+        """What is answered in the end: neither a lost connection, nor a token of a gateway that was killed, nor a want of a seat."""
+        while True:
+            try:
+                if not self.caller.token:
+                    self.caller.sign_in(self.name)
+                answered = self.caller.say(line, key)
+            except (OSError, http.client.HTTPException):
+                time.sleep(0.05)
+                continue
+            if answered.status == 401:
+                self.caller.token = ""
+            elif answered.status not in (429, 503):
+                return answered
+
+    def run(self) -> None:
+        count = 0
+        while not self.is_over:
+            count += 1
+            line = f"TRADE {self.name} {self.other} P {3 * count + self.place} 2026-03-02"
+            self.outcomes[line] = self.answered(line, f"key {count}")
+
+
+class Kills(InGateway):
+    def outcomes(self, end: int) -> dict[str, Answered]:
+        """What callers are answered while the gateway or the service is killed and started again."""
+        keyed = [Keyed(self.gate, name, place) for place, name in enumerate("ABC")]
+        threads = [threading.Thread(target=it.run) for it in keyed]
+        for thread in threads:
+            thread.start()
+        for _ in range(end):
+            time.sleep(0.4)
+            self.shut()
+            self.open()
+            time.sleep(0.4)
+            self.kill()
+            self.start("--seats", "5")
+        for it in keyed:
+            it.is_over = True
+        for thread in threads:
+            thread.join()
+        return {line: answered for it in keyed for line, answered in it.outcomes.items()}
+
+    def test_in_the_middle_of_trades(self) -> None:
+        self.start("--seats", "5")
+        self.open()
+        outcomes = self.outcomes(3)
+        self.kill()
+        lines = [kept.line for kept in self.records()]
+        self.assertEqual(len(lines), len({*lines}))
+        trades = {line: number for number, line in enumerate(lines, 1)}
+        for line, answered in outcomes.items():
+            if answered.status == 200:
+                self.assertEqual(answered.content["fields"]["trade"], trades.pop(line), line)
+            else:
+                self.assertEqual((answered.status, answered.error), (409, "unknown"))
+                candidates = [it["trade"] for it in answered.content["candidates"]]
+                self.assertEqual(candidates, [trades.pop(line)] if line in trades else [], line)
+        self.assertEqual(trades, {})
+        self.assertGreater(len(outcomes), 20)
+
+
+class Relay:
+    """Stands between a gateway and a service, and loses the reply to a line, or the line itself, with the connection."""
+
+    def __init__(self, service: int) -> None:
+        self.service = service
+        self.listener = socket.create_server(("127.0.0.1", 0))
+        self.port: int = self.listener.getsockname()[1]
+        self.losing, self.is_sent, self.is_closing = "", True, True
+        self.lost = threading.Event()
+        threading.Thread(target=self.accept, daemon=True).start()
+
+    def lose(self, line: str, is_sent: bool, is_closing: bool = True) -> None:
+        """The next such line: is it sent on, and is the connection closed, or does it stay without a reply?"""
+        self.losing, self.is_sent, self.is_closing = line, is_sent, is_closing
+        self.lost.clear()
+
+    def accept(self) -> None:
+        while True:
+            try:
+                near, _ = self.listener.accept()
+            except OSError:
+                return
+            threading.Thread(target=self.relay, args=[near], daemon=True).start()
+
+    def relay(self, near: socket.socket) -> None:
+        try:
+            far = socket.create_connection(("127.0.0.1", self.service))
+        except OSError:
+            near.close()
+            return
+        silent = threading.Event()
+        threading.Thread(target=self.reply, args=[far, near, silent], daemon=True).start()
+        try:
+            for line in near.makefile("rb"):
+                if self.losing and line.decode().startswith(self.losing):
+                    self.losing = ""
+                    silent.set()
+                    if self.is_sent:
+                        far.sendall(line)
+                        time.sleep(0.3)
+                    self.lost.set()
+                    if self.is_closing:
+                        break
+                else:
+                    far.sendall(line)
+        except OSError:
+            pass
+        for end in (near, far):
+            self.shut(end)
+
+    def reply(self, far: socket.socket, near: socket.socket, silent: threading.Event) -> None:
+        try:
+            while piece := far.recv(65_536):
+                if not silent.is_set():
+                    near.sendall(piece)
+        except OSError:
+            pass
+        self.shut(near)
+
+    def shut(self, end: socket.socket) -> None:
+        try:
+            end.shutdown(socket.SHUT_RDWR)
+        except OSError:
+            pass
+
+
+class LostReplies(InGateway):
+    def setUp(self) -> None:
+        super().setUp()
+        self.start("--seats", "8")
+        self.relay = Relay(self.port)
+        self.addCleanup(self.relay.listener.close)
+        self.open()
+
+    @property
+    def service_address(self) -> str:
+        return f"127.0.0.1:{self.relay.port}"
+
+    def lines(self) -> list[str]:
+        self.kill()
+        return [kept.line for kept in self.records()]
+
+    def test_a_trade_is_found_or_is_unknown(self) -> None:
+        """The only one that can be is found; else nothing is sent again, and the candidates are told."""
+        caller, other = self.caller("A"), self.caller("B")
+        caller.say(TERMS)
+        self.relay.lose("TRADE", is_sent=True)
+        found = caller.say(TERMS, "made")
+        self.assertEqual((found.status, found.content["fields"], found.content["found"]), (200, {"trade": 2}, True))
+        self.assertEqual(caller.say(TERMS, "made").content["fields"], {"trade": 2})
+        self.relay.lose("TRADE", is_sent=False)
+        unknown = caller.say(TERMS, "not made")
+        self.assertEqual((unknown.status, unknown.error, unknown.content["candidates"]), (409, "unknown", []))
+        self.assertEqual(caller.say(TERMS, "not made").content["candidates"], [])
+        self.assertEqual(other.say(TERMS, "other").content["fields"], {"trade": 3})
+        unknown = caller.say(TERMS, "not made")
+        self.assertEqual([trade["trade"] for trade in unknown.content["candidates"]], [3])
+        self.assertEqual(self.lines(), [TERMS] * 3)
+
+    def test_another_session_may_have_made_it(self) -> None:
+        caller, other = self.caller("A"), self.caller("A")
+        self.relay.lose("TRADE", is_sent=True)
+        unknown = caller.say(TERMS, "k")
+        self.assertEqual((unknown.error, [trade["trade"] for trade in unknown.content["candidates"]]), ("unknown", [1]))
+        other.ask("DELETE", "/api/session")
+        self.relay.lose("TRADE B A", is_sent=True)
+        self.assertTrue(caller.say("TRADE B A P 10 2026-03-02", "l").content["found"])
+
+    def test_a_gateway_that_was_killed_knows_it(self) -> None:
+        caller = self.caller("A")
+        self.relay.lose("TRADE", is_sent=True, is_closing=False)
+        calling = threading.Thread(target=self.assertRaises, args=[(OSError, http.client.HTTPException), caller.say, TERMS, "k"])
+        calling.start()
+        self.assertTrue(self.relay.lost.wait(30))
+        self.shut()
+        calling.join()
+        self.open()
+        found = self.caller("A").say(TERMS, "k")
+        self.assertEqual((found.status, found.content["fields"], found.content.get("found")), (200, {"trade": 1}, True))
+        self.assertEqual(self.lines(), [TERMS])
+
+    def test_other_lines(self) -> None:
+        """A question is asked again; of a change without a key, or of another command, it is told what sending it again does."""
+        caller, other = self.caller("A"), self.caller("B")
+        caller.say(TERMS)
+        self.relay.lose("NETS", is_sent=True)
+        self.assertEqual(caller.say("NETS P").text, "ok 1 nets 0 0 0")
+        for caller, line, key, told in (
+            (caller, TERMS, "", "alleges a second trade"),
+            (other, "AFFIRM 1", "k", "is refused"),
+            (other, "TOL A P in 0 -", "l", "sets the same once more"),
+        ):
+            self.relay.lose(line.split(" ")[0], is_sent=True)
+            unknown = caller.say(line, key)
+            self.assertEqual((unknown.status, unknown.error, unknown.content["again"]), (409, "unknown", told), line)
+        self.assertEqual(other.say("AFFIRM 1", "m").content["name"], "wrong-trade-state")
+        self.assertEqual(self.lines(), [TERMS, TERMS, "AFFIRM 1", "TOL A P in 0 -"])
+
+
+class Candidates(unittest.TestCase):
+    STATEMENT = "\n".join(
+        [
+            "ok 9 statement 4",
+            "trade 3 A B P 10 2026-03-02 live -",
+            "trade 5 A B P 10 2026-03-02 alleged -",
+            "trade 6 A B P 11 2026-03-02 alleged -",
+            "trade 8 A B P 10 2026-03-02 ended held",
+        ]
+    )
+
+    def test_those_with_the_terms_and_later(self) -> None:
+        for largest, due in ((0, [3, 5, 8]), (3, [5, 8]), (6, [8]), (8, [])):
+            row = Row(TERMS, largest, True, None, None)
+            self.assertEqual([trade["trade"] for trade in candidates_of(self.STATEMENT, row)], due)
+
+    def test_the_largest(self) -> None:
+        self.assertEqual((largest_of(self.STATEMENT), largest_of("ok 0 statement 0")), (8, 0))
+
+
+if __name__ == "__main__":
+    unittest.main()

@@ -1,0 +1,261 @@
+"""The gateway's parts by themselves: pauses after wrong keys, sessions, kept calls, how full a journal is, replies and pieces."""
+
+import asyncio
+import sys
+import tempfile
+import unittest
+from pathlib import Path
+from unittest import mock
+
+from gateways import InGateway
+from running import TOOLS
+from test_journal import AFFIRM, BASED, ONE, SLOTTED, SLOTTED_ONE, frame
+
+sys.path.insert(0, str(TOOLS))
+
+from delkwoan.gateway import sessions
+from delkwoan.gateway.connection import BadKey, Connection, Lost
+from delkwoan.gateway.fields import fields_of, kind_of, refusal_of
+from delkwoan.gateway.follower import Fill, Follower
+from delkwoan.gateway.kept import Faulty, Kept, Row
+from delkwoan.gateway.sessions import Sessions, Slowing
+
+
+class Pauses(unittest.TestCase):
+    def pauses(self, slowing: Slowing, *who: tuple[str, str]) -> list[float]:
+        return [round(slowing.pause(*it)) for it in who]
+
+    def test_they_double_and_end(self) -> None:
+        slowing = Slowing()
+        with mock.patch("time.monotonic", return_value=1_000.0) as clock:
+            told = []
+            for _ in range(8):
+                slowing.wrong("A", "here")
+                told += self.pauses(slowing, ("A", "here"))
+            self.assertEqual(told, [1, 2, 4, 8, 16, 32, 60, 60])
+            self.assertEqual(self.pauses(slowing, ("B", "here"), ("A", "there"), ("B", "there")), [60, 60, 0])
+            clock.return_value += 30
+            self.assertEqual(self.pauses(slowing, ("A", "here")), [30])
+            clock.return_value += sessions.FORGET
+            slowing.wrong("A", "here")
+            self.assertEqual(self.pauses(slowing, ("A", "here")), [1])
+
+    def test_nobody_locks_a_name_out_elsewhere(self) -> None:
+        slowing = Slowing()
+        slowing.right("A", "home")
+        for _ in range(9):
+            slowing.wrong("A", "away")
+        self.assertEqual(self.pauses(slowing, ("A", "home"), ("A", "away"), ("A", "third")), [0, 60, 60])
+        slowing.right("A", "home")
+        self.assertEqual(self.pauses(slowing, ("A", "third")), [0])
+
+    def test_they_are_few(self) -> None:
+        slowing = Slowing()
+        with mock.patch.object(sessions, "MOST_SLOWED", 10):
+            for place in range(100):
+                slowing.wrong(f"N{place}", "here")
+                slowing.right(f"M{place}", f"at {place}")
+        self.assertLessEqual(max(len(slowing.slowed), len(slowing.known)), 10)
+
+
+class SignedIn(unittest.TestCase):
+    def test_a_token_is_one_sessions(self) -> None:
+        open = Sessions(100)
+        one, other = open.open("A", "KA", False), open.open("A", "KA", False)
+        self.assertNotEqual(one.token, other.token)
+        self.assertIs(open.find(one.token), one)
+        self.assertIsNone(open.find("none"))
+        self.assertEqual(open.count("A"), 2)
+        open.close(one)
+        self.assertEqual((open.find(one.token), open.find(other.token)), (None, other))
+        open.close_all("A", "KA")
+        self.assertEqual(len(open), 0)
+
+    def test_it_ends_when_it_is_idle(self) -> None:
+        open = Sessions(100)
+        with mock.patch("time.monotonic", return_value=0.0) as clock:
+            used, idle = open.open("A", "KA", False), open.open("B", "KB", False)
+            clock.return_value = 90.0
+            self.assertIsNotNone(open.find(used.token))
+            clock.return_value = 110.0
+            self.assertEqual((open.find(idle.token), open.count("B")), (None, 0))
+            self.assertIsNotNone(open.find(used.token))
+
+    def test_they_are_few(self) -> None:
+        open = Sessions(100)
+        with mock.patch.object(sessions, "MOST_SESSIONS", 3):
+            for _ in range(3):
+                open.open("A", "KA", False)
+            self.assertRaises(sessions.Full, open.open, "A", "KA", False)
+
+    def test_nothing_shows_the_key(self) -> None:
+        self.assertNotRegex(str(Sessions(1).open("A", "SECRET", False)), "SECRET|token")
+
+
+class KeptCalls(unittest.TestCase):
+    def setUp(self) -> None:
+        folder = tempfile.TemporaryDirectory()
+        self.addCleanup(folder.cleanup)
+        self.path = str(Path(folder.name) / "calls")
+
+    def test_what_is_put_down_is_found_again(self) -> None:
+        async def spend() -> list[Row | None]:
+            kept = Kept(self.path)
+            await asyncio.gather(*(kept.begin("A", f"k{place}", f"TRADE {place}", place, True) for place in range(100)))
+            await kept.end("A", "k1", "TRADE 1", "ok 2 trade 1")
+            await kept.end("A", "k2", "TRADE 2", None, 2)
+            await kept.forget("A", "k3", "TRADE 3")
+            kept.close()
+            again = Kept(self.path)
+            found = [await again.find("A", f"k{place}") for place in range(5)]
+            await again.spoil("TRADE 4")
+            await again.spoil_member("B")
+            found += [await again.find("A", "k4"), await again.find("A", "k5"), await again.find("B", "k5")]
+            await again.spoil_member("A")
+            found.append(await again.find("A", "k5"))
+            again.close()
+            return found
+
+        rows = [
+            Row("TRADE 0", 0, True, None, None),
+            Row("TRADE 1", 1, True, "ok 2 trade 1", None),
+            Row("TRADE 2", 2, True, None, 2),
+            None,
+            Row("TRADE 4", 4, True, None, None),
+            Row("TRADE 4", 4, False, None, None),
+            Row("TRADE 5", 5, True, None, None),
+            None,
+            Row("TRADE 5", 5, False, None, None),
+        ]
+        self.assertEqual(asyncio.run(spend()), rows)
+
+    def test_the_same_line_of_two_calls_is_neithers_alone(self) -> None:
+        async def spend() -> list[bool]:
+            kept = Kept(self.path)
+            await asyncio.gather(kept.begin("A", "k", "TRADE", 0, True), kept.begin("B", "k", "TRADE", 0, True))
+            rows = [await kept.find(member, "k") for member in "AB"]
+            kept.close()
+            return [row.is_alone for row in rows if row is not None]
+
+        self.assertEqual(asyncio.run(spend()), [False, False])
+
+    def test_one_gateway_has_it(self) -> None:
+        kept = Kept(self.path)
+        self.assertRaises(Faulty, Kept, self.path)
+        kept.close()
+        Path(self.path).write_bytes(b"no database" * 100)
+        for path in (self.path, self.path + "/none"):
+            self.assertRaises(Faulty, Kept, path)
+
+
+class Journals(unittest.TestCase):
+    def test_how_full_they_are(self) -> None:
+        """A journal with one trade, as it is written piece by piece, and files that are none."""
+        with tempfile.TemporaryDirectory() as folder:
+            path = Path(folder) / "journal"
+            follower = Follower(str(path))
+            self.assertIsNone(follower.fill())
+            for text in (b"", b"no journal at all, but long enough"):
+                path.write_bytes(text)
+                self.assertIsNone(follower.fill())
+            none, one = SLOTTED + b"\0", SLOTTED_ONE
+            two, more = (before[:-1] + SLOTTED_ONE[len(SLOTTED) :] for before in (one, BASED))
+            for text, trades in ((none, 0), (one, 1), (two, 2), (two[:-1] + frame(AFFIRM) + b"\0", 2), (one, 1), (ONE, 1), (BASED, 1), (more, 2)):
+                path.write_bytes(text)
+                self.assertEqual(follower.fill(), Fill(len(text), 268_435_456 - len(text), trades, 100_000 - trades))
+
+
+class InPieces(unittest.TestCase):
+    """Replies as they come, cut anywhere, go to the lines that they are due to."""
+
+    TEXT = b"ok 3 hello A\nok 3 statement 2\ntrade 1 A B P 1 2026-01-01 live -\ntrade 2 A B P 1 2026-01-01 live -\nok 3 hello B\nno 3 7 not-party\n"
+
+    def replies(self, size: int) -> list[list[str]]:
+        async def spend() -> list[list[str]]:
+            connection = Connection()
+            connection.connection_made(mock.Mock(is_closing=lambda: False))
+            asked = [asyncio.create_task(connection.ask(["HELLO", "X"])) for _ in range(2)]
+            await asyncio.sleep(0)
+            for at in range(0, len(self.TEXT), size):
+                connection.data_received(self.TEXT[at : at + size])
+            return [[reply.text for reply in await it] for it in asked]
+
+        return asyncio.run(spend())
+
+    def test_any_pieces(self) -> None:
+        lines = self.TEXT.decode().splitlines()
+        due = [[lines[0], "\n".join(lines[1:4])], [lines[4], lines[5]]]
+        for size in (1, 2, 7, 13, 64, 1_000):
+            self.assertEqual(self.replies(size), due, size)
+
+    def test_an_end_and_what_is_no_reply(self) -> None:
+        async def spend(end: bytes | None) -> None:
+            connection = Connection()
+            transport = mock.Mock(is_closing=lambda: False)
+            transport.abort = lambda: connection.connection_lost(None)
+            connection.connection_made(transport)
+            asked = asyncio.create_task(connection.ask(["X"]))
+            await asyncio.sleep(0)
+            connection.connection_lost(None) if end is None else connection.data_received(end)
+            await asyncio.wait_for(asked, 5)
+
+        for end in (None, b"what is this\n", b"ok x statement y\n", b"\n", b"\xff\n"):
+            with self.assertRaises(Lost, msg=end), mock.patch("delkwoan.gateway.connection.log"):
+                asyncio.run(spend(end))
+
+    def test_a_greeting_that_is_refused(self) -> None:
+        """Nothing goes behind it; and no line goes ahead before its name and key were accepted over this connection."""
+
+        async def spend() -> list[bytes]:
+            connection = Connection()
+            transport = mock.Mock(is_closing=lambda: False)
+            connection.connection_made(transport)
+            for replies in ([b"no 0 2 bad-key\n"], [b"ok 0 hello A\n", b"ok 0 hello A\nno 0 11 unknown-trade\n"]):
+                asking = asyncio.create_task(connection.say(("A", "K"), ["END 1"]))
+                for reply in replies:
+                    await asyncio.sleep(0.01)
+                    connection.data_received(reply)
+                try:
+                    self.assertEqual([reply.text for reply in await asking], ["no 0 11 unknown-trade"])
+                except BadKey:
+                    self.assertEqual(len(replies), 1)
+            return [call.args[0] for call in transport.write.call_args_list]
+
+        self.assertEqual(asyncio.run(spend()), [b"HELLO A K\n", b"HELLO A K\n", b"HELLO A K\nEND 1\n"])
+
+
+class Fields(unittest.TestCase):
+    def test_each_form(self) -> None:
+        cases = [
+            ("ok 1 tol", "tol", {}),
+            ("ok 1 executed 2 3 4 5 6", "executed", {"cycle": 2, "version": 3, "ended": 4, "cut": 5, "made": 6}),
+            ("ok 1 nets 1 2 -1", "nets", {"out": 1, "into": 2, "net": -1}),
+            ("ok 1 statement 0", "statement", {"rows": []}),
+            ("ok 1 limits 1\nlimit A B 1 2 -", "limits", {"rows": [{"seller": "A", "buyer": "B", "lower": 1, "now": 2, "upper": None}]}),
+            ("ok 1 plan 1 2 1\ncut 1 10 3", "plan", {"cycle": 1, "version": 2, "rows": [{"step": "cut", "trade": 1, "before": 10, "after": 3}]}),
+        ]
+        for text, kind, due in cases:
+            self.assertEqual((kind_of(text), fields_of(text), refusal_of(text)), (kind, due, None), text)
+        self.assertEqual(refusal_of("no 5 24 bad-certificate P above A B"), (24, "bad-certificate", "P above A B"))
+        self.assertEqual(kind_of("no 5 11 unknown-trade"), "unknown-trade")
+
+
+class Alerts(InGateway):
+    def test_they_are_over_figures_that_there_are(self) -> None:
+        import re
+
+        from running import ROOT
+
+        self.start("--seats", "5")
+        self.open("--journal", self.journal)
+        caller = self.caller("A")
+        caller.say("NETS P")
+        caller.sign_in("A", "WRONG")
+        figures = str(caller.ask("GET", "/metrics").content)
+        names = set(re.findall(r"delkwoan_\w+", (ROOT / "packaging/gateway-alerts.yml").read_text()))
+        self.assertGreater(len(names), 7)
+        self.assertEqual({name for name in names if not re.search(rf"^{name}\b", figures, re.MULTILINE)}, set())
+
+
+if __name__ == "__main__":
+    unittest.main()

@@ -1,0 +1,97 @@
+"""Peers of the gateway that say nothing, half of something, or take nothing: others are served as before, and no seat is held."""
+
+import re
+import resource
+import socket
+import time
+import unittest
+
+from gateways import InGateway
+
+SILENT = 1_000
+HALVES = [b"G", b"GET /healthz HTTP/1.1\r\nHost: x\r\n", b"POST /api/session HTTP/1.1\r\nHost: x\r\nContent-Length: 40\r\n\r\n{"]
+"""What is sent of a request: its first byte, a part of its head, and its head with a part of its body."""
+
+
+def many_files() -> None:
+    """Lets this process have a connection to each silent peer."""
+    least, most = resource.getrlimit(resource.RLIMIT_NOFILE)
+    if most < 2 * SILENT:
+        raise unittest.SkipTest("too few open files")
+    resource.setrlimit(resource.RLIMIT_NOFILE, (max(least, min(most, 4 * SILENT)), most))
+
+
+class Silence(InGateway):
+    def connect(self, text: bytes = b"") -> socket.socket:
+        connection = socket.create_connection(("127.0.0.1", self.gate), 60)
+        self.addCleanup(connection.close)
+        connection.sendall(text)
+        return connection
+
+    def busy(self) -> float:
+        """How many seats the calls have."""
+        found = re.search(r"^delkwoan_seats_busy (\S+)$", str(self.caller().ask("GET", "/metrics").content), re.MULTILINE)
+        assert found is not None
+        return float(found[1])
+
+    def test_a_thousand_silent_peers_beside_normal_use(self) -> None:
+        many_files()
+        self.start("--seats", "5")
+        self.open()
+        caller = self.caller("A")
+        silent = [self.connect() for _ in range(SILENT)] + [self.connect(half) for half in HALVES * 20]
+        slowest = 0.0
+        for number in range(1, 101):
+            begun = time.monotonic()
+            self.assertEqual(caller.say(f"TRADE A B P {number} 2026-03-02").text, f"ok {number} trade {number}")
+            slowest = max(slowest, time.monotonic() - begun)
+        self.assertLess(slowest, 5)
+        self.assertEqual(self.busy(), 0)
+        self.assertEqual(len(silent), SILENT + 60)
+
+    def test_each_is_ended_in_its_time(self) -> None:
+        """Those that say nothing, or half of a request; a body that does not come is told so. One that is served is not ended."""
+        self.start("--seats", "5")
+        self.open("--patience", "1")
+        caller = self.caller("A")
+        self.assertEqual(self.connect().recv(64), b"")
+        self.assertEqual([self.connect(half).recv(12) for half in HALVES], [b"", b"", b"HTTP/1.1 408"])
+        self.hold()
+        time.sleep(0.1)
+        assert self.service is not None
+        waiting = self.connect(f"GET /api/nets/P HTTP/1.1\r\nHost: x\r\nAuthorization: Bearer {caller.token}\r\n\r\n".encode())
+        time.sleep(4)
+        self.service.send_signal(18)
+        self.assertEqual(waiting.recv(12), b"HTTP/1.1 200")
+
+    def test_one_that_takes_nothing_of_an_answer(self) -> None:
+        """Its answers fill all room. It has no seat meanwhile, and is ended."""
+        self.start("--seats", "5")
+        self.open("--patience", "1")
+        caller = self.caller("A")
+        for number in range(1, 401):
+            caller.say(f"TRADE A B P {number} 2026-03-02")
+        greedy = socket.socket()
+        self.addCleanup(greedy.close)
+        greedy.setsockopt(socket.SOL_SOCKET, socket.SO_RCVBUF, 4096)
+        greedy.connect(("127.0.0.1", self.gate))
+        greedy.settimeout(1)
+        asked = f"GET /api/statement HTTP/1.1\r\nHost: x\r\nAuthorization: Bearer {caller.token}\r\n\r\n".encode()
+        greedy.sendall(asked * 200)
+        end = time.monotonic() + 30
+        while self.busy():
+            self.assertLess(time.monotonic(), end)
+        self.assertEqual(caller.say("NETS P").status, 200)
+        while time.monotonic() < end:
+            try:
+                greedy.sendall(asked)
+            except ConnectionError:
+                return
+            except OSError:
+                pass
+            time.sleep(0.2)
+        self.fail("it is not ended")
+
+
+if __name__ == "__main__":
+    unittest.main()
