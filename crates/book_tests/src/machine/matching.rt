@@ -2,7 +2,7 @@
 
 use super::sheets::{Deal, Limit, Sheet};
 use super::words::Word;
-use command_types::{Base, ToleranceRow, TradeRow};
+use command_types::{Base, Level, ToleranceRow, TradeRow};
 use units_core::{Day, Name};
 
 fn are_names(names: &[Name], words: &[Word]) -> bool {
@@ -13,13 +13,17 @@ fn are_names(names: &[Name], words: &[Word]) -> bool {
             .all(|(name, word)| name.is(&word.name()))
 }
 
-fn is_setting(row: &ToleranceRow, limit: Limit) -> bool {
-    let most = match row.ceiling {
+fn most_of(ceiling: Option<Level>) -> Option<u64> {
+    match ceiling {
         None => None,
         Some(most) => Some(most.get()),
-    };
+    }
+}
+
+fn is_setting(row: &ToleranceRow, limit: Limit) -> bool {
     let own = (row.member.0, row.product.0, row.other.0, row.side);
-    own == (limit.0, limit.1, limit.2, limit.3) && row.floor.get() == limit.4 && most == limit.5
+    let levels = (row.floor.get(), most_of(row.ceiling));
+    own == (limit.0, limit.1, limit.2, limit.3) && levels == (limit.4, limit.5)
 }
 
 fn is_trade(row: &TradeRow, number: u64, deal: Deal) -> bool {

@@ -76,19 +76,11 @@ fn names(alloc: Global, words: &[Word]) -> Result<Listed<Name>, AllocError> {
     Ok(Listed::new(names))
 }
 
-fn setting(limit: Limit) -> Option<ToleranceRow> {
-    let ceiling = match limit.5 {
-        None => None,
-        Some(most) => Some(Level::new(most)?),
-    };
-    Some(ToleranceRow {
-        member: MemberNo(limit.0),
-        product: ProductNo(limit.1),
-        other: MemberNo(limit.2),
-        side: limit.3,
-        floor: Level::new(limit.4)?,
-        ceiling,
-    })
+fn ceiling(most: Option<u64>) -> Result<Option<Level>, AllocError> {
+    match most {
+        None => Ok(None),
+        Some(most) => Ok(Some(Level::new(most).ok_or(AllocError)?)),
+    }
 }
 
 fn trade(number: u64, deal: Deal) -> Option<TradeRow> {
@@ -111,7 +103,14 @@ fn trade(number: u64, deal: Deal) -> Option<TradeRow> {
 fn settings(alloc: Global, limits: &[Limit]) -> Result<Listed<ToleranceRow>, AllocError> {
     let mut rows = Vec::new(alloc);
     for limit in limits {
-        rows.push(setting(*limit).ok_or(AllocError)?)?;
+        rows.push(ToleranceRow {
+            member: MemberNo(limit.0),
+            product: ProductNo(limit.1),
+            other: MemberNo(limit.2),
+            side: limit.3,
+            floor: Level::new(limit.4).ok_or(AllocError)?,
+            ceiling: ceiling(limit.5)?,
+        })?;
     }
     Ok(Listed::new(rows))
 }
