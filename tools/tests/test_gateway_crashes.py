@@ -1,19 +1,12 @@
 """What a kill of the gateway or of the service leaves: nothing that was acknowledged is lost, and nothing is sent twice."""
 
 import http.client
-import socket
-import sys
 import threading
 import time
 import unittest
 
+from gateway_relay import Relay
 from gateways import Answered, Caller, InGateway
-from running import TOOLS
-
-sys.path.insert(0, str(TOOLS))
-
-from delkwoan.gateway.desk import candidates_of, largest_of
-from delkwoan.gateway.kept import Row
 
 TERMS = "TRADE A B P 10 2026-03-02"
 
@@ -90,72 +83,6 @@ class Kills(InGateway):
         self.assertGreater(len(outcomes), 20)
 
 
-class Relay:
-    """Stands between a gateway and a service, and loses the reply to a line, or the line itself, with the connection."""
-
-    def __init__(self, service: int) -> None:
-        self.service = service
-        self.listener = socket.create_server(("127.0.0.1", 0))
-        self.port: int = self.listener.getsockname()[1]
-        self.losing, self.is_sent, self.is_closing = "", True, True
-        self.lost = threading.Event()
-        threading.Thread(target=self.accept, daemon=True).start()
-
-    def lose(self, line: str, is_sent: bool, is_closing: bool = True) -> None:
-        """The next such line: is it sent on, and is the connection closed, or does it stay without a reply?"""
-        self.losing, self.is_sent, self.is_closing = line, is_sent, is_closing
-        self.lost.clear()
-
-    def accept(self) -> None:
-        while True:
-            try:
-                near, _ = self.listener.accept()
-            except OSError:
-                return
-            threading.Thread(target=self.relay, args=[near], daemon=True).start()
-
-    def relay(self, near: socket.socket) -> None:
-        try:
-            far = socket.create_connection(("127.0.0.1", self.service))
-        except OSError:
-            near.close()
-            return
-        silent = threading.Event()
-        threading.Thread(target=self.reply, args=[far, near, silent], daemon=True).start()
-        try:
-            for line in near.makefile("rb"):
-                if self.losing and line.decode().startswith(self.losing):
-                    self.losing = ""
-                    silent.set()
-                    if self.is_sent:
-                        far.sendall(line)
-                        time.sleep(0.3)
-                    self.lost.set()
-                    if self.is_closing:
-                        break
-                else:
-                    far.sendall(line)
-        except OSError:
-            pass
-        for end in (near, far):
-            self.shut(end)
-
-    def reply(self, far: socket.socket, near: socket.socket, silent: threading.Event) -> None:
-        try:
-            while piece := far.recv(65_536):
-                if not silent.is_set():
-                    near.sendall(piece)
-        except OSError:
-            pass
-        self.shut(near)
-
-    def shut(self, end: socket.socket) -> None:
-        try:
-            end.shutdown(socket.SHUT_RDWR)
-        except OSError:
-            pass
-
-
 class LostReplies(InGateway):
     def setUp(self) -> None:
         super().setUp()
@@ -227,26 +154,6 @@ class LostReplies(InGateway):
             self.assertEqual((unknown.status, unknown.error, unknown.content["again"]), (409, "unknown", told), line)
         self.assertEqual(other.say("AFFIRM 1", "m").content["name"], "wrong-trade-state")
         self.assertEqual(self.lines(), [TERMS, TERMS, "AFFIRM 1", "TOL A P in 0 -"])
-
-
-class Candidates(unittest.TestCase):
-    STATEMENT = "\n".join(
-        [
-            "ok 9 statement 4",
-            "trade 3 A B P 10 2026-03-02 live -",
-            "trade 5 A B P 10 2026-03-02 alleged -",
-            "trade 6 A B P 11 2026-03-02 alleged -",
-            "trade 8 A B P 10 2026-03-02 ended held",
-        ]
-    )
-
-    def test_those_with_the_terms_and_later(self) -> None:
-        for largest, due in ((0, [3, 5, 8]), (3, [5, 8]), (6, [8]), (8, [])):
-            row = Row(TERMS, largest, True, None, None)
-            self.assertEqual([trade["trade"] for trade in candidates_of(self.STATEMENT, row)], due)
-
-    def test_the_largest(self) -> None:
-        self.assertEqual((largest_of(self.STATEMENT), largest_of("ok 0 statement 0")), (8, 0))
 
 
 if __name__ == "__main__":

@@ -1,23 +1,19 @@
-"""The gateway's parts by themselves: pauses after wrong keys, sessions, kept calls, how full a journal is, replies and pieces."""
+"""The gateway's parts by themselves: pauses after wrong keys, sessions, connections and seats, and replies as fields."""
 
 import asyncio
 import sys
-import tempfile
 import unittest
-from pathlib import Path
 from unittest import mock
 
-from gateways import InGateway
 from running import TOOLS
-from test_journal import AFFIRM, BASED, ONE, SLOTTED, SLOTTED_ONE, frame
 
 sys.path.insert(0, str(TOOLS))
 
+from delkwoan.address import Address
 from delkwoan.gateway import sessions
 from delkwoan.gateway.connection import BadKey, Connection, Lost
 from delkwoan.gateway.fields import fields_of, kind_of, refusal_of
-from delkwoan.gateway.follower import Fill, Follower
-from delkwoan.gateway.kept import Faulty, Kept, Row
+from delkwoan.gateway.seats import NoSeat, Seats
 from delkwoan.gateway.sessions import Sessions, Slowing
 
 
@@ -92,79 +88,6 @@ class SignedIn(unittest.TestCase):
         self.assertNotRegex(str(Sessions(1).open("A", "SECRET", False)), "SECRET|token")
 
 
-class KeptCalls(unittest.TestCase):
-    def setUp(self) -> None:
-        folder = tempfile.TemporaryDirectory()
-        self.addCleanup(folder.cleanup)
-        self.path = str(Path(folder.name) / "calls")
-
-    def test_what_is_put_down_is_found_again(self) -> None:
-        async def spend() -> list[Row | None]:
-            kept = Kept(self.path)
-            await asyncio.gather(*(kept.begin("A", f"k{place}", f"TRADE {place}", place, True) for place in range(100)))
-            await kept.end("A", "k1", "TRADE 1", "ok 2 trade 1")
-            await kept.end("A", "k2", "TRADE 2", None, 2)
-            await kept.forget("A", "k3", "TRADE 3")
-            kept.close()
-            again = Kept(self.path)
-            found = [await again.find("A", f"k{place}") for place in range(5)]
-            await again.spoil("TRADE 4")
-            await again.spoil_member("B")
-            found += [await again.find("A", "k4"), await again.find("A", "k5"), await again.find("B", "k5")]
-            await again.spoil_member("A")
-            found.append(await again.find("A", "k5"))
-            again.close()
-            return found
-
-        rows = [
-            Row("TRADE 0", 0, True, None, None),
-            Row("TRADE 1", 1, True, "ok 2 trade 1", None),
-            Row("TRADE 2", 2, True, None, 2),
-            None,
-            Row("TRADE 4", 4, True, None, None),
-            Row("TRADE 4", 4, False, None, None),
-            Row("TRADE 5", 5, True, None, None),
-            None,
-            Row("TRADE 5", 5, False, None, None),
-        ]
-        self.assertEqual(asyncio.run(spend()), rows)
-
-    def test_the_same_line_of_two_calls_is_neithers_alone(self) -> None:
-        async def spend() -> list[bool]:
-            kept = Kept(self.path)
-            await asyncio.gather(kept.begin("A", "k", "TRADE", 0, True), kept.begin("B", "k", "TRADE", 0, True))
-            rows = [await kept.find(member, "k") for member in "AB"]
-            kept.close()
-            return [row.is_alone for row in rows if row is not None]
-
-        self.assertEqual(asyncio.run(spend()), [False, False])
-
-    def test_one_gateway_has_it(self) -> None:
-        kept = Kept(self.path)
-        self.assertRaises(Faulty, Kept, self.path)
-        kept.close()
-        Path(self.path).write_bytes(b"no database" * 100)
-        for path in (self.path, self.path + "/none"):
-            self.assertRaises(Faulty, Kept, path)
-
-
-class Journals(unittest.TestCase):
-    def test_how_full_they_are(self) -> None:
-        """A journal with one trade, as it is written piece by piece, and files that are none."""
-        with tempfile.TemporaryDirectory() as folder:
-            path = Path(folder) / "journal"
-            follower = Follower(str(path))
-            self.assertIsNone(follower.fill())
-            for text in (b"", b"no journal at all, but long enough"):
-                path.write_bytes(text)
-                self.assertIsNone(follower.fill())
-            none, one = SLOTTED + b"\0", SLOTTED_ONE
-            two, more = (before[:-1] + SLOTTED_ONE[len(SLOTTED) :] for before in (one, BASED))
-            for text, trades in ((none, 0), (one, 1), (two, 2), (two[:-1] + frame(AFFIRM) + b"\0", 2), (one, 1), (ONE, 1), (BASED, 1), (more, 2)):
-                path.write_bytes(text)
-                self.assertEqual(follower.fill(), Fill(len(text), 268_435_456 - len(text), trades, 100_000 - trades))
-
-
 class InPieces(unittest.TestCase):
     """Replies as they come, cut anywhere, go to the lines that they are due to."""
 
@@ -224,6 +147,73 @@ class InPieces(unittest.TestCase):
         self.assertEqual(asyncio.run(spend()), [b"HELLO A K\n", b"HELLO A K\n", b"HELLO A K\nEND 1\n"])
 
 
+class WhoGetsASeat(unittest.TestCase):
+    """Connections that answer nothing, of which calls take seats."""
+
+    def seats(self, count: int) -> Seats:
+        seats = Seats(Address("127.0.0.1", 1), count, 0.2)
+        for _ in range(count):
+            connection = Connection()
+            connection.connection_made(mock.Mock(is_closing=lambda: False))
+            seats.ready.append(connection)
+        return seats
+
+    def test_the_one_with_the_fewest_calls(self) -> None:
+        async def spend() -> list[int]:
+            seats = self.seats(2)
+            async with seats.seat() as one, seats.seat() as other, seats.seat():
+                self.assertIsNot(one, other)
+                return sorted(it.taken for it in seats.ready)
+
+        self.assertEqual(asyncio.run(spend()), [1, 2])
+
+    def test_a_call_that_is_alone(self) -> None:
+        """It waits for those before it, nothing comes behind it, and the others have another connection."""
+
+        async def spend() -> None:
+            seats = self.seats(2)
+            async with seats.seat() as first, seats.seat() as second:
+                with self.assertRaises(NoSeat):
+                    async with seats.seat(True):
+                        pass
+                self.assertFalse(first.is_alone or second.is_alone)
+            async with seats.seat(True) as alone:
+                async with seats.seat() as one, seats.seat() as other:
+                    self.assertTrue(one is other and one is not alone)
+                with self.assertRaises(NoSeat):
+                    async with seats.seat(True):
+                        pass
+            async with seats.seat(True) as again, seats.seat() as one:
+                self.assertIsNot(again, one)
+
+        asyncio.run(spend())
+
+    def test_a_call_that_waits_gets_the_next(self) -> None:
+        async def spend() -> Connection:
+            seats = self.seats(1)
+
+            async def wait() -> Connection:
+                async with seats.seat() as connection:
+                    return connection
+
+            async with seats.seat(True):
+                waiting = asyncio.create_task(wait())
+                await asyncio.sleep(0.05)
+                self.assertEqual((seats.queue, seats.busy), (1, 1))
+            return await waiting
+
+        self.assertEqual(asyncio.run(spend()).taken, 0)
+
+    def test_a_connection_that_has_ended_is_nobodys(self) -> None:
+        async def spend() -> None:
+            seats = self.seats(1)
+            seats.ready[0].connection_lost(None)
+            async with seats.seat():
+                pass
+
+        self.assertRaises(NoSeat, asyncio.run, spend())
+
+
 class Fields(unittest.TestCase):
     def test_each_form(self) -> None:
         cases = [
@@ -238,23 +228,6 @@ class Fields(unittest.TestCase):
             self.assertEqual((kind_of(text), fields_of(text), refusal_of(text)), (kind, due, None), text)
         self.assertEqual(refusal_of("no 5 24 bad-certificate P above A B"), (24, "bad-certificate", "P above A B"))
         self.assertEqual(kind_of("no 5 11 unknown-trade"), "unknown-trade")
-
-
-class Alerts(InGateway):
-    def test_they_are_over_figures_that_there_are(self) -> None:
-        import re
-
-        from running import ROOT
-
-        self.start("--seats", "5")
-        self.open("--journal", self.journal)
-        caller = self.caller("A")
-        caller.say("NETS P")
-        caller.sign_in("A", "WRONG")
-        figures = str(caller.ask("GET", "/metrics").content)
-        names = set(re.findall(r"delkwoan_\w+", (ROOT / "packaging/gateway-alerts.yml").read_text()))
-        self.assertGreater(len(names), 7)
-        self.assertEqual({name for name in names if not re.search(rf"^{name}\b", figures, re.MULTILINE)}, set())
 
 
 if __name__ == "__main__":

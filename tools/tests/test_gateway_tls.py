@@ -95,15 +95,15 @@ class Itself(Secured):
 
 
 class Proxied(Secured):
-    def proxy(self) -> int:
-        """HAProxy by its file, in front of the gateway; where it listens."""
+    def proxy(self, **more: str) -> int:
+        """HAProxy by its file and these settings, in front of the gateway; where it listens."""
         if HAPROXY is None:
             raise unittest.SkipTest("no haproxy")
         port = free_port()
         both = self.certificates["server.both"]
         both.write_bytes(self.certificates["server.pem"].read_bytes() + self.certificates["server.key"].read_bytes())
         settings = {"LISTEN": f"127.0.0.1:{port}", "GATEWAY": f"127.0.0.1:{self.gate}", "CERTIFICATE": str(both)}
-        settings |= {"CLIENTS": str(self.certificates["authority.pem"]), "PATH": os.environ.get("PATH", "")}
+        settings |= {"CLIENTS": str(self.certificates["authority.pem"]), "PATH": os.environ.get("PATH", ""), **more}
         proxy = subprocess.Popen([HAPROXY, "-f", FILE], env=settings, stdout=subprocess.DEVNULL, stderr=subprocess.DEVNULL)
         self.addCleanup(proxy.wait)
         self.addCleanup(proxy.kill)
@@ -130,6 +130,31 @@ class Proxied(Secured):
         caller.http.request("POST", "/api/session", b'{"name": "A", "key": "WRONG"}', {"X-Forwarded-For": "10.1.2.3"})
         self.assertEqual(caller.http.getresponse().status, 401)
         self.assertNotIn("10.1.2.3", self.logged())
+
+    def test_its_limits(self) -> None:
+        """A peer that is slow with its head, one connection too many of an address, and too many requests in ten seconds."""
+        self.open()
+        context = self.certificates.context("client")
+        port = self.proxy(PATIENCE="1s", MOST_CONNECTIONS="3", MOST_REQUESTS="5")
+
+        def connect() -> ssl.SSLSocket:
+            plain = socket.create_connection(("127.0.0.1", port), 30)
+            self.addCleanup(plain.close)
+            secured = context.wrap_socket(plain, server_hostname="127.0.0.1")
+            self.addCleanup(secured.close)
+            return secured
+
+        slow = connect()
+        slow.sendall(b"GET /healthz HTTP/1.1\r\n")
+        self.assertEqual(slow.recv(12), b"HTTP/1.1 408")
+        peers = [connect() for _ in range(3)]
+        with self.assertRaises(OSError):
+            connect()
+        answers = []
+        for _ in range(7):
+            peers[0].sendall(b"GET /healthz HTTP/1.1\r\nHost: x\r\n\r\n")
+            answers.append(peers[0].recv(4096)[9:12])
+        self.assertEqual((answers[0], answers[-1]), (b"200", b"429"))
 
 
 if __name__ == "__main__":

@@ -9,11 +9,13 @@
     delkwoan.gateway.kept        calls with an Idempotency-Key, in SQLite
     delkwoan.gateway.desk        a call's lines: sent once, or looked for where their replies were lost
     delkwoan.gateway.requests    a request's body, session and words
+    delkwoan.gateway.own         the calls that are no line, as the sign-in
     delkwoan.gateway.server      the routes, and what becomes of each request
     delkwoan.gateway.silence     an end for peers that say or take nothing
     delkwoan.gateway.follower    how full the journal is, by its file
     delkwoan.gateway.metrics     figures for Prometheus
     delkwoan.gateway.answers     what is answered, also to what can't be served
+    delkwoan.gateway.parts       what the routes work with
     delkwoan.gateway.serving     all of these together
     delkwoan.gateway.command     the command
 

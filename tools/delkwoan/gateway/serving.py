@@ -12,8 +12,9 @@ from .desk import Desk
 from .follower import Follower
 from .kept import Faulty, Kept
 from .metrics import Figures
+from .parts import Parts
 from .seats import Seats
-from .server import Parts, application
+from .server import application
 from .sessions import Sessions, Slowing
 from .silence import SLACK, Silence
 

@@ -1,0 +1,18 @@
+"""What the routes of the gateway work with."""
+
+from typing import NamedTuple
+
+from .desk import Desk
+from .metrics import Figures
+from .sessions import Sessions, Slowing
+
+
+class Parts(NamedTuple):
+    """What the routes work with."""
+
+    desk: Desk
+    sessions: Sessions
+    slowing: Slowing
+    figures: Figures
+    patience: float
+    """The seconds that the body of a request may take."""
