@@ -115,7 +115,8 @@ class InGateway(InService):
 
     def open(self, *options: str | Path) -> None:
         """Starts a gateway, and waits until a call gets a seat."""
-        words: list[str | Path] = [self.python, TOOLS / "gateway", *options, self.service_address, f"127.0.0.1:{self.gate}", self.folder / "calls"]
+        seats = [] if "--seats" in options else ["--seats", "4"]
+        words: list[str | Path] = [self.python, TOOLS / "gateway", *seats, *options, self.service_address, f"127.0.0.1:{self.gate}", self.folder / "calls"]
         self.errors = open(self.folder / "errors", "ab")
         self.addCleanup(self.errors.close)
         self.gateway = subprocess.Popen(words, stdin=subprocess.DEVNULL, stdout=subprocess.DEVNULL, stderr=self.errors)

@@ -28,7 +28,7 @@ def words() -> Words:
         "An API over HTTP in front of a service: calls of many members over few connections, each with a seat of the service. "
         "`/api` lists the calls, and `/openapi.json` has their forms.",
     )
-    seats = "how many connections to the service to have, each of which takes a seat; 4 where it is absent"
+    seats = "how many connections to the service to have, each of which takes a seat; 3 where it is absent"
     parser.add_argument("--seats", metavar="N", action=Once, type=seats_of, help=seats)
     wait = "how long a call may wait for a seat; 10 where it is absent"
     parser.add_argument("--wait", metavar="SECONDS", action=Once, type=seconds_of, help=wait)

@@ -18,7 +18,7 @@ from .server import application
 from .sessions import Sessions, Slowing
 from .silence import SLACK, Silence
 
-SEATS = 4
+SEATS = 3
 WAIT, IDLE, PATIENCE = 10.0, 1800.0, 20.0
 """What holds where the words say nothing."""
 LOOKS = 1.0
