@@ -116,7 +116,7 @@ fn folds_to_the_front_and_to_the_end<R: Threads + Wait + Sync + AllocGlobal>(
     let first = held(alloc, &folded, 36087)?;
     let second = file_after(rt, &first, "")?;
     let body = body_of(alloc, 2000)?;
-    let third = file_after(rt, &held(alloc, &second, 31082)?, "")?;
+    let third = file_after(rt, &held(alloc, &second, 11082)?, "")?;
     let late = body_of(alloc, 3000)?;
     Ok(
         first.len() == 56088
