@@ -44,6 +44,8 @@ TYPED: list[tuple[list[str], list[str]]] = [
     (["compress-client", "-"], ["--about", "--connect", "--program", "--raw"]),
     (["compress-client", "--connect", ""], []),
     (["compress-client", "--connect", "127.0.0.1:7000", "rost"], ["roster.csv"]),
+    (["compress-gateway", "--c"], ["--certificate", "--clients"]),
+    (["compress-gateway", "--key", "rost"], ["roster.csv"]),
     (["compress-wait-ready", ""], []),
     (["compress-wait-ready", "-"], ["--seats"]),
     (["compress-client", "--program", "hub-r"], ["hub-roster.csv"]),
