@@ -1,3 +1,2 @@
 pub mod Includes
 pub mod Sends
-pub mod Changes

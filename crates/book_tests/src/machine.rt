@@ -2,17 +2,11 @@
 //! its reply and its answer. What lines of a session show stands in transcripts.
 
 pub mod answers;
-mod bases;
 pub mod commands;
-mod matching;
-mod misfits;
-mod open_cycles;
 mod rests;
-mod sheets;
 mod starts;
 mod unsaid;
 pub mod words;
-mod writable;
 
 ghost use Rattle.std.specs.Prelude.{◌≡◌, IfOk};
 ghost use Rattle.command_types.specs.History.{end_of};

@@ -6,4 +6,3 @@ pub mod StartFacts
 pub mod OneReading
 pub mod WalkFacts
 pub mod LeadFacts
-pub mod RecordFacts

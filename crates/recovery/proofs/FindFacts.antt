@@ -1,12 +1,11 @@
 -- What is read of the bytes that a walk read, as what the disk's content holds.
-use Rattle.std.proofs.Common.{◌≡◌, inl, inr, ℕ, List, [], Ok, Err, Option, Some, None, subst, sym}
+use Rattle.std.proofs.Common.{◌≡◌, inl, inr, ℕ, List, [], Ok, Err, Option, Some, None, subst}
 use Rattle.std.specs.Prelude.{◌⊎◌, IfSome}
 use Rattle.std.specs.List.{AllZip}
 use Rattle.command_types.specs.Bases.{CanBeWritten}
 use Rattle.outside.specs.Disk as disks
 use Rattle.journal_core.specs.Holds.{IsJournal, Holds}
 use Rattle.journal_core.specs.Journal.{EndsAs, EndsAt}
-use Rattle.journal_core.specs.RecordBytes.{walked_of}
 use Rattle.journal_core.specs.Walk.{bytes_of, base_of, gate_of, placed, IsWalked, FindsRecords, FindsFault as FindsWalkFault}
 use Rattle.journal_core.specs.declared.form.Form.{Form}
 use Rattle.journal_core.specs.declared.form.Form.TheVariants.{Slots}
@@ -20,7 +19,6 @@ use Rattle.recovery.specs.Reading.{IsFault, FindsEntries, FindsBase, GivesOnly, 
 use Rattle.recovery.specs.Faults.{fault_of_walk}
 use Rattle.recovery.specs.declared.contents.BaseAt.{BaseAt}
 use Rattle.recovery.specs.declared.contents.Contents.{Contents}
-use Rattle.recovery.specs.declared.entries.Entries.{Entries}
 use Rattle.recovery.specs.declared.entries.EntryAt.{EntryAt}
 use Rattle.recovery.specs.declared.fault.RecoverFault.{RecoverFault}
 use Rattle.recovery.specs.declared.fault.RecoverFault.TheVariants.{Damaged, DiskFault, Memory}
@@ -33,9 +31,8 @@ pub walked_holds : (w : Walked) (walked : IsWalked w) → Holds (bytes_of w) (ba
 walked_holds w walked = ends_hold w.form (bytes_of w) w.end (base_of w) walked.1.0 walked.1.1
 
 -- where all its records spell entries, these are read
-pub has_read : (w : Walked) (walked : IsWalked w) (e : Entries) → walked_of e.records ≡ w → AreSpelled (placed (gate_of w) walked.1.0) → HasRead e
-has_read w walked e is spelled =
-    subst (λ (v : Walked). (list : List EntryAt) × IsRead (bytes_of v) list × IsWalked v) (sym is)
+pub has_read : (w : Walked) (walked : IsWalked w) → AreSpelled (placed (gate_of w) walked.1.0) → HasRead (record { walked = w })
+has_read w walked spelled =
     (spelled.0, (base_of w, walked.1.0, gate_of w, walked_at w (base_of w) walked.1.0 walked (walked_holds w walked), spelled.1), walked)
 
 -- its base can be written
@@ -90,10 +87,9 @@ module _ (disk : disks.History) (w : Walked) (walked : IsWalked w) (finds : Find
   among_content base DiskFault is bad = tt
   among_content base Memory is bad = tt
 
-pub found_of : (o : Option disks.History) (w : Walked) (e : Entries) → walked_of e.records ≡ w → IsWalked w → FindsRecords o w → EndsAt o w.form w.end → FindsEntries o e
-found_of None w e is walked finds ends = tt
-found_of (Some disk) w e is walked finds ends =
-    λ list read. read_content disk w walked finds ends list (subst (λ (v : Walked). IsRead (bytes_of v) list) is read)
+pub found_of : (o : Option disks.History) (w : Walked) → IsWalked w → FindsRecords o w → EndsAt o w.form w.end → FindsEntries o (record { walked = w })
+found_of None w walked finds ends = tt
+found_of (Some disk) w walked finds ends = read_content disk w walked finds ends
 
 pub base_on : (o : Option disks.History) (w : Walked) (base : Option BaseAt) → IsWalked w → FindsRecords o w → EndsAt o w.form w.end → IsBaseOf w base → FindsBase o base
 base_on None w base walked finds ends is = tt

@@ -9,7 +9,6 @@ use Rattle.command_types.specs.Roster.{Rows}
 use Rattle.command_types.specs.Spelling.{Spells}
 use Rattle.outside.specs.Disk as disks
 use Rattle.journal_core.specs.Holds.{IsJournal, Holds}
-use Rattle.journal_core.specs.RecordBytes.{walked_of}
 use Rattle.journal_core.specs.Records.{AreAhead}
 use Rattle.journal_core.specs.Walk.{placed, bytes_of, IsDamaged, IsWalked}
 use Rattle.journal_core.specs.Walk as walks
@@ -27,13 +26,13 @@ use Rattle.recovery.specs.declared.fault.RecoverFault.TheVariants.{Damaged, Disk
 
 -- the bytes that were read, their form, and the place just past the gate behind their records
 abbrev pub file_of : Entries → List ℕ
-file_of e = bytes_of (walked_of e.records)
+file_of e = bytes_of e.walked
 
 abbrev pub form_read : Entries → Form
-form_read e = e.form
+form_read e = e.walked.form
 
 abbrev pub ends_at : Entries → ℕ
-ends_at e = e.end
+ends_at e = e.walked.end
 
 -- entries without the places of their gates
 abbrev pub entries_in : List EntryAt → List Entry
@@ -60,7 +59,7 @@ IsRead file list =
 
 -- some entries are read of the file, which a walk has found
 abbrev pub HasRead : Entries → Type 0
-HasRead e = (list : List EntryAt) × IsRead (file_of e) list × IsWalked (walked_of e.records)
+HasRead e = (list : List EntryAt) × IsRead (file_of e) list × IsWalked e.walked
 
 -- the entries that are still to be read, of which the first has its gate where the reader stands
 abbrev pub AreLeft : EntryReader → List EntryAt → Type 0

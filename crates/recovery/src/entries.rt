@@ -4,7 +4,7 @@ ghost use Rattle.recovery.specs.declared.entries.EntryAt.{EntryAt};
 
 use crate::EntryReader;
 use command_types::Entry;
-use journal_core::{Form, RecordBytes};
+use journal_core::{Form, Walked};
 
 /// An entry, and the place of its record's gate in the file.
 #[derive(Drop)]
@@ -16,9 +16,7 @@ pub struct EntryAt {
 /// A file whose records all spell entries. The entries are made one at a time, as they are read.
 #[derive(Drop)]
 pub struct Entries {
-    pub(crate) records: RecordBytes,
-    pub(crate) form: Form,
-    pub(crate) end: u64,
+    pub(crate) walked: Walked,
 }
 
 impl Entries {
@@ -28,14 +26,14 @@ impl Entries {
     pub fn form(&self) -> Form
         ensures { result ≡ form_read self.now }
     {
-        self.form
+        self.walked.form
     }
 
     /// The place just past the gate behind their records, or where that will be once a file that is too short is begun.
     pub fn end(&self) -> u64
         ensures { result ≡ ends_at self.now }
     {
-        self.end
+        self.walked.end
     }
 
     /// A reader of them, at the first.
@@ -44,7 +42,7 @@ impl Entries {
         ensures all { HasRead self.now → (list : List EntryAt) → IsRead (file_of self.now) list → AreLeft result list }
     {
         EntryReader {
-            records: self.records.records(),
+            records: self.walked.records(),
         }
     }
 }

@@ -69,10 +69,8 @@ pub fn read_entries<D: Disk>(alloc: Global, disk: &mut D) -> Result<Contents, Re
     let walked = walk(alloc, disk)?;
     let base = read_base(alloc, &walked)?;
     read_all(alloc, &walked)?;
-    let (form, end) = (walked.form, walked.end);
-    let records = walked.into_records();
     Ok(Contents {
         base,
-        entries: Entries { records, form, end },
+        entries: Entries { walked },
     })
 }

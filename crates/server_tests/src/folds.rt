@@ -1,20 +1,21 @@
 //! Journals that begin again from a base: what a fold writes byte for byte, and each call of the disk that fails in it.
 
-use crate::journal_files::{content_of, file_after, held, plain_of, replay_of, traded};
+use crate::journal_files::{content_of, file_after, holds, plain_of, replay_of};
 use crate::journals::{crashed, disk_of, left_by};
 use std::alloc::{AllocError, AllocGlobal, Global};
 use std::sync::Wait;
 use std::test::Fail;
 use std::thread::Threads;
 
-// 500 trades by which A sells 1 to B, and which B affirms.
-fn thousand_lines(alloc: Global) -> Result<String, AllocError> {
+// So many trades by which A sells 1 to B, of which B affirms the first so many.
+fn lines_of(alloc: Global, trades: u64, affirmed: u64) -> Result<String, AllocError> {
     let mut lines = String::from_str(alloc, "HELLO A KA\n")?;
-    for _ in 0..500 {
+    for _ in 0..trades {
         lines.push_str("TRADE A B P 1 2026-03-02\n")?;
     }
     lines.push_str("HELLO B KB\n")?;
-    for number in 1..=500u64 {
+    for k in 0..affirmed {
+        let number = k.saturating_add(1);
         lines.push_str(&format!(in alloc; "AFFIRM {number}\n")?)?;
     }
     Ok(lines)
@@ -51,13 +52,19 @@ fn folded_to(alloc: Global, file: &[u8], body: &[u8]) -> Result<Vec<u8>, AllocEr
     Ok(whole)
 }
 
+// The journal of 500 live trades, which has 1,000 changes.
+fn thousand<R: Threads + Wait + Sync + AllocGlobal>(rt: &R) -> Result<Vec<u8>, Fail> {
+    let lines = lines_of(rt.alloc(), 500, 500)?;
+    file_after(rt, b"", lines.as_str())
+}
+
 const GOES_ON: &str = "HELLO A KA\nTRADE A B P 1 2026-03-02\n";
 
 const GOES_ON_REPLIES: &str = "ok 1000 hello A\nok 1001 trade 501\n";
 
 fn is_folded_byte_for_byte<R: Threads + Wait + Sync + AllocGlobal>(rt: &R) -> Result<bool, Fail> {
     let alloc = rt.alloc();
-    let whole = file_after(rt, b"", thousand_lines(alloc)?.as_str())?;
+    let whole = thousand(rt)?;
     let after = file_after(rt, &whole, "")?;
     let want = folded_to(alloc, &whole, &body_of(alloc, 1000)?)?;
     let told = replay_of(rt, &after)?;
@@ -65,7 +72,6 @@ fn is_folded_byte_for_byte<R: Threads + Wait + Sync + AllocGlobal>(rt: &R) -> Re
     let _ = left_by(rt, disk, GOES_ON, (0, GOES_ON_REPLIES, ""))?;
     Ok(
         whole.len() == 25030
-            && whole == traded(alloc, 500)?
             && after.len() == 36088
             && after == want
             && told.ends_with(b"\nend 1000\n")
@@ -85,9 +91,10 @@ fn a_journal_of_a_thousand_changes_is_folded_when_it_is_opened(
 // One change fewer; an open cycle; a plain journal: each stays as it is.
 fn stay<R: Threads + Wait + Sync + AllocGlobal>(rt: &R) -> Result<bool, Fail> {
     let alloc = rt.alloc();
-    let fewer = traded(alloc, 499)?;
+    let fewer = file_after(rt, b"", lines_of(alloc, 500, 499)?.as_str())?;
+    let whole = thousand(rt)?;
     let frozen = file_after(rt, &fewer, "HELLO OPS KO\nFREEZE 2026-03-31\n")?;
-    let plain = plain_of(alloc, &traded(alloc, 500)?)?;
+    let plain = plain_of(alloc, &whole)?;
     for file in [&fewer, &frozen, &plain] {
         if file_after(rt, file, "")? != *file {
             return Ok(false);
@@ -112,11 +119,11 @@ fn folds_to_the_front_and_to_the_end<R: Threads + Wait + Sync + AllocGlobal>(
     rt: &R,
 ) -> Result<bool, Fail> {
     let alloc = rt.alloc();
-    let folded = file_after(rt, &traded(alloc, 500)?, "")?;
-    let first = held(alloc, &folded, 36087)?;
+    let more = holds(alloc, 1)?;
+    let first = file_after(rt, &thousand(rt)?, more.as_str())?;
     let second = file_after(rt, &first, "")?;
     let body = body_of(alloc, 2000)?;
-    let third = file_after(rt, &held(alloc, &second, 11082)?, "")?;
+    let third = file_after(rt, &file_after(rt, &second, more.as_str())?, "")?;
     let late = body_of(alloc, 3000)?;
     Ok(
         first.len() == 56088
@@ -143,7 +150,7 @@ const MARKET_REPLIES: &str = "ok 1000 hello OPS\nok 1000 market 500 500 0 500\n"
 // An opening with a fold has the attaching, two calls of a walk, and three writes, each with its sync.
 fn each_call_fails<R: Threads + Wait + Sync + AllocGlobal>(rt: &R) -> Result<(), Fail> {
     let alloc = rt.alloc();
-    let whole = traded(alloc, 500)?;
+    let whole = thousand(rt)?;
     for call in 1..=9 {
         let mut disk = disk_of(alloc, &whole)?;
         disk.fail_at(call)?;

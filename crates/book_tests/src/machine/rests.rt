@@ -72,7 +72,6 @@ fn at_rest(alloc: Global) -> Result<Machine, Fail>
     ensures { IfOk result (λ machine. IsYoung machine.state.cycle) }
 {
     let book = three_trades(alloc)?;
-    let trades = book.rows().to_vec(alloc)?;
     let settings = [ToleranceRow {
         member: market::A,
         product: PRODUCT,
@@ -85,7 +84,7 @@ fn at_rest(alloc: Global) -> Result<Machine, Fail>
         number: 1,
         version: 0,
     };
-    let machine = Machine::at_rest(alloc, three_dealers(alloc)?, last, &settings, trades)?;
+    let machine = Machine::at_rest(alloc, three_dealers(alloc)?, last, &settings, book.rows())?;
     Ok(machine)
 }
 

@@ -26,22 +26,15 @@ impl Machine {
         if !fits(&base, &roster) {
             return Err(BaseFault::Misfit);
         }
-        let Base {
-            cycle,
-            version,
-            tolerances,
-            trades,
-            ..
-        } = base;
-        let trades = trades.into_rows();
+        let trades = base.trades.rows();
         if trades.len() > MOST_TRADES {
             return Err(BaseFault::Memory);
         }
         let last = LastCycle {
-            number: cycle,
-            version,
+            number: base.cycle,
+            version: base.version,
         };
-        let machine = Machine::at_rest(alloc, roster, last, tolerances.rows(), trades)?;
+        let machine = Machine::at_rest(alloc, roster, last, base.tolerances.rows(), trades)?;
         Ok(machine)
     }
 }

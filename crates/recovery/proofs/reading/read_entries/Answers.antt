@@ -3,7 +3,6 @@ use Rattle.journal_core.specs.Walk.{base_of, gate_of, placed}
 use Rattle.recovery.specs.Reading.{IsFaultAmong, IsBaseFault, GivesOnly, FindsFault}
 use Rattle.recovery.specs.Faults.{fault_of_walk}
 use Rattle.recovery.specs.declared.contents.Contents.{Contents}
-use Rattle.recovery.specs.declared.entries.Entries.{Entries}
 use Rattle.recovery.proofs.FindFacts.{walked_holds, found_of, base_on, has_read, can_be_written, fault_of, fault_before, fault_among, only_of, only_fault_of}
 use Rattle.recovery.proofs.reading.read_entries.Goals as goal
 
@@ -80,15 +79,12 @@ pub returns-clause-read : goal.returns-clause-read
 returns-clause-read g c =
     let w = c.in_ok-walked.walked in
     let walked = c.in_ok-walked.ensures.walked in
-    let entries : Entries = record { records = c.into_records-records.result; form = w.form; end = w.end } in
-    has_read w walked entries c.into_records-records.ensures (c.in_ok-read_all.ensures.spelled (base_of w) walked.1.0 (walked_holds w walked))
+    has_read w walked (c.in_ok-read_all.ensures.spelled (base_of w) walked.1.0 (walked_holds w walked))
 
 pub returns-clause-found : goal.returns-clause-found
 returns-clause-found g c =
-    let w = c.in_ok-walked.walked in
     let walked = c.in_ok-walked.ensures in
-    let entries : Entries = record { records = c.into_records-records.result; form = w.form; end = w.end } in
-    found_of (g.D.Disk.history c.args.disk.now) w entries c.into_records-records.ensures walked.walked walked.found walked.ends
+    found_of (g.D.Disk.history c.args.disk.now) c.in_ok-walked.walked walked.walked walked.found walked.ends
 
 pub returns-clause-base : goal.returns-clause-base
 returns-clause-base g c =
@@ -100,7 +96,5 @@ returns-clause-written g c = can_be_written c.in_ok-walked.walked c.in_ok-base.b
 
 pub returns-clause-only : goal.returns-clause-only
 returns-clause-only g c =
-    let w = c.in_ok-walked.walked in
-    let entries : Entries = record { records = c.into_records-records.result; form = w.form; end = w.end } in
-    let contents : Contents = record { base = c.in_ok-base.base; entries = entries } in
+    let contents : Contents = record { base = c.in_ok-base.base; entries = record { walked = c.in_ok-walked.walked } } in
     only_of (g.D.Disk.history c.args.disk.now) contents (returns-clause-read g c) (returns-clause-found g c) (returns-clause-base g c)
