@@ -186,7 +186,7 @@ named_by slot offset file is =
 
 -- ---- what is held
 
-ends_hold : (form : Form) (file : List ℕ) (end : ℕ) (base : List ℕ) (records : List (List ℕ)) → EndsAs form file end base records → Holds file base records
+pub ends_hold : (form : Form) (file : List ℕ) (end : ℕ) (base : List ℕ) (records : List (List ℕ)) → EndsAs form file end base records → Holds file base records
 ends_hold Short file end base records ends = inl (inl ends.0, ends.1, ends.2)
 ends_hold SlotsShort file end base records ends = inl (inr (ends.0, ends.1), ends.2, ends.3)
 ends_hold Plain file end base records ends = journal_holds Plain file base records ends.0

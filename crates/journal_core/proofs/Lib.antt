@@ -6,3 +6,4 @@ pub mod StartFacts
 pub mod OneReading
 pub mod WalkFacts
 pub mod LeadFacts
+pub mod RecordFacts

@@ -3,6 +3,7 @@ pub mod Moments
 pub mod Records
 pub mod Lead
 pub mod Walk
+pub mod RecordBytes
 pub mod Form
 pub mod Journal
 pub mod Calls

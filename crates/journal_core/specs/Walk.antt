@@ -1,5 +1,5 @@
 -- What a walk over a journal's file finds.
-use Rattle.std.specs.Prelude.{◌≡◌, ◌≢◌, ◌⊎◌, ◌<◌, ◌≤◌, ℕ, ◌+◌, ◌^◌, List, [], ◌∷◌, ◌++◌, ◌-◌, length, take, drop, Option, Some, None}
+use Rattle.std.specs.Prelude.{◌≡◌, ◌≢◌, ◌⊎◌, ◌<◌, ◌≤◌, ℕ, ◌+◌, ◌^◌, List, [], ◌∷◌, ◌++◌, ◌-◌, length, take, drop, min, Option, Some, None}
 use Rattle.std.specs.Int.{w32, w64, to_le_bytes}
 use Rattle.std.specs.List.{flat_map}
 use Rattle.outside.specs.Disk.{History}
@@ -26,6 +26,10 @@ gate_of w = w.gate
 -- the base that it found
 abbrev pub base_of : Walked → List ℕ
 base_of w = take (w.gate - w.base) (drop w.base w.bytes.items)
+
+-- the bytes from the first gate on, up to and with the gate behind the records
+abbrev pub records_of : Walked → List ℕ
+records_of w = take (min (length w.bytes.items) w.end - w.gate) (drop w.gate w.bytes.items)
 
 -- From a gate at this place on they are the frames of some records, and at the other place neither a gate that is not open nor a
 -- record that ends before the limit.

@@ -1,4 +1,18 @@
-//! A journal on a disk.
+//! A journal on a disk. What each call writes, and what a crash meanwhile leaves (`form.rt` draws the file):
+//!
+//! ```text
+//! append    put(end, record and 00)         old records              the record stands behind the closed gate
+//!           put(end - 1, 01)                old, or old and new      the gate opens
+//!           done                            old and new
+//!
+//! stage     put(body's place, body)         old base and records     where nothing is held
+//!           put(other slot, offset)         old base and records     that slot is not selected
+//!
+//! switch    put(8, selector)                old, or the new base     one byte
+//!           done                            the new base
+//! ```
+//!
+//! Each `put` is a write and a sync, so the second write of an append finds the record on the disk.
 ghost use Rattle.std.specs.Prelude.{◌≡◌, ◌≤◌, ◌<◌, ◌↔◌, ◌+◌, [], List, ℕ, length, true, false, Some, None, IsTrue, OnOk, OnErr, IfOk, IfErr, IfSome};
 ghost use Rattle.outside.specs.Disk.{IsSettled};
 ghost use Rattle.outside.specs.Faults.{Rose};

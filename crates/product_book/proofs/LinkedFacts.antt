@@ -31,14 +31,14 @@ none_listed key v n is none = record {
     empty (suc n) zero low = refl
     empty (suc n) (suc place) low = empty n place (omega (arith, low))
 
-pub none_linked : (members products : ℕ) (p q : OpenView) (spare : ℕ) → p.lists ≡ replicate products [] → q.lists ≡ replicate (members * (members * products)) [] → p.count ≡ 0 → q.count ≡ 0 → spare ≡ 0 → AreLinked members products p q spare []
-none_linked members products p q spare is is' none none' gone = record {
+pub none_linked : (members products : ℕ) (p q : OpenView) (spare : ℕ) → p.lists ≡ replicate products [] → q.lists ≡ replicate (members * (members * products)) [] → p.count ≡ 0 → q.count ≡ 0 → spare ≤ p.spare → spare ≤ q.spare → AreLinked members products p q spare []
+none_linked members products p q spare is is' none none' room room' = record {
   product_count = ap (λ (ls : List (List (ℕ × ℕ))). length ls) is ∙ length-replicate products [];
   pair_count = ap (λ (ls : List (List (ℕ × ℕ))). length ls) is' ∙ length-replicate (members * (members * products)) [];
   of_products = none_listed (λ row. row.product) p products is none;
   of_pairs = none_listed (trade_place members) q (members * (members * products)) is' none';
-  product_room = omega (arith, gone);
-  pair_room = omega (arith, gone);
+  product_room = room;
+  pair_room = room';
 }
 
 -- a change that keeps the terms of a trade keeps its places
@@ -109,7 +109,7 @@ pub not_counted : (b : Bool) → true ≡ not b → b ≡ false
 not_counted true e = absurd (false≢true (sym e))
 not_counted false e = refl
 
-still_counted : (b : Bool) → false ≡ not b → b ≡ true
+pub still_counted : (b : Bool) → false ≡ not b → b ≡ true
 still_counted true e = refl
 still_counted false e = absurd (false≢true e)
 

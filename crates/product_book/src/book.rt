@@ -43,8 +43,8 @@ pub struct Position {
 /// All trades of a market. Trades are numbered from 1 in the order in which they came. The alleged and live amounts
 /// of a product come to at most 10^18.
 ///
-/// Only [`Book::new`], [`Book::of_rows`], [`Book::reserve`], [`Book::network`], [`Book::rows_of`] and [`Book::pair_rows`] take
-/// memory.
+/// Only [`Book::new`], [`Book::of_rows`], [`Book::of_own_rows`], [`Book::reserve`], [`Book::network`], [`Book::rows_of`] and
+/// [`Book::pair_rows`] take memory.
 #[derive(Drop)]
 pub struct Book {
     rows: Vec<TradeRow>,
@@ -102,22 +102,38 @@ impl Book {
         ensures members { IfOk result (λ book. book.members ≡ members) }
         ensures products { IfOk result (λ book. book.products ≡ products) }
     {
-        let mut book = Book::new(alloc, members, products)?;
-        book.reserve(rows.len() as u32)?;
-        book.load(rows);
-        Ok(book)
+        let copied = rows.to_vec(alloc)?;
+        Book::of_own_rows(alloc, members, products, copied)
     }
 
-    // Puts these trades into a book without any, in the room that it has.
-    fn load(&mut self, rows: &[TradeRow])
-        requires none { self.old.rows ≡ [] }
-        requires room { length rows.now ≤ self.old.spare }
-        requires trades { AreTrades self.old.members self.old.products 1 rows.now }
-        requires bounded { (product : ℕ) → gross_of product rows.now ≤ gross_limit }
-        ensures { self.new ≡ record self.old { rows = rows.now; spare = self.old.spare - length rows.now } }
+    /// The same, of trades that it need not copy: their list becomes the book's own.
+    pub fn of_own_rows(
+        alloc: Global,
+        members: u16,
+        products: u16,
+        rows: Vec<TradeRow>,
+    ) -> Result<Book, AllocError>
+        requires few_members { members ≤ MOST_MEMBERS }
+        requires few_products { products ≤ MOST_PRODUCTS }
+        requires few { length rows.items < 2 ^ 32 }
+        requires trades { AreTrades members products 1 rows.items }
+        requires bounded { (product : ℕ) → gross_of product rows.items ≤ gross_limit }
+        ensures rows { IfOk result (λ book. book.rows ≡ rows.items) }
+        ensures members { IfOk result (λ book. book.members ≡ members) }
+        ensures products { IfOk result (λ book. book.products ≡ products) }
     {
-        loading::load(&mut self.rows, &mut self.sums, &mut self.links, rows);
-        self.submitted = loading::submitted_among(rows);
+        let mut sums = KeptSums::new(alloc, members, products)?;
+        let mut links = Links::new(alloc, members, products)?;
+        links.reserve(rows.len() as u32)?;
+        loading::load(&mut sums, &mut links, &rows);
+        let submitted = loading::submitted_among(&rows);
+        Ok(Book {
+            rows,
+            sums,
+            links,
+            products,
+            submitted,
+        })
     }
 
     /// Makes room for so many more trades. The only error is want of memory, which changes nothing, and which never comes where
