@@ -14,8 +14,8 @@ use Rattle.command_types.specs.History.{is_recorded, replayed_from}
 use Rattle.command_types.specs.Laws.{ToldCasesExclude}
 use Rattle.command_types.specs.Machine.{first_of, answer_to}
 use Rattle.command_types.specs.Sizes.{journal_limit, frame_size}
-use Rattle.command_types.specs.Told.{IsRecorded, IsNotRecorded, IsHouse, journal_size}
-use Rattle.command_types.proofs.StopFacts.{is_desks, machine_plain, recorded_plain}
+use Rattle.command_types.specs.Told.{IsRecorded, IsNotRecorded, IsHouse, IsMemory, journal_size}
+use Rattle.command_types.proofs.StopFacts.{is_desks, answer_plain, recorded_plain}
 
 both : (b : Bool) → b ≡ true → b ≡ false → ⊥
 both b p q = absurd (cc)
@@ -51,14 +51,15 @@ house_answer (Some journal) figures before after s front n ask answer h =
     (h.change, ap is_desks h.same ∙ own.0, ap wants_memory h.same ∙ own.1)
 
 pub cases_exclude : ToldCasesExclude
-cases_exclude figures before after s front seat n ask answer =
+cases_exclude figures before after base front seat n ask answer =
+    let s : State = base.state in
     let House : Type 0 = IsHouse figures.journal figures before after s front n ask answer in
     let facts = λ (h : House). house_answer figures.journal figures before after s front n ask answer h in
     record {
-      a_b = λ (x : IsRecorded s front seat ask answer) (y : IsNotRecorded s front ask answer). negated (is_recorded ask.what answer) x.change y.no_change;
+      a_b = λ (x : IsRecorded s front seat ask answer) (y : IsNotRecorded base front ask answer). negated (is_recorded ask.what answer) x.change y.no_change;
       a_c = λ (x : IsRecorded s front seat ask answer) h. both (is_desks answer) (facts h).1 (recorded_plain ask.what answer x.change);
-      a_d = λ (x : IsRecorded s front seat ask answer) m. both (is_desks answer) (ap is_desks m) (recorded_plain ask.what answer x.change);
-      b_c = λ (y : IsNotRecorded s front ask answer) h. both (is_desks answer) (facts h).1 (ap is_desks y.same ∙ machine_plain (replayed_from s front) ask);
-      b_d = λ (y : IsNotRecorded s front ask answer) m. both (is_desks answer) (ap is_desks m) (ap is_desks y.same ∙ machine_plain (replayed_from s front) ask);
-      c_d = λ h m. both (wants_memory answer) (ap wants_memory m) (facts h).2;
+      a_d = λ (x : IsRecorded s front seat ask answer) (m : IsMemory figures ask.what answer). both (is_desks answer) (ap is_desks m.same) (recorded_plain ask.what answer x.change);
+      b_c = λ (y : IsNotRecorded base front ask answer) h. both (is_desks answer) (facts h).1 (ap is_desks y.same ∙ answer_plain base front ask);
+      b_d = λ (y : IsNotRecorded base front ask answer) (m : IsMemory figures ask.what answer). both (is_desks answer) (ap is_desks m.same) (ap is_desks y.same ∙ answer_plain base front ask);
+      c_d = λ h (m : IsMemory figures ask.what answer). both (wants_memory answer) (ap wants_memory m.same) (facts h).2;
     }

@@ -6,14 +6,12 @@ use Rattle.std.proofs.lemmas.Bool.Decides.{nat_tests}
 use Rattle.command_types.specs.declared.ask.Ask.{Ask}
 use Rattle.command_types.specs.declared.ask.Entry.{Entry}
 use Rattle.command_types.specs.declared.answer.Answer.{Answer}
-use Rattle.command_types.specs.declared.answer.Answer.TheVariants.{No}
-use Rattle.command_types.specs.declared.refusal.Refusal.TheVariants.{Memory}
 use Rattle.command_types.specs.declared.answer.Reply.{Reply}
 use Rattle.command_types.specs.declared.figures.Figures.{Figures}
 use Rattle.command_types.specs.declared.figures.State.{State}
 use Rattle.command_types.specs.Machine.{state_after}
 use Rattle.command_types.specs.History.{History, IsAcceptedIn, IsLegalFrom, end_of, longer, replayed_from, recorded, is_recorded}
-use Rattle.command_types.specs.Told.{IsTold, IsNotRecorded}
+use Rattle.command_types.specs.Told.{IsTold, IsNotRecorded, IsMemory}
 
 -- the state after one more change
 pub replayed_on : (s : State) (es : List Entry) (entry : Entry) → replayed_from s (es ++ entry ∷ []) ≡ state_after (replayed_from s es) entry.ask
@@ -37,13 +35,13 @@ told_longer figures before after h more seat ask reply t = record {
 
 -- a read or a refusal of the machine, told at the history's end
 pub told_read : (figures : Figures) (before after : Bool) (h : History) (seat : ℕ) (ask : Ask) (reply : Reply) → reply.at ≡ end_of h →
-    IsNotRecorded h.base.state h.entries ask reply.answer → IsTold figures before after h seat ask reply
+    IsNotRecorded h.base h.entries ask reply.answer → IsTold figures before after h seat ask reply
 told_read figures before after h seat ask reply place here =
     record { front = h.entries; back = []; split = sym (append-nil h.entries); place = place; one = inr (inl here) }
 
 -- want of memory, told at the history's end
 pub told_memory : (figures : Figures) (before after : Bool) (h : History) (seat : ℕ) (ask : Ask) (reply : Reply) → reply.at ≡ end_of h →
-    reply.answer ≡ No Memory → IsTold figures before after h seat ask reply
+    IsMemory figures ask.what reply.answer → IsTold figures before after h seat ask reply
 told_memory figures before after h seat ask reply place is =
     record { front = h.entries; back = []; split = sym (append-nil h.entries); place = place; one = inr (inr (inr is)) }
 

@@ -1,5 +1,7 @@
 pub mod HistoryFacts
+pub mod OfferFacts
 pub mod LineFacts
+pub mod CutFacts
 pub mod TalkFacts
 pub mod StopFacts
 pub mod RosterFacts

@@ -3,14 +3,16 @@ use Rattle.std.proofs.Common.{◌≡◌, ℕ, ◌+◌, nat_lt, Bool, true, false
 use Rattle.std.specs.Prelude.{Option, Some, None, IsTrue, cond, unwrap_or, if◌then◌else◌}
 use Rattle.command_types.specs.declared.ask.Ask.{Ask}
 use Rattle.command_types.specs.declared.ask.What.{What}
-use Rattle.command_types.specs.declared.ask.What.TheVariants.{Hello, Trade, Affirm, End, Hold, Free, Tol, Nets, Statement, Freeze, Begin, Limits, Row, Pot, Post, Fetch, Plan, Accept, Decline, Cancel, Bye, Unreadable}
+use Rattle.command_types.specs.declared.ask.What.TheVariants.{Hello, Trade, Affirm, End, Hold, Free, Tol, Nets, Statement, Freeze, Begin, Limits, Row, Pot, Post, Fetch, Next, Plan, Proof, Accept, Decline, Cancel, Bye, Unreadable}
 use Rattle.command_types.specs.declared.ask.Entry.{Entry}
 use Rattle.command_types.specs.declared.answer.Answer.{Answer}
-use Rattle.command_types.specs.declared.answer.Answer.TheVariants.{Ended, Marked, No}
+use Rattle.command_types.specs.declared.answer.Answer.TheVariants.{Ended, Marked, NoNext, ProofRows, No}
 use Rattle.command_types.specs.declared.refusal.Refusal.{Refusal}
-use Rattle.command_types.specs.declared.refusal.Refusal.TheVariants.{JournalFull, Stopped, Memory, DiskFault}
+use Rattle.command_types.specs.declared.refusal.Refusal.TheVariants.{JournalFull, Gone, Ahead, Stopped, Memory, DiskFault}
 use Rattle.command_types.specs.declared.answer.Reply.{Reply}
 use Rattle.network_laws.specs.Solutions.{SolutionData}
+use Rattle.command_types.specs.declared.figures.Start.{Start}
+use Rattle.command_types.specs.declared.cycle.Mode.{Mode}
 use Rattle.command_types.specs.declared.figures.State.{State}
 use Rattle.command_types.specs.declared.figures.Cycle.{Cycle}
 use Rattle.command_types.specs.declared.refusal.BadPost.{BadPost}
@@ -21,9 +23,10 @@ use Rattle.command_types.specs.declared.trade.TradeRow.{TradeRow}
 use Rattle.units_core.specs.Day.{DayParts}
 use Rattle.command_types.specs.Roster.{is_operator}
 use Rattle.command_types.specs.CycleRefusals.{if_bad_post}
-use Rattle.command_types.specs.CycleSteps.{proposed_answer, vote_answer}
+use Rattle.command_types.specs.CycleSteps.{proposed_answer, proof_on, vote_answer}
 use Rattle.command_types.specs.Machine.{first_of, refusals, command_refusals, maturity_refusal, affirm_refusals, end_refusals, hold_refusals, free_refusals, accepted, end_answer, refused_or, answer_to, changes}
 use Rattle.command_types.specs.History.{History, is_recorded, replayed_from}
+use Rattle.command_types.specs.Offers.{first_behind, with_entries, answer_at}
 use Rattle.command_types.specs.Sizes.{journal_limit, frame_size}
 use Rattle.command_types.specs.Told.{IsTold, IsRecorded, IsNotRecorded, IsHouse, IsMemory, journal_size, tells_stop}
 
@@ -89,7 +92,9 @@ command_plain s by (Row product seller buyer amount size sum) = (refl, (refl, (r
 command_plain s by (Pot product member value size) = (refl, (refl, (refl, (refl, tt))))
 command_plain s by (Post cycle version solutions) = (refl, (refl, (refl, (refl, (refl, (post_plain _, tt))))))
 command_plain s by (Fetch cycle version) = (refl, (refl, (refl, (refl, (refl, tt)))))
+command_plain s by (Next position) = (refl, tt)
 command_plain s by (Plan cycle) = (refl, (refl, (refl, tt)))
+command_plain s by (Proof cycle) = (refl, (refl, (refl, (refl, tt))))
 command_plain s by (Accept cycle version) = (refl, (refl, (refl, (refl, (refl, (refl, tt))))))
 command_plain s by (Decline cycle version) = (refl, (refl, (refl, (refl, (refl, tt)))))
 command_plain s by (Cancel cycle) = (refl, (refl, (refl, tt)))
@@ -113,7 +118,9 @@ refusals_plain s by (Row product seller buyer amount size sum) = (refl, command_
 refusals_plain s by (Pot product member value size) = (refl, command_plain s (unwrap_or by []) (Pot product member value size))
 refusals_plain s by (Post cycle version solutions) = (refl, command_plain s (unwrap_or by []) (Post cycle version solutions))
 refusals_plain s by (Fetch cycle version) = (refl, command_plain s (unwrap_or by []) (Fetch cycle version))
+refusals_plain s by (Next position) = (refl, command_plain s (unwrap_or by []) (Next position))
 refusals_plain s by (Plan cycle) = (refl, command_plain s (unwrap_or by []) (Plan cycle))
+refusals_plain s by (Proof cycle) = (refl, command_plain s (unwrap_or by []) (Proof cycle))
 refusals_plain s by (Accept cycle version) = (refl, command_plain s (unwrap_or by []) (Accept cycle version))
 refusals_plain s by (Decline cycle version) = (refl, command_plain s (unwrap_or by []) (Decline cycle version))
 refusals_plain s by (Cancel cycle) = (refl, command_plain s (unwrap_or by []) (Cancel cycle))
@@ -140,6 +147,10 @@ vote_plain : (cycle : Cycle) (left : List ℕ) → is_desks (vote_answer cycle l
 vote_plain cycle [] = refl
 vote_plain cycle (member ∷ members) = refl
 
+proof_plain : (day : Option DayParts) (mode : Option Mode) (s : State) (member : ℕ) → is_desks (proof_on day mode s member) ≡ false
+proof_plain (Some day) (Some mode) s member = refl
+proof_plain day mode s member = refl
+
 accepted_plain : (s : State) (by : Option (List ℕ)) (what : What) → is_desks (accepted s by what) ≡ false
 accepted_plain s by (Hello name key) = refl
 accepted_plain s by (Trade seller buyer product amount day) = refl
@@ -157,7 +168,9 @@ accepted_plain s by (Row product seller buyer amount size sum) = refl
 accepted_plain s by (Pot product member value size) = refl
 accepted_plain s by (Post cycle version solutions) = proposed_plain s solutions _
 accepted_plain s by (Fetch cycle version) = refl
+accepted_plain s by (Next position) = refl
 accepted_plain s by (Plan cycle) = refl
+accepted_plain s by (Proof cycle) = proof_plain s.cycle.day s.cycle.mode s _
 accepted_plain s by (Accept cycle version) = vote_plain s.cycle _
 accepted_plain s by (Decline cycle version) = refl
 accepted_plain s by (Cancel cycle) = refl
@@ -167,6 +180,25 @@ accepted_plain s by (Unreadable at) = refl
 -- the machine never answers as the desk alone does
 pub machine_plain : (s : State) (ask : Ask) → is_desks (answer_to s ask) ≡ false
 machine_plain s ask = first_plain (accepted s ask.by ask.what) (refusals s ask.by ask.what) (accepted_plain s ask.by ask.what) (refusals_plain s ask.by ask.what)
+
+behind_plain : (position : ℕ) (entries : List Entry) → is_desks (first_behind position entries) ≡ false
+behind_plain position [] = refl
+behind_plain position (entry ∷ entries) = refl
+
+offered_plain : (gone ahead : Bool) (base end position : ℕ) (entries : List Entry)
+    → is_desks (cond {A = Answer} gone (No (Gone base)) (cond {A = Answer} ahead (No (Ahead end)) (first_behind position entries))) ≡ false
+offered_plain true ahead base end position entries = refl
+offered_plain false true base end position entries = refl
+offered_plain false false base end position entries = behind_plain position entries
+
+with_plain : (base : Start) (entries : List Entry) (what : What) (answer : Answer) → is_desks answer ≡ false → is_desks (with_entries base entries what answer) ≡ false
+with_plain base entries (Next position) NoNext plain = offered_plain _ _ _ _ position _
+with_plain base entries (Proof cycle) (ProofRows head rows) plain = refl
+with_plain base entries what answer plain = plain
+
+-- neither is an answer from the entries
+pub answer_plain : (base : Start) (entries : List Entry) (ask : Ask) → is_desks (answer_at base entries ask) ≡ false
+answer_plain base entries ask = with_plain base entries ask.what (answer_to (replayed_from base.state entries) ask) (machine_plain (replayed_from base.state entries) ask)
 
 -- what is recorded was not refused
 refused : (b : Bool) → IsTrue (b && false) → ⊥
@@ -203,9 +235,9 @@ house_stop (Some journal) figures before after s front n ask answer h stays stop
 pub told_stop : (figures : Figures) (before after : Bool) (h : History) (seat : ℕ) (ask : Ask) (reply : Reply) → IsTold figures before after h seat ask reply → (before ≡ true → after ≡ true) → tells_stop reply.answer ≡ true → after ≡ true
 told_stop figures before after h seat ask reply told stays stop = let s : State = h.base.state in let a : Answer = reply.answer in ⊎_elim
     (λ (x : IsRecorded s told.front seat ask a). clash (after ≡ true) (tells_stop a) (stop_desks a (recorded_plain ask.what a x.change)) stop)
-    (λ (x : IsNotRecorded s told.front ask a ⊎ IsHouse figures.journal figures before after s told.front reply.at ask a ⊎ IsMemory a). ⊎_elim
-    (λ (y : IsNotRecorded s told.front ask a). clash (after ≡ true) (tells_stop a) (stop_desks a (ap is_desks y.same ∙ machine_plain (replayed_from s told.front) ask)) stop)
-    (λ (y : IsHouse figures.journal figures before after s told.front reply.at ask a ⊎ IsMemory a). ⊎_elim
+    (λ (x : IsNotRecorded h.base told.front ask a ⊎ IsHouse figures.journal figures before after s told.front reply.at ask a ⊎ IsMemory figures ask.what a). ⊎_elim
+    (λ (y : IsNotRecorded h.base told.front ask a). clash (after ≡ true) (tells_stop a) (stop_desks a (ap is_desks y.same ∙ answer_plain h.base told.front ask)) stop)
+    (λ (y : IsHouse figures.journal figures before after s told.front reply.at ask a ⊎ IsMemory figures ask.what a). ⊎_elim
     (λ (z : IsHouse figures.journal figures before after s told.front reply.at ask a). house_stop figures.journal figures before after s told.front reply.at ask a z stays stop)
-    (λ (z : IsMemory a). clash (after ≡ true) (tells_stop a) (ap tells_stop z) stop)
+    (λ (z : IsMemory figures ask.what a). clash (after ≡ true) (tells_stop a) (ap tells_stop z.same) stop)
     y) x) told.one

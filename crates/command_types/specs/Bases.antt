@@ -1,5 +1,5 @@
 -- Bases of histories: what is written of a state in which no cycle is open, how it is spelled, and which bases fit a roster.
-use Rattle.std.specs.Prelude.{◌≡◌, ◌≢◌, ℕ, ◌+◌, ◌≤◌, ◌<◌, suc, false, List, [], ◌∷◌, ◌++◌, length, map, All, Option, Some, None, is_some, IfSome, IsTrue, if◌then◌else◌}
+use Rattle.std.specs.Prelude.{◌≡◌, ◌≢◌, ℕ, ◌+◌, ◌==◌, ◌≤◌, ◌<◌, suc, false, List, [], ◌∷◌, ◌++◌, length, map, All, Option, Some, None, is_some, IfSome, IsTrue, if◌then◌else◌}
 use Rattle.std.specs.Int.{w16, to_le_bytes}
 use Rattle.std.specs.List.{flat_map}
 use Rattle.units_core.specs.Name.{is_name}
@@ -9,6 +9,8 @@ use Rattle.command_types.specs.declared.base.Base.{Base}
 use Rattle.command_types.specs.declared.figures.Start.{Start}
 use Rattle.command_types.specs.declared.roster.MemberRow.{MemberRow}
 use Rattle.command_types.specs.declared.roster.ProductRow.{ProductRow}
+use Rattle.command_types.specs.declared.spelling.Spelling.{Spelling}
+use Rattle.command_types.specs.declared.spelling.Spelling.TheVariants.{First, Second}
 use Rattle.command_types.specs.declared.tolerance.ToleranceRow.{ToleranceRow}
 use Rattle.command_types.specs.declared.trade.Side.{Side}
 use Rattle.command_types.specs.declared.trade.Side.TheVariants.{Out, In}
@@ -76,10 +78,20 @@ trade_spelling row =
     to_le_bytes w16 row.seller ++ to_le_bytes w16 row.buyer ++ to_le_bytes w16 row.product ++ number_spelling row.amount ++ day_spelling row.day
     ++ state_byte row.state ∷ party_byte row.submitter ∷ party_byte row.mark ∷ hold_byte row ∷ []
 
--- the mark of the form, and the fields
-abbrev pub base_spelling : Base → List ℕ
-base_spelling b =
-    1 ∷ number_spelling b.position ++ number_spelling b.cycle ++ number_spelling b.version ++ names_spelling b.members ++ names_spelling b.products
+-- the mark of a base tells the spelling of the records behind it
+abbrev pub mark_byte : Spelling → ℕ
+mark_byte First = 1
+mark_byte Second = 2
+
+-- the spelling of the records behind a base, by its mark; where there is no base it is the first
+abbrev pub spelling_behind : List ℕ → Spelling
+spelling_behind [] = First
+spelling_behind (mark ∷ bytes) = if mark == 2 then Second else First
+
+-- the mark, and the fields
+abbrev pub base_spelling : Spelling → Base → List ℕ
+base_spelling behind b =
+    mark_byte behind ∷ number_spelling b.position ++ number_spelling b.cycle ++ number_spelling b.version ++ names_spelling b.members ++ names_spelling b.products
     ++ number_spelling (length b.tolerances) ++ flat_map setting_spelling b.tolerances ++ number_spelling (length b.trades) ++ flat_map trade_spelling b.trades
 
 -- ---- what has a spelling
@@ -126,10 +138,11 @@ pub record IsWrittenBase (b : Base) : Type 0 where
   pub trades : AreTradeRows 1 b.trades
   pub few_trades : IsNumber (length b.trades)
 
--- The bytes are the spelling of what is written.
+-- The bytes are a spelling of what is written, with either mark.
 pub record SpellsBase (bytes : List ℕ) (b : Base) : Type 0 where
   pub fields : IsWrittenBase b
-  pub same : bytes ≡ base_spelling b
+  pub behind : Spelling
+  pub same : bytes ≡ base_spelling behind b
 
 -- ---- what can be written
 

@@ -139,9 +139,17 @@ post_refusals s by cycle version solutions =
     ∷ if_bad_post (bad_post (length s.roster.members) s.cycle.begun solutions)
     ∷ []
 
+-- the refusal of a NEXT: only the operator's is taken
+abbrev pub next_refusals : State → List ℕ → List (Bool × Refusal)
+next_refusals s by = unless_operator s by ∷ []
+
 -- the refusals of a PLAN: it is of the open cycle, while a plan is proposed
 abbrev pub plan_refusals : State → ℕ → List (Bool × Refusal)
 plan_refusals s cycle = unless_cycle s cycle ∷ if_broken s ∷ unless_phase is_proposed s ∷ []
+
+-- the refusals of a PROOF: only a member's is taken, of the open cycle, while a plan is proposed
+abbrev pub proof_refusals : State → List ℕ → ℕ → List (Bool × Refusal)
+proof_refusals s by cycle = (is_operator s.roster by, NotParty) ∷ unless_cycle s cycle ∷ if_broken s ∷ unless_phase is_proposed s ∷ []
 
 -- the refusals of an ACCEPT: it is of the proposed plan's cycle and version, by a member that the plan touches and that has not voted
 abbrev pub accept_refusals : State → List ℕ → ℕ → ℕ → List (Bool × Refusal)

@@ -4,11 +4,12 @@ use Rattle.units_core.specs.Day.{DayParts}
 use Rattle.network_laws.specs.Networks.{NetworkData, gross, floor_m, excess, bilateral}
 use Rattle.network_laws.specs.Solutions.{SolutionData}
 use Rattle.command_types.specs.declared.answer.Answer.{Answer}
-use Rattle.command_types.specs.declared.answer.Answer.TheVariants.{Market, Frozen, LimitRows, Proposed, Nothing, PlanRows, Accepted, Executed}
+use Rattle.command_types.specs.declared.answer.Answer.TheVariants.{Market, Frozen, LimitRows, Proposed, Nothing, PlanRows, ProofRows, Accepted, Executed, No}
 use Rattle.command_types.specs.declared.cycle.Mode.{Mode}
 use Rattle.command_types.specs.declared.figures.Cycle.{Cycle}
 use Rattle.command_types.specs.declared.figures.State.{State}
 use Rattle.command_types.specs.declared.plan.PlanRow.{PlanRow}
+use Rattle.command_types.specs.declared.refusal.Refusal.TheVariants.{NotGreeted}
 use Rattle.command_types.specs.declared.trade.Side.{Side}
 use Rattle.command_types.specs.declared.trade.TradeRow.{TradeRow}
 use Rattle.command_types.specs.Roster.{is_operator}
@@ -17,6 +18,7 @@ use Rattle.command_types.specs.Tolerances.{with_setting}
 use Rattle.command_types.specs.Plans.{is_in_step, touched_by, executed, count_of, is_end, is_cut, is_new, thawed}
 use Rattle.command_types.specs.Cycles.{closed, opened, may_break, frozen_rows, problems_of, begun_with, lines_of_problem, gross_of_all, old_networks, new_networks, posted_plan, proposed_with, declined, broken_at}
 use Rattle.command_types.specs.CycleRefusals.{has_voted}
+use Rattle.command_types.specs.MemberProofs.{proof_rows}
 
 -- the figures of a network
 abbrev pub market_of : NetworkData → Answer
@@ -45,7 +47,7 @@ freeze_answer s day = Frozen (1 + s.cycle.number) (length (filter (λ row. row.f
 
 -- the next version begins, with the problems that trades, settings and mode now make
 abbrev pub after_begin : State → Mode → State
-after_begin s mode = record s { cycle = begun_with s.cycle (problems_of s.roster s.trades s.tolerances mode) }
+after_begin s mode = record s { cycle = begun_with s.cycle mode s.tolerances (problems_of s.roster s.trades s.tolerances mode) }
 
 -- the limits of a product's pairs, as the version began with them
 abbrev pub limits_answer : State → ℕ → Answer
@@ -86,6 +88,16 @@ shown_plan s by member = if is_operator s.roster by then s.cycle.plan else filte
 -- the steps of the proposed plan that the party sees
 abbrev pub plan_answer : State → List ℕ → ℕ → Answer
 plan_answer s by member = PlanRows s.cycle.number s.cycle.version (shown_plan s by member)
+
+-- what a member's PROOF is told of a version of this day and this mode; where the version begins is the desk's to tell
+abbrev pub proof_on : Option DayParts → Option Mode → State → ℕ → Answer
+proof_on (Some day) (Some mode) s member =
+    ProofRows (record { cycle = s.cycle.number; version = s.cycle.version; day = day; mode = mode; begun = 0 }) (proof_rows s mode member)
+proof_on day mode s member = No NotGreeted
+
+-- a member is told what it needs to test its own part of the proposal
+abbrev pub proof_answer : State → ℕ → Answer
+proof_answer s member = proof_on s.cycle.day s.cycle.mode s member
 
 -- the touched members that have not voted once this one has
 abbrev pub left_after : State → ℕ → List ℕ

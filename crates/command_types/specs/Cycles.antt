@@ -31,6 +31,8 @@ closed number version = record {
   version = version;
   phase = NoPhase;
   day = None;
+  mode = None;
+  settings = [];
   begun = [];
   solutions = [];
   plan = [];
@@ -114,9 +116,10 @@ problems_from roster rows settings mode product (row ∷ products) =
 abbrev pub problems_of : Rows → List TradeRow → List ToleranceRow → Mode → List ProblemData
 problems_of roster rows settings mode = problems_from roster rows settings mode 0 roster.products
 
--- the next version begins
-abbrev pub begun_with : Cycle → List ProblemData → Cycle
-begun_with cycle problems = record (closed cycle.number (1 + cycle.version)) { phase = Solving; day = cycle.day; begun = problems }
+-- the next version begins, in this mode, with all that members have set and the problems that follow
+abbrev pub begun_with : Cycle → Mode → List ToleranceRow → List ProblemData → Cycle
+begun_with cycle mode settings problems =
+    record (closed cycle.number (1 + cycle.version)) { phase = Solving; day = cycle.day; mode = Some mode; settings = settings; begun = problems }
 
 -- what a member or the operator is told of a pair: it has a frozen amount, or it may come to more than 0
 abbrev pub limit_line : ProblemData → ℕ → ℕ → List LimitLine

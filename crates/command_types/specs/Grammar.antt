@@ -11,7 +11,7 @@ use Rattle.command_types.specs.declared.cycle.Mode.TheVariants as modes
 use Rattle.command_types.specs.declared.trade.Side.{Side}
 use Rattle.command_types.specs.declared.trade.Side.TheVariants.{Out, In}
 use Rattle.command_types.specs.declared.line.Line.{Line}
-use Rattle.command_types.specs.declared.line.Line.TheVariants.{Hello, Trade, Affirm, End, Hold, Free, Tol, Nets, Statement, Freeze, Begin, Limits, Row, Pot, Post, Propose, Plan, Accept, Decline, Cancel, Bye}
+use Rattle.command_types.specs.declared.line.Line.TheVariants.{Hello, Trade, Affirm, End, Hold, Free, Tol, Nets, Statement, Freeze, Begin, Limits, Row, Pot, Post, Propose, Next, Plan, Proof, Accept, Decline, Cancel, Bye}
 use Rattle.command_types.specs.Lines.{line_limit}
 use Rattle.units_core.specs.declared.limits.TheConstants.{MOST_NUMBER}
 
@@ -188,12 +188,14 @@ line_by verb c =
     else (if bytes_eq verb (codes "POT") then potential_line c
     else (if bytes_eq verb (codes "POST") then version_line Post c
     else (if bytes_eq verb (codes "PROPOSE") then mode_line Propose c
+    else (if bytes_eq verb (codes "NEXT") then numbered_line Next c
     else (if bytes_eq verb (codes "PLAN") then numbered_line Plan c
+    else (if bytes_eq verb (codes "PROOF") then numbered_line Proof c
     else (if bytes_eq verb (codes "ACCEPT") then version_line Accept c
     else (if bytes_eq verb (codes "DECLINE") then version_line Decline c
     else (if bytes_eq verb (codes "CANCEL") then numbered_line Cancel c
     else (if bytes_eq verb (codes "BYE") then ended Bye c
-    else Err 0))))))))))))))))))))
+    else Err 0))))))))))))))))))))))
 
 -- the first word tells the command, and the others are read behind it
 abbrev pub line_of_words : ℕ → List (List ℕ) → Result Line ℕ

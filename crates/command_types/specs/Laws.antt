@@ -3,7 +3,7 @@ use Rattle.std.specs.Prelude.{ℕ, Bool, List}
 use Rattle.command_types.specs.declared.ask.Ask.{Ask}
 use Rattle.command_types.specs.declared.ask.Entry.{Entry}
 use Rattle.command_types.specs.declared.answer.Answer.{Answer}
-use Rattle.command_types.specs.declared.figures.State.{State}
+use Rattle.command_types.specs.declared.figures.Start.{Start}
 use Rattle.command_types.specs.declared.figures.Figures.{Figures}
 use Rattle.command_types.specs.Told.{IsRecorded, IsNotRecorded, IsHouse, IsMemory}
 
@@ -19,9 +19,9 @@ pub record AtMostOne (a b c d : Type 0) : Type 0 where
 -- At one position an answer to a command is right by at most one of the four cases of `IsTold`.
 abbrev pub ToldCasesExclude : Type 0
 ToldCasesExclude =
-    (figures : Figures) (before after : Bool) (s : State) (front : List Entry) (seat n : ℕ) (ask : Ask) (answer : Answer) →
+    (figures : Figures) (before after : Bool) (base : Start) (front : List Entry) (seat n : ℕ) (ask : Ask) (answer : Answer) →
     AtMostOne
-    (IsRecorded s front seat ask answer)
-    (IsNotRecorded s front ask answer)
-    (IsHouse figures.journal figures before after s front n ask answer)
-    (IsMemory answer)
+    (IsRecorded base.state front seat ask answer)
+    (IsNotRecorded base front ask answer)
+    (IsHouse figures.journal figures before after base.state front n ask answer)
+    (IsMemory figures ask.what answer)

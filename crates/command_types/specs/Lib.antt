@@ -8,6 +8,7 @@ pub mod Plans
 pub mod Execution
 pub mod Cycles
 pub mod CycleRefusals
+pub mod MemberProofs
 pub mod CycleSteps
 pub mod Machine
 pub mod History
@@ -15,9 +16,11 @@ pub mod Folds
 pub mod Sizes
 pub mod Spelling
 pub mod Bases
+pub mod Offers
 pub mod Told
 pub mod Laws
 pub mod Lines
+pub mod CutLines
 pub mod Grammar
 pub mod Text
 pub mod Details

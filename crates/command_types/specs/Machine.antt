@@ -2,10 +2,10 @@
 use Rattle.std.specs.Str.{bytes_eq}
 use Rattle.std.specs.Prelude.{ℕ, pos, ◌-ℤ◌, ◌+◌, nat_lt, nat_le, length, slice_get, Bool, true, false, not, ◌&&◌, ◌||◌, is_none, is_some, List, [], ◌∷◌, Option, Some, None, unwrap_or, if◌then◌else◌}
 use Rattle.command_types.specs.declared.ask.What.{What}
-use Rattle.command_types.specs.declared.ask.What.TheVariants.{Hello, Trade, Affirm, End, Hold, Free, Tol, Nets, Statement, Freeze, Begin, Limits, Row, Pot, Post, Fetch, Plan, Accept, Decline, Cancel, Bye, Unreadable}
+use Rattle.command_types.specs.declared.ask.What.TheVariants.{Hello, Trade, Affirm, End, Hold, Free, Tol, Nets, Statement, Freeze, Begin, Limits, Row, Pot, Post, Fetch, Next, Plan, Proof, Accept, Decline, Cancel, Bye, Unreadable}
 use Rattle.command_types.specs.declared.ask.Ask.{Ask}
 use Rattle.command_types.specs.declared.answer.Answer.{Answer}
-use Rattle.command_types.specs.declared.answer.Answer.TheVariants.{Hello as Greeted, Traded, Affirmed, Marked, Ended, Held, Freed, Tolerance, Own, Statement as Statements, Begun, Noted, Declined, Cancelled, Bye as Left, Problems, No}
+use Rattle.command_types.specs.declared.answer.Answer.TheVariants.{Hello as Greeted, Traded, Affirmed, Marked, Ended, Held, Freed, Tolerance, Own, Statement as Statements, Begun, Noted, Declined, Cancelled, Bye as Left, Problems, NoNext, No}
 use Rattle.command_types.specs.declared.refusal.Refusal.{Refusal}
 use Rattle.command_types.specs.declared.refusal.Refusal.TheVariants.{BadLine, NotGreeted, BadKey, UnknownMember, UnknownProduct, OwnTrade, UnknownTrade, NotParty, AmountOver, Matured, WrongTradeState, TradeFrozen, GrossOver, TradesFull}
 use Rattle.command_types.specs.declared.figures.State.{State}
@@ -16,8 +16,8 @@ use Rattle.command_types.specs.declared.trade.TradeRow.{TradeRow}
 use Rattle.units_core.specs.Day.{DayParts, is_before}
 use Rattle.command_types.specs.Roster.{Rows, member_place, product_place, is_operator, is_key, is_party, is_member_at}
 use Rattle.command_types.specs.Cycles.{closed, is_open}
-use Rattle.command_types.specs.CycleRefusals.{tol_refusals, statement_refusals, freeze_refusals, begin_refusals, fetch_refusals, limits_refusals, row_refusals, pot_refusals, post_refusals, plan_refusals, accept_refusals, decline_refusals, cancel_refusals}
-use Rattle.command_types.specs.CycleSteps.{market_in, rows_of_member, with_tolerance, after_freeze, freeze_answer, after_begin, limits_answer, after_post, post_answer, plan_answer, after_accept, accept_answer, after_decline, after_cancel, cycle_after_end}
+use Rattle.command_types.specs.CycleRefusals.{tol_refusals, statement_refusals, freeze_refusals, begin_refusals, fetch_refusals, limits_refusals, row_refusals, pot_refusals, post_refusals, next_refusals, plan_refusals, proof_refusals, accept_refusals, decline_refusals, cancel_refusals}
+use Rattle.command_types.specs.CycleSteps.{market_in, rows_of_member, with_tolerance, after_freeze, freeze_answer, after_begin, limits_answer, after_post, post_answer, plan_answer, proof_answer, after_accept, accept_answer, after_decline, after_cancel, cycle_after_end}
 use Rattle.command_types.specs.Trades.{is_alleged, is_live, is_ended, gross_of, sold_by, bought_by, submitted_count, trade_numbered, with_alleged, affirmed, ended_by, held_by, freed_by, hold_of, is_marked_by}
 use Rattle.units_core.specs.declared.limits.TheConstants.{MOST_GROSS, MOST_SUBMITTED, MOST_TRADE_AMOUNT}
 
@@ -133,7 +133,9 @@ command_refusals s by (Limits product) = limits_refusals s by product
 command_refusals s by (Row product seller buyer amount size sum) = row_refusals s by product seller buyer size sum
 command_refusals s by (Pot product member value size) = pot_refusals s by product member size
 command_refusals s by (Post cycle version solutions) = post_refusals s by cycle version solutions
+command_refusals s by (Next position) = next_refusals s by
 command_refusals s by (Plan cycle) = plan_refusals s cycle
+command_refusals s by (Proof cycle) = proof_refusals s by cycle
 command_refusals s by (Accept cycle version) = accept_refusals s by cycle version
 command_refusals s by (Decline cycle version) = decline_refusals s by cycle version
 command_refusals s by (Cancel cycle) = cancel_refusals s by cycle
@@ -178,7 +180,9 @@ party_answer s by (Limits product) = limits_answer s (product_of s product)
 party_answer s by (Row product seller buyer amount size sum) = Noted size
 party_answer s by (Pot product member value size) = Noted size
 party_answer s by (Post cycle version solutions) = post_answer s solutions
+party_answer s by (Next position) = NoNext
 party_answer s by (Plan cycle) = plan_answer s by (member_of s by)
+party_answer s by (Proof cycle) = proof_answer s (member_of s by)
 party_answer s by (Accept cycle version) = accept_answer s (member_of s by)
 party_answer s by (Decline cycle version) = Declined cycle version
 party_answer s by (Cancel cycle) = Cancelled cycle

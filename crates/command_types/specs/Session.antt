@@ -1,5 +1,5 @@
 -- A session: lines in, the texts of their replies out.
-use Rattle.std.specs.Prelude.{◌≡◌, ◌⊎◌, ℕ, ◌+◌, ◌≤◌, ℤ, pos, Bool, IsTrue, true, false, ◌&&◌, nat_lt, List, [], ◌∷◌, ◌++◌, length, sum_by, Option, Some, None, Result, Ok, Err, if◌then◌else◌}
+use Rattle.std.specs.Prelude.{◌≡◌, ◌⊎◌, ℕ, ◌+◌, ◌≤◌, ℤ, pos, Bool, IsTrue, true, false, ◌&&◌, nat_lt, min, List, [], ◌∷◌, ◌++◌, length, sum_by, Option, Some, None, Result, Ok, Err, if◌then◌else◌}
 use Rattle.std.specs.Str.{bytes_eq}
 use Rattle.network_laws.specs.declared.rows.Row.{Row as NetworkRow}
 use Rattle.network_laws.specs.Solutions.{SolutionData, ProblemData}
@@ -7,13 +7,14 @@ use Rattle.network_laws.specs.Solved.{AreSolved}
 use Rattle.command_types.specs.declared.ask.Ask.{Ask}
 use Rattle.command_types.specs.declared.ask.Entry.{Entry}
 use Rattle.command_types.specs.declared.ask.What.{What}
-use Rattle.command_types.specs.declared.ask.What.TheVariants.{Hello as AskHello, Trade as AskTrade, Affirm as AskAffirm, End as AskEnd, Hold as AskHold, Free as AskFree, Tol as AskTol, Nets as AskNets, Statement as AskStatement, Freeze as AskFreeze, Begin as AskBegin, Limits as AskLimits, Row as AskRow, Pot as AskPot, Post as AskPost, Fetch, Plan as AskPlan, Accept as AskAccept, Decline as AskDecline, Cancel as AskCancel, Bye as AskBye, Unreadable}
+use Rattle.command_types.specs.declared.ask.What.TheVariants.{Hello as AskHello, Trade as AskTrade, Affirm as AskAffirm, End as AskEnd, Hold as AskHold, Free as AskFree, Tol as AskTol, Nets as AskNets, Statement as AskStatement, Freeze as AskFreeze, Begin as AskBegin, Limits as AskLimits, Row as AskRow, Pot as AskPot, Post as AskPost, Fetch, Next as AskNext, Plan as AskPlan, Proof as AskProof, Accept as AskAccept, Decline as AskDecline, Cancel as AskCancel, Bye as AskBye, Unreadable}
 use Rattle.command_types.specs.declared.line.Line.{Line}
-use Rattle.command_types.specs.declared.line.Line.TheVariants.{Hello, Trade, Affirm, End, Hold, Free, Tol, Nets, Statement, Freeze, Begin, Limits, Row, Pot, Post, Propose, Plan, Accept, Decline, Cancel, Bye}
+use Rattle.command_types.specs.declared.line.Line.TheVariants.{Hello, Trade, Affirm, End, Hold, Free, Tol, Nets, Statement, Freeze, Begin, Limits, Row, Pot, Post, Propose, Next, Plan, Proof, Accept, Decline, Cancel, Bye}
 use Rattle.command_types.specs.declared.answer.Answer.{Answer}
 use Rattle.command_types.specs.declared.answer.Answer.TheVariants.{Hello as Greeted, Begun, Noted, Proposed, Nothing, Bye as Left, Problems, No}
 use Rattle.command_types.specs.declared.answer.Reply.{Reply}
 use Rattle.command_types.specs.declared.cycle.Mode.{Mode}
+use Rattle.command_types.specs.declared.moment.TheConstants.{MOST_MOMENT}
 use Rattle.command_types.specs.declared.refusal.Refusal.TheVariants.{Memory}
 use Rattle.command_types.specs.declared.figures.Figures.{Figures}
 use Rattle.command_types.specs.declared.roster.MemberRow.{MemberRow}
@@ -165,7 +166,9 @@ what_by rows draft (Row product seller buyer amount) =
 what_by rows draft (Pot product member value) = AskPot product member value (draft_size (noted_potential draft product member value))
 what_by rows draft (Post cycle version) = AskPost cycle version (draft_solutions rows draft)
 what_by rows draft (Propose cycle mode) = AskBegin cycle mode
+what_by rows draft (Next position) = AskNext position
 what_by rows draft (Plan cycle) = AskPlan cycle
+what_by rows draft (Proof cycle) = AskProof cycle
 what_by rows draft (Accept cycle version) = AskAccept cycle version
 what_by rows draft (Decline cycle version) = AskDecline cycle version
 what_by rows draft (Cancel cycle) = AskCancel cycle
@@ -176,9 +179,9 @@ abbrev pub what_or_fault : Rows → Draft → Result Line ℕ → What
 what_or_fault rows draft (Ok line) = what_by rows draft line
 what_or_fault rows draft (Err at) = Unreadable at
 
--- the command of a line
-abbrev pub ask_of : Rows → Speaker → List ℕ → Ask
-ask_of rows speaker line = record { by = speaker.party; what = what_or_fault rows speaker.draft (line_within line) }
+-- the command of a line, asked at this moment
+abbrev pub ask_of : Rows → Speaker → List ℕ → ℕ → Ask
+ask_of rows speaker line moment = record { by = speaker.party; what = what_or_fault rows speaker.draft (line_within line); moment = moment }
 
 -- the draft after a line that was noted
 abbrev pub draft_after : Draft → Result Line ℕ → Draft
@@ -220,8 +223,15 @@ pub record Mark : Type 0 where
 abbrev pub mark_of : Standing → Mark
 mark_of standing = record { position = standing.position; stopped = standing.stopped }
 
--- A command is replied to, at a position not below the one before. A stop may begin before the command or in it, and never ends.
-pub record IsAsked (figures : Figures) (h : History) (seat : ℕ) (from : Mark) (ask : Ask) (reply : Reply) (made : List Entry) (to : Mark) : Type 0 where
+-- the moment of a command is one that the clock tells, or the last that a command can have where that is earlier
+pub record IsTime (clock : ℕ → Bool) (moment : ℕ) : Type 0 where
+  pub now : ℕ
+  pub told : clock now ≡ true
+  pub same : moment ≡ min now MOST_MOMENT
+
+-- A command is replied to, at a position not below the one before, and its moment is of the clock. A stop may begin before the command or in it, and never ends.
+pub record IsAsked (clock : ℕ → Bool) (figures : Figures) (h : History) (seat : ℕ) (from : Mark) (ask : Ask) (reply : Reply) (made : List Entry) (to : Mark) : Type 0 where
+  pub time : IsTime clock ask.moment
   pub before : Bool
   pub told : IsTold figures before to.stopped h seat ask reply
   pub later : from.position + length made ≤ reply.at
@@ -232,16 +242,16 @@ pub record IsAsked (figures : Figures) (h : History) (seat : ℕ) (from : Mark) 
   pub position : to.position ≡ reply.at
 
 -- the first command of a PROPOSE: it begins a version
-abbrev pub ask_begin : Option (List ℕ) → ℕ → Mode → Ask
-ask_begin by cycle mode = record { by = by; what = AskBegin cycle mode }
+abbrev pub ask_begin : Option (List ℕ) → ℕ → Mode → ℕ → Ask
+ask_begin by cycle mode moment = record { by = by; what = AskBegin cycle mode; moment = moment }
 
 -- the second: it asks for the problems of the version that was begun
-abbrev pub ask_fetch : Option (List ℕ) → ℕ → ℕ → Ask
-ask_fetch by cycle version = record { by = by; what = Fetch cycle version }
+abbrev pub ask_fetch : Option (List ℕ) → ℕ → ℕ → ℕ → Ask
+ask_fetch by cycle version moment = record { by = by; what = Fetch cycle version; moment = moment }
 
 -- the third: it posts the solutions
-abbrev pub ask_post : Option (List ℕ) → ℕ → ℕ → List SolutionData → Ask
-ask_post by cycle version solutions = record { by = by; what = AskPost cycle version solutions }
+abbrev pub ask_post : Option (List ℕ) → ℕ → ℕ → List SolutionData → ℕ → Ask
+ask_post by cycle version solutions moment = record { by = by; what = AskPost cycle version solutions; moment = moment }
 
 -- nothing more is asked: this is the line's reply
 abbrev pub IsLast : Reply → Mark → Reply → List Entry → Mark → Type 0
@@ -252,68 +262,72 @@ abbrev pub IsUnsolved : ℕ → Mark → Reply → List Entry → Mark → Type 
 IsUnsolved begun_at mid reply made to = IsLast (record { at = begun_at; answer = No Memory }) mid reply made to
 
 -- The solutions are posted, and the reply to that is the line's.
-pub record IsPosted (figures : Figures) (h : History) (seat : ℕ) (mid : Mark) (by : Option (List ℕ)) (cycle version : ℕ) (problems : List ProblemData) (reply : Reply) (made : List Entry) (to : Mark) : Type 0 where
+pub record IsPosted (clock : ℕ → Bool) (figures : Figures) (h : History) (seat : ℕ) (mid : Mark) (by : Option (List ℕ)) (cycle version : ℕ) (problems : List ProblemData) (reply : Reply) (made : List Entry) (to : Mark) : Type 0 where
   pub solutions : List SolutionData
   pub solved : AreSolved problems solutions
-  pub asked : IsAsked figures h seat mid (ask_post by cycle version solutions) reply made to
+  pub moment : ℕ
+  pub asked : IsAsked clock figures h seat mid (ask_post by cycle version solutions moment) reply made to
 
 -- what follows on the reply that gave the problems, or none
-abbrev pub GoesOnFetched : Answer → Figures → History → ℕ → Mark → Option (List ℕ) → ℕ → ℕ → ℕ → Reply → Reply → List Entry → Mark → Type 0
-GoesOnFetched (Problems problems) figures h seat mid by cycle version begun_at fetched reply made to =
-    IsUnsolved begun_at mid reply made to ⊎ IsPosted figures h seat mid by cycle version problems reply made to
-GoesOnFetched answer figures h seat mid by cycle version begun_at fetched reply made to = IsLast fetched mid reply made to
+abbrev pub GoesOnFetched : Answer → (ℕ → Bool) → Figures → History → ℕ → Mark → Option (List ℕ) → ℕ → ℕ → ℕ → Reply → Reply → List Entry → Mark → Type 0
+GoesOnFetched (Problems problems) clock figures h seat mid by cycle version begun_at fetched reply made to =
+    IsUnsolved begun_at mid reply made to ⊎ IsPosted clock figures h seat mid by cycle version problems reply made to
+GoesOnFetched answer clock figures h seat mid by cycle version begun_at fetched reply made to = IsLast fetched mid reply made to
 
 -- The problems of the version that was begun are asked for.
-pub record IsFetched (figures : Figures) (h : History) (seat : ℕ) (from : Mark) (by : Option (List ℕ)) (cycle version begun_at : ℕ) (reply : Reply) (made : List Entry) (to : Mark) : Type 0 where
+pub record IsFetched (clock : ℕ → Bool) (figures : Figures) (h : History) (seat : ℕ) (from : Mark) (by : Option (List ℕ)) (cycle version begun_at : ℕ) (reply : Reply) (made : List Entry) (to : Mark) : Type 0 where
   pub fetched : Reply
   pub mid : Mark
   pub first : List Entry
   pub others : List Entry
-  pub asked : IsAsked figures h seat from (ask_fetch by cycle version) fetched first mid
-  pub goes_on : GoesOnFetched fetched.answer figures h seat mid by cycle version begun_at fetched reply others to
+  pub moment : ℕ
+  pub asked : IsAsked clock figures h seat from (ask_fetch by cycle version moment) fetched first mid
+  pub goes_on : GoesOnFetched fetched.answer clock figures h seat mid by cycle version begun_at fetched reply others to
   pub order : made ≡ first ++ others
 
 -- what follows on the reply that told the version's number, or none
-abbrev pub GoesOnBegun : Answer → Figures → History → ℕ → Mark → Option (List ℕ) → ℕ → Reply → Reply → List Entry → Mark → Type 0
-GoesOnBegun (Begun number version) figures h seat mid by cycle begun reply made to = IsFetched figures h seat mid by cycle version begun.at reply made to
-GoesOnBegun answer figures h seat mid by cycle begun reply made to = IsLast begun mid reply made to
+abbrev pub GoesOnBegun : Answer → (ℕ → Bool) → Figures → History → ℕ → Mark → Option (List ℕ) → ℕ → Reply → Reply → List Entry → Mark → Type 0
+GoesOnBegun (Begun number version) clock figures h seat mid by cycle begun reply made to = IsFetched clock figures h seat mid by cycle version begun.at reply made to
+GoesOnBegun answer clock figures h seat mid by cycle begun reply made to = IsLast begun mid reply made to
 
 -- A PROPOSE begins a version, asks for its problems and posts a solution of each. Its reply is the first of these that does not lead on, or the last.
-pub record IsProposed (figures : Figures) (h : History) (seat : ℕ) (from : Mark) (by : Option (List ℕ)) (cycle : ℕ) (mode : Mode) (reply : Reply) (made : List Entry) (to : Mark) : Type 0 where
+pub record IsProposed (clock : ℕ → Bool) (figures : Figures) (h : History) (seat : ℕ) (from : Mark) (by : Option (List ℕ)) (cycle : ℕ) (mode : Mode) (reply : Reply) (made : List Entry) (to : Mark) : Type 0 where
   pub begun : Reply
   pub mid : Mark
   pub first : List Entry
   pub others : List Entry
-  pub asked : IsAsked figures h seat from (ask_begin by cycle mode) begun first mid
-  pub goes_on : GoesOnBegun begun.answer figures h seat mid by cycle begun reply others to
+  pub moment : ℕ
+  pub asked : IsAsked clock figures h seat from (ask_begin by cycle mode moment) begun first mid
+  pub goes_on : GoesOnBegun begun.answer clock figures h seat mid by cycle begun reply others to
   pub order : made ≡ first ++ others
 
 -- what was read of a line is replied to: a PROPOSE by its commands, each other line by its one
-abbrev pub IsReplied : Figures → History → ℕ → Mark → Rows → Speaker → Result Line ℕ → Reply → List Entry → Mark → Type 0
-IsReplied figures h seat from rows speaker (Ok (Propose cycle mode)) reply made to = IsProposed figures h seat from speaker.party cycle mode reply made to
-IsReplied figures h seat from rows speaker read reply made to = IsAsked figures h seat from (record { by = speaker.party; what = what_or_fault rows speaker.draft read }) reply made to
+abbrev pub IsReplied : (ℕ → Bool) → Figures → History → ℕ → Mark → Rows → Speaker → Result Line ℕ → Reply → List Entry → Mark → Type 0
+IsReplied clock figures h seat from rows speaker (Ok (Propose cycle mode)) reply made to = IsProposed clock figures h seat from speaker.party cycle mode reply made to
+IsReplied clock figures h seat from rows speaker read reply made to =
+    (moment : ℕ) × IsAsked clock figures h seat from (record { by = speaker.party; what = what_or_fault rows speaker.draft read; moment = moment }) reply made to
 
 -- A line is replied to. After an accepted BYE no line is.
-pub record IsAnswered (figures : Figures) (h : History) (seat : ℕ) (from : Standing) (line head : List ℕ) (first : List Entry) (to : Standing) : Type 0 where
+pub record IsAnswered (clock : ℕ → Bool) (figures : Figures) (h : History) (seat : ℕ) (from : Standing) (line head : List ℕ) (first : List Entry) (to : Standing) : Type 0 where
   pub reply : Reply
   pub open_yet : from.over ≡ false
-  pub replied : IsReplied figures h seat (mark_of from) h.base.state.roster from.speaker (line_within line) reply first (mark_of to)
+  pub replied : IsReplied clock figures h seat (mark_of from) h.base.state.roster from.speaker (line_within line) reply first (mark_of to)
   pub text : head ≡ reply_text h.base.state.roster reply
   pub speaker : to.speaker ≡ speaker_after from.speaker (line_within line) reply.answer
   pub over : to.over ≡ is_bye reply.answer
 
 -- One line after another is answered, and their texts are the text. `made` is recorded on the way.
-abbrev pub IsTalk : Figures → History → ℕ → Standing → List (List ℕ) → List ℕ → List Entry → Standing → Type 0
-IsTalk figures h seat from [] text made to = (text ≡ []) × (made ≡ []) × (to ≡ from)
-IsTalk figures h seat from (line ∷ lines) text made to =
+abbrev pub IsTalk : (ℕ → Bool) → Figures → History → ℕ → Standing → List (List ℕ) → List ℕ → List Entry → Standing → Type 0
+IsTalk clock figures h seat from [] text made to = (text ≡ []) × (made ≡ []) × (to ≡ from)
+IsTalk clock figures h seat from (line ∷ lines) text made to =
     (next : Standing) × (head : List ℕ) × (more : List ℕ) × (first : List Entry) × (others : List Entry)
-    × IsAnswered figures h seat from line head first next
+    × IsAnswered clock figures h seat from line head first next
     × (text ≡ head ++ more) × (made ≡ first ++ others)
-    × IsTalk figures h seat next lines more others to
+    × IsTalk clock figures h seat next lines more others to
 
 -- The text is that of these lines' replies, and what is recorded of them is what the seat did after the first position.
-pub record IsSession (figures : Figures) (h : History) (seat : ℕ) (from : Standing) (lines : List (List ℕ)) (text : List ℕ) : Type 0 where
+pub record IsSession (clock : ℕ → Bool) (figures : Figures) (h : History) (seat : ℕ) (from : Standing) (lines : List (List ℕ)) (text : List ℕ) : Type 0 where
   pub made : List Entry
   pub to : Standing
-  pub talk : IsTalk figures h seat from lines text made to
+  pub talk : IsTalk clock figures h seat from lines text made to
   pub own : made ≡ entries_of_seat h seat from.position

@@ -1,4 +1,4 @@
--- How many bytes a journal takes for a change: a name has one byte more than its text, a number eight bytes, a day four; a record begins with the seat's four bytes, the party and one byte for the kind; its frame has five bytes more.
+-- How many bytes a journal takes for a change: a name has one byte more than its text, a number eight bytes, a day four; a record begins with the moment's eight bytes, the seat's four, the party and one byte for the kind; its frame has five bytes more.
 use Rattle.std.specs.Prelude.{ℕ, ◌+◌, ◌*◌, List, [], length, sum_by, Option, Some, None, unwrap_or}
 use Rattle.network_laws.specs.Solutions.{SolutionData}
 use Rattle.units_core.specs.declared.limits.TheConstants.{MOST_JOURNAL}
@@ -42,7 +42,7 @@ fields_size what = 0
 
 -- the record of a change
 abbrev pub record_size : Ask → ℕ
-record_size ask = 4 + name_size (unwrap_or ask.by []) + 1 + fields_size ask.what
+record_size ask = 12 + name_size (unwrap_or ask.by []) + 1 + fields_size ask.what
 
 -- the record with its frame
 abbrev pub frame_size : Ask → ℕ

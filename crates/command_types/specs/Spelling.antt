@@ -1,5 +1,5 @@
--- The spelling of a change: its bytes in a journal. Numbers are little-endian.
-use Rattle.std.specs.Prelude.{◌≡◌, ℕ, ℤ, ◌≤◌, ◌<◌, ◌^◌, List, [], ◌∷◌, ◌++◌, length, All, Option, Some, None, unwrap_or, IfSome, IsTrue}
+-- The two spellings of a change: its bytes in a journal. Numbers are little-endian.
+use Rattle.std.specs.Prelude.{◌≡◌, ℕ, ℤ, ◌≤◌, ◌<◌, ◌^◌, List, [], ◌∷◌, ◌++◌, length, All, Option, Some, None, unwrap_or, IfSome, IsTrue, codes}
 use Rattle.std.specs.Int.{w16, w32, w64, to_le_bytes, cast_unsigned}
 use Rattle.std.specs.List.{flat_map}
 use Rattle.units_core.specs.Name.{is_name}
@@ -9,6 +9,9 @@ use Rattle.network_laws.specs.declared.rows.Row.{Row}
 use Rattle.network_laws.specs.Solutions.{SolutionData, IsSolution}
 use Rattle.command_types.specs.declared.cycle.Mode.{Mode}
 use Rattle.command_types.specs.declared.cycle.Mode.TheVariants as modes
+use Rattle.command_types.specs.declared.moment.TheConstants.{MOST_MOMENT}
+use Rattle.command_types.specs.declared.spelling.Spelling.{Spelling}
+use Rattle.command_types.specs.declared.spelling.Spelling.TheVariants.{First, Second}
 use Rattle.command_types.specs.declared.trade.Side.{Side}
 use Rattle.command_types.specs.declared.trade.Side.TheVariants.{Out, In}
 use Rattle.command_types.specs.declared.ask.Entry.{Entry}
@@ -89,10 +92,19 @@ fields_spelling (Decline cycle version) = 11 ∷ number_spelling cycle ++ number
 fields_spelling (Cancel cycle) = 12 ∷ number_spelling cycle
 fields_spelling what = []
 
--- the seat in four bytes, the party, and the change
-abbrev pub spelling : Entry → List ℕ
-spelling entry =
-    to_le_bytes w32 entry.seat ++ name_spelling (unwrap_or entry.ask.by []) ++ fields_spelling entry.ask.what
+-- the first spelling tells no moment, the second tells it in eight bytes
+abbrev pub moment_spelling : Spelling → ℕ → List ℕ
+moment_spelling First moment = []
+moment_spelling Second moment = number_spelling moment
+
+-- the moment, the seat in four bytes, the party, and the change
+abbrev pub spelling : Spelling → Entry → List ℕ
+spelling form entry =
+    moment_spelling form entry.ask.moment ++ to_le_bytes w32 entry.seat ++ name_spelling (unwrap_or entry.ask.by []) ++ fields_spelling entry.ask.what
+
+-- the record behind which those of the second spelling stand, in a journal that begins with those of the first
+abbrev pub turn : List ℕ
+turn = codes "MOMENTS2"
 
 -- ---- what has a spelling
 
@@ -137,13 +149,19 @@ AreFields (Decline cycle version) = IsNumber cycle × IsNumber version
 AreFields (Cancel cycle) = IsNumber cycle
 AreFields what = ⊥
 
--- a change by a party, from a seat
-pub record IsChange (entry : Entry) : Type 0 where
+-- the moment is one that the spelling tells: where it tells none, it is 0
+abbrev pub IsMoment : Spelling → ℕ → Type 0
+IsMoment First moment = moment ≡ 0
+IsMoment Second moment = moment ≤ MOST_MOMENT
+
+-- a change by a party, from a seat, at a moment
+pub record IsChange (form : Spelling) (entry : Entry) : Type 0 where
+  pub moment : IsMoment form entry.ask.moment
   pub seat : entry.seat < 2 ^ 32
   pub party : IsParty entry.ask.by
   pub fields : AreFields entry.ask.what
 
--- The bytes are the spelling of the change.
-pub record Spells (bytes : List ℕ) (entry : Entry) : Type 0 where
-  pub change : IsChange entry
-  pub same : bytes ≡ spelling entry
+-- The bytes are this spelling of the change.
+pub record Spells (form : Spelling) (bytes : List ℕ) (entry : Entry) : Type 0 where
+  pub change : IsChange form entry
+  pub same : bytes ≡ spelling form entry

@@ -4,16 +4,19 @@ use Rattle.std.specs.Fmt.{signed_decimal}
 use Rattle.network_laws.specs.declared.clash.Clash.{Clash}
 use Rattle.network_laws.specs.declared.clash.Clash.TheVariants.{Below, Above, Net, Open, Slack}
 use Rattle.units_core.specs.Day.{day_text}
+use Rattle.command_types.specs.declared.cycle.Mode.{Mode}
+use Rattle.command_types.specs.declared.cycle.Mode.TheVariants.{Conservative, Hybrid, Free}
 use Rattle.command_types.specs.declared.cycle.Phase.{Phase}
 use Rattle.command_types.specs.declared.cycle.Phase.TheVariants.{None as NoPhase, Frozen as FrozenPhase, Solving, Proposed as ProposedPhase, Broken}
 use Rattle.command_types.specs.declared.trade.TradeState.{TradeState}
 use Rattle.command_types.specs.declared.trade.TradeState.TheVariants.{Alleged, Live, Ended as EndedState}
 use Rattle.command_types.specs.declared.answer.Answer.{Answer}
-use Rattle.command_types.specs.declared.answer.Answer.TheVariants.{Hello, Traded, Affirmed, Marked, Ended, Held, Freed, Tolerance, Own, Market, Statement, Frozen, Begun, LimitRows, Noted, Proposed, Nothing, PlanRows, Accepted, Executed, Declined, Cancelled, Bye, Problems, No}
+use Rattle.command_types.specs.declared.answer.Answer.TheVariants.{Hello, Traded, Affirmed, Marked, Ended, Held, Freed, Tolerance, Own, Market, Statement, Frozen, Begun, LimitRows, Noted, Proposed, Nothing, PlanRows, ProofRows, Accepted, Executed, Declined, Cancelled, Bye, Problems, NoNext, EntryBytes, No}
+use Rattle.command_types.specs.declared.proof.ProofHead.{ProofHead}
 use Rattle.command_types.specs.declared.refusal.BadPost.{BadPost}
 use Rattle.command_types.specs.declared.refusal.BadPost.TheVariants.{Shape, At}
 use Rattle.command_types.specs.declared.refusal.Refusal.{Refusal}
-use Rattle.command_types.specs.declared.refusal.Refusal.TheVariants.{BadLine, NotGreeted, BadKey, NotOperator, UnknownMember, UnknownProduct, OwnTrade, UnknownTrade, NotParty, AmountOver, Matured, FloorOverCeiling, WrongTradeState, TradeFrozen, CycleOpen, WrongCycle, CycleBroken, WrongPhase, WrongVersion, NotTouched, AlreadyAccepted, BadCertificate, GrossOver, TradesFull, DraftFull, JournalFull, Stopped, Memory, DiskFault}
+use Rattle.command_types.specs.declared.refusal.Refusal.TheVariants.{BadLine, NotGreeted, BadKey, NotOperator, UnknownMember, UnknownProduct, OwnTrade, UnknownTrade, NotParty, AmountOver, Matured, FloorOverCeiling, WrongTradeState, TradeFrozen, CycleOpen, WrongCycle, CycleBroken, WrongPhase, WrongVersion, NotTouched, AlreadyAccepted, BadCertificate, GrossOver, TradesFull, DraftFull, Gone, Ahead, JournalFull, Stopped, Memory, DiskFault}
 use Rattle.command_types.specs.declared.roster.MemberRow.{MemberRow}
 use Rattle.command_types.specs.declared.roster.ProductRow.{ProductRow}
 use Rattle.command_types.specs.Roster.{Rows}
@@ -94,14 +97,27 @@ refusal_text rows (BadCertificate post) = codes "24 bad-certificate " ++ post_te
 refusal_text rows GrossOver = codes "9 gross-over"
 refusal_text rows TradesFull = codes "10 trades-full"
 refusal_text rows DraftFull = codes "29 draft-full"
+refusal_text rows (Gone from) = codes "31 gone " ++ decimal from
+refusal_text rows (Ahead end) = codes "32 ahead " ++ decimal end
 refusal_text rows (JournalFull size) = codes "25 journal-full " ++ decimal size
 refusal_text rows (Stopped at) = codes "26 stopped " ++ decimal at
 refusal_text rows Memory = codes "28 memory"
 refusal_text rows DiskFault = codes "27 disk-fault"
 
+-- the word for a mode
+abbrev pub mode_text : Mode → List ℕ
+mode_text Conservative = codes "conservative"
+mode_text Hybrid = codes "hybrid"
+mode_text Free = codes "free"
+
 -- two numbers with a space in front of each
 abbrev pub numbers_text : ℕ → ℕ → List ℕ
 numbers_text a b = codes " " ++ decimal a ++ codes " " ++ decimal b
+
+-- which proposal a member is told of: cycle, version, the freeze's day, mode and where the version began; and in how many lines
+abbrev pub proof_head_text : ProofHead → ℕ → List ℕ
+proof_head_text head count =
+    codes " proof" ++ numbers_text head.cycle head.version ++ codes " " ++ day_text head.day ++ codes " " ++ mode_text head.mode ++ numbers_text head.begun count
 
 -- what an accepted command is told behind the position
 abbrev pub answer_text : Rows → Answer → List ℕ
@@ -123,12 +139,15 @@ answer_text rows (Noted size) = codes " noted " ++ decimal size
 answer_text rows (Proposed cycle version before after) = codes " proposed" ++ numbers_text cycle version ++ numbers_text before after
 answer_text rows (Nothing cycle version) = codes " nothing" ++ numbers_text cycle version
 answer_text rows (PlanRows cycle version plan) = codes " plan" ++ numbers_text cycle version ++ codes " " ++ decimal (length plan)
+answer_text rows (ProofRows head shown) = proof_head_text head (length shown)
 answer_text rows (Accepted cycle version left) = codes " accepted" ++ numbers_text cycle version ++ codes " " ++ decimal left
 answer_text rows (Executed cycle version ended cut made) = codes " executed" ++ numbers_text cycle version ++ numbers_text ended cut ++ codes " " ++ decimal made
 answer_text rows (Declined cycle version) = codes " declined" ++ numbers_text cycle version
 answer_text rows (Cancelled cycle) = codes " cancelled " ++ decimal cycle
 answer_text rows Bye = codes " bye"
 answer_text rows (Problems problems) = []
+answer_text rows NoNext = codes " none"
+answer_text rows (EntryBytes position bytes) = codes " entry" ++ numbers_text position (length bytes)
 answer_text rows (No refusal) = []
 
 -- the head line of a reply, with its line feed; the roster has the names of places

@@ -2,6 +2,7 @@
 
 use crate::listed::Listed;
 use crate::plan::{LimitLine, PlanRow};
+use crate::proof::{ProofHead, ProofRow};
 use crate::refusal::Refusal;
 use crate::trade::TradeRow;
 use network_laws::Problem;
@@ -94,6 +95,11 @@ pub enum Answer {
         version: u64,
         rows: Listed<PlanRow>,
     },
+    /// What the party needs to test its own part of the proposal.
+    ProofRows {
+        head: ProofHead,
+        rows: Listed<ProofRow>,
+    },
     /// The vote is kept; so many touched members have not voted.
     Accepted {
         cycle: u64,
@@ -121,6 +127,13 @@ pub enum Answer {
     Bye,
     /// What a session has to solve: one problem for each product.
     Problems(Listed<Problem>),
+    /// There is no entry behind the position.
+    NoNext,
+    /// The entry at this position, as a record of bytes.
+    EntryBytes {
+        position: u64,
+        bytes: Listed<u8>,
+    },
     /// Nothing changed.
     No(Refusal),
 }

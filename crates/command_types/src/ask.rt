@@ -3,6 +3,7 @@
 use crate::cycle::Mode;
 use crate::level::Level;
 use crate::listed::Listed;
+use crate::moment::Moment;
 use crate::trade::Side;
 use network_laws::Solution;
 use units_core::{Amount, Day, Name};
@@ -93,8 +94,16 @@ pub enum What {
         cycle: u64,
         version: u64,
     },
+    /// Ask, as the operator, for the entry behind this position of the history.
+    Next {
+        position: u64,
+    },
     /// Ask for the proposed plan.
     Plan {
+        cycle: u64,
+    },
+    /// Ask for what one needs to test one's own part of the proposal.
+    Proof {
         cycle: u64,
     },
     /// Agree to the proposal.
@@ -119,11 +128,12 @@ pub enum What {
     },
 }
 
-/// A command, and the party that gives it, if one has greeted.
+/// A command, the party that gives it, if one has greeted, and when it was asked.
 #[derive(Drop)]
 pub struct Ask {
     pub by: Option<Name>,
     pub what: What,
+    pub moment: Moment,
 }
 
 /// A change that was accepted, under the seat that asked for it.

@@ -2,7 +2,7 @@
 //! types: no value of them is made.
 
 use crate::ask::Entry;
-use crate::cycle::Phase;
+use crate::cycle::{Mode, Phase};
 use crate::plan::PlanRow;
 use crate::roster::Roster;
 use crate::tolerance::ToleranceRow;
@@ -21,6 +21,10 @@ pub struct Cycle {
     pub phase: Phase,
     /// The day of its freeze.
     pub day: Option<Day>,
+    /// The mode in which its last version began.
+    pub mode: Option<Mode>,
+    /// All that members had set when that version began.
+    pub settings: LinkedList<ToleranceRow>,
     /// The limits and the frozen network of each product, as the version began with them.
     pub begun: LinkedList<Problem>,
     /// The posted solution of each product.
@@ -72,4 +76,6 @@ pub struct Figures {
     pub opening: u64,
     /// The journal's figures; a desk without a journal has none.
     pub journal: Option<JournalFigures>,
+    /// Whether a vote takes memory, so that want of it may be its answer.
+    pub votes_take_memory: bool,
 }

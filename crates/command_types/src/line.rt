@@ -87,8 +87,16 @@ pub enum Line {
         cycle: u64,
         mode: Mode,
     },
+    /// `NEXT POSITION`
+    Next {
+        position: u64,
+    },
     /// `PLAN CYCLE`
     Plan {
+        cycle: u64,
+    },
+    /// `PROOF CYCLE`
+    Proof {
         cycle: u64,
     },
     /// `ACCEPT CYCLE VERSION`

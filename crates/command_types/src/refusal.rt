@@ -67,6 +67,10 @@ pub enum Refusal {
     TradesFull,
     /// 29: the draft would hold more than 100,000 rows and potentials.
     DraftFull,
+    /// 31: the position is below the one where the history begins, `from`.
+    Gone { from: u64 },
+    /// 32: the position is above the history's length, `end`.
+    Ahead { end: u64 },
     /// 25: the journal, which has `size` bytes, has no room for the change.
     JournalFull { size: u64 },
     /// 26: a disk fault stopped the desk before; the history ends at position `at`.

@@ -1,8 +1,9 @@
 //! What lies outside the program: where its input comes from, where its output goes, the files that it reads by name,
-//! the disk that keeps its journal, and the gate that its workers pass.
+//! the disk that keeps its journal, the clock that it asks, and the gate that its workers pass.
 #![tactic(auto)]
 
 pub mod access;
+pub mod clock;
 pub mod disk;
 pub mod failed;
 pub mod file_disk;
@@ -20,6 +21,7 @@ pub mod system_files;
 pub mod trouble;
 
 pub use access::Access;
+pub use clock::{Clock, MemoryClock, SystemClock};
 pub use disk::Disk;
 pub use failed::Failed;
 pub use file_disk::FileDisk;

@@ -30,10 +30,10 @@ pub holds : (b : Bool) → not b ≡ false → b ≡ true
 holds true e = refl
 holds false e = cc
 
-pub began : (figures : Figures) (before after : Bool) (h : History) (seat : ℕ) (by : Option (List ℕ)) (cycle : ℕ) (mode : Mode) (reply : Reply) (number version : ℕ) → (t : IsTold figures before after h seat (ask_begin by cycle mode) reply) →
+pub began : (figures : Figures) (before after : Bool) (h : History) (seat : ℕ) (by : Option (List ℕ)) (cycle : ℕ) (mode : Mode) (reply : Reply) (number version : ℕ) → {moment : ℕ} → (t : IsTold figures before after h seat (ask_begin by cycle mode moment) reply) →
     reply.answer ≡ Begun number version → Began h t.front cycle version mode
 began figures before after h seat by cycle mode reply number version t is =
-    let c = change_told figures before after h seat (ask_begin by cycle mode) reply t (ap is_refusal is) refl in
+    let c = change_told figures before after h seat _ reply t (ap is_refusal is) refl in
     let s = replayed_from h.base.state c.before in
     let e : Begun number version ≡ Begun cycle (1 + s.cycle.version) = sym is ∙ c.same in
     record {
@@ -53,11 +53,11 @@ pub record Gave (s : State) (cycle version : ℕ) (problems : List ProblemData) 
   pub version_is : (version == s.cycle.version) ≡ true
   pub same : problems ≡ s.cycle.begun
 
-pub gave : (figures : Figures) (before after : Bool) (h : History) (seat : ℕ) (by : Option (List ℕ)) (cycle version : ℕ) (reply : Reply) (problems : List ProblemData) → (t : IsTold figures before after h seat (ask_fetch by cycle version) reply) →
+pub gave : (figures : Figures) (before after : Bool) (h : History) (seat : ℕ) (by : Option (List ℕ)) (cycle version : ℕ) (reply : Reply) (problems : List ProblemData) → {moment : ℕ} → (t : IsTold figures before after h seat (ask_fetch by cycle version moment) reply) →
     reply.answer ≡ Problems problems → Gave (replayed_from h.base.state t.front) cycle version problems
 gave figures before after h seat by cycle version reply problems t is =
     let s = replayed_from h.base.state t.front in
-    let r = read_told figures before after h seat (ask_fetch by cycle version) reply t (ap is_refusal is) refl in
+    let r = read_told figures before after h seat _ reply t (ap is_refusal is) refl (λ base entries. refl) in
     let none = none_holds (refusals s by (Fetch cycle version)) r.0 in
     let e : Problems problems ≡ Problems s.cycle.begun = sym is ∙ r.1 in
     record {

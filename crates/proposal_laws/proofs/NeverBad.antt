@@ -65,14 +65,14 @@ limits_of_solving : (c : Cycle) → is_solving c.phase ≡ true → has_limits c
 limits_of_solving c e = grind (arith)
 
 -- what the POST of solutions of the problems that were given is not refused for
-post_fine : (figures : Figures) (h : History) → IsLegal h → (seat : ℕ) (by : Option (List ℕ)) (cycle version : ℕ) (mode : Mode) (front back : List Entry) (at : ℕ) → h.entries ≡ front ++ back → at ≡ h.base.position + length front → Began h front cycle version mode →
+post_fine : (clock : ℕ → Bool) (figures : Figures) (h : History) → IsLegal h → (seat : ℕ) (by : Option (List ℕ)) (cycle version : ℕ) (mode : Mode) (front back : List Entry) (at : ℕ) → h.entries ≡ front ++ back → at ≡ h.base.position + length front → Began h front cycle version mode →
     (problems : List ProblemData) (front' back' : List Entry) (at' : ℕ) → h.entries ≡ front' ++ back' → at' ≡ h.base.position + length front' → at ≤ at' → Gave (replayed_from h.base.state front') cycle version problems →
-    (solutions : List SolutionData) → AreSolved problems solutions → (from to : Mark) (reply : Reply) (made : List Entry) → at ≤ from.position → IsAsked figures h seat from (ask_post by cycle version solutions) reply made to → (post : BadPost) → reply.answer ≡ No (BadCertificate post) → ⊥
-post_fine figures h legal seat by cycle version mode front back at split place began problems front' back' at' split' place' later given solutions solved from to reply made after asked post e =
+    (solutions : List SolutionData) → AreSolved problems solutions → (from to : Mark) (reply : Reply) (made : List Entry) → at ≤ from.position → {moment : ℕ} → IsAsked clock figures h seat from (ask_post by cycle version solutions moment) reply made to → (post : BadPost) → reply.answer ≡ No (BadCertificate post) → ⊥
+post_fine clock figures h legal seat by cycle version mode front back at split place began problems front' back' at' split' place' later given solutions solved from to reply made after asked post e =
     let t = asked.told in
     let S : List Entry → State = replayed_from h.base.state in
-    let w = wrong (S t.front) by cycle version solutions post (told_refused is_bad figures asked.before to.stopped h seat (ask_post by cycle version solutions) reply (BadCertificate post) (λ n. refl) (λ n. refl) refl refl refl
-    (λ s. answered_post s by cycle version solutions) t e) in
+    let w = wrong (S t.front) by cycle version solutions post (told_refused is_bad figures asked.before to.stopped h seat _ reply (BadCertificate post) (λ n. refl) (λ n. refl) refl refl refl
+    (λ s. answered_post s by cycle version solutions) (λ base entries. refl) t e) in
     let first = began.state in
     let settled : has_limits (S front).cycle.phase ≡ true = ap (λ (s : State). has_limits s.cycle.phase) first in
     let n0 : (S front).cycle.number ≡ cycle = ap (λ (s : State). s.cycle.number) first ∙ sym (eqb-true cycle began.start.cycle.number began.number) in
@@ -90,37 +90,37 @@ post_fine figures h legal seat by cycle version mode front back at split place b
     λ i. bad_post (length (roster i).members) ((here ∙ b0) i) solutions in
     w.wrong (now ∙ fine)
 
-begin_fine : (figures : Figures) (h : History) (seat : ℕ) (from : Mark) (by : Option (List ℕ)) (cycle : ℕ) (mode : Mode) (reply : Reply) (made : List Entry) (to : Mark) → IsAsked figures h seat from (ask_begin by cycle mode) reply made to →
+begin_fine : (clock : ℕ → Bool) (figures : Figures) (h : History) (seat : ℕ) (from : Mark) (by : Option (List ℕ)) (cycle : ℕ) (mode : Mode) (reply : Reply) (made : List Entry) (to : Mark) → {moment : ℕ} → IsAsked clock figures h seat from (ask_begin by cycle mode moment) reply made to →
     (post : BadPost) → reply.answer ≡ No (BadCertificate post) → ⊥
-begin_fine figures h seat from by cycle mode reply made to a post e =
-    told_not is_bad figures a.before to.stopped h seat (ask_begin by cycle mode) reply (BadCertificate post) (λ n. refl) (λ n. refl) refl refl refl (λ s. refl) a.told refl e
+begin_fine clock figures h seat from by cycle mode reply made to a post e =
+    told_not is_bad figures a.before to.stopped h seat _ reply (BadCertificate post) (λ n. refl) (λ n. refl) refl refl refl (λ s. refl) (λ base entries. refl) a.told refl e
 
-fetch_fine : (figures : Figures) (h : History) (seat : ℕ) (from : Mark) (by : Option (List ℕ)) (cycle version : ℕ) (reply : Reply) (made : List Entry) (to : Mark) → IsAsked figures h seat from (ask_fetch by cycle version) reply made to →
+fetch_fine : (clock : ℕ → Bool) (figures : Figures) (h : History) (seat : ℕ) (from : Mark) (by : Option (List ℕ)) (cycle version : ℕ) (reply : Reply) (made : List Entry) (to : Mark) → {moment : ℕ} → IsAsked clock figures h seat from (ask_fetch by cycle version moment) reply made to →
     (post : BadPost) → reply.answer ≡ No (BadCertificate post) → ⊥
-fetch_fine figures h seat from by cycle version reply made to a post e =
-    told_not is_bad figures a.before to.stopped h seat (ask_fetch by cycle version) reply (BadCertificate post) (λ n. refl) (λ n. refl) refl refl refl (λ s. refl) a.told refl e
+fetch_fine clock figures h seat from by cycle version reply made to a post e =
+    told_not is_bad figures a.before to.stopped h seat _ reply (BadCertificate post) (λ n. refl) (λ n. refl) refl refl refl (λ s. refl) (λ base entries. refl) a.told refl e
 
 -- what follows on the problems
-fetched_fine : (answer : Answer) (figures : Figures) (h : History) → IsLegal h → (seat : ℕ) (by : Option (List ℕ)) (cycle version : ℕ) (mode : Mode) (front back : List Entry) (at : ℕ) → h.entries ≡ front ++ back → at ≡ h.base.position + length front → Began h front cycle version mode →
-    (mid from to : Mark) (fetched reply : Reply) (first made : List Entry) → at ≤ from.position → IsAsked figures h seat from (ask_fetch by cycle version) fetched first mid → fetched.answer ≡ answer →
-    GoesOnFetched answer figures h seat mid by cycle version at fetched reply made to → (post : BadPost) → reply.answer ≡ No (BadCertificate post) → ⊥
-fetched_fine (Problems problems) figures h legal seat by cycle version mode front back at split place began mid from to fetched reply first made later asked is (inl unsolved) post e =
+fetched_fine : (answer : Answer) (clock : ℕ → Bool) (figures : Figures) (h : History) → IsLegal h → (seat : ℕ) (by : Option (List ℕ)) (cycle version : ℕ) (mode : Mode) (front back : List Entry) (at : ℕ) → h.entries ≡ front ++ back → at ≡ h.base.position + length front → Began h front cycle version mode →
+    (mid from to : Mark) (fetched reply : Reply) (first made : List Entry) → at ≤ from.position → {moment : ℕ} → IsAsked clock figures h seat from (ask_fetch by cycle version moment) fetched first mid → fetched.answer ≡ answer →
+    GoesOnFetched answer clock figures h seat mid by cycle version at fetched reply made to → (post : BadPost) → reply.answer ≡ No (BadCertificate post) → ⊥
+fetched_fine (Problems problems) clock figures h legal seat by cycle version mode front back at split place began mid from to fetched reply first made later asked is (inl unsolved) post e =
     let bad : No Memory ≡ No (BadCertificate post) = sym (ap (λ (r : Reply). r.answer) unsolved.0) ∙ e in cc
-fetched_fine (Problems problems) figures h legal seat by cycle version mode front back at split place began mid from to fetched reply first made later asked is (inr p) post e =
+fetched_fine (Problems problems) clock figures h legal seat by cycle version mode front back at split place began mid from to fetched reply first made later asked is (inr p) post e =
     let given = gave figures asked.before mid.stopped h seat by cycle version fetched problems asked.told is in
-    post_fine figures h legal seat by cycle version mode front back at split place began problems asked.told.front asked.told.back fetched.at asked.told.split asked.told.place (omega (arith, later, asked.later)) given
+    post_fine clock figures h legal seat by cycle version mode front back at split place began problems asked.told.front asked.told.back fetched.at asked.told.split asked.told.place (omega (arith, later, asked.later)) given
     p.solutions p.solved mid to reply made (omega (arith, later, asked.later, asked.position)) p.asked post e
-fetched_fine answer figures h legal seat by cycle version mode front back at split place began mid from to fetched reply first made later asked is last post e =
-    fetch_fine figures h seat from by cycle version fetched first mid asked post (sym (ap (λ (r : Reply). r.answer) last.0) ∙ e)
+fetched_fine answer clock figures h legal seat by cycle version mode front back at split place began mid from to fetched reply first made later asked is last post e =
+    fetch_fine clock figures h seat from by cycle version fetched first mid asked post (sym (ap (λ (r : Reply). r.answer) last.0) ∙ e)
 
-begun_fine : (answer : Answer) (figures : Figures) (h : History) → IsLegal h → (seat : ℕ) (from mid to : Mark) (by : Option (List ℕ)) (cycle : ℕ) (mode : Mode) (begun reply : Reply) (first made : List Entry) → IsAsked figures h seat from (ask_begin by cycle mode) begun first mid → begun.answer ≡ answer →
-    GoesOnBegun answer figures h seat mid by cycle begun reply made to → (post : BadPost) → reply.answer ≡ No (BadCertificate post) → ⊥
-begun_fine (Begun number version) figures h legal seat from mid to by cycle mode begun reply first made asked is f post e =
-    fetched_fine f.fetched.answer figures h legal seat by cycle version mode asked.told.front asked.told.back begun.at asked.told.split asked.told.place (began figures asked.before mid.stopped h seat by cycle mode begun number version asked.told is)
+begun_fine : (answer : Answer) (clock : ℕ → Bool) (figures : Figures) (h : History) → IsLegal h → (seat : ℕ) (from mid to : Mark) (by : Option (List ℕ)) (cycle : ℕ) (mode : Mode) (begun reply : Reply) (first made : List Entry) → {moment : ℕ} → IsAsked clock figures h seat from (ask_begin by cycle mode moment) begun first mid → begun.answer ≡ answer →
+    GoesOnBegun answer clock figures h seat mid by cycle begun reply made to → (post : BadPost) → reply.answer ≡ No (BadCertificate post) → ⊥
+begun_fine (Begun number version) clock figures h legal seat from mid to by cycle mode begun reply first made asked is f post e =
+    fetched_fine f.fetched.answer clock figures h legal seat by cycle version mode asked.told.front asked.told.back begun.at asked.told.split asked.told.place (began figures asked.before mid.stopped h seat by cycle mode begun number version asked.told is)
     f.mid mid to f.fetched reply f.first f.others (omega (arith, asked.position)) f.asked refl f.goes_on post e
-begun_fine answer figures h legal seat from mid to by cycle mode begun reply first made asked is last post e =
-    begin_fine figures h seat from by cycle mode begun first mid asked post (sym (ap (λ (r : Reply). r.answer) last.0) ∙ e)
+begun_fine answer clock figures h legal seat from mid to by cycle mode begun reply first made asked is last post e =
+    begin_fine clock figures h seat from by cycle mode begun first mid asked post (sym (ap (λ (r : Reply). r.answer) last.0) ∙ e)
 
 pub proposals_are_never_bad : ProposalsAreNeverBad
-proposals_are_never_bad figures h legal seat from by cycle mode reply made to p post e =
-    begun_fine p.begun.answer figures h legal seat from p.mid to by cycle mode p.begun reply p.first p.others p.asked refl p.goes_on post e
+proposals_are_never_bad clock figures h legal seat from by cycle mode reply made to p post e =
+    begun_fine p.begun.answer clock figures h legal seat from p.mid to by cycle mode p.begun reply p.first p.others p.asked refl p.goes_on post e

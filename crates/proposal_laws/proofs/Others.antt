@@ -28,9 +28,9 @@ none_recorded true e is = cc
 none_recorded false e is = refl
 
 -- up to a reply's position the seat has its own changes more
-asked_own : (figures : Figures) (h : History) (seat : ℕ) (from : Mark) (ask : Ask) (reply : Reply) (made : List Entry) (to : Mark) → IsAsked figures h seat from ask reply made to →
+asked_own : (clock : ℕ → Bool) (figures : Figures) (h : History) (seat : ℕ) (from : Mark) (ask : Ask) (reply : Reply) (made : List Entry) (to : Mark) → IsAsked clock figures h seat from ask reply made to →
     own_at h seat from.position + length made ≤ own_at h seat to.position
-asked_own figures h seat from ask reply made to a = by_case a.told.one
+asked_own clock figures h seat from ask reply made to a = by_case a.told.one
   where
     entry : Entry
     entry = record { seat = seat; ask = ask }
@@ -41,7 +41,7 @@ asked_own figures h seat from ask reply made to a = by_case a.told.one
         let less = own_at_grows h seat from.position to.position (omega (arith, a.later, a.position)) in
         omega (arith, empty, less)
 
-    by_case : IsRecorded h.base.state a.told.front seat ask reply.answer ⊎ IsNotRecorded h.base.state a.told.front ask reply.answer ⊎ IsHouse figures.journal figures a.before to.stopped h.base.state a.told.front reply.at ask reply.answer ⊎ IsMemory reply.answer →
+    by_case : IsRecorded h.base.state a.told.front seat ask reply.answer ⊎ IsNotRecorded h.base a.told.front ask reply.answer ⊎ IsHouse figures.journal figures a.before to.stopped h.base.state a.told.front reply.at ask reply.answer ⊎ IsMemory figures ask.what reply.answer →
         own_at h seat from.position + length made ≤ own_at h seat to.position
     by_case (inl r) =
         let same : made ≡ entry ∷ [] = a.keeps ∙ ap (λ t. cond {A = List Entry} t (entry ∷ []) []) r.change in
@@ -52,8 +52,8 @@ asked_own figures h seat from ask reply made to a = by_case a.told.one
         omega (arith, size, more)
     by_case (inr (inl r)) = nothing (a.keeps ∙ none_recorded (is_recorded ask.what reply.answer) entry r.no_change)
     by_case (inr (inr (inl house))) =
-        nothing (refused_makes_nothing figures h seat from ask reply made to a (house_refuses figures.journal figures a.before to.stopped h.base.state a.told.front reply.at ask reply.answer house))
-    by_case (inr (inr (inr memory))) = nothing (refused_makes_nothing figures h seat from ask reply made to a (ap is_refusal memory))
+        nothing (refused_makes_nothing clock figures h seat from ask reply made to a (house_refuses figures.journal figures a.before to.stopped h.base.state a.told.front reply.at ask reply.answer house))
+    by_case (inr (inr (inr memory))) = nothing (refused_makes_nothing clock figures h seat from ask reply made to a (ap is_refusal memory.same))
 
 -- nothing more was asked
 last_own : (h : History) (seat : ℕ) (mid : Mark) (last reply : Reply) (made : List Entry) (to : Mark) → IsLast last mid reply made to → own_at h seat mid.position + length made ≤ own_at h seat to.position
@@ -62,76 +62,76 @@ last_own h seat mid last reply made to (same, none, stays) =
     let there : own_at h seat to.position ≡ own_at h seat mid.position = ap (λ (m : Mark). own_at h seat m.position) stays in
     omega (arith, empty, there)
 
-fetched_own : (answer : Answer) (figures : Figures) (h : History) (seat : ℕ) (mid : Mark) (by : Option (List ℕ)) (cycle version at : ℕ) (fetched reply : Reply) (made : List Entry) (to : Mark) →
-    GoesOnFetched answer figures h seat mid by cycle version at fetched reply made to → own_at h seat mid.position + length made ≤ own_at h seat to.position
-fetched_own (Problems problems) figures h seat mid by cycle version at fetched reply made to (inl unsolved) = last_own h seat mid _ reply made to unsolved
-fetched_own (Problems problems) figures h seat mid by cycle version at fetched reply made to (inr p) = asked_own figures h seat mid (ask_post by cycle version p.solutions) reply made to p.asked
-fetched_own answer figures h seat mid by cycle version at fetched reply made to last = last_own h seat mid fetched reply made to last
+fetched_own : (answer : Answer) (clock : ℕ → Bool) (figures : Figures) (h : History) (seat : ℕ) (mid : Mark) (by : Option (List ℕ)) (cycle version at : ℕ) (fetched reply : Reply) (made : List Entry) (to : Mark) →
+    GoesOnFetched answer clock figures h seat mid by cycle version at fetched reply made to → own_at h seat mid.position + length made ≤ own_at h seat to.position
+fetched_own (Problems problems) clock figures h seat mid by cycle version at fetched reply made to (inl unsolved) = last_own h seat mid _ reply made to unsolved
+fetched_own (Problems problems) clock figures h seat mid by cycle version at fetched reply made to (inr p) = asked_own clock figures h seat mid (ask_post by cycle version p.solutions p.moment) reply made to p.asked
+fetched_own answer clock figures h seat mid by cycle version at fetched reply made to last = last_own h seat mid fetched reply made to last
 
-begun_own : (answer : Answer) (figures : Figures) (h : History) (seat : ℕ) (mid : Mark) (by : Option (List ℕ)) (cycle : ℕ) (begun reply : Reply) (made : List Entry) (to : Mark) →
-    GoesOnBegun answer figures h seat mid by cycle begun reply made to → own_at h seat mid.position + length made ≤ own_at h seat to.position
-begun_own (Begun number version) figures h seat mid by cycle begun reply made to f =
+begun_own : (answer : Answer) (clock : ℕ → Bool) (figures : Figures) (h : History) (seat : ℕ) (mid : Mark) (by : Option (List ℕ)) (cycle : ℕ) (begun reply : Reply) (made : List Entry) (to : Mark) →
+    GoesOnBegun answer clock figures h seat mid by cycle begun reply made to → own_at h seat mid.position + length made ≤ own_at h seat to.position
+begun_own (Begun number version) clock figures h seat mid by cycle begun reply made to f =
     let size : length made ≡ length f.first + length f.others = ap length f.order ∙ length-append f.first f.others in
-    let one = asked_own figures h seat mid (ask_fetch by cycle version) f.fetched f.first f.mid f.asked in
-    let more = fetched_own f.fetched.answer figures h seat f.mid by cycle version begun.at f.fetched reply f.others to f.goes_on in
+    let one = asked_own clock figures h seat mid (ask_fetch by cycle version f.moment) f.fetched f.first f.mid f.asked in
+    let more = fetched_own f.fetched.answer clock figures h seat f.mid by cycle version begun.at f.fetched reply f.others to f.goes_on in
     omega (arith, size, one, more)
-begun_own answer figures h seat mid by cycle begun reply made to last = last_own h seat mid begun reply made to last
+begun_own answer clock figures h seat mid by cycle begun reply made to last = last_own h seat mid begun reply made to last
 
-replied_own : (figures : Figures) (h : History) (seat : ℕ) (from : Mark) (rows : Rows) (speaker : Speaker) (read : Result Line ℕ) (reply : Reply) (made : List Entry) (to : Mark) →
-    IsReplied figures h seat from rows speaker read reply made to → own_at h seat from.position + length made ≤ own_at h seat to.position
-replied_own figures h seat from rows speaker (Ok (Propose cycle mode)) reply made to p =
+replied_own : (clock : ℕ → Bool) (figures : Figures) (h : History) (seat : ℕ) (from : Mark) (rows : Rows) (speaker : Speaker) (read : Result Line ℕ) (reply : Reply) (made : List Entry) (to : Mark) →
+    IsReplied clock figures h seat from rows speaker read reply made to → own_at h seat from.position + length made ≤ own_at h seat to.position
+replied_own clock figures h seat from rows speaker (Ok (Propose cycle mode)) reply made to p =
     let size : length made ≡ length p.first + length p.others = ap length p.order ∙ length-append p.first p.others in
-    let one = asked_own figures h seat from (ask_begin speaker.party cycle mode) p.begun p.first p.mid p.asked in
-    let more = begun_own p.begun.answer figures h seat p.mid speaker.party cycle p.begun reply p.others to p.goes_on in
+    let one = asked_own clock figures h seat from (ask_begin speaker.party cycle mode p.moment) p.begun p.first p.mid p.asked in
+    let more = begun_own p.begun.answer clock figures h seat p.mid speaker.party cycle p.begun reply p.others to p.goes_on in
     omega (arith, size, one, more)
-replied_own figures h seat from rows speaker read reply made to a = asked_own figures h seat from _ reply made to a
+replied_own clock figures h seat from rows speaker read reply made to a = asked_own clock figures h seat from _ reply made to a.1
 
-talk_own : (figures : Figures) (h : History) (seat : ℕ) (from : Standing) (lines : List (List ℕ)) (text : List ℕ) (made : List Entry) (to : Standing) → IsTalk figures h seat from lines text made to →
+talk_own : (clock : ℕ → Bool) (figures : Figures) (h : History) (seat : ℕ) (from : Standing) (lines : List (List ℕ)) (text : List ℕ) (made : List Entry) (to : Standing) → IsTalk clock figures h seat from lines text made to →
     own_at h seat from.position + length made ≤ own_at h seat to.position
-talk_own figures h seat from [] text made to (no_text, none, same) =
+talk_own clock figures h seat from [] text made to (no_text, none, same) =
     let empty : length made ≡ 0 = ap length none in
     let there : own_at h seat to.position ≡ own_at h seat from.position = ap (λ (s : Standing). own_at h seat s.position) same in
     omega (arith, empty, there)
-talk_own figures h seat from (line ∷ lines) text made to (next, head, more, first, others, answered, is_text, is_made, talk) =
-    let one = replied_own figures h seat (mark_of from) h.base.state.roster from.speaker (line_within line) answered.reply first (mark_of next) answered.replied in
-    let rest = talk_own figures h seat next lines more others to talk in
+talk_own clock figures h seat from (line ∷ lines) text made to (next, head, more, first, others, answered, is_text, is_made, talk) =
+    let one = replied_own clock figures h seat (mark_of from) h.base.state.roster from.speaker (line_within line) answered.reply first (mark_of next) answered.replied in
+    let rest = talk_own clock figures h seat next lines more others to talk in
     let size : length made ≡ length first + length others = ap length is_made ∙ length-append first others in
     omega (arith, one, rest, size)
 
 -- a PROPOSE that was overtaken, where the seat has no changes but the line's
-overtaken_by_other : (figures : Figures) (h : History) (seat : ℕ) (from : Mark) (rows : Rows) (speaker : Speaker) (read : Result Line ℕ) (reply : Reply) (made : List Entry) (to : Mark) →
-    (r : IsReplied figures h seat from rows speaker read reply made to) → own_at h seat to.position ≤ own_at h seat from.position + length made →
-    (begun : Reply) → begun_by figures h seat from rows speaker read reply made to r ≡ Some begun → IsOvertaken begun reply → HasOther h seat begun.at reply.at
-overtaken_by_other figures h seat from rows speaker (Ok (Propose cycle mode)) reply made to p only begun is o =
+overtaken_by_other : (clock : ℕ → Bool) (figures : Figures) (h : History) (seat : ℕ) (from : Mark) (rows : Rows) (speaker : Speaker) (read : Result Line ℕ) (reply : Reply) (made : List Entry) (to : Mark) →
+    (r : IsReplied clock figures h seat from rows speaker read reply made to) → own_at h seat to.position ≤ own_at h seat from.position + length made →
+    (begun : Reply) → begun_by clock figures h seat from rows speaker read reply made to r ≡ Some begun → IsOvertaken begun reply → HasOther h seat begun.at reply.at
+overtaken_by_other clock figures h seat from rows speaker (Ok (Propose cycle mode)) reply made to p only begun is o =
     let same : p.begun ≡ begun = cc in
     subst (λ (b : Reply). HasOther h seat b.at reply.at) same (by_begun (subst (λ (b : Reply). IsOvertaken b reply) (sym same) o))
   where
     by_begun : IsOvertaken p.begun reply → HasOther h seat p.begun.at reply.at
     by_begun o =
-        let later = proposals_are_overtaken figures h seat from speaker.party cycle mode reply made to p o in
-        let rest : p.others ≡ [] = begun_makes_nothing p.begun.answer figures h seat p.mid speaker.party cycle p.begun reply p.others to p.goes_on (ap is_refusal o.refused) in
+        let later = proposals_are_overtaken clock figures h seat from speaker.party cycle mode reply made to p o in
+        let rest : p.others ≡ [] = begun_makes_nothing p.begun.answer clock figures h seat p.mid speaker.party cycle p.begun reply p.others to p.goes_on (ap is_refusal o.refused) in
         let size : length made ≡ length p.first = ap length (p.order ∙ (ap (λ es. p.first ++ es) rest ∙ append-nil p.first)) in
-        let runs = replied_runs figures h seat from rows speaker (Ok (Propose cycle mode)) reply made to p in
-        let one = asked_own figures h seat from (ask_begin speaker.party cycle mode) p.begun p.first p.mid p.asked in
+        let runs = replied_runs clock figures h seat from rows speaker (Ok (Propose cycle mode)) reply made to p in
+        let one = asked_own clock figures h seat from (ask_begin speaker.party cycle mode p.moment) p.begun p.first p.mid p.asked in
         let at : own_at h seat p.mid.position ≡ own_at h seat p.begun.at = ap (own_at h seat) p.asked.position in
         let up = own_at_grows h seat reply.at to.position runs.high in
         other_between h seat p.begun.at reply.at (omega (arith, one, at, up, only, size)) (omega (arith, p.asked.told.place)) later (omega (arith, runs.high, runs.end))
-overtaken_by_other figures h seat from rows speaker read reply made to r only begun is o = cc
+overtaken_by_other clock figures h seat from rows speaker read reply made to r only begun is o = cc
 
-others_turns : (figures : Figures) (h : History) (seat : ℕ) (from : Standing) (lines : List (List ℕ)) (text : List ℕ) (made : List Entry) (to : Standing) →
-    (talk : IsTalk figures h seat from lines text made to) → own_at h seat to.position ≤ own_at h seat from.position + length made → All IsOvertakenByOther (turns figures h seat from lines text made to talk)
-others_turns figures h seat from [] text made to talk only = All-nil IsOvertakenByOther
-others_turns figures h seat from (line ∷ lines) text made to (next, head, more, first, others, answered, is_text, is_made, talk) only =
-    let one = replied_own figures h seat (mark_of from) h.base.state.roster from.speaker (line_within line) answered.reply first (mark_of next) answered.replied in
-    let rest = talk_own figures h seat next lines more others to talk in
+others_turns : (clock : ℕ → Bool) (figures : Figures) (h : History) (seat : ℕ) (from : Standing) (lines : List (List ℕ)) (text : List ℕ) (made : List Entry) (to : Standing) →
+    (talk : IsTalk clock figures h seat from lines text made to) → own_at h seat to.position ≤ own_at h seat from.position + length made → All IsOvertakenByOther (turns clock figures h seat from lines text made to talk)
+others_turns clock figures h seat from [] text made to talk only = All-nil IsOvertakenByOther
+others_turns clock figures h seat from (line ∷ lines) text made to (next, head, more, first, others, answered, is_text, is_made, talk) only =
+    let one = replied_own clock figures h seat (mark_of from) h.base.state.roster from.speaker (line_within line) answered.reply first (mark_of next) answered.replied in
+    let rest = talk_own clock figures h seat next lines more others to talk in
     let size : length made ≡ length first + length others = ap length is_made ∙ length-append first others in
-    let turn : Turn figures h seat = record { from = from; line = line; text = head; made = first; to = next; answered = answered } in
-    All-cons IsOvertakenByOther turn (turns figures h seat next lines more others to talk)
-    (overtaken_by_other figures h seat (mark_of from) h.base.state.roster from.speaker (line_within line) answered.reply first (mark_of next) answered.replied (omega (arith, rest, size, only)))
-    (others_turns figures h seat next lines more others to talk (omega (arith, one, size, only)))
+    let turn : Turn clock figures h seat = record { from = from; line = line; text = head; made = first; to = next; answered = answered } in
+    All-cons IsOvertakenByOther turn (turns clock figures h seat next lines more others to talk)
+    (overtaken_by_other clock figures h seat (mark_of from) h.base.state.roster from.speaker (line_within line) answered.reply first (mark_of next) answered.replied (omega (arith, rest, size, only)))
+    (others_turns clock figures h seat next lines more others to talk (omega (arith, one, size, only)))
 
 pub others_overtake : OthersOvertake
-others_overtake figures h seat from lines text session =
+others_overtake clock figures h seat from lines text session =
     let most = own_at_most h seat from.position session.to.position in
     let size : length session.made ≡ length (entries_of_seat h seat from.position) = ap length session.own in
-    others_turns figures h seat from lines text session.made session.to session.talk (omega (arith, most, size))
+    others_turns clock figures h seat from lines text session.made session.to session.talk (omega (arith, most, size))

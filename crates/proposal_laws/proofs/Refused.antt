@@ -9,11 +9,13 @@ use Rattle.command_types.specs.declared.answer.Answer.TheVariants.{No}
 use Rattle.command_types.specs.declared.answer.Reply.{Reply}
 use Rattle.command_types.specs.declared.figures.Figures.{Figures}
 use Rattle.command_types.specs.declared.figures.JournalFigures.{JournalFigures}
+use Rattle.command_types.specs.declared.figures.Start.{Start}
 use Rattle.command_types.specs.declared.figures.State.{State}
 use Rattle.command_types.specs.declared.refusal.Refusal.{Refusal}
 use Rattle.command_types.specs.declared.refusal.Refusal.TheVariants.{JournalFull, Stopped, Memory, DiskFault}
-use Rattle.command_types.specs.Machine.{first_of, refused_or, is_refusal, refusals, accepted, changes}
+use Rattle.command_types.specs.Machine.{first_of, refused_or, is_refusal, refusals, accepted, answer_to, changes}
 use Rattle.command_types.specs.History.{History, replayed_from}
+use Rattle.command_types.specs.Offers.{answer_at}
 use Rattle.command_types.specs.Told.{IsTold, IsRecorded, IsNotRecorded, IsHouse, IsMemory, house_refusals}
 
 -- none of these refusals holds in a row
@@ -54,11 +56,11 @@ house_not kind (Some journal) figures before after s front n ask answer x full s
 -- a refusal that no journal gives, and no want of memory, is the machine's: it is the first that holds
 pub told_refused : (kind : Refusal → Bool) (figures : Figures) (before after : Bool) (h : History) (seat : ℕ) (ask : Ask) (reply : Reply) (x : Refusal) →
     ((size : ℕ) → kind (JournalFull size) ≡ false) → ((at : ℕ) → kind (Stopped at) ≡ false) → kind DiskFault ≡ false → kind Memory ≡ false → kind x ≡ true →
-    ((s : State) → is_refusal (accepted s ask.by ask.what) ≡ false) →
+    ((s : State) → is_refusal (accepted s ask.by ask.what) ≡ false) → ((base : Start) (entries : List Entry) → answer_at base entries ask ≡ answer_to (replayed_from base.state entries) ask) →
     (t : IsTold figures before after h seat ask reply) → reply.answer ≡ No x → first_of (refusals (replayed_from h.base.state t.front) ask.by ask.what) ≡ Some x
-told_refused kind figures before after h seat ask reply x full stops fault memory is accepts t e = by_case t.one
+told_refused kind figures before after h seat ask reply x full stops fault memory is accepts asks t e = by_case t.one
   where
-    by_case : IsRecorded h.base.state t.front seat ask reply.answer ⊎ IsNotRecorded h.base.state t.front ask reply.answer ⊎ IsHouse figures.journal figures before after h.base.state t.front reply.at ask reply.answer ⊎ IsMemory reply.answer →
+    by_case : IsRecorded h.base.state t.front seat ask reply.answer ⊎ IsNotRecorded h.base t.front ask reply.answer ⊎ IsHouse figures.journal figures before after h.base.state t.front reply.at ask reply.answer ⊎ IsMemory figures ask.what reply.answer →
         first_of (refusals (replayed_from h.base.state t.front) ask.by ask.what) ≡ Some x
     by_case (inl r) =
         absurd (
@@ -67,21 +69,21 @@ told_refused kind figures before after h seat ask reply x full stops fault memor
         let P : Bool → Type 0 = λ b. not b ≡ true in
         let bad : false ≡ true = subst P refused change in
         cc)
-    by_case (inr (inl r)) = no_of (accepted (replayed_from h.base.state t.front) ask.by ask.what) _ x (accepts (replayed_from h.base.state t.front)) (sym e ∙ r.same)
+    by_case (inr (inl r)) = no_of (accepted (replayed_from h.base.state t.front) ask.by ask.what) _ x (accepts (replayed_from h.base.state t.front)) (sym e ∙ r.same ∙ asks h.base t.front)
     by_case (inr (inr (inl house))) = absurd (house_not kind figures.journal figures before after h.base.state t.front reply.at ask reply.answer x full stops fault is house e)
     by_case (inr (inr (inr no_memory))) =
         absurd (
-        let same : Memory ≡ x = let f : No Memory ≡ No x = sym no_memory ∙ e in cc in
+        let same : Memory ≡ x = let f : No Memory ≡ No x = sym no_memory.same ∙ e in cc in
         let bad : false ≡ true = sym memory ∙ (ap kind same ∙ is) in
         cc)
 
 -- a reply of a command that the machine refuses for no such cause
 pub told_not : (kind : Refusal → Bool) (figures : Figures) (before after : Bool) (h : History) (seat : ℕ) (ask : Ask) (reply : Reply) (x : Refusal) →
     ((size : ℕ) → kind (JournalFull size) ≡ false) → ((at : ℕ) → kind (Stopped at) ≡ false) → kind DiskFault ≡ false → kind Memory ≡ false → kind x ≡ true →
-    ((s : State) → is_refusal (accepted s ask.by ask.what) ≡ false) →
+    ((s : State) → is_refusal (accepted s ask.by ask.what) ≡ false) → ((base : Start) (entries : List Entry) → answer_at base entries ask ≡ answer_to (replayed_from base.state entries) ask) →
     (t : IsTold figures before after h seat ask reply) → none_of kind (refusals (replayed_from h.base.state t.front) ask.by ask.what) ≡ true → reply.answer ≡ No x → ⊥
-told_not kind figures before after h seat ask reply x full stops fault memory is accepts t none e =
-    first_not kind (refusals (replayed_from h.base.state t.front) ask.by ask.what) x none is (told_refused kind figures before after h seat ask reply x full stops fault memory is accepts t e)
+told_not kind figures before after h seat ask reply x full stops fault memory is accepts asks t none e =
+    first_not kind (refusals (replayed_from h.base.state t.front) ask.by ask.what) x none is (told_refused kind figures before after h seat ask reply x full stops fault memory is accepts asks t e)
 
 -- a row of another kind is passed
 pub row_passed : (kind : Refusal → Bool) (row : Bool × Refusal) (rows : List (Bool × Refusal)) (x : Refusal) → kind row.1 ≡ false → kind x ≡ true → first_of (row ∷ rows) ≡ Some x → (row.0 ≡ false) × (first_of rows ≡ Some x)

@@ -10,13 +10,15 @@ use Rattle.command_types.specs.declared.answer.Answer.{Answer}
 use Rattle.command_types.specs.declared.answer.Reply.{Reply}
 use Rattle.command_types.specs.declared.figures.Figures.{Figures}
 use Rattle.command_types.specs.declared.figures.JournalFigures.{JournalFigures}
+use Rattle.command_types.specs.declared.figures.Start.{Start}
 use Rattle.command_types.specs.declared.figures.State.{State}
 use Rattle.command_types.specs.declared.plan.PlanRow.{PlanRow}
 use Rattle.command_types.specs.declared.refusal.Refusal.{Refusal}
 use Rattle.command_types.specs.Cycles.{posted_plan, has_limits}
 use Rattle.command_types.specs.CycleSteps.{proposed_or_done, touched_in, after_vote, left_after}
-use Rattle.command_types.specs.Machine.{refused_or, first_of, is_refusal, refusals, accepted, changes, member_of, state_by, state_after}
+use Rattle.command_types.specs.Machine.{refused_or, first_of, is_refusal, refusals, accepted, answer_to, changes, member_of, state_by, state_after}
 use Rattle.command_types.specs.History.{History, IsLegal, replayed_from}
+use Rattle.command_types.specs.Offers.{answer_at}
 use Rattle.command_types.specs.Told.{IsTold, IsRecorded, IsNotRecorded, IsHouse, IsMemory}
 use Rattle.command_types.proofs.HistoryFacts.{replayed_on}
 use Rattle.trade_history.proofs.Versions.{begun_limits_stand}
@@ -50,15 +52,16 @@ house_refuses (Some journal) figures before after s front n ask answer house = a
 
 -- what a read that is not refused tells
 pub read_told : (figures : Figures) (before after : Bool) (h : History) (seat : ℕ) (ask : Ask) (reply : Reply) → (t : IsTold figures before after h seat ask reply) → is_refusal reply.answer ≡ false → changes ask.what ≡ false →
+    ((base : Start) (entries : List Entry) → answer_at base entries ask ≡ answer_to (replayed_from base.state entries) ask) →
     (first_of (refusals (replayed_from h.base.state t.front) ask.by ask.what) ≡ None) × (reply.answer ≡ accepted (replayed_from h.base.state t.front) ask.by ask.what)
-read_told figures before after h seat ask reply t fine reads = by_case t.one
+read_told figures before after h seat ask reply t fine reads asks = by_case t.one
   where
-    by_case : IsRecorded h.base.state t.front seat ask reply.answer ⊎ IsNotRecorded h.base.state t.front ask reply.answer ⊎ IsHouse figures.journal figures before after h.base.state t.front reply.at ask reply.answer ⊎ IsMemory reply.answer →
+    by_case : IsRecorded h.base.state t.front seat ask reply.answer ⊎ IsNotRecorded h.base t.front ask reply.answer ⊎ IsHouse figures.journal figures before after h.base.state t.front reply.at ask reply.answer ⊎ IsMemory figures ask.what reply.answer →
         (first_of (refusals (replayed_from h.base.state t.front) ask.by ask.what) ≡ None) × (reply.answer ≡ accepted (replayed_from h.base.state t.front) ask.by ask.what)
     by_case (inl r) = absurd (let change = (and_parts (changes ask.what) (not (is_refusal reply.answer)) r.change).0 in let bad : true ≡ false = sym change ∙ reads in cc)
-    by_case (inr (inl r)) = accepted_is (accepted (replayed_from h.base.state t.front) ask.by ask.what) reply.answer (first_of (refusals (replayed_from h.base.state t.front) ask.by ask.what)) fine r.same
+    by_case (inr (inl r)) = accepted_is (accepted (replayed_from h.base.state t.front) ask.by ask.what) reply.answer (first_of (refusals (replayed_from h.base.state t.front) ask.by ask.what)) fine (r.same ∙ asks h.base t.front)
     by_case (inr (inr (inl house))) = absurd (let bad : true ≡ false = sym (house_refuses figures.journal figures before after h.base.state t.front reply.at ask reply.answer house) ∙ fine in cc)
-    by_case (inr (inr (inr memory))) = absurd (let bad : true ≡ false = sym (ap is_refusal memory) ∙ fine in cc)
+    by_case (inr (inr (inr memory))) = absurd (let bad : true ≡ false = sym (ap is_refusal memory.same) ∙ fine in cc)
 
 -- what a change that is not refused tells: it is the last entry, and the machine took it
 pub record Changed (h : History) (front : List Entry) (seat : ℕ) (ask : Ask) (answer : Answer) : Type 0 where
@@ -72,7 +75,7 @@ pub change_told : (figures : Figures) (before after : Bool) (h : History) (seat 
     Changed h t.front seat ask reply.answer
 change_told figures before after h seat ask reply t fine change = by_case t.one
   where
-    by_case : IsRecorded h.base.state t.front seat ask reply.answer ⊎ IsNotRecorded h.base.state t.front ask reply.answer ⊎ IsHouse figures.journal figures before after h.base.state t.front reply.at ask reply.answer ⊎ IsMemory reply.answer →
+    by_case : IsRecorded h.base.state t.front seat ask reply.answer ⊎ IsNotRecorded h.base t.front ask reply.answer ⊎ IsHouse figures.journal figures before after h.base.state t.front reply.at ask reply.answer ⊎ IsMemory figures ask.what reply.answer →
         Changed h t.front seat ask reply.answer
     by_case (inl r) =
         let s = replayed_from h.base.state r.before in
@@ -90,7 +93,7 @@ change_told figures before after h seat ask reply t fine change = by_case t.one
         let bad : false ≡ true = subst P (λ i. (change i, fine i)) r.no_change in
         cc)
     by_case (inr (inr (inl house))) = absurd (let bad : true ≡ false = sym (house_refuses figures.journal figures before after h.base.state t.front reply.at ask reply.answer house) ∙ fine in cc)
-    by_case (inr (inr (inr memory))) = absurd (let bad : true ≡ false = sym (ap is_refusal memory) ∙ fine in cc)
+    by_case (inr (inr (inr memory))) = absurd (let bad : true ≡ false = sym (ap is_refusal memory.same) ∙ fine in cc)
 
 -- of two fronts of one history the shorter begins the longer
 pub begins : (xs ys rx ry : List Entry) → xs ++ rx ≡ ys ++ ry → length xs ≤ length ys → (more : List Entry) × (ys ≡ xs ++ more)

@@ -1,5 +1,5 @@
 -- Small histories of a desk without members and products, by which the definitions can be read. A version there has nothing to solve.
-use Rattle.std.specs.Prelude.{◌≡◌, ℕ, List, [], ◌∷◌, Some, None, false, codes}
+use Rattle.std.specs.Prelude.{◌≡◌, ℕ, ◌==◌, Bool, List, [], ◌∷◌, Some, None, false, codes}
 use Rattle.command_types.specs.declared.answer.Reply.{Reply}
 use Rattle.command_types.specs.declared.ask.Entry.{Entry}
 use Rattle.command_types.specs.declared.ask.What.{What}
@@ -22,7 +22,7 @@ abbrev operator_only : Rows
 operator_only = record { members = []; products = []; operator = Some (record { name = name_ops; key = codes "KO" }) }
 
 abbrev pub change : ℕ → What → Entry
-change seat what = record { seat = seat; ask = record { by = Some name_ops; what = what } }
+change seat what = record { seat = seat; ask = record { by = Some name_ops; what = what; moment = 0 } }
 
 -- the cycle was frozen before
 abbrev pub history_of : List Entry → History
@@ -46,20 +46,24 @@ abbrev pub greeted : Standing
 greeted = record { position = 1; speaker = record { party = Some name_ops; draft = empty_draft }; stopped = false; over = false }
 
 abbrev pub figures_of : History → Figures
-figures_of h = record { base = h.base; opening = 1; journal = None }
+figures_of h = record { base = h.base; opening = 1; journal = None; votes_take_memory = false }
+
+-- the clock tells 0
+abbrev pub at_0 : ℕ → Bool
+at_0 moment = moment == 0
 
 abbrev pub propose_line : List ℕ
 propose_line = codes "PROPOSE 1 conservative"
 
 -- the operator's PROPOSE is replied to so, in a session of seat 0 with this one line
 abbrev pub IsProposedIn : History → List ℕ → Type 0
-IsProposedIn h text = IsSession (figures_of h) h 0 greeted (propose_line ∷ []) text
+IsProposedIn h text = IsSession at_0 (figures_of h) h 0 greeted (propose_line ∷ []) text
 
 -- The operator's PROPOSE is overtaken, and replied to so.
 pub record IsOvertakenIn (h : History) (text : List ℕ) : Type 0 where
   pub session : IsProposedIn h text
-  pub turn : Turn (figures_of h) h 0
-  pub only : turns (figures_of h) h 0 greeted (propose_line ∷ []) text session.made session.to session.talk ≡ turn ∷ []
+  pub turn : Turn at_0 (figures_of h) h 0
+  pub only : turns at_0 (figures_of h) h 0 greeted (propose_line ∷ []) text session.made session.to session.talk ≡ turn ∷ []
   pub begun : Reply
   pub began : begun_in turn ≡ Some begun
   pub overtaken : IsOvertaken begun turn.answered.reply
@@ -85,4 +89,4 @@ begun_text = codes "ok 2 begun 1 1\n"
 
 -- the operator's BEGIN is replied to so, and nothing else comes
 abbrev pub IsBegunAlone : List ℕ → Type 0
-IsBegunAlone text = IsPlainScript (figures_of frozen) frozen 0 greeted (begin_line ∷ []) text
+IsBegunAlone text = IsPlainScript at_0 (figures_of frozen) frozen 0 greeted (begin_line ∷ []) text

@@ -42,43 +42,43 @@ pub record HasOther (h : History) (seat low high : ℕ) : Type 0 where
 -- a PROPOSE is never refused for a bad certificate
 abbrev pub ProposalsAreNeverBad : Type 0
 ProposalsAreNeverBad =
-    (figures : Figures) (h : History) → IsLegal h → (seat : ℕ) (from : Mark) (by : Option (List ℕ)) (cycle : ℕ) (mode : Mode) (reply : Reply) (made : List Entry) (to : Mark) →
-    IsProposed figures h seat from by cycle mode reply made to → (post : BadPost) → reply.answer ≡ No (BadCertificate post) → ⊥
+    (clock : ℕ → Bool) (figures : Figures) (h : History) → IsLegal h → (seat : ℕ) (from : Mark) (by : Option (List ℕ)) (cycle : ℕ) (mode : Mode) (reply : Reply) (made : List Entry) (to : Mark) →
+    IsProposed clock figures h seat from by cycle mode reply made to → (post : BadPost) → reply.answer ≡ No (BadCertificate post) → ⊥
 
 -- a PROPOSE that was overtaken is told so at a later position than its BEGIN
 abbrev pub ProposalsAreOvertaken : Type 0
 ProposalsAreOvertaken =
-    (figures : Figures) (h : History) (seat : ℕ) (from : Mark) (by : Option (List ℕ)) (cycle : ℕ) (mode : Mode) (reply : Reply) (made : List Entry) (to : Mark) →
-    (proposed : IsProposed figures h seat from by cycle mode reply made to) → IsOvertaken proposed.begun reply → proposed.begun.at < reply.at
+    (clock : ℕ → Bool) (figures : Figures) (h : History) (seat : ℕ) (from : Mark) (by : Option (List ℕ)) (cycle : ℕ) (mode : Mode) (reply : Reply) (made : List Entry) (to : Mark) →
+    (proposed : IsProposed clock figures h seat from by cycle mode reply made to) → IsOvertaken proposed.begun reply → proposed.begun.at < reply.at
 
 -- a PROPOSE whose reply stands at the position before it and its own changes was not overtaken
 abbrev pub ProposalsAloneStand : Type 0
 ProposalsAloneStand =
-    (figures : Figures) (h : History) (seat : ℕ) (from : Mark) (by : Option (List ℕ)) (cycle : ℕ) (mode : Mode) (reply : Reply) (made : List Entry) (to : Mark) →
-    (proposed : IsProposed figures h seat from by cycle mode reply made to) → reply.at ≡ from.position + length made → IsOvertaken proposed.begun reply → ⊥
+    (clock : ℕ → Bool) (figures : Figures) (h : History) (seat : ℕ) (from : Mark) (by : Option (List ℕ)) (cycle : ℕ) (mode : Mode) (reply : Reply) (made : List Entry) (to : Mark) →
+    (proposed : IsProposed clock figures h seat from by cycle mode reply made to) → reply.at ≡ from.position + length made → IsOvertaken proposed.begun reply → ⊥
 
 -- the reply stands at the position before the line and the line's own changes
-abbrev pub IsAlone : {figures : Figures} {h : History} {seat : ℕ} → Turn figures h seat → Type 0
+abbrev pub IsAlone : {clock : ℕ → Bool} {figures : Figures} {h : History} {seat : ℕ} → Turn clock figures h seat → Type 0
 IsAlone turn = turn.answered.reply.at ≡ turn.from.position + length turn.made
 
 -- the line is no PROPOSE that was overtaken
-abbrev pub IsNotOvertaken : {figures : Figures} {h : History} {seat : ℕ} → Turn figures h seat → Type 0
+abbrev pub IsNotOvertaken : {clock : ℕ → Bool} {figures : Figures} {h : History} {seat : ℕ} → Turn clock figures h seat → Type 0
 IsNotOvertaken turn = (begun : Reply) → begun_in turn ≡ Some begun → IsOvertaken begun turn.answered.reply → ⊥
 
 -- if the line is a PROPOSE that was overtaken, another seat's change stands between the reply to its BEGIN and its own
-abbrev pub IsOvertakenByOther : {figures : Figures} {h : History} {seat : ℕ} → Turn figures h seat → Type 0
-IsOvertakenByOther {figures} {h} {seat} turn =
+abbrev pub IsOvertakenByOther : {clock : ℕ → Bool} {figures : Figures} {h : History} {seat : ℕ} → Turn clock figures h seat → Type 0
+IsOvertakenByOther {clock} {figures} {h} {seat} turn =
     (begun : Reply) → begun_in turn ≡ Some begun → IsOvertaken begun turn.answered.reply → HasOther h seat begun.at turn.answered.reply.at
 
 -- where a history has, from the position before a talk on, no changes but the talk's, each line is alone, and no PROPOSE is overtaken
 abbrev pub ScriptsStandAlone : Type 0
 ScriptsStandAlone =
-    (figures : Figures) (h : History) (seat : ℕ) (from : Standing) (lines : List (List ℕ)) (text : List ℕ) (made : List Entry) (to : Standing) →
-    (talk : IsTalk figures h seat from lines text made to) → end_of h ≡ from.position + length made →
-    All IsAlone (turns figures h seat from lines text made to talk) × All IsNotOvertaken (turns figures h seat from lines text made to talk)
+    (clock : ℕ → Bool) (figures : Figures) (h : History) (seat : ℕ) (from : Standing) (lines : List (List ℕ)) (text : List ℕ) (made : List Entry) (to : Standing) →
+    (talk : IsTalk clock figures h seat from lines text made to) → end_of h ≡ from.position + length made →
+    All IsAlone (turns clock figures h seat from lines text made to talk) × All IsNotOvertaken (turns clock figures h seat from lines text made to talk)
 
 -- in a session each PROPOSE that is overtaken is so by a change of another seat
 abbrev pub OthersOvertake : Type 0
 OthersOvertake =
-    (figures : Figures) (h : History) (seat : ℕ) (from : Standing) (lines : List (List ℕ)) (text : List ℕ) →
-    (session : IsSession figures h seat from lines text) → All IsOvertakenByOther (turns figures h seat from lines text session.made session.to session.talk)
+    (clock : ℕ → Bool) (figures : Figures) (h : History) (seat : ℕ) (from : Standing) (lines : List (List ℕ)) (text : List ℕ) →
+    (session : IsSession clock figures h seat from lines text) → All IsOvertakenByOther (turns clock figures h seat from lines text session.made session.to session.talk)

@@ -32,19 +32,23 @@ is_proposal (Ok (Propose cycle mode)) = true
 is_proposal read = false
 
 -- the line is no PROPOSE, and its reply tells no refusal for what the machine does not know
-abbrev pub IsPlain : {figures : Figures} {h : History} {seat : ℕ} → Turn figures h seat → Type 0
+abbrev pub IsPlain : {clock : ℕ → Bool} {figures : Figures} {h : History} {seat : ℕ} → Turn clock figures h seat → Type 0
 IsPlain turn = (is_proposal (line_within turn.line) ≡ false) × (tells_outside turn.answered.reply.answer ≡ false)
 
 -- These lines were replied to with this text, all of them plainly. Behind the history from before came their changes and no others.
-pub record IsPlainScript (figures : Figures) (h : History) (seat : ℕ) (from : Standing) (lines : List (List ℕ)) (text : List ℕ) : Type 0 where
+pub record IsPlainScript (clock : ℕ → Bool) (figures : Figures) (h : History) (seat : ℕ) (from : Standing) (lines : List (List ℕ)) (text : List ℕ) : Type 0 where
   pub made : List Entry
   pub to : Standing
-  pub talk : IsTalk figures (longer h made) seat from lines text made to
-  pub plain : All IsPlain (turns figures (longer h made) seat from lines text made to talk)
+  pub talk : IsTalk clock figures (longer h made) seat from lines text made to
+  pub plain : All IsPlain (turns clock figures (longer h made) seat from lines text made to talk)
 
--- behind one history the same lines, replied to plainly, have one text, and one list of changes
+-- the clock tells one moment alone
+abbrev pub TellsOne : (ℕ → Bool) → Type 0
+TellsOne clock = (a b : ℕ) → clock a ≡ true → clock b ≡ true → a ≡ b
+
+-- behind one history the same lines, replied to plainly at one moment, have one text, and one list of changes
 abbrev pub ScriptTextsAreOne : Type 0
 ScriptTextsAreOne =
-    (figures : Figures) (h : History) (seat : ℕ) (from : Standing) → from.position ≡ end_of h →
-    (lines : List (List ℕ)) (text other : List ℕ) → (a : IsPlainScript figures h seat from lines text) → (b : IsPlainScript figures h seat from lines other) →
+    (clock : ℕ → Bool) → TellsOne clock → (figures : Figures) (h : History) (seat : ℕ) (from : Standing) → from.position ≡ end_of h →
+    (lines : List (List ℕ)) (text other : List ℕ) → (a : IsPlainScript clock figures h seat from lines text) → (b : IsPlainScript clock figures h seat from lines other) →
     (text ≡ other) × (a.made ≡ b.made)

@@ -31,8 +31,8 @@ pub fn others_overtake()
     ensures { OthersOvertake }
 {}
 
-/// Behind one history the same lines have one text, and the same changes come of them, where these are all that came, no line is a
-/// PROPOSE, and no reply tells a full journal, a stop, a fault of the disk or want of memory.
+/// Behind one history the same lines, asked at one moment, have one text, and the same changes come of them, where these are all that
+/// came, no line is a PROPOSE, and no reply tells a full journal, a stop, a fault of the disk or want of memory.
 pub fn script_texts_are_one()
     ensures { ScriptTextsAreOne }
 {}

@@ -1,6 +1,7 @@
 pub mod Walk
 pub mod PairRows
 pub mod PairLimits
+pub mod BoundOwners
 pub mod SettingOrder
 pub mod NoCeiling
 pub mod Passed

@@ -52,17 +52,25 @@ kept_at [] i e kept is = absurd cc
 kept_at (first ∷ es) zero e kept is = let same : first ≡ e = cc in subst (λ (x : ℕ × ToleranceRow). IsKeptBy x.0 x.1) same kept.0
 kept_at (first ∷ es) (suc i) e kept is = kept_at es i e kept.1 is
 
+-- the last entries, and one more
+one_before : (es : List (ℕ × ToleranceRow)) (count behind : ℕ) (e : ℕ × ToleranceRow) → behind < count → slice_get es (count - 1 - behind) ≡ Some e →
+    settings_of (drop (count - (behind + 1)) es) ≡ with_setting e.1 (settings_of (drop (count - behind) es))
+one_before es count behind e lt is =
+    let i = count - 1 - behind in
+    let next : suc i ≡ count - behind = omega (arith, lt) in
+    let here : count - (behind + 1) ≡ i = omega (arith, lt) in
+    ap (λ (n : ℕ). settings_of (drop n es)) here ∙ ap settings_of (drop_from es i e is) ∙ ap (λ (n : ℕ). with_setting e.1 (settings_of (drop n es))) next
+
+-- the settings of the last entries, and of one more
+pub set_before : (es : List (ℕ × ToleranceRow)) (settings after : List ToleranceRow) (count behind : ℕ) (e : ℕ × ToleranceRow) → behind < count → slice_get es (count - 1 - behind) ≡ Some e
+    → settings ≡ settings_of (drop (count - behind) es) → after ≡ with_setting e.1 settings → after ≡ settings_of (drop (count - (behind + 1)) es)
+set_before es settings after count behind e lt is so_far set = set ∙ ap (with_setting e.1) so_far ∙ sym (one_before es count behind e lt is)
+
 -- so far the last entries were put
 pub put_before : (es made after : List (ℕ × ToleranceRow)) (count behind : ℕ) (e : ℕ × ToleranceRow) → AreKept es → behind < count → slice_get es (count - 1 - behind) ≡ Some e
     → (values_of made ≡ settings_of (drop (count - behind) es)) × AtPlaces made → after ≡ insert_entry nat_cmp made e.0 e.1
     → (values_of after ≡ settings_of (drop (count - (behind + 1)) es)) × AtPlaces after
 put_before es made after count behind e kept lt is so_far put =
     let i = count - 1 - behind in
-    let next : suc i ≡ count - behind = omega (arith, lt) in
-    let here : count - (behind + 1) ≡ i = omega (arith, lt) in
     let placed = placed_with made e.0 e.1 (kept_at es i e kept is).place so_far.1 in
-    let whole : settings_of (drop i es) ≡ with_setting e.1 (settings_of (drop (count - behind) es)) =
-    ap settings_of (drop_from es i e is) ∙ ap (λ (n : ℕ). with_setting e.1 (settings_of (drop n es))) next in (
-      ap values_of put ∙ placed.0 ∙ ap (with_setting e.1) so_far.0 ∙ sym whole ∙ sym (ap (λ (n : ℕ). settings_of (drop n es)) here),
-      subst AtPlaces (sym put) placed.1,
-    )
+    (ap values_of put ∙ placed.0 ∙ ap (with_setting e.1) so_far.0 ∙ sym (one_before es count behind e lt is), subst AtPlaces (sym put) placed.1)

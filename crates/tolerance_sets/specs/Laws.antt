@@ -1,5 +1,5 @@
 -- The laws of the limits, as statements.
-use Rattle.std.specs.Prelude.{◌≡◌, ℕ, ◌<◌, ◌≤◌, List, length, All, None, ℤ}
+use Rattle.std.specs.Prelude.{◌≡◌, ℕ, ◌<◌, ◌≤◌, Bool, false, List, length, All, Option, Some, None, is_some, IsTrue, ℤ}
 use Rattle.network_laws.specs.Networks.{NetworkData, IsNetwork, at, gross, floor_m, AreInRange}
 use Rattle.network_laws.specs.Limits.{lower, upper, IsWithinLimits, IsCertified, AreLimits}
 use Rattle.network_laws.specs.Laws.{HasNoFloor, IsCycle}
@@ -7,7 +7,11 @@ use Rattle.command_types.specs.declared.cycle.Mode.{Mode}
 use Rattle.command_types.specs.declared.cycle.Mode.TheVariants.{Free}
 use Rattle.command_types.specs.declared.roster.MemberRow.{MemberRow}
 use Rattle.command_types.specs.declared.tolerance.ToleranceRow.{ToleranceRow}
-use Rattle.command_types.specs.Tolerances.{limits_of, pair_floor, pair_ceiling, pair_lower, pair_upper, may_grow}
+use Rattle.command_types.specs.declared.proof.Whose.{Whose}
+use Rattle.command_types.specs.declared.proof.Whose.TheVariants.{Seller, Buyer, Hold, Now, Nobody}
+use Rattle.command_types.specs.declared.trade.Side.TheVariants.{Out, In}
+use Rattle.command_types.specs.MemberProofs.{whose_lower, whose_upper}
+use Rattle.command_types.specs.Tolerances.{limits_of, floor_in, ceiling_in, raised_to, pair_floor, pair_ceiling, pair_lower, pair_upper, may_grow}
 use Rattle.units_core.specs.declared.limits.TheConstants.{MOST_MEMBERS}
 
 -- a network of so many members lies within the limits that are made for it
@@ -32,6 +36,34 @@ BoundsAreThePairs =
     (mode : Mode) (members : List MemberRow) (settings : List ToleranceRow) (product : ℕ) (network held : NetworkData) (i j : ℕ) → i < length members → j < length members →
     (lower (limits_of mode members settings product network held) i j ≡ pair_lower (at network i j) (pair_floor settings product i j) (at held i j))
     × (upper (limits_of mode members settings product network held) i j ≡ pair_upper (may_grow mode members i j) (at network i j) (pair_ceiling settings product i j))
+
+-- whose a lower bound is has set or holds as much; nobody's is 0
+abbrev pub IsLowerOf : Whose → ℕ → ℕ → ℕ → ℕ → Type 0
+IsLowerOf Nobody low held seller buyer = low ≡ 0
+IsLowerOf Hold low held seller buyer = low ≤ held
+IsLowerOf Seller low held seller buyer = low ≤ seller
+IsLowerOf Buyer low held seller buyer = low ≤ buyer
+IsLowerOf Now low held seller buyer = ⊥
+
+-- whose an upper bound is set a ceiling that makes it; that of the amount is one of a pair that may not grow, and nobody's is none
+abbrev pub IsUpperOf : Whose → Bool → Option ℕ → ℕ → Option ℕ → Option ℕ → Type 0
+IsUpperOf Nobody grows high now seller buyer = high ≡ None
+IsUpperOf Now grows high now seller buyer = (grows ≡ false) × (high ≡ Some now)
+IsUpperOf Seller grows high now seller buyer = IsTrue (is_some seller) × (high ≡ raised_to now seller)
+IsUpperOf Buyer grows high now seller buyer = IsTrue (is_some buyer) × (high ≡ raised_to now buyer)
+IsUpperOf Hold grows high now seller buyer = ⊥
+
+-- each bound of a pair is of whom it is told to be
+abbrev pub BoundsHaveOwners : Type 0
+BoundsHaveOwners =
+    (mode : Mode) (members : List MemberRow) (settings : List ToleranceRow) (product : ℕ) (network held : NetworkData) (i j : ℕ) → i < length members → j < length members →
+    let low = lower (limits_of mode members settings product network held) i j in
+    let high = upper (limits_of mode members settings product network held) i j in
+    let floor_out = floor_in settings i product j Out in
+    let most_out = ceiling_in settings i product j Out in
+    let most_in = ceiling_in settings j product i In in
+    IsLowerOf (whose_lower low (at held i j) floor_out) low (at held i j) floor_out (floor_in settings j product i In)
+    × IsUpperOf (whose_upper (may_grow mode members i j) most_out most_in) (may_grow mode members i j) high (at network i j) most_out most_in
 
 -- the limits of a network are limits
 abbrev pub LimitsAreGood : Type 0

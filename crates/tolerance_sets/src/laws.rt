@@ -1,6 +1,6 @@
 //! The laws of the limits, each the contract of a function that does nothing.
 
-ghost use Rattle.tolerance_sets.specs.Laws.{NetworkIsWithin, HeldIsKept, BoundsAreThePairs, LimitsAreGood, NothingIsKept, FreeModeReachesFloor, NoCycleIsLeft};
+ghost use Rattle.tolerance_sets.specs.Laws.{NetworkIsWithin, HeldIsKept, BoundsAreThePairs, BoundsHaveOwners, LimitsAreGood, NothingIsKept, FreeModeReachesFloor, NoCycleIsLeft};
 
 /// A network lies within the limits that are made for it, whatever members set.
 pub fn network_is_within()
@@ -15,6 +15,12 @@ pub fn held_is_kept()
 /// The bounds of a pair are what its amount, what is held of it and both members' settings make them.
 pub fn bounds_are_the_pairs()
     ensures { BoundsAreThePairs }
+{}
+
+/// Each bound of a pair is of whom it is told to be: who is named has set or holds as much, where the amount is named the pair may
+/// not grow, and where nobody is there is no bound.
+pub fn bounds_have_owners()
+    ensures { BoundsHaveOwners }
 {}
 
 /// The limits of a network have at most 256 members and rows in rising order between different members, none with

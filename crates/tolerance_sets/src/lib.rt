@@ -7,10 +7,13 @@ mod open_pairs;
 mod open_rows;
 mod pair_cursor;
 mod settings;
+mod taken_settings;
 mod tolerances;
 
 pub use laws::{
-    bounds_are_the_pairs, free_mode_reaches_floor, held_is_kept, limits_are_good,
-    network_is_within, no_cycle_is_left, nothing_is_kept,
+    bounds_are_the_pairs, bounds_have_owners, free_mode_reaches_floor, held_is_kept,
+    limits_are_good, network_is_within, no_cycle_is_left, nothing_is_kept,
 };
+pub use limits::may_grow;
+pub use taken_settings::TakenSettings;
 pub use tolerances::{FloorOverCeiling, Tolerances};

@@ -67,7 +67,7 @@ fn is_open(mode: Mode, members: &[MemberRow], seller: u16, buyer: u16) -> bool
 }
 
 /// Whether a pair may come to more than its amount.
-pub(super) fn may_grow(mode: Mode, members: &[MemberRow], seller: u16, buyer: u16) -> bool
+pub fn may_grow(mode: Mode, members: &[MemberRow], seller: u16, buyer: u16) -> bool
     ensures { result ≡ may_grow mode members.now seller buyer }
 {
     seller != buyer && is_open(mode, members, seller, buyer)

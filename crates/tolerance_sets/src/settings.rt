@@ -110,6 +110,25 @@ fn ordered(
     Ok(ordered)
 }
 
+// The settings once more, without room for others.
+fn copied(alloc: Global, rows: &IndexMap<u64, ToleranceRow>) -> Result<Settings, AllocError>
+    ensures { IfOk result (λ copy. copy.settings ≡ settings_of rows.now.entries) }
+{
+    let entries = rows.as_slice();
+    let count = entries.len();
+    let mut copy = Settings::new(alloc);
+    for behind in 0..count {
+        let Some((_place, kept)) = entries.get_index(count - 1 - behind) else {
+            unreachable!()
+        };
+        let ceiling: Option<Level> = kept.ceiling;
+        let row = ToleranceRow { ceiling, ..*kept };
+        copy.reserve()?;
+        copy.put(row);
+    }
+    Ok(copy)
+}
+
 // Whether one of the settings has a ceiling in a product.
 fn any_ceiling(rows: &IndexMap<u64, ToleranceRow>, product: ProductNo) -> bool
     ensures { result ≡ list_any (sets_ceiling product) (values rows.now) }
@@ -180,6 +199,13 @@ impl Settings {
                 ceiling: None,
             },
         }
+    }
+
+    /// Equal settings in memory of their own, without room for more. The only error is want of memory.
+    pub(super) fn copy(&self, alloc: Global) -> Result<Settings, AllocError>
+        ensures { IfOk result (λ copy. copy.settings ≡ self.now.settings) }
+    {
+        copied(alloc, &self.rows)
     }
 
     /// All of them, in the order of their places. The only error is want of memory.

@@ -8,6 +8,7 @@ ghost use Rattle.command_types.specs.CycleRefusals.{is_crossed};
 
 use crate::limits::{Market, all_limits, dealers_end};
 use crate::settings::Settings;
+use crate::taken_settings::TakenSettings;
 use command_types::{Level, Mode, Roster, Side, ToleranceRow};
 use network_laws::{Limits, Network};
 use std::alloc::{AllocError, Global};
@@ -74,6 +75,13 @@ impl Tolerances {
         ensures { IfOk result (λ rows. rows.items ≡ self.now.settings) }
     {
         self.settings.in_order(self.alloc)
+    }
+
+    /// All settings as they are now. The only error is want of memory.
+    pub fn taken(&self) -> Result<TakenSettings, AllocError>
+        ensures { IfOk result (λ taken. taken ≡ self.now.settings) }
+    {
+        TakenSettings::of(self.alloc, &self.settings)
     }
 
     /// Makes room for one more setting. The only error is want of memory, and it changes nothing.

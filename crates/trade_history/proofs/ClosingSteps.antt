@@ -13,28 +13,28 @@ use Rattle.trade_history.specs.Book.{Book}
 use Rattle.trade_history.proofs.Kept.{HasOpening, IsFrozen, InPhase, Keeps}
 use Rattle.trade_history.proofs.OpeningSteps.{noted_book, opening-noted}
 
-decline-phase : (phase : Phase) (roster : Rows) (number : ℕ) (trades : List TradeRow) (cycle : Cycle) (book : Book) (by : Option (List ℕ)) (c v : ℕ) →
+decline-phase : (phase : Phase) (roster : Rows) (number : ℕ) (trades : List TradeRow) (cycle : Cycle) (book : Book) (by : Option (List ℕ)) (time : ℕ) (c v : ℕ) →
     is_proposed phase ≡ true → InPhase phase roster number trades cycle book →
-    IsFrozen roster number trades (declined cycle) (noted_book (record { by = by; what = Decline c v }) book)
-decline-phase NoPhase roster number trades cycle book by c v may p = cc
-decline-phase Frozen roster number trades cycle book by c v may p = cc
-decline-phase Solving roster number trades cycle book by c v may p = cc
-decline-phase Proposed roster number trades cycle book by c v may p = record {
+    IsFrozen roster number trades (declined cycle) (noted_book (record { by = by; what = Decline c v; moment = time }) book)
+decline-phase NoPhase roster number trades cycle book by time c v may p = cc
+decline-phase Frozen roster number trades cycle book by time c v may p = cc
+decline-phase Solving roster number trades cycle book by time c v may p = cc
+decline-phase Proposed roster number trades cycle book by time c v may p = record {
   opening = p.opening;
-  has = opening-noted roster number trades cycle (declined cycle) book p.opening (record { ask = record { by = by; what = Decline c v }; rows = book.rows })
+  has = opening-noted roster number trades cycle (declined cycle) book p.opening (record { ask = record { by = by; what = Decline c v; moment = time }; rows = book.rows })
       (λ b before. refl) refl refl p.has;
   live = p.live;
 }
-decline-phase Broken roster number trades cycle book by c v may p = cc
+decline-phase Broken roster number trades cycle book by time c v may p = cc
 
-pub decline-keeps : (roster : Rows) (number : ℕ) (trades : List TradeRow) (cycle : Cycle) (book : Book) (by : Option (List ℕ)) (c v : ℕ) →
+pub decline-keeps : (roster : Rows) (number : ℕ) (trades : List TradeRow) (cycle : Cycle) (book : Book) (by : Option (List ℕ)) (time : ℕ) (c v : ℕ) →
     is_proposed cycle.phase ≡ true → Keeps roster number trades cycle book →
-    Keeps roster number trades (declined cycle) (noted_book (record { by = by; what = Decline c v }) book)
-decline-keeps roster number trades cycle book by c v may keeps = record {
+    Keeps roster number trades (declined cycle) (noted_book (record { by = by; what = Decline c v; moment = time }) book)
+decline-keeps roster number trades cycle book by time c v may keeps = record {
   numbered = keeps.numbered;
   free = keeps.free;
   count = keeps.count;
-  phase = decline-phase cycle.phase roster number trades cycle book by c v may keeps.phase;
+  phase = decline-phase cycle.phase roster number trades cycle book by time c v may keeps.phase;
 }
 
 thawed-marked : (t : ℕ → Bool) (rows : List TradeRow) → thawed (marked t rows) ≡ thawed rows
@@ -56,9 +56,9 @@ thawed-phase Broken roster number trades cycle book free p = thawed-opened roste
 pub keeps-thawed : (roster : Rows) (number : ℕ) (trades : List TradeRow) (cycle : Cycle) (book : Book) → Keeps roster number trades cycle book → thawed trades ≡ book.rows
 keeps-thawed roster number trades cycle book keeps = thawed-phase cycle.phase roster number trades cycle book keeps.free keeps.phase
 
-pub cancel-keeps : (roster : Rows) (number : ℕ) (trades : List TradeRow) (cycle : Cycle) (book : Book) (by : Option (List ℕ)) (c : ℕ) → Keeps roster number trades cycle book →
-    Keeps roster number (thawed trades) (closed cycle.number cycle.version) (noted_book (record { by = by; what = Cancel c }) book)
-cancel-keeps roster number trades cycle book by c keeps = record {
+pub cancel-keeps : (roster : Rows) (number : ℕ) (trades : List TradeRow) (cycle : Cycle) (book : Book) (by : Option (List ℕ)) (time : ℕ) (c : ℕ) → Keeps roster number trades cycle book →
+    Keeps roster number (thawed trades) (closed cycle.number cycle.version) (noted_book (record { by = by; what = Cancel c; moment = time }) book)
+cancel-keeps roster number trades cycle book by time c keeps = record {
   numbered = keeps.numbered;
   free = keeps.free;
   count = keeps.count;

@@ -24,6 +24,7 @@ use Rattle.trade_history.proofs.Kept.{InPhase, Keeps}
 use Rattle.trade_history.proofs.Replay.{run-none, run-on, legal-front, trades_are_the_historys, answers_tell_executions}
 use Rattle.trade_history.proofs.Whole.{moments-push}
 use Rattle.trade_history.proofs.Listed.{executions-push}
+use Rattle.trade_history.proofs.Begins.{bare_on}
 use Rattle.trade_history.proofs.PlanFacts.{posted_empty}
 
 -- ---- further changes
@@ -49,11 +50,12 @@ folds_go_on h legal more = record {
 
 -- ---- a base that is closed
 
-closed-end : (roster : Rows) (number : ℕ) (s : State) (book : Book) → s.cycle.phase ≡ NoPhase → Keeps roster number s.trades s.cycle book → IsClosedBase s
-closed-end roster number s book rest keeps =
+closed-end : (roster : Rows) (number : ℕ) (s : State) (book : Book) → s.cycle.phase ≡ NoPhase → s.cycle.mode ≡ None → Keeps roster number s.trades s.cycle book → IsClosedBase s
+closed-end roster number s book rest bare keeps =
     let same : s.trades ≡ book.rows = subst (λ phase. InPhase phase roster number s.trades s.cycle book) rest keeps.phase in
     record {
       phase = rest;
+      mode = bare;
       free = ap thawed same ∙ keeps.free ∙ sym same;
       numbered = subst (AreNumbered 0) (sym same) keeps.numbered;
     }
@@ -62,7 +64,7 @@ pub folds_are_closed : FoldsAreClosed
 folds_are_closed h base legal rest =
     let s = h.base.state in
     let run = run-on s.roster s.cycle.number s (record { moments = []; rows = thawed s.trades }) h.entries (run-none s base) legal in
-    closed-end s.roster s.cycle.number (replayed_from s h.entries) (book_from s h.entries) rest run.keeps
+    closed-end s.roster s.cycle.number (replayed_from s h.entries) (book_from s h.entries) rest (bare_on s h.entries (λ e. base.mode) rest) run.keeps
 
 -- ---- trades
 
@@ -116,17 +118,17 @@ same_row position what answer (Some x) (Some y) tells_a tells_b none_a none_b = 
 -- what a posting executes at once is an empty plan
 module _ (s : State) (base : IsClosedBase s) (front : List Entry) (entry : Entry) (back : List Entry) (legal : IsLegalFrom s (front ++ entry ∷ back)) (x : Execution)
     (found : execution_at s.roster s.cycle.number (book_from s (front ++ entry ∷ [])).moments ≡ Some x) where
-  empty_asked : (by : Option (List ℕ)) (what : What) → entry.ask ≡ record { by = by; what = what } → IsEmptyIfPosted what x
-  empty_asked by what asked cycle version solutions post =
+  empty_asked : (by : Option (List ℕ)) (what : What) (time : ℕ) → entry.ask ≡ record { by = by; what = what; moment = time } → IsEmptyIfPosted what x
+  empty_asked by what time asked cycle version solutions post =
       let book : Book = book_from s front in
       let run = run-on s.roster s.cycle.number s (record { moments = []; rows = thawed s.trades }) front (run-none s base) (legal-front s front entry back legal) in
-      let asks : entry.ask ≡ record { by = by; what = Post cycle version solutions } = asked ∙ ap (λ w. record { by = by; what = w }) post in
-      posted_empty s.roster s.cycle.number by cycle version solutions book.rows book.moments x run.keeps.numbered
+      let asks : entry.ask ≡ record { by = by; what = Post cycle version solutions; moment = time } = asked ∙ ap (λ w. record { by = by; what = w; moment = time }) post in
+      posted_empty s.roster s.cycle.number by time cycle version solutions book.rows book.moments x run.keeps.numbered
       (ap (λ a. execution_at s.roster s.cycle.number (record { ask = a; rows = book.rows } ∷ book.moments)) (sym asks)
       ∙ ap (execution_at s.roster s.cycle.number) (sym (moments-push s front entry)) ∙ found)
 
   pub empty_at : IsEmptyIfPosted entry.ask.what x
-  empty_at = empty_asked entry.ask.by entry.ask.what refl
+  empty_at = empty_asked entry.ask.by entry.ask.what entry.ask.moment refl
 
 module _ (h : History) (base : IsClosedBase h.base.state) (legal : IsLegal h) (rest : IsAtRest h) where
   abbrev s : State

@@ -13,7 +13,7 @@ use Rattle.command_types.specs.declared.refusal.Refusal.TheVariants.{NotGreeted,
 use Rattle.command_types.specs.Roster.{member_place, is_party}
 use Rattle.command_types.specs.Cycles.{is_open, may_begin, is_solving, is_proposed}
 use Rattle.command_types.specs.CycleRefusals.{is_touched_at, unless_cycle, unless_phase, unless_version, unless_touched, freeze_refusals, begin_refusals, post_refusals, accept_refusals, decline_refusals}
-use Rattle.command_types.specs.Machine.{first_of, refused_or, is_refusal, refusals, command_refusals, changes, answer_to, accepted}
+use Rattle.command_types.specs.Machine.{first_of, refused_or, is_refusal, refusals, command_refusals, changes, accepted}
 use Rattle.command_types.specs.History.{is_recorded}
 
 no_refusal : (c : Bool) (a : Answer) (o : Option Refusal) → (c && not (is_refusal (refused_or a o))) ≡ true → o ≡ None
@@ -21,12 +21,16 @@ no_refusal c a None e = refl
 no_refusal true a (Some refusal) e = cc
 no_refusal false a (Some refusal) e = cc
 
+-- the machine accepts this change of this party, whenever it is asked
+abbrev pub Accepts : State → Option (List ℕ) → What → Type 0
+Accepts s by what = IsTrue (is_recorded what (refused_or (accepted s by what) (first_of (refusals s by what))))
+
 -- no refusal of an accepted command holds
-pub none-holds : (s : State) (by : Option (List ℕ)) (what : What) → IsTrue (is_recorded what (answer_to s (record { by = by; what = what }))) → first_of (refusals s by what) ≡ None
+pub none-holds : (s : State) (by : Option (List ℕ)) (what : What) → Accepts s by what → first_of (refusals s by what) ≡ None
 none-holds s by what is = no_refusal (changes what) (accepted s by what) (first_of (refusals s by what)) is
 
-pub is-change : (s : State) (by : Option (List ℕ)) (what : What) → IsTrue (is_recorded what (answer_to s (record { by = by; what = what }))) → changes what ≡ true
-is-change s by what is = (and_parts (changes what) (not (is_refusal (answer_to s (record { by = by; what = what })))) is).0
+pub is-change : (s : State) (by : Option (List ℕ)) (what : What) → Accepts s by what → changes what ≡ true
+is-change s by what is = (and_parts (changes what) (not (is_refusal (refused_or (accepted s by what) (first_of (refusals s by what))))) is).0
 
 row_passes : (b : Bool) (refusal : Refusal) (o : Option Refusal) → cond b (Some refusal) o ≡ None → (b ≡ false) × (o ≡ None)
 row_passes true refusal o e = cc

@@ -23,6 +23,7 @@ pub mod Whole
 pub mod Listed
 pub mod Versions
 pub mod Positions
+pub mod Begins
 pub mod PlanFacts
 pub mod Folds
 pub mod Rosters

@@ -1,5 +1,5 @@
 -- At an accepted command nothing executes but what the search finds.
-use Rattle.std.proofs.Common.{◌≡◌, ℕ, Bool, true, false, cond, not, ◌&&◌, ◌||◌, ◌==◌, List, [], ◌∷◌, ◌++◌, Option, Some, None, IsTrue, refl, sym, ap, ◌∙◌, subst, eqb-true}
+use Rattle.std.proofs.Common.{◌≡◌, ℕ, Bool, true, false, cond, not, ◌&&◌, ◌||◌, ◌==◌, List, [], ◌∷◌, ◌++◌, Option, Some, None, refl, sym, ap, ◌∙◌, subst, eqb-true}
 use Rattle.std.proofs.lemmas.Bool.{and_parts, both_ways}
 use Rattle.std.specs.List.{list_any}
 use Rattle.network_laws.specs.Solutions.{SolutionData}
@@ -13,8 +13,6 @@ use Rattle.command_types.specs.declared.plan.PlanRow.{PlanRow}
 use Rattle.command_types.specs.declared.trade.TradeRow.{TradeRow}
 use Rattle.command_types.specs.Roster.{Rows}
 use Rattle.command_types.specs.Cycles.{is_solving, is_proposed}
-use Rattle.command_types.specs.Machine.{answer_to}
-use Rattle.command_types.specs.History.{is_recorded}
 use Rattle.trade_history.specs.Moments.{Moment, is_post, is_accept, drops}
 use Rattle.trade_history.specs.Executes.{Opening, Executes, takes, plan_at, touched_at, have_accepted, is_accepted_now, is_complete, is_empty, are_live}
 use Rattle.trade_history.specs.Search.{Cut, opening_of, cut_at_post, Execution, is_executed, execution_at}
@@ -24,7 +22,7 @@ use Rattle.trade_history.proofs.Openings.{opens-found}
 use Rattle.trade_history.proofs.Outcome.{now_of}
 use Rattle.trade_history.proofs.PostSteps.{post_ask, execution-posted}
 use Rattle.trade_history.proofs.AcceptSteps.{accept_ask, execution-accepted}
-use Rattle.trade_history.proofs.Legal.{none-holds, post-legal, accept-legal}
+use Rattle.trade_history.proofs.Legal.{Accepts, none-holds, post-legal, accept-legal}
 use Rattle.trade_history.proofs.OneCut.{one-cut}
 
 -- who accepts now gives an ACCEPT
@@ -75,12 +73,12 @@ same_opening number k n moments one other found same is = some_opening one other
 found_so : (found : Option Execution) (t : Bool) (one other : Execution) → found ≡ cond t (Some one) None → t ≡ true → one ≡ other → found ≡ Some other
 found_so found t one other is passes same = is ∙ ap (λ b. cond b (Some one) None) passes ∙ ap Some same
 
-only_post : (roster : Rows) (number : ℕ) (trades : List TradeRow) (cycle : Cycle) (book : Book) (by : Option (List ℕ)) (c w : ℕ) (solutions : List SolutionData) (p : IsSolving roster number trades cycle book) → c ≡ cycle.number →
-    (k v : ℕ) (plan : List PlanRow) (x : Executes roster number (now_of (post_ask by c w solutions) book ∷ book.moments) book.rows k v plan) →
-    AtNow (now_of (post_ask by c w solutions) book) book.moments k v (touched_at roster x.opening x.posted) x.later x.posted x.before →
-    execution_at roster number (now_of (post_ask by c w solutions) book ∷ book.moments) ≡ Some (record { cycle = k; version = v; plan = plan })
-only_post roster number trades cycle book by c w solutions p same k v plan x (at_post no_later is_now is_before post empty) =
-    let now = now_of (post_ask by c w solutions) book in
+only_post : (roster : Rows) (number : ℕ) (trades : List TradeRow) (cycle : Cycle) (book : Book) (by : Option (List ℕ)) (time : ℕ) (c w : ℕ) (solutions : List SolutionData) (p : IsSolving roster number trades cycle book) → c ≡ cycle.number →
+    (k v : ℕ) (plan : List PlanRow) (x : Executes roster number (now_of (post_ask by time c w solutions) book ∷ book.moments) book.rows k v plan) →
+    AtNow (now_of (post_ask by time c w solutions) book) book.moments k v (touched_at roster x.opening x.posted) x.later x.posted x.before →
+    execution_at roster number (now_of (post_ask by time c w solutions) book ∷ book.moments) ≡ Some (record { cycle = k; version = v; plan = plan })
+only_post roster number trades cycle book by time c w solutions p same k v plan x (at_post no_later is_now is_before post empty) =
+    let now = now_of (post_ask by time c w solutions) book in
     let parts = and_parts (c == k) (w == v) post in
     let same_k : c ≡ k = eqb-true c k parts.0 in
     let same_v : w ≡ v = eqb-true w v parts.1 in
@@ -89,9 +87,9 @@ only_post roster number trades cycle book by c w solutions p same k v plan x (at
     let touched : touched_at roster p.opening now ≡ touched_at roster x.opening x.posted = λ i. touched_at roster (sym opening i) (is_now i) in
     let planned : plan_at roster p.opening now ≡ plan = (λ i. plan_at roster (sym opening i) (is_now i)) ∙ sym x.same in
     found_so (execution_at roster number (now ∷ book.moments)) (is_empty (touched_at roster p.opening now)) (record { cycle = c; version = w; plan = plan_at roster p.opening now })
-    (record { cycle = k; version = v; plan = plan }) (execution-posted roster number trades cycle book by c w solutions p same) (ap is_empty touched ∙ empty)
+    (record { cycle = k; version = v; plan = plan }) (execution-posted roster number trades cycle book by time c w solutions p same) (ap is_empty touched ∙ empty)
     (λ i. record { cycle = same_k i; version = same_v i; plan = planned i })
-only_post roster number trades cycle book by c w solutions p same k v plan x (at_accept since is_later is_rest accept) = absurd (both_ways false refl accept)
+only_post roster number trades cycle book by time c w solutions p same k v plan x (at_accept since is_later is_rest accept) = absurd (both_ways false refl accept)
 
 all_three : (d c l : Bool) → d ≡ false → c ≡ true → l ≡ true → (not d && c && l) ≡ true
 all_three d c l e f g = rw (e, f, g) refl
@@ -102,13 +100,13 @@ executed_same : (roster : Rows) (rows : List TradeRow) (now : Moment) (n k w v :
 executed_same roster rows now n k w v one other a b same_n same_w same_o same_cut e =
     (λ i. is_executed roster (same_n i) (same_w i) (same_o i) (same_cut i).posted (now ∷ (same_cut i).later) rows) ∙ e
 
-only_accept : (roster : Rows) (number : ℕ) (trades : List TradeRow) (cycle : Cycle) (book : Book) (by : Option (List ℕ)) (p : IsProposed roster number trades cycle book) →
-    (k v : ℕ) (plan : List PlanRow) (x : Executes roster number (now_of (accept_ask by cycle.number cycle.version) book ∷ book.moments) book.rows k v plan) →
-    AtNow (now_of (accept_ask by cycle.number cycle.version) book) book.moments k v (touched_at roster x.opening x.posted) x.later x.posted x.before →
-    execution_at roster number (now_of (accept_ask by cycle.number cycle.version) book ∷ book.moments) ≡ Some (record { cycle = k; version = v; plan = plan })
-only_accept roster number trades cycle book by p k v plan x (at_post no_later is_now is_before post empty) = absurd (both_ways false refl post)
-only_accept roster number trades cycle book by p k v plan x (at_accept since is_later is_rest accept) =
-    let now = now_of (accept_ask by cycle.number cycle.version) book in
+only_accept : (roster : Rows) (number : ℕ) (trades : List TradeRow) (cycle : Cycle) (book : Book) (by : Option (List ℕ)) (time : ℕ) (p : IsProposed roster number trades cycle book) →
+    (k v : ℕ) (plan : List PlanRow) (x : Executes roster number (now_of (accept_ask by time cycle.number cycle.version) book ∷ book.moments) book.rows k v plan) →
+    AtNow (now_of (accept_ask by time cycle.number cycle.version) book) book.moments k v (touched_at roster x.opening x.posted) x.later x.posted x.before →
+    execution_at roster number (now_of (accept_ask by time cycle.number cycle.version) book ∷ book.moments) ≡ Some (record { cycle = k; version = v; plan = plan })
+only_accept roster number trades cycle book by time p k v plan x (at_post no_later is_now is_before post empty) = absurd (both_ways false refl post)
+only_accept roster number trades cycle book by time p k v plan x (at_accept since is_later is_rest accept) =
+    let now = now_of (accept_ask by time cycle.number cycle.version) book in
     let parts = and_parts (cycle.number == k) (cycle.version == v) accept in
     let same_k : cycle.number ≡ k = eqb-true cycle.number k parts.0 in
     let same_v : cycle.version ≡ v = eqb-true cycle.version v parts.1 in
@@ -126,7 +124,7 @@ only_accept roster number trades cycle book by p k v plan x (at_accept since is_
     let planned : plan_at roster p.opening p.cut.posted ≡ plan = (λ i. plan_at roster (sym opening i) (sym cut i).posted) ∙ sym x.same in
     found_so (execution_at roster number (now ∷ book.moments)) (is_executed roster cycle.number cycle.version p.opening p.cut.posted (now ∷ p.cut.later) book.rows)
     (record { cycle = cycle.number; version = cycle.version; plan = plan_at roster p.opening p.cut.posted }) (record { cycle = k; version = v; plan = plan })
-    (execution-accepted roster number trades cycle book by p) here (λ i. record { cycle = same_k i; version = same_v i; plan = planned i })
+    (execution-accepted roster number trades cycle book by time p) here (λ i. record { cycle = same_k i; version = same_v i; plan = planned i })
 
 -- what executes is what the search finds
 abbrev pub IsOnly : Rows → ℕ → List Moment → List TradeRow → Type 0
@@ -141,34 +139,34 @@ none_only : (now : Moment) (moments : List Moment) (k v : ℕ) (members : List �
 none_only now moments k v members later posted before no_post no_accept (at_post no_later is_now is_before post empty) = both_ways (is_post k v now.ask.what) no_post post
 none_only now moments k v members later posted before no_post no_accept (at_accept since is_later is_rest accept) = both_ways (is_accept k v now.ask.what) no_accept accept
 
-post_phase : (phase : Phase) (roster : Rows) (number : ℕ) (trades : List TradeRow) (cycle : Cycle) (book : Book) (by : Option (List ℕ)) (c w : ℕ) (solutions : List SolutionData) → is_solving phase ≡ true → c ≡ cycle.number →
-    InPhase phase roster number trades cycle book → IsOnly roster number (now_of (post_ask by c w solutions) book ∷ book.moments) book.rows
-post_phase NoPhase roster number trades cycle book by c w solutions is same p = absurd (both_ways false refl is)
-post_phase Frozen roster number trades cycle book by c w solutions is same p = absurd (both_ways false refl is)
-post_phase Solving roster number trades cycle book by c w solutions is same p = λ k v plan x.
-    only_post roster number trades cycle book by c w solutions p same k v plan x (at-now roster number (now_of (post_ask by c w solutions) book) book.moments book.rows k v plan x)
-post_phase Proposed roster number trades cycle book by c w solutions is same p = absurd (both_ways false refl is)
-post_phase Broken roster number trades cycle book by c w solutions is same p = absurd (both_ways false refl is)
+post_phase : (phase : Phase) (roster : Rows) (number : ℕ) (trades : List TradeRow) (cycle : Cycle) (book : Book) (by : Option (List ℕ)) (time : ℕ) (c w : ℕ) (solutions : List SolutionData) → is_solving phase ≡ true → c ≡ cycle.number →
+    InPhase phase roster number trades cycle book → IsOnly roster number (now_of (post_ask by time c w solutions) book ∷ book.moments) book.rows
+post_phase NoPhase roster number trades cycle book by time c w solutions is same p = absurd (both_ways false refl is)
+post_phase Frozen roster number trades cycle book by time c w solutions is same p = absurd (both_ways false refl is)
+post_phase Solving roster number trades cycle book by time c w solutions is same p = λ k v plan x.
+    only_post roster number trades cycle book by time c w solutions p same k v plan x (at-now roster number (now_of (post_ask by time c w solutions) book) book.moments book.rows k v plan x)
+post_phase Proposed roster number trades cycle book by time c w solutions is same p = absurd (both_ways false refl is)
+post_phase Broken roster number trades cycle book by time c w solutions is same p = absurd (both_ways false refl is)
 
-accept_phase : (phase : Phase) (roster : Rows) (number : ℕ) (trades : List TradeRow) (cycle : Cycle) (book : Book) (by : Option (List ℕ)) → is_proposed phase ≡ true →
-    InPhase phase roster number trades cycle book → IsOnly roster number (now_of (accept_ask by cycle.number cycle.version) book ∷ book.moments) book.rows
-accept_phase NoPhase roster number trades cycle book by is p = absurd (both_ways false refl is)
-accept_phase Frozen roster number trades cycle book by is p = absurd (both_ways false refl is)
-accept_phase Solving roster number trades cycle book by is p = absurd (both_ways false refl is)
-accept_phase Proposed roster number trades cycle book by is p = λ k v plan x.
-    only_accept roster number trades cycle book by p k v plan x (at-now roster number (now_of (accept_ask by cycle.number cycle.version) book) book.moments book.rows k v plan x)
-accept_phase Broken roster number trades cycle book by is p = absurd (both_ways false refl is)
+accept_phase : (phase : Phase) (roster : Rows) (number : ℕ) (trades : List TradeRow) (cycle : Cycle) (book : Book) (by : Option (List ℕ)) (time : ℕ) → is_proposed phase ≡ true →
+    InPhase phase roster number trades cycle book → IsOnly roster number (now_of (accept_ask by time cycle.number cycle.version) book ∷ book.moments) book.rows
+accept_phase NoPhase roster number trades cycle book by time is p = absurd (both_ways false refl is)
+accept_phase Frozen roster number trades cycle book by time is p = absurd (both_ways false refl is)
+accept_phase Solving roster number trades cycle book by time is p = absurd (both_ways false refl is)
+accept_phase Proposed roster number trades cycle book by time is p = λ k v plan x.
+    only_accept roster number trades cycle book by time p k v plan x (at-now roster number (now_of (accept_ask by time cycle.number cycle.version) book) book.moments book.rows k v plan x)
+accept_phase Broken roster number trades cycle book by time is p = absurd (both_ways false refl is)
 
-pub one-execution : (number : ℕ) (s : State) (book : Book) (by : Option (List ℕ)) (what : What) → Keeps s.roster number s.trades s.cycle book →
-    IsTrue (is_recorded what (answer_to s (record { by = by; what = what }))) → IsOnly s.roster number (now_of (record { by = by; what = what }) book ∷ book.moments) book.rows
-one-execution number s book by (Post c v solutions) keeps is =
+pub one-execution : (number : ℕ) (s : State) (book : Book) (by : Option (List ℕ)) (time : ℕ) (what : What) → Keeps s.roster number s.trades s.cycle book →
+    Accepts s by what → IsOnly s.roster number (now_of (record { by = by; what = what; moment = time }) book ∷ book.moments) book.rows
+one-execution number s book by time (Post c v solutions) keeps is =
     let legal = post-legal s by c v solutions (none-holds s by (Post c v solutions) is) in
-    post_phase s.cycle.phase s.roster number s.trades s.cycle book by c v solutions legal.0 (eqb-true c s.cycle.number legal.1) keeps.phase
-one-execution number s book by (Accept c v) keeps is =
+    post_phase s.cycle.phase s.roster number s.trades s.cycle book by time c v solutions legal.0 (eqb-true c s.cycle.number legal.1) keeps.phase
+one-execution number s book by time (Accept c v) keeps is =
     let legal = accept-legal s by c v (none-holds s by (Accept c v) is) in
-    subst (λ n. IsOnly s.roster number (now_of (accept_ask by n v) book ∷ book.moments) book.rows) (sym (eqb-true c s.cycle.number legal.1))
-    (subst (λ w. IsOnly s.roster number (now_of (accept_ask by s.cycle.number w) book ∷ book.moments) book.rows) (sym (eqb-true v s.cycle.version legal.2))
-    (accept_phase s.cycle.phase s.roster number s.trades s.cycle book by legal.0 keeps.phase))
-one-execution number s book by what keeps is = λ k v plan x.
-    absurd (none_only (now_of (record { by = by; what = what }) book) book.moments k v (touched_at s.roster x.opening x.posted) x.later x.posted x.before refl refl
-    (at-now s.roster number (now_of (record { by = by; what = what }) book) book.moments book.rows k v plan x))
+    subst (λ n. IsOnly s.roster number (now_of (accept_ask by time n v) book ∷ book.moments) book.rows) (sym (eqb-true c s.cycle.number legal.1))
+    (subst (λ w. IsOnly s.roster number (now_of (accept_ask by time s.cycle.number w) book ∷ book.moments) book.rows) (sym (eqb-true v s.cycle.version legal.2))
+    (accept_phase s.cycle.phase s.roster number s.trades s.cycle book by time legal.0 keeps.phase))
+one-execution number s book by time what keeps is = λ k v plan x.
+    absurd (none_only (now_of (record { by = by; what = what; moment = time }) book) book.moments k v (touched_at s.roster x.opening x.posted) x.later x.posted x.before refl refl
+    (at-now s.roster number (now_of (record { by = by; what = what; moment = time }) book) book.moments book.rows k v plan x))

@@ -70,10 +70,10 @@ opened-live products day rows are =
     (λ k row is. ap (λ b. not b || is_live row.state) (takes-row products day rows k row are is)
     ∙ live_taken (is_live row.state) (product_matures_after (slice_get products row.product) day))
 
-freeze-phase : (phase : Phase) (roster : Rows) (number : ℕ) (trades : List TradeRow) (cycle : Cycle) (book : Book) (by : Option (List ℕ)) (day : DayParts) →
+freeze-phase : (phase : Phase) (roster : Rows) (number : ℕ) (trades : List TradeRow) (cycle : Cycle) (book : Book) (by : Option (List ℕ)) (time : ℕ) (day : DayParts) →
     is_open phase ≡ false → AreNumbered 0 book.rows → cycle.number ≡ cycle_at number book.moments → InPhase phase roster number trades cycle book →
-    IsFrozen roster number (frozen_rows roster.products day trades) (opened cycle day) (noted_book (record { by = by; what = Freeze day }) book)
-freeze-phase NoPhase roster number trades cycle book by day shut are count p = record {
+    IsFrozen roster number (frozen_rows roster.products day trades) (opened cycle day) (noted_book (record { by = by; what = Freeze day; moment = time }) book)
+freeze-phase NoPhase roster number trades cycle book by time day shut are count p = record {
   opening = record { day = day; rows = book.rows };
   has = record {
     found = ap (λ b. opening_by (Freeze day) b book.rows (opening_of number (1 + cycle.number) book.moments))
@@ -84,19 +84,19 @@ freeze-phase NoPhase roster number trades cycle book by day shut are count p = r
   };
   live = opened-live roster.products day book.rows are;
 }
-freeze-phase Frozen roster number trades cycle book by day shut are count p = cc
-freeze-phase Solving roster number trades cycle book by day shut are count p = cc
-freeze-phase Proposed roster number trades cycle book by day shut are count p = cc
-freeze-phase Broken roster number trades cycle book by day shut are count p = cc
+freeze-phase Frozen roster number trades cycle book by time day shut are count p = cc
+freeze-phase Solving roster number trades cycle book by time day shut are count p = cc
+freeze-phase Proposed roster number trades cycle book by time day shut are count p = cc
+freeze-phase Broken roster number trades cycle book by time day shut are count p = cc
 
-pub freeze-keeps : (roster : Rows) (number : ℕ) (trades : List TradeRow) (cycle : Cycle) (book : Book) (by : Option (List ℕ)) (day : DayParts) →
+pub freeze-keeps : (roster : Rows) (number : ℕ) (trades : List TradeRow) (cycle : Cycle) (book : Book) (by : Option (List ℕ)) (time : ℕ) (day : DayParts) →
     is_open cycle.phase ≡ false → Keeps roster number trades cycle book →
-    Keeps roster number (frozen_rows roster.products day trades) (opened cycle day) (noted_book (record { by = by; what = Freeze day }) book)
-freeze-keeps roster number trades cycle book by day shut keeps = record {
+    Keeps roster number (frozen_rows roster.products day trades) (opened cycle day) (noted_book (record { by = by; what = Freeze day; moment = time }) book)
+freeze-keeps roster number trades cycle book by time day shut keeps = record {
   numbered = keeps.numbered;
   free = keeps.free;
   count = ap (λ n. 1 + n) keeps.count;
-  phase = freeze-phase cycle.phase roster number trades cycle book by day shut keeps.numbered keeps.count keeps.phase;
+  phase = freeze-phase cycle.phase roster number trades cycle book by time day shut keeps.numbered keeps.count keeps.phase;
 }
 
 begun-networks : (roster : Rows) (trades : List TradeRow) (settings : List ToleranceRow) (mode : Mode) (product : ℕ) (products : List ProductRow) →
@@ -118,35 +118,35 @@ opening-noted roster number trades cycle other book opening now passes number_sa
   grown = has.grown;
 }
 
-begin-phase : (phase : Phase) (roster : Rows) (number : ℕ) (trades : List TradeRow) (settings : List ToleranceRow) (cycle : Cycle) (book : Book) (by : Option (List ℕ)) (c : ℕ) (mode : Mode) →
+begin-phase : (phase : Phase) (roster : Rows) (number : ℕ) (trades : List TradeRow) (settings : List ToleranceRow) (cycle : Cycle) (book : Book) (by : Option (List ℕ)) (time : ℕ) (c : ℕ) (mode : Mode) →
     may_begin phase ≡ true → (c == cycle.number) ≡ true → InPhase phase roster number trades cycle book →
-    IsSolving roster number trades (begun_with cycle (problems_of roster trades settings mode)) (noted_book (record { by = by; what = Begin c mode }) book)
-begin-phase NoPhase roster number trades settings cycle book by c mode may is p = cc
-begin-phase Frozen roster number trades settings cycle book by c mode may is p = record {
+    IsSolving roster number trades (begun_with cycle mode settings (problems_of roster trades settings mode)) (noted_book (record { by = by; what = Begin c mode; moment = time }) book)
+begin-phase NoPhase roster number trades settings cycle book by time c mode may is p = cc
+begin-phase Frozen roster number trades settings cycle book by time c mode may is p = record {
   opening = p.opening;
-  has = opening-noted roster number trades cycle (begun_with cycle (problems_of roster trades settings mode)) book p.opening (record { ask = record { by = by; what = Begin c mode }; rows = book.rows })
+  has = opening-noted roster number trades cycle (begun_with cycle mode settings (problems_of roster trades settings mode)) book p.opening (record { ask = record { by = by; what = Begin c mode; moment = time }; rows = book.rows })
       (λ b before. refl) refl refl p.has;
   live = p.live;
   networks = begun-networks roster trades settings mode 0 roster.products;
   fresh = rw is refl;
 }
-begin-phase Solving roster number trades settings cycle book by c mode may is p = record {
+begin-phase Solving roster number trades settings cycle book by time c mode may is p = record {
   opening = p.opening;
-  has = opening-noted roster number trades cycle (begun_with cycle (problems_of roster trades settings mode)) book p.opening (record { ask = record { by = by; what = Begin c mode }; rows = book.rows })
+  has = opening-noted roster number trades cycle (begun_with cycle mode settings (problems_of roster trades settings mode)) book p.opening (record { ask = record { by = by; what = Begin c mode; moment = time }; rows = book.rows })
       (λ b before. refl) refl refl p.has;
   live = p.live;
   networks = begun-networks roster trades settings mode 0 roster.products;
   fresh = rw is refl;
 }
-begin-phase Proposed roster number trades settings cycle book by c mode may is p = cc
-begin-phase Broken roster number trades settings cycle book by c mode may is p = cc
+begin-phase Proposed roster number trades settings cycle book by time c mode may is p = cc
+begin-phase Broken roster number trades settings cycle book by time c mode may is p = cc
 
-pub begin-keeps : (roster : Rows) (number : ℕ) (trades : List TradeRow) (settings : List ToleranceRow) (cycle : Cycle) (book : Book) (by : Option (List ℕ)) (c : ℕ) (mode : Mode) →
+pub begin-keeps : (roster : Rows) (number : ℕ) (trades : List TradeRow) (settings : List ToleranceRow) (cycle : Cycle) (book : Book) (by : Option (List ℕ)) (time : ℕ) (c : ℕ) (mode : Mode) →
     may_begin cycle.phase ≡ true → (c == cycle.number) ≡ true → Keeps roster number trades cycle book →
-    Keeps roster number trades (begun_with cycle (problems_of roster trades settings mode)) (noted_book (record { by = by; what = Begin c mode }) book)
-begin-keeps roster number trades settings cycle book by c mode may is keeps = record {
+    Keeps roster number trades (begun_with cycle mode settings (problems_of roster trades settings mode)) (noted_book (record { by = by; what = Begin c mode; moment = time }) book)
+begin-keeps roster number trades settings cycle book by time c mode may is keeps = record {
   numbered = keeps.numbered;
   free = keeps.free;
   count = keeps.count;
-  phase = begin-phase cycle.phase roster number trades settings cycle book by c mode may is keeps.phase;
+  phase = begin-phase cycle.phase roster number trades settings cycle book by time c mode may is keeps.phase;
 }

@@ -56,27 +56,27 @@ some_same : (a b : Opening) → Some a ≡ Some b → a ≡ b
 some_same a b e = cc
 
 -- what is found opens the cycle
-opens_by : (number cycle : ℕ) (what : What) (by : Option (List ℕ)) (rows : List TradeRow) (before : List Moment) (opening : Opening) (b : Bool) → (cycle_after what (cycle_at number before) == cycle) ≡ b →
+opens_by : (number cycle : ℕ) (what : What) (by : Option (List ℕ)) (time : ℕ) (rows : List TradeRow) (before : List Moment) (opening : Opening) (b : Bool) → (cycle_after what (cycle_at number before) == cycle) ≡ b →
     ((o : Opening) → opening_of number cycle before ≡ Some o → OpensCycle number cycle before o) → opening_by what b rows (opening_of number cycle before) ≡ Some opening →
-    OpensCycle number cycle (record { ask = record { by = by; what = what }; rows = rows } ∷ before) opening
-opens_by number cycle (Freeze day) by rows before opening true is rest found =
+    OpensCycle number cycle (record { ask = record { by = by; what = what; moment = time }; rows = rows } ∷ before) opening
+opens_by number cycle (Freeze day) by time rows before opening true is rest found =
     let e = some_same (record { day = day; rows = rows }) opening found in
-    subst (λ o. OpensCycle number cycle (record { ask = record { by = by; what = Freeze day }; rows = rows } ∷ before) o) e
+    subst (λ o. OpensCycle number cycle (record { ask = record { by = by; what = Freeze day; moment = time }; rows = rows } ∷ before) o) e
     (record {
       later = [];
-      frozen = record { ask = record { by = by; what = Freeze day }; rows = rows };
+      frozen = record { ask = record { by = by; what = Freeze day; moment = time }; rows = rows };
       before = before;
       split = refl;
       freeze = refl;
       rows = refl;
       counted = eqb-true (1 + cycle_at number before) cycle is;
     })
-opens_by number cycle (Freeze day) by rows before opening false is rest found =
-    opens-longer number cycle (record { ask = record { by = by; what = Freeze day }; rows = rows } ∷ []) before opening (rest opening found)
-opens_by number cycle what by rows before opening b is rest found =
-    opens-longer number cycle (record { ask = record { by = by; what = what }; rows = rows } ∷ []) before opening (rest opening found)
+opens_by number cycle (Freeze day) by time rows before opening false is rest found =
+    opens-longer number cycle (record { ask = record { by = by; what = Freeze day; moment = time }; rows = rows } ∷ []) before opening (rest opening found)
+opens_by number cycle what by time rows before opening b is rest found =
+    opens-longer number cycle (record { ask = record { by = by; what = what; moment = time }; rows = rows } ∷ []) before opening (rest opening found)
 
 pub found-opens : (number cycle : ℕ) (moments : List Moment) (opening : Opening) → opening_of number cycle moments ≡ Some opening → OpensCycle number cycle moments opening
 found-opens number cycle [] opening found = cc
 found-opens number cycle (moment ∷ moments) opening found =
-    opens_by number cycle moment.ask.what moment.ask.by moment.rows moments opening (cycle_at number (moment ∷ moments) == cycle) refl (found-opens number cycle moments) found
+    opens_by number cycle moment.ask.what moment.ask.by moment.ask.moment moment.rows moments opening (cycle_at number (moment ∷ moments) == cycle) refl (found-opens number cycle moments) found

@@ -187,8 +187,8 @@ both true b first second = second
 both false b first second = cc
 
 -- what a posting executes by itself, in a book whose trades are numbered, is an empty plan
-pub posted_empty : (roster : Rows) (number : ℕ) (by : Option (List ℕ)) (cycle version : ℕ) (solutions : List SolutionData) (rows : List TradeRow) (before : List Moment) (x : Execution) → AreNumbered 0 rows
-    → execution_at roster number (record { ask = record { by = by; what = Post cycle version solutions }; rows = rows } ∷ before) ≡ Some x → x.plan ≡ []
-posted_empty roster number by cycle version solutions rows before x numbered e =
-    plan_of_cut roster number cycle version (record { ask = record { by = by; what = Post cycle version solutions }; rows = rows }) before x numbered
+pub posted_empty : (roster : Rows) (number : ℕ) (by : Option (List ℕ)) (time : ℕ) (cycle version : ℕ) (solutions : List SolutionData) (rows : List TradeRow) (before : List Moment) (x : Execution) → AreNumbered 0 rows
+    → execution_at roster number (record { ask = record { by = by; what = Post cycle version solutions; moment = time }; rows = rows } ∷ before) ≡ Some x → x.plan ≡ []
+posted_empty roster number by time cycle version solutions rows before x numbered e =
+    plan_of_cut roster number cycle version (record { ask = record { by = by; what = Post cycle version solutions; moment = time }; rows = rows }) before x numbered
     ((cycle == cycle) && (version == version)) (both (cycle == cycle) (version == version) (eq-eqb cycle cycle refl) (eq-eqb version version refl)) e

@@ -25,7 +25,7 @@ pub record IsRun (roster : Rows) (number : ℕ) (s : State) (book : Book) : Type
 run-outcome : (roster : Rows) (number : ℕ) (s : State) (book : Book) (entry : Entry) → IsRun roster number s book → IsTrue (is_recorded entry.ask.what (answer_to s entry.ask)) →
     IsOutcome number s (state_after s entry.ask) book entry.ask (accepted s entry.ask.by entry.ask.what)
 run-outcome roster number s book entry run is =
-    step number s book entry.ask.by entry.ask.what (subst (λ r. Keeps r number s.trades s.cycle book) (sym run.same) run.keeps) is
+    step number s book entry.ask.by entry.ask.moment entry.ask.what (subst (λ r. Keeps r number s.trades s.cycle book) (sym run.same) run.keeps) is
 
 run-next : (roster : Rows) (number : ℕ) (s : State) (book : Book) (entry : Entry) → IsRun roster number s book → IsTrue (is_recorded entry.ask.what (answer_to s entry.ask)) →
     IsRun roster number (state_after s entry.ask) (noted roster number book entry)

@@ -4,7 +4,7 @@ use Rattle.network_laws.specs.Solutions.{SolutionData}
 use Rattle.command_types.specs.declared.ask.Ask.{Ask}
 use Rattle.command_types.specs.declared.ask.Entry.{Entry}
 use Rattle.command_types.specs.declared.ask.What.{What}
-use Rattle.command_types.specs.declared.ask.What.TheVariants.{Hello, Trade, Affirm, End, Hold, Free, Tol, Nets, Statement, Freeze, Begin, Limits, Row, Pot, Post, Fetch, Plan, Accept, Decline, Cancel, Bye, Unreadable}
+use Rattle.command_types.specs.declared.ask.What.TheVariants.{Hello, Trade, Affirm, End, Hold, Free, Tol, Nets, Statement, Freeze, Begin, Limits, Row, Pot, Post, Fetch, Next, Plan, Proof, Accept, Decline, Cancel, Bye, Unreadable}
 use Rattle.command_types.specs.declared.figures.State.{State}
 use Rattle.command_types.specs.declared.plan.PlanRow.{PlanRow}
 use Rattle.command_types.specs.Cycles.{posted_plan}
@@ -38,7 +38,9 @@ roster_by s by (Pot product member value size) = refl
 roster_by s by (Post cycle version solutions) =
     roster_posted s solutions (posted_plan s.cycle s.trades solutions) (touched_in s (posted_plan s.cycle s.trades solutions))
 roster_by s by (Fetch cycle version) = refl
+roster_by s by (Next position) = refl
 roster_by s by (Plan cycle) = refl
+roster_by s by (Proof cycle) = refl
 roster_by s by (Accept cycle version) = roster_voted s (member_of s (unwrap_or by [])) (left_after s (member_of s (unwrap_or by [])))
 roster_by s by (Decline cycle version) = refl
 roster_by s by (Cancel cycle) = refl

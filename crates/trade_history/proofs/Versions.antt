@@ -1,5 +1,5 @@
 -- Cycles and versions only rise, what a version began with stands while it lasts, and it is posted once.
-use Rattle.std.proofs.Common.{◌≡◌, ℕ, ◌≤◌, Bool, true, false, cond, ◌&&◌, List, [], ◌∷◌, ◌++◌, Option, unwrap_or, IsTrue, refl, sym, ◌∙◌, subst, arith, ◌==◌, eqb-true}
+use Rattle.std.proofs.Common.{◌≡◌, ℕ, ◌≤◌, Bool, true, false, cond, ◌&&◌, List, [], ◌∷◌, ◌++◌, Option, unwrap_or, refl, sym, ◌∙◌, subst, arith, ◌==◌, eqb-true}
 use Rattle.std.proofs.lemmas.Bool.{false≢true, and_parts, both_ways}
 use Rattle.std.proofs.lemmas.List.Sums.{fold-append}
 use Rattle.network_laws.specs.Solutions.{SolutionData}
@@ -14,12 +14,12 @@ use Rattle.command_types.specs.declared.plan.PlanRow.{PlanRow}
 use Rattle.command_types.specs.Trades.{trade_numbered}
 use Rattle.command_types.specs.Cycles.{may_break, has_limits, is_solving, broken_at, posted_plan}
 use Rattle.command_types.specs.CycleSteps.{is_frozen_and_marked, touched_in, proposed_or_done, left_after, after_vote}
-use Rattle.command_types.specs.Machine.{member_of, answer_to, state_by, state_after}
-use Rattle.command_types.specs.History.{IsLegalFrom, replayed_from, is_recorded}
+use Rattle.command_types.specs.Machine.{member_of, state_by, state_after}
+use Rattle.command_types.specs.History.{IsLegalFrom, replayed_from}
 use Rattle.trade_history.specs.Moments.{is_post}
 use Rattle.trade_history.specs.Laws.{BegunLimitsStand, VersionsArePostedOnce}
 use Rattle.trade_history.proofs.Replay.{legal-at}
-use Rattle.trade_history.proofs.Legal.{none-holds, is-change, post-legal}
+use Rattle.trade_history.proofs.Legal.{Accepts, none-holds, is-change, post-legal}
 
 -- a later cycle has a higher number, or the same number and a version that is not lower; in the same version the limits are the same, and it does not come to be solved again
 pub record IsLater (before later : Cycle) : Type 0 where
@@ -91,7 +91,7 @@ vote_later : (s : State) (member : ℕ) (left : List ℕ) → IsLater s.cycle (a
 vote_later s member [] = later-without s.cycle (after_vote s member []).cycle refl refl refl
 vote_later s member (voter ∷ voters) = record { number = omega arith; version = λ e. omega arith; begun = λ e f g. (g, refl); solving = λ e f g. g }
 
-later_by : (s : State) (by : Option (List ℕ)) (what : What) → IsTrue (is_recorded what (answer_to s (record { by = by; what = what }))) → IsLater s.cycle (state_by s by what).cycle
+later_by : (s : State) (by : Option (List ℕ)) (what : What) → Accepts s by what → IsLater s.cycle (state_by s by what).cycle
 later_by s by (Trade seller buyer product amount day) is = later-same s.cycle
 later_by s by (Affirm trade) is = later-same s.cycle
 later_by s by (End trade) is = end_later (may_break s.cycle.phase && is_frozen_and_marked (trade_numbered s.trades trade)) s.cycle trade
@@ -129,7 +129,7 @@ begun_limits_stand h legal front middle back split first second number version =
     stand (replayed_from s front) (replayed_from s (front ++ middle)) (subst (λ t. IsLater (replayed_from s front).cycle t.cycle) on later) second number version
 
 -- a POST is accepted where its version is being solved, and ends that
-post-accepted : (k v : ℕ) (s : State) (by : Option (List ℕ)) (what : What) → is_post k v what ≡ true → IsTrue (is_recorded what (answer_to s (record { by = by; what = what }))) →
+post-accepted : (k v : ℕ) (s : State) (by : Option (List ℕ)) (what : What) → is_post k v what ≡ true → Accepts s by what →
     (is_solving s.cycle.phase ≡ true) × (s.cycle.number ≡ k) × (s.cycle.version ≡ v)
 post-accepted k v s by (Post c w solutions) post is =
     let legal = post-legal s by c w solutions (none-holds s by (Post c w solutions) is) in

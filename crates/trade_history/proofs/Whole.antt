@@ -35,7 +35,7 @@ only-at s front entry back base legal =
     let run = run-on s.roster s.cycle.number s (record { moments = []; rows = thawed s.trades }) front (run-none s base) (legal-front s front entry back legal) in
     subst (λ ms. IsOnly s.roster s.cycle.number ms book.rows) (sym (moments-push s front entry))
     (subst (λ r. IsOnly r s.cycle.number (now_of entry.ask book ∷ book.moments) book.rows) run.same
-    (one-execution s.cycle.number before book entry.ask.by entry.ask.what (subst (λ r. Keeps r s.cycle.number before.trades before.cycle book) (sym run.same) run.keeps)
+    (one-execution s.cycle.number before book entry.ask.by entry.ask.moment entry.ask.what (subst (λ r. Keeps r s.cycle.number before.trades before.cycle book) (sym run.same) run.keeps)
     (legal-at s front entry back legal)))
 
 pub found-at : (s : State) (front : List Entry) (entry : Entry) (execution : Execution) → execution_at s.roster s.cycle.number (book_from s (front ++ entry ∷ [])).moments ≡ Some execution →

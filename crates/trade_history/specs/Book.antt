@@ -113,8 +113,9 @@ abbrev pub AreNumbered : ℕ → List TradeRow → Type 0
 AreNumbered number [] = Unit {0}
 AreNumbered number (row ∷ rows) = (row.number ≡ suc number) × AreNumbered (suc number) rows
 
--- no cycle is open, no trade is frozen, and trades are numbered from 1
+-- no cycle is open and no version stands, no trade is frozen, and trades are numbered from 1
 pub record IsClosedBase (s : State) : Type 0 where
   pub phase : s.cycle.phase ≡ NoPhase
+  pub mode : s.cycle.mode ≡ None
   pub free : thawed s.trades ≡ s.trades
   pub numbered : AreNumbered 0 s.trades

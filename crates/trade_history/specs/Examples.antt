@@ -36,7 +36,7 @@ three_dealers = record {
 }
 
 abbrev change : List ℕ → What → Entry
-change by what = record { seat = 0; ask = record { by = Some by; what = what } }
+change by what = record { seat = 0; ask = record { by = Some by; what = what; moment = 0 } }
 
 -- a trade that its buyer affirms
 abbrev deal : ℕ → List ℕ → List ℕ → ℕ → List Entry

@@ -1,9 +1,14 @@
 -- What stays of a history that begins again at its end, as statements.
-use Rattle.std.specs.Prelude.{◌≡◌, ◌↔◌, ◌+◌, ◌≤◌, ℕ, Bool, List, ◌++◌, length}
+use Rattle.std.specs.Prelude.{◌≡◌, ◌↔◌, ◌+◌, ◌≤◌, ℕ, Bool, List, ◌++◌, length, All, Result, Ok}
 use Rattle.command_types.specs.declared.answer.Reply.{Reply}
 use Rattle.command_types.specs.declared.ask.Ask.{Ask}
 use Rattle.command_types.specs.declared.ask.Entry.{Entry}
+use Rattle.command_types.specs.declared.ask.What.{What}
+use Rattle.command_types.specs.declared.ask.What.TheVariants.{Next}
 use Rattle.command_types.specs.declared.figures.Figures.{Figures}
+use Rattle.command_types.specs.declared.line.Line.{Line}
+use Rattle.command_types.specs.declared.line.Line.TheVariants.{Next as NextLine}
+use Rattle.command_types.specs.Grammar.{line_within}
 use Rattle.command_types.specs.History.{History, IsLegal, IsLegalFrom, end_of, longer, recorded, replayed}
 use Rattle.command_types.specs.Folds.{IsAtRest, folded}
 use Rattle.command_types.specs.Session.{IsSession, Standing}
@@ -40,17 +45,27 @@ ExecutionsStayInFolds =
 abbrev pub figures_behind : History → Figures → Figures
 figures_behind h figures = record figures { base = (folded h).base }
 
--- For a desk that was made at the fold or later, a reply is told behind the fold exactly where it is told behind the history, and its command came no earlier than the fold: at the same position, with the same answer.
+-- the command asks for no change in front of this position
+abbrev pub AsksBehind : ℕ → What → Type 0
+AsksBehind position (Next at) = position ≤ at
+AsksBehind position what = Unit {0}
+
+-- For a desk that was made at the fold or later, a reply is told behind the fold exactly where it is told behind the history, and its command came no earlier than the fold: at the same position, with the same answer. Behind the fold the changes in front of it are gone, so no command asks for one of these.
 abbrev pub FoldsTellTheSame : Type 0
 FoldsTellTheSame =
-    (h : History) (more : List Entry) (figures : Figures) → figures.base ≡ h.base → end_of h ≤ figures.opening →
-    (before after : Bool) (seat : ℕ) (ask : Ask) (reply : Reply) →
+    (h : History) → IsClosedBase h.base.state → IsAtRest h → (more : List Entry) (figures : Figures) → figures.base ≡ h.base → end_of h ≤ figures.opening →
+    (before after : Bool) (seat : ℕ) (ask : Ask) → AsksBehind (end_of h) ask.what → (reply : Reply) →
     IsTold (figures_behind h figures) before after (longer (folded h) more) seat ask reply
     ↔ ((end_of h + length (recorded seat ask reply.answer) ≤ reply.at) × IsTold figures before after (longer h more) seat ask reply)
+
+-- what was read of a line asks for no change in front of this position
+abbrev pub ReadsBehind : ℕ → Result Line ℕ → Type 0
+ReadsBehind position (Ok (NextLine at)) = position ≤ at
+ReadsBehind position read = Unit {0}
 
 -- so a session that begins at the fold or later is the same, line by line, behind the fold and behind the history
 abbrev pub SessionsStayInFolds : Type 0
 SessionsStayInFolds =
-    (h : History) (more : List Entry) (figures : Figures) → figures.base ≡ h.base → end_of h ≤ figures.opening →
-    (seat : ℕ) (from : Standing) (lines : List (List ℕ)) (text : List ℕ) → end_of h ≤ from.position →
-    IsSession (figures_behind h figures) (longer (folded h) more) seat from lines text ↔ IsSession figures (longer h more) seat from lines text
+    (h : History) → IsClosedBase h.base.state → IsAtRest h → (more : List Entry) (clock : ℕ → Bool) (figures : Figures) → figures.base ≡ h.base → end_of h ≤ figures.opening →
+    (seat : ℕ) (from : Standing) (lines : List (List ℕ)) (text : List ℕ) → end_of h ≤ from.position → All (λ line. ReadsBehind (end_of h) (line_within line)) lines →
+    IsSession clock (figures_behind h figures) (longer (folded h) more) seat from lines text ↔ IsSession clock figures (longer h more) seat from lines text
