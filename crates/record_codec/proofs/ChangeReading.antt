@@ -9,7 +9,7 @@ use Rattle.command_types.specs.declared.cycle.Mode.TheVariants as modes
 use Rattle.command_types.specs.declared.trade.Side.{Side}
 use Rattle.command_types.specs.declared.trade.Side.TheVariants.{Out, In}
 use Rattle.command_types.specs.declared.ask.What.{What}
-use Rattle.command_types.specs.declared.ask.What.TheVariants.{Hello, Trade, Affirm, End, Hold, Free, Tol, Nets, Statement, Freeze, Begin, Limits, Row, Pot, Post, Fetch, Plan, Accept, Decline, Cancel, Bye, Unreadable}
+use Rattle.command_types.specs.declared.ask.What.TheVariants.{Hello, Trade, Affirm, End, Hold, Free, Tol, Nets, Statement, Freeze, Begin, Limits, Row, Pot, Post, Fetch, Next, Plan, Proof, Accept, Decline, Cancel, Bye, Unreadable}
 use Rattle.command_types.specs.Spelling.{most_solutions, number_spelling, name_spelling, day_spelling, ceiling_spelling, side_byte, mode_byte, solution_spelling, fields_spelling, IsNumber, AreFields}
 use Rattle.record_codec.specs.Reading.{Read, ◌>>=◌, number_at, count_at, name_at, amount_at, level_at, day_at, side_at, mode_at, ceiling_at, trade_fields, tolerance_fields, freeze_fields, begin_fields, numbered_fields, versioned_fields, post_fields, solutions_at, fields_at, change_at}
 use Rattle.record_codec.proofs.FieldFacts.{IsBytes, IsBytes-rest, Takes, Takes-then, IsFormat, bind_ok, ok_is, seq_takes, seq_again}
@@ -307,7 +307,9 @@ change_again (Limits product) rest is = absurd is
 change_again (Row product seller buyer amount size sum) rest is = absurd is
 change_again (Pot product member value size) rest is = absurd is
 change_again (Fetch cycle version) rest is = absurd is
+change_again (Next position) rest is = absurd is
 change_again (Plan cycle) rest is = absurd is
+change_again (Proof cycle) rest is = absurd is
 change_again Bye rest is = absurd is
 change_again (Unreadable at) rest is = absurd is
 

@@ -7,8 +7,10 @@ use Rattle.std.proofs.lemmas.Nat.{le_bytes_2, le_bytes_4, le_bytes_8, from_le_by
 use Rattle.units_core.specs.Name.{is_name}
 use Rattle.units_core.specs.Number.{is_amount}
 use Rattle.units_core.specs.Day.{DayParts, is_civil, day_numbered}
-use Rattle.command_types.specs.Spelling.{number_spelling, name_spelling, day_spelling, ceiling_spelling, IsLevel, IsDay}
-use Rattle.record_codec.specs.Reading.{field, number_in, count_in, name_in, amount_in, level_in, day_in, seat_at, number_at, count_at, row_count_at, name_at, amount_at, level_at, day_at, given_at, ceiling_if, ceiling_at}
+use Rattle.command_types.specs.declared.spelling.Spelling.{Spelling}
+use Rattle.command_types.specs.declared.spelling.Spelling.TheVariants.{First, Second}
+use Rattle.command_types.specs.Spelling.{number_spelling, name_spelling, moment_spelling, day_spelling, ceiling_spelling, IsLevel, IsMoment, IsDay}
+use Rattle.record_codec.specs.Reading.{field, number_in, count_in, name_in, amount_in, level_in, moment_in, day_in, moment_at, seat_at, number_at, count_at, row_count_at, name_at, amount_at, level_at, day_at, given_at, ceiling_if, ceiling_at}
 use Rattle.record_codec.proofs.FieldFacts.{IsBytes, IsBytes-take, IsBytes-drop, IsBytes-rest, Takes, IsFormat, IsField, format_of, field_ok, field_again, ok_is, seq_takes, seq_again}
 
 abbrev pub some : {A : Type 0} → A → Option A
@@ -96,6 +98,31 @@ level_field = record {
 
 pub level_format : IsFormat level_at number_spelling IsLevel
 level_format = format_of 8 level_in number_spelling IsLevel level_field
+
+-- ---- moments
+
+told_field : IsField 8 moment_in number_spelling (IsMoment Second)
+told_field = record {
+  back = λ text n len fits e.
+      let c = chosen (leb (from_le_bytes w64 text) 253402300799) (from_le_bytes w64 text) n e in
+      (sym (le_bytes_8 text n len fits (sym c.1)), subst (λ (k : ℕ). k ≤ 253402300799) c.1 (leb-true _ _ c.0));
+  again = λ n le. tested (λ k. leb k 253402300799) (from_le_bytes w64 (number_spelling n)) n (from_le_bytes-to_le_bytes_8 n (omega arith)) (le-leb _ _ le);
+  sized = λ n le. refl;
+}
+
+told_format : IsFormat (moment_at Second) (moment_spelling Second) (IsMoment Second)
+told_format = format_of 8 moment_in number_spelling (IsMoment Second) told_field
+
+no_moment : IsFormat (moment_at First) (moment_spelling First) (IsMoment First)
+no_moment = record {
+  takes = λ bytes x fits e.
+      subst (λ (y : ℕ × List ℕ). Takes bytes (moment_spelling First y.0) y.1 × IsMoment First y.0) (ok_is (0, bytes) x e) (record { parts = refl; rest_fits = fits }, refl);
+  again = λ n rest is. ap (λ (m : ℕ). Ok (m, rest)) (sym is);
+}
+
+pub moment_format : (form : Spelling) → IsFormat (moment_at form) (moment_spelling form) (IsMoment form)
+moment_format First = no_moment
+moment_format Second = told_format
 
 -- ---- days
 

@@ -7,7 +7,8 @@ use Rattle.std.proofs.lemmas.List.Concat.{flat_map-cons}
 use Rattle.network_laws.specs.Solutions.{SolutionData, IsSolution}
 use Rattle.command_types.specs.declared.ask.Entry.{Entry}
 use Rattle.command_types.specs.declared.ask.What.{What}
-use Rattle.command_types.specs.declared.ask.What.TheVariants.{Hello, Trade, Affirm, End, Hold, Free, Tol, Nets, Statement, Freeze, Begin, Limits, Row, Pot, Post, Fetch, Plan, Accept, Decline, Cancel, Bye, Unreadable}
+use Rattle.command_types.specs.declared.ask.What.TheVariants.{Hello, Trade, Affirm, End, Hold, Free, Tol, Nets, Statement, Freeze, Begin, Limits, Row, Pot, Post, Fetch, Next, Plan, Proof, Accept, Decline, Cancel, Bye, Unreadable}
+use Rattle.command_types.specs.declared.spelling.Spelling.TheVariants.{Second}
 use Rattle.command_types.specs.Machine.{changes}
 use Rattle.command_types.specs.Sizes.{ceiling_size, solution_size, fields_size, record_size}
 use Rattle.command_types.specs.Spelling.{number_spelling, name_spelling, day_spelling, side_byte, ceiling_spelling, row_spelling, potential_spelling, solution_spelling, fields_spelling, spelling, AreFields}
@@ -77,15 +78,17 @@ fields_length (Limits product) is = absurd cc
 fields_length (Row product seller buyer amount size sum) is = absurd cc
 fields_length (Pot product member value size) is = absurd cc
 fields_length (Fetch cycle version) is = absurd cc
+fields_length (Next position) is = absurd cc
 fields_length (Plan cycle) is = absurd cc
+fields_length (Proof cycle) is = absurd cc
 fields_length Bye is = absurd cc
 fields_length (Unreadable at) is = absurd cc
 
 -- a record is as long as its size says
-pub spelling_length : (e : Entry) → changes e.ask.what ≡ true → length (spelling e) ≡ record_size e.ask
+pub spelling_length : (e : Entry) → changes e.ask.what ≡ true → length (spelling Second e) ≡ record_size e.ask
 spelling_length e is =
     let party : List ℕ = unwrap_or e.ask.by [] in
-    let all = length_3 (to_le_bytes w32 e.seat) (name_spelling party) (fields_spelling e.ask.what) in
+    let all = length_4 (number_spelling e.ask.moment) (to_le_bytes w32 e.seat) (name_spelling party) (fields_spelling e.ask.what) in
     omega (arith, all, fields_length e.ask.what is)
 
 -- only changes have fields
@@ -109,7 +112,9 @@ fields_change (Limits product) fields = absurd fields
 fields_change (Row product seller buyer amount size sum) fields = absurd fields
 fields_change (Pot product member value size) fields = absurd fields
 fields_change (Fetch cycle version) fields = absurd fields
+fields_change (Next position) fields = absurd fields
 fields_change (Plan cycle) fields = absurd fields
+fields_change (Proof cycle) fields = absurd fields
 fields_change Bye fields = absurd fields
 fields_change (Unreadable at) fields = absurd fields
 

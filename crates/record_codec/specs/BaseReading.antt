@@ -1,5 +1,5 @@
 -- Reading a base from left to right, with the first field that breaks the grammar. A setting out of its order is told at its first byte.
-use Rattle.std.specs.Prelude.{ℕ, ◌+◌, ◌==◌, nat_le, zero, suc, Bool, true, false, List, [], ◌∷◌, length, slice_index, Option, Some, None, Result, Ok, Err, if◌then◌else◌}
+use Rattle.std.specs.Prelude.{ℕ, ◌+◌, ◌==◌, ◌||◌, nat_le, zero, suc, Bool, true, false, List, [], ◌∷◌, length, slice_index, Option, Some, None, Result, Ok, Err, if◌then◌else◌}
 use Rattle.std.specs.Int.{w16}
 use Rattle.command_types.specs.declared.base.Base.{Base}
 use Rattle.command_types.specs.declared.tolerance.ToleranceRow.{ToleranceRow}
@@ -163,10 +163,10 @@ base_fields bytes = do
     trades.1,
   )
 
--- the mark of the form, and the fields
+-- the mark, and the fields
 unfoldable pub base_at : List ℕ → Read Base
 base_at [] = Err 0
-base_at (mark ∷ bytes) = if mark == 1 then base_fields bytes else Err (suc (length bytes))
+base_at (mark ∷ bytes) = if (mark == 1) || (mark == 2) then base_fields bytes else Err (suc (length bytes))
 
 -- nothing may follow
 unfoldable pub base_of : List ℕ → Result Base ℕ

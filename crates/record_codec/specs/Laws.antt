@@ -2,8 +2,9 @@
 use Rattle.std.specs.Prelude.{◌≡◌, ℕ, List, Result, Ok, Err}
 use Rattle.command_types.specs.declared.ask.Entry.{Entry}
 use Rattle.command_types.specs.declared.base.Base.{Base}
+use Rattle.command_types.specs.declared.spelling.Spelling.{Spelling}
 use Rattle.command_types.specs.Bases.{SpellsBase}
-use Rattle.command_types.specs.Spelling.{Spells}
+use Rattle.command_types.specs.Spelling.{Spells, turn}
 use Rattle.record_codec.specs.declared.fault.ReadFault.{ReadFault}
 use Rattle.record_codec.specs.declared.fault.ReadFault.TheVariants as reads
 use Rattle.record_codec.specs.declared.fault.DecodeFault.{DecodeFault}
@@ -27,10 +28,14 @@ abbrev pub Decodes : {A : Type 0} → Result A DecodeFault → Result A ℕ → 
 Decodes (Ok value) read = read ≡ Ok value
 Decodes (Err fault) read = IsFaultOf fault read
 
--- No bytes spell two changes.
+-- In each of the two spellings no bytes spell two changes.
 abbrev pub SpellingsAreUnique : Type 0
-SpellingsAreUnique = (bytes : List ℕ) (a b : Entry) → Spells bytes a → Spells bytes b → a ≡ b
+SpellingsAreUnique = (form : Spelling) (bytes : List ℕ) (a b : Entry) → Spells form bytes a → Spells form bytes b → a ≡ b
 
--- No bytes spell two bases.
+-- No bytes are spellings of changes and the turn between the spellings, too.
+abbrev pub TurnIsNoChange : Type 0
+TurnIsNoChange = (form : Spelling) (entry : Entry) → Spells form turn entry → ⊥
+
+-- No bytes spell two bases, whichever mark they begin with.
 abbrev pub BasesAreUnique : Type 0
 BasesAreUnique = (bytes : List ℕ) (a b : Base) → SpellsBase bytes a → SpellsBase bytes b → a ≡ b

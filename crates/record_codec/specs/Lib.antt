@@ -2,3 +2,4 @@ pub mod Reading
 pub mod BaseReading
 pub mod BaseWriting
 pub mod Laws
+pub mod Votes

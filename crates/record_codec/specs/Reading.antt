@@ -14,6 +14,9 @@ use Rattle.command_types.specs.declared.trade.Side.TheVariants.{Out, In}
 use Rattle.command_types.specs.declared.ask.Entry.{Entry}
 use Rattle.command_types.specs.declared.ask.What.{What}
 use Rattle.command_types.specs.declared.ask.What.TheVariants.{Trade, Affirm, End, Hold, Free, Tol, Freeze, Begin, Post, Accept, Decline, Cancel}
+use Rattle.command_types.specs.declared.moment.TheConstants.{MOST_MOMENT}
+use Rattle.command_types.specs.declared.spelling.Spelling.{Spelling}
+use Rattle.command_types.specs.declared.spelling.Spelling.TheVariants.{First, Second}
 use Rattle.command_types.specs.Spelling.{most_solutions}
 use Rattle.units_core.specs.declared.limits.TheConstants.{MOST_GROSS, MOST_MEMBERS, MOST_POTENTIAL}
 
@@ -52,6 +55,10 @@ amount_in text = if is_amount (from_le_bytes w64 text) then Some (from_le_bytes 
 abbrev pub level_in : List ℕ → Option ℕ
 level_in text =
     if nat_le (from_le_bytes w64 text) MOST_GROSS then Some (from_le_bytes w64 text) else None
+
+abbrev pub moment_in : List ℕ → Option ℕ
+moment_in text =
+    if nat_le (from_le_bytes w64 text) MOST_MOMENT then Some (from_le_bytes w64 text) else None
 
 abbrev pub day_in : List ℕ → Option DayParts
 day_in text = day_numbered (from_le_bytes w16 text) (slice_index text 2) (slice_index text 3)
@@ -261,17 +268,23 @@ change_at (tag ∷ bytes) = fields_at tag bytes
 
 -- ---- the record
 
-unfoldable pub entry_at : List ℕ → Read Entry
-entry_at bytes = do
-  seat ← seat_at bytes
+-- the moment in front of a record; the first spelling has none, which is 0
+abbrev pub moment_at : Spelling → List ℕ → Read ℕ
+moment_at First bytes = Ok (0, bytes)
+moment_at Second bytes = field 8 moment_in bytes
+
+unfoldable pub entry_at : Spelling → List ℕ → Read Entry
+entry_at form bytes = do
+  moment ← moment_at form bytes
+  seat ← seat_at moment.1
   party ← name_at seat.1
   what ← change_at party.1
-  Ok (record { seat = seat.0; ask = record { by = Some party.0; what = what.0 } }, what.1)
+  Ok (record { seat = seat.0; ask = record { by = Some party.0; what = what.0; moment = moment.0 } }, what.1)
 
 -- nothing may follow
-unfoldable pub entry_of : List ℕ → Result Entry ℕ
-entry_of bytes = do
-  entry ← entry_at bytes
+unfoldable pub entry_of : Spelling → List ℕ → Result Entry ℕ
+entry_of form bytes = do
+  entry ← entry_at form bytes
   if length entry.1 == 0 then Ok entry.0 else Err (length entry.1)
 
 -- a fault by its offset
@@ -279,6 +292,6 @@ abbrev pub by_offset : {A : Type 0} → ℕ → Result A ℕ → Result A ℕ
 by_offset size (Ok value) = Ok value
 by_offset size (Err left) = Err (size - left)
 
--- the change that the bytes spell, or the offset of the first byte of the first field that breaks the grammar
-abbrev pub read_record : List ℕ → Result Entry ℕ
-read_record bytes = by_offset (length bytes) (entry_of bytes)
+-- the change of which the bytes are this spelling, or the offset of the first byte of the first field that breaks the grammar
+abbrev pub read_record : Spelling → List ℕ → Result Entry ℕ
+read_record form bytes = by_offset (length bytes) (entry_of form bytes)

@@ -34,12 +34,12 @@ fn read_fields(alloc: Global, unread: &mut Unread) -> Result<Base, ReadFault>
     })
 }
 
-// The mark of the form, and the fields.
+// The mark, and the fields.
 #[tactic(auto, unfolding(crate::specs::BaseReading::base_at))]
 fn read_base(alloc: Global, unread: &mut Unread) -> Result<Base, ReadFault>
     ensures { Gives (λ base. (base, unread.new.rest.now)) result (base_at unread.old.rest.now) }
 {
-    let [1, rest @ ..] = unread.rest else {
+    let [1 | 2, rest @ ..] = unread.rest else {
         return Err(unread.bad());
     };
     unread.rest = rest;

@@ -1,5 +1,6 @@
 //! Bases, written.
 ghost use Rattle.std.specs.Prelude.{◌≡◌, ◌∷◌, ◌++◌, OnOk, IfOk};
+ghost use Rattle.command_types.specs.declared.spelling.Spelling.TheVariants.{Second};
 ghost use Rattle.command_types.specs.Spelling.{number_spelling, IsNumber};
 ghost use Rattle.command_types.specs.Bases.{base_spelling, CanBeWritten, IsWrittenBase, SpellsBase};
 
@@ -8,14 +9,14 @@ use crate::put_base::{put_names, put_settings, put_trades};
 use command_types::Base;
 use std::alloc::{AllocError, Global};
 
-// The mark of the form, the position, and the numbers of the last cycle.
+// The mark, behind which records are of the second spelling, the position, and the numbers of the last cycle.
 fn put_numbers(out: &mut Vec<u8>, position: u64, cycle: u64, version: u64) -> Result<(), AllocError>
-    ensures appends { OnOk result (out.new.items ≡ out.old.items ++ (1 ∷ number_spelling position ++ number_spelling cycle ++ number_spelling version)) }
+    ensures appends { OnOk result (out.new.items ≡ out.old.items ++ (2 ∷ number_spelling position ++ number_spelling cycle ++ number_spelling version)) }
     ensures position { IsNumber position }
     ensures cycle { IsNumber cycle }
     ensures version { IsNumber version }
 {
-    out.push(1)?;
+    out.push(2)?;
     put_number(out, position)?;
     put_number(out, cycle)?;
     put_number(out, version)?;
@@ -24,7 +25,7 @@ fn put_numbers(out: &mut Vec<u8>, position: u64, cycle: u64, version: u64) -> Re
 
 fn put_base(out: &mut Vec<u8>, base: &Base) -> Result<(), AllocError>
     requires { CanBeWritten base.now }
-    ensures appends { OnOk result (out.new.items ≡ out.old.items ++ base_spelling base.now) }
+    ensures appends { OnOk result (out.new.items ≡ out.old.items ++ base_spelling Second base.now) }
     ensures form { OnOk result (IsWrittenBase base.now) }
 {
     put_numbers(out, base.position, base.cycle, base.version)?;
@@ -35,10 +36,10 @@ fn put_base(out: &mut Vec<u8>, base: &Base) -> Result<(), AllocError>
     Ok(())
 }
 
-/// The bytes of a base, its one spelling. The only error is want of memory.
+/// The bytes of a base, behind which records are of the second spelling. The only error is want of memory.
 pub fn encode_base(alloc: Global, base: &Base) -> Result<Vec<u8>, AllocError>
     requires { CanBeWritten base.now }
-    ensures exact { IfOk result (λ bytes. bytes.items ≡ base_spelling base.now) }
+    ensures exact { IfOk result (λ bytes. bytes.items ≡ base_spelling Second base.now) }
     ensures spells { IfOk result (λ bytes. SpellsBase bytes.items base.now) }
 {
     let mut bytes = Vec::new(alloc);

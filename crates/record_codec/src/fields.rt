@@ -2,10 +2,10 @@
 ghost use Rattle.std.specs.Prelude.{◌≡◌, ◌≤◌, length, IfOk};
 ghost use Rattle.record_codec.specs.declared.fault.ReadFault.TheVariants.{Bad};
 ghost use Rattle.record_codec.specs.Laws.{Gives};
-ghost use Rattle.record_codec.specs.Reading.{number_at, seat_at, row_count_at, count_at, name_at, amount_at, level_at, day_at, side_at, mode_at, given_at, ceiling_at};
+ghost use Rattle.record_codec.specs.Reading.{field, number_at, moment_in, moment_at, seat_at, row_count_at, count_at, name_at, amount_at, level_at, day_at, side_at, mode_at, given_at, ceiling_at};
 
 use crate::fault::ReadFault;
-use command_types::{Level, Mode, Side};
+use command_types::{Level, MOST_MOMENT, Mode, Moment, Side, Spelling};
 use units_core::{Amount, Day, Name};
 
 /// The bytes of a record that are still to be read.
@@ -55,6 +55,32 @@ impl<'a> Unread<'a> {
         };
         self.rest = rest;
         Ok(u32::from_le_bytes(*text))
+    }
+
+    // The moment in front of a record of this spelling.
+    #[tactic(auto, unfolding(crate::specs::Reading::field))]
+    pub(crate) fn moment(&mut self, form: Spelling) -> Result<Moment, ReadFault>
+        ensures { Gives (λ n. (n, self.new.rest.now)) result (moment_at form self.old.rest.now) }
+    {
+        match form {
+            Spelling::First => Ok(Moment::new(0)),
+            Spelling::Second => self.told_moment(),
+        }
+    }
+
+    #[tactic(auto, unfolding(crate::specs::Reading::field))]
+    fn told_moment(&mut self) -> Result<Moment, ReadFault>
+        ensures { Gives (λ n. (n, self.new.rest.now)) result (field 8 moment_in self.old.rest.now) }
+    {
+        let Some((text, rest)) = self.rest.split_first_chunk() else {
+            return Err(self.bad());
+        };
+        let seconds = u64::from_le_bytes(*text);
+        if seconds > MOST_MOMENT {
+            return Err(self.bad());
+        }
+        self.rest = rest;
+        Ok(Moment::new(seconds))
     }
 
     // A number of two bytes, up to `most`.

@@ -1,12 +1,14 @@
 //! The record of an ACCEPT, written without memory.
 //!
-//! | bytes | 4 | 1 | 1 to 16 | 1 | 8 | 8 |
-//! |---|---|---|---|---|---|---|
-//! | what | seat | length of the name | party's name | the tag 10 | cycle | version |
-ghost use Rattle.std.specs.Prelude.{◌≡◌, ◌≤◌, ◌+◌, ◌++◌, length, take, Some};
-ghost use Rattle.command_types.specs.declared.ask.What.TheVariants.{Accept};
+//! | bytes | 8 | 4 | 1 | 1 to 16 | 1 | 8 | 8 |
+//! |---|---|---|---|---|---|---|---|
+//! | what | moment | seat | length of the name | party's name | the tag 10 | cycle | version |
+ghost use Rattle.std.specs.Prelude.{◌≡◌, ◌≤◌, ◌+◌, ◌++◌, length, take};
+ghost use Rattle.command_types.specs.declared.spelling.Spelling.TheVariants.{Second};
 ghost use Rattle.command_types.specs.Spelling.{spelling, Spells};
+ghost use Rattle.record_codec.specs.Votes.{accept_by};
 
+use command_types::Moment;
 use units_core::Name;
 
 // Writes the bytes at a place, and gives the place behind them.
@@ -21,15 +23,23 @@ fn put_at(into: &mut [u8], at: usize, bytes: &[u8]) -> usize
     at + bytes.len()
 }
 
-/// Writes the record of this party's ACCEPT to the front of `into`, its one spelling, and gives how many bytes it has, 38 at
-/// most. It takes no memory.
-pub fn encode_short(seat: u32, by: &Name, cycle: u64, version: u64, into: &mut [u8; 64]) -> usize
-    ensures short { result ≤ 38 }
-    ensures exact { take result into.new ≡ spelling (record { seat = seat; ask = record { by = Some by.now; what = Accept cycle version } }) }
-    ensures spells { Spells (take result into.new) (record { seat = seat; ask = record { by = Some by.now; what = Accept cycle version } }) }
+/// Writes the record of this party's ACCEPT to the front of `into`, its second spelling, and gives how many bytes it has,
+/// 46 at most. It takes no memory.
+pub fn encode_short(
+    seat: u32,
+    by: &Name,
+    cycle: u64,
+    version: u64,
+    moment: Moment,
+    into: &mut [u8; 64],
+) -> usize
+    ensures short { result ≤ 46 }
+    ensures exact { take result into.new ≡ spelling Second (accept_by seat by.now cycle version moment) }
+    ensures spells { Spells Second (take result into.new) (accept_by seat by.now cycle version moment) }
 {
     let text = by.text();
-    let end = put_at(into, 0, &seat.to_le_bytes());
+    let end = put_at(into, 0, &moment.seconds().to_le_bytes());
+    let end = put_at(into, end, &seat.to_le_bytes());
     let end = put_at(into, end, &[text.len() as u8]);
     let end = put_at(into, end, text);
     let end = put_at(into, end, &[10]);

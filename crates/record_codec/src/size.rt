@@ -1,5 +1,6 @@
 //! How long a record is.
 ghost use Rattle.std.specs.Prelude.{◌≡◌, ◌≤◌, ◌+◌, ◌*◌, length, sum_by, is_some, IsTrue};
+ghost use Rattle.command_types.specs.declared.spelling.Spelling.TheVariants.{Second};
 ghost use Rattle.command_types.specs.Machine.{changes};
 ghost use Rattle.command_types.specs.Sizes.{name_size, ceiling_size, solution_size, fields_size, record_size};
 ghost use Rattle.command_types.specs.Spelling.{spelling, posted, most_solutions};
@@ -94,7 +95,7 @@ fn size_of(entry: &Entry) -> u64
     ensures { result ≡ record_size entry.now.ask }
 {
     let party = entry.ask.by.unwrap();
-    5 + name_size(&party) + fields_size(&entry.ask.what)
+    13 + name_size(&party) + fields_size(&entry.ask.what)
 }
 
 /// How many bytes the change's record has. It takes no memory.
@@ -102,7 +103,7 @@ pub fn length(entry: &Entry) -> u64
     requires change { IsTrue (changes entry.now.ask.what) }
     requires party { IsTrue (is_some entry.now.ask.by) }
     requires few { posted entry.now.ask.what ≤ most_solutions }
-    ensures exact { result ≡ length (spelling entry.now) }
+    ensures exact { result ≡ length (spelling Second entry.now) }
     ensures size { result ≡ record_size entry.now.ask }
 {
     size_of(entry)

@@ -1,11 +1,12 @@
 -- What is read of the bytes that a walk read, as what the disk's content holds.
-use Rattle.std.proofs.Common.{◌≡◌, inl, inr, ℕ, List, [], Ok, Err, Option, Some, None, subst}
+use Rattle.std.proofs.Common.{◌≡◌, ◌∙◌, ap, inl, inr, ℕ, List, [], Ok, Err, Option, Some, None, subst, sym}
 use Rattle.std.specs.Prelude.{◌⊎◌, IfSome}
 use Rattle.std.specs.List.{AllZip}
 use Rattle.command_types.specs.Bases.{CanBeWritten}
 use Rattle.outside.specs.Disk as disks
 use Rattle.journal_core.specs.Holds.{IsJournal, Holds}
 use Rattle.journal_core.specs.Journal.{EndsAs, EndsAt}
+use Rattle.journal_core.specs.RecordBytes.{walked_of}
 use Rattle.journal_core.specs.Walk.{bytes_of, base_of, gate_of, placed, IsWalked, FindsRecords, FindsFault as FindsWalkFault}
 use Rattle.journal_core.specs.declared.form.Form.{Form}
 use Rattle.journal_core.specs.declared.form.Form.TheVariants.{Slots}
@@ -13,12 +14,16 @@ use Rattle.journal_core.specs.declared.walked.Walked.{Walked}
 use Rattle.journal_core.specs.declared.walked.WalkFault.{WalkFault}
 use Rattle.journal_core.specs.declared.walked.WalkFault.TheVariants as walks
 use Rattle.journal_core.proofs.OneReading.{one_reading}
+use Rattle.command_types.specs.Bases.{spelling_behind}
+use Rattle.command_types.specs.declared.spelling.Spelling.{Spelling}
+use Rattle.recovery.specs.Bodies.{Placed, changes_of, spelling_after}
 use Rattle.recovery.specs.StandsFor.{HoldsAt, SpellsSomeBase, IsFirstBad}
 use Rattle.recovery.specs.Reading.{SpellsAt, AreSpelled, IsFaultAmong, IsRead, HasRead, HasBase, IsBaseOf, IsBaseFault}
-use Rattle.recovery.specs.Reading.{IsFault, FindsEntries, FindsBase, GivesOnly, FindsFault}
+use Rattle.recovery.specs.Reading.{IsFault, FindsEntries, FindsSpelling, FindsBase, GivesOnly, FindsFault}
 use Rattle.recovery.specs.Faults.{fault_of_walk}
 use Rattle.recovery.specs.declared.contents.BaseAt.{BaseAt}
 use Rattle.recovery.specs.declared.contents.Contents.{Contents}
+use Rattle.recovery.specs.declared.entries.Entries.{Entries}
 use Rattle.recovery.specs.declared.entries.EntryAt.{EntryAt}
 use Rattle.recovery.specs.declared.fault.RecoverFault.{RecoverFault}
 use Rattle.recovery.specs.declared.fault.RecoverFault.TheVariants.{Damaged, DiskFault, Memory}
@@ -30,10 +35,20 @@ use Rattle.recovery.proofs.EntryFacts.{only_fault, stands_read}
 pub walked_holds : (w : Walked) (walked : IsWalked w) → Holds (bytes_of w) (base_of w) walked.1.0
 walked_holds w walked = ends_hold w.form (bytes_of w) w.end (base_of w) walked.1.0 walked.1.1
 
--- where all its records spell entries, these are read
-pub has_read : (w : Walked) (walked : IsWalked w) → AreSpelled (placed (gate_of w) walked.1.0) → HasRead (record { walked = w })
-has_read w walked spelled =
-    (spelled.0, (base_of w, walked.1.0, gate_of w, walked_at w (base_of w) walked.1.0 walked (walked_holds w walked), spelled.1), walked)
+-- the spelling in which its body begins
+abbrev pub first_of : Walked → Spelling
+first_of w = spelling_behind (base_of w)
+
+-- what is to spell changes of these records, behind its base
+abbrev pub changes_walked : Walked → List (List ℕ) → List Placed
+changes_walked w records = changes_of (first_of w) (placed (gate_of w) records)
+
+-- where all that is to spell changes does, the entries are read
+pub has_read : (w : Walked) (walked : IsWalked w) (e : Entries) → walked_of e.records ≡ w → e.first ≡ first_of w → AreSpelled (changes_of e.first (placed (gate_of w) walked.1.0)) → HasRead e
+has_read w walked e of_walk is spelled =
+    let here : AllZip SpellsAt (changes_walked w walked.1.0) spelled.0 = subst (λ (s : Spelling). AllZip SpellsAt (changes_of s (placed (gate_of w) walked.1.0)) spelled.0) is spelled.1 in
+    subst (λ (v : Walked). (list : List EntryAt) × IsRead (bytes_of v) list × IsWalked v × (e.first ≡ first_of v)) (sym of_walk)
+    (spelled.0, (base_of w, walked.1.0, gate_of w, walked_at w (base_of w) walked.1.0 walked (walked_holds w walked), here), walked, is)
 
 -- its base can be written
 pub can_be_written : (w : Walked) (base : Option BaseAt) → IsBaseOf w base → IfSome base (λ x. CanBeWritten x.base)
@@ -69,7 +84,11 @@ module _ (disk : disks.History) (w : Walked) (walked : IsWalked w) (finds : Find
   read_content : (list : List EntryAt) → IsRead (bytes_of w) list → IsRead disk.content list
   read_content list read =
       let at = content_at read.0 read.1 read.2 read.3 in
-      (read.0, read.1, at.0, at.1, subst (λ (l : List (ℕ × List ℕ)). AllZip SpellsAt l list) at.2 read.4)
+      (read.0, read.1, at.0, at.1, subst (λ (l : List (ℕ × List ℕ)). AllZip SpellsAt (changes_of (spelling_behind read.0) l) list) at.2 read.4)
+
+  spelling_content : (initial last : Spelling) → initial ≡ first_of w → last ≡ spelling_after initial walked.1.0 → FindsSpelling (Some disk) last
+  spelling_content initial last begins is =
+      (base_of w, walked.1.0, content_holds, is ∙ ap (λ (s : Spelling). spelling_after s walked.1.0) begins)
 
   base_content : (base : Option BaseAt) → IsBaseOf w base → HasBase disk.content base
   base_content None is = (walked.1.0, subst (λ (b : List ℕ). Holds disk.content b walked.1.0) is content_holds)
@@ -80,16 +99,21 @@ module _ (disk : disks.History) (w : Walked) (walked : IsWalked w) (finds : Find
   bad_content DiskFault bad = tt
   bad_content Memory bad = tt
 
-  among_content : (base : Option BaseAt) (fault : RecoverFault) → IsBaseOf w base → IsFaultAmong (placed (gate_of w) walked.1.0) fault → IsFault disk.content fault
+  among_content : (base : Option BaseAt) (fault : RecoverFault) → IsBaseOf w base → IsFaultAmong (changes_walked w walked.1.0) fault → IsFault disk.content fault
   among_content base (Damaged place) is bad =
       let at = content_at (base_of w) walked.1.0 (gate_of w) (walked_at w (base_of w) walked.1.0 walked (walked_holds w walked)) in
-      inr (inr (base_of w, walked.1.0, at.0, at.1, base_spelled w base is, subst (λ (l : List (ℕ × List ℕ)). IsFirstBad l place) at.2 bad))
+      inr (inr (base_of w, walked.1.0, at.0, at.1, base_spelled w base is, subst (λ (l : List (ℕ × List ℕ)). IsFirstBad (changes_of (first_of w) l) place) at.2 bad))
   among_content base DiskFault is bad = tt
   among_content base Memory is bad = tt
 
-pub found_of : (o : Option disks.History) (w : Walked) → IsWalked w → FindsRecords o w → EndsAt o w.form w.end → FindsEntries o (record { walked = w })
-found_of None w walked finds ends = tt
-found_of (Some disk) w walked finds ends = read_content disk w walked finds ends
+pub found_of : (o : Option disks.History) (w : Walked) (e : Entries) → walked_of e.records ≡ w → IsWalked w → FindsRecords o w → EndsAt o w.form w.end → FindsEntries o e
+found_of None w e is walked finds ends = tt
+found_of (Some disk) w e is walked finds ends =
+    λ list read. read_content disk w walked finds ends list (subst (λ (v : Walked). IsRead (bytes_of v) list) is read)
+
+pub spelling_of : (o : Option disks.History) (w : Walked) (initial last : Spelling) (walked : IsWalked w) → FindsRecords o w → EndsAt o w.form w.end → initial ≡ first_of w → last ≡ spelling_after initial walked.1.0 → FindsSpelling o last
+spelling_of None w initial last walked finds ends begins is = tt
+spelling_of (Some disk) w initial last walked finds ends begins is = spelling_content disk w walked finds ends initial last begins is
 
 pub base_on : (o : Option disks.History) (w : Walked) (base : Option BaseAt) → IsWalked w → FindsRecords o w → EndsAt o w.form w.end → IsBaseOf w base → FindsBase o base
 base_on None w base walked finds ends is = tt
@@ -104,11 +128,12 @@ fault_before (Some disk) w fault walked finds ends bad =
     let told = bad_content disk w walked finds ends fault bad in (told, only_fault disk.content fault told)
 
 -- the fault of its records
-pub fault_among : (o : Option disks.History) (w : Walked) (base : Option BaseAt) (fault : RecoverFault) (walked : IsWalked w) → FindsRecords o w → EndsAt o w.form w.end → IsBaseOf w base
-    → IsFaultAmong (placed (gate_of w) walked.1.0) fault → FindsFault o fault
-fault_among None w base fault walked finds ends is bad = tt
-fault_among (Some disk) w base fault walked finds ends is bad =
-    let told = among_content disk w walked finds ends base fault is bad in (told, only_fault disk.content fault told)
+pub fault_among : (o : Option disks.History) (w : Walked) (base : Option BaseAt) (initial : Spelling) (fault : RecoverFault) (walked : IsWalked w) → FindsRecords o w → EndsAt o w.form w.end → IsBaseOf w base → initial ≡ first_of w
+    → IsFaultAmong (changes_of initial (placed (gate_of w) walked.1.0)) fault → FindsFault o fault
+fault_among None w base initial fault walked finds ends is begins bad = tt
+fault_among (Some disk) w base initial fault walked finds ends is begins bad =
+    let here : IsFaultAmong (changes_walked w walked.1.0) fault = subst (λ (s : Spelling). IsFaultAmong (changes_of s (placed (gate_of w) walked.1.0)) fault) begins bad in
+    let told = among_content disk w walked finds ends base fault is here in (told, only_fault disk.content fault told)
 
 -- a walk's fault
 walk_told : (h : disks.History) (fault : WalkFault) → FindsWalkFault (Some h) fault → IsFault h.content (fault_of_walk fault)

@@ -3,8 +3,9 @@ ghost use Rattle.std.specs.Prelude.{◌≡◌, ◌<◌, ◌^◌, List};
 ghost use Rattle.recovery.specs.declared.entries.EntryAt.{EntryAt};
 
 use crate::EntryReader;
-use command_types::Entry;
-use journal_core::{Form, Walked};
+use crate::body::Body;
+use command_types::{Entry, Spelling};
+use journal_core::{Form, RecordBytes};
 
 /// An entry, and the place of its record's gate in the file.
 #[derive(Drop)]
@@ -13,27 +14,39 @@ pub struct EntryAt {
     pub entry: Entry,
 }
 
-/// A file whose records all spell entries. The entries are made one at a time, as they are read.
+/// A file whose records all spell entries, but for the one that turns it. The entries are made one at a time, as they are read.
 #[derive(Drop)]
 pub struct Entries {
-    pub(crate) walked: Walked,
+    pub(crate) records: RecordBytes,
+    pub(crate) form: Form,
+    pub(crate) end: u64,
+    // The spelling in which its body begins, and the one in which it goes on behind its records.
+    pub(crate) first: Spelling,
+    pub(crate) last: Spelling,
 }
 
 impl Entries {
-    ghost use Rattle.recovery.specs.Reading.{file_of, form_read, ends_at, bytes_left, HasRead, IsRead, AreLeft};
+    ghost use Rattle.recovery.specs.Reading.{file_of, form_read, ends_at, last_spelling, bytes_left, HasRead, IsRead, AreLeft};
 
     /// The form of the file.
     pub fn form(&self) -> Form
         ensures { result ≡ form_read self.now }
     {
-        self.walked.form
+        self.form
     }
 
     /// The place just past the gate behind their records, or where that will be once a file that is too short is begun.
     pub fn end(&self) -> u64
         ensures { result ≡ ends_at self.now }
     {
-        self.walked.end
+        self.end
+    }
+
+    /// The spelling in which the file goes on behind their records.
+    pub fn spelling(&self) -> Spelling
+        ensures { result ≡ last_spelling self.now }
+    {
+        self.last
     }
 
     /// A reader of them, at the first.
@@ -42,7 +55,10 @@ impl Entries {
         ensures all { HasRead self.now → (list : List EntryAt) → IsRead (file_of self.now) list → AreLeft result list }
     {
         EntryReader {
-            records: self.walked.records(),
+            body: Body {
+                records: self.records.records(),
+                spelling: self.first,
+            },
         }
     }
 }

@@ -2,6 +2,7 @@
 //! order.
 #![tactic(auto)]
 
+mod body;
 pub mod contents;
 pub mod entries;
 pub mod fault;

@@ -4,17 +4,23 @@ ghost use Rattle.recovery.specs.declared.entries.EntryAt.{EntryAt};
 ghost use Rattle.recovery.specs.declared.fault.RecoverFault.TheVariants.{Memory};
 ghost use Rattle.recovery.specs.Reading.{SpellsAt, IsFaultAmong};
 
+use crate::body::Body;
 use crate::{EntryAt, RecoverFault};
-use journal_core::{RecordAt, Records};
+use command_types::Spelling;
+use journal_core::RecordAt;
 use record_codec::{DecodeFault, decode};
 use std::alloc::Global;
 
-// The entry that a record spells.
-pub(crate) fn read_entry(alloc: Global, found: &RecordAt<'_>) -> Result<EntryAt, RecoverFault>
-    ensures found { IfOk result (SpellsAt (found.now.at, found.now.bytes.now)) }
-    ensures fault { IfErr result (IsFaultAmong ((found.now.at, found.now.bytes.now) ∷ [])) }
+// The entry that a record of this spelling spells.
+pub(crate) fn read_entry(
+    alloc: Global,
+    found: &RecordAt<'_>,
+    spelling: Spelling,
+) -> Result<EntryAt, RecoverFault>
+    ensures found { IfOk result (SpellsAt (found.now.at, (spelling, found.now.bytes.now))) }
+    ensures fault { IfErr result (IsFaultAmong ((found.now.at, (spelling, found.now.bytes.now)) ∷ [])) }
 {
-    match decode(alloc, found.bytes) {
+    match decode(alloc, found.bytes, spelling) {
         Ok(entry) => Ok(EntryAt {
             at: found.at,
             entry,
@@ -24,10 +30,10 @@ pub(crate) fn read_entry(alloc: Global, found: &RecordAt<'_>) -> Result<EntryAt,
     }
 }
 
-/// Reads the entries of a file whose records all spell some.
+/// Reads the entries of a file whose records all spell some, but for the one that turns it.
 #[derive(Drop)]
 pub struct EntryReader<'a> {
-    pub(crate) records: Records<'a>,
+    pub(crate) body: Body<'a>,
 }
 
 impl<'a> EntryReader<'a> {
@@ -39,10 +45,10 @@ impl<'a> EntryReader<'a> {
         ensures fault { (list : List EntryAt) → AreLeft self.old list → IfErr result (λ e. e ≡ Memory) }
         ensures shorter { IfOk result (λ o. IfSome o (λ _. bytes_left self.new < bytes_left self.old)) }
     {
-        let Some(found) = self.records.next() else {
+        let Some(found) = self.body.next() else {
             return Ok(None);
         };
-        let item = read_entry(alloc, &found)?;
+        let item = read_entry(alloc, &found, self.body.spelling)?;
         Ok(Some(item))
     }
 }

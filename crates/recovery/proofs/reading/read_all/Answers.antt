@@ -1,49 +1,50 @@
-use Rattle.std.proofs.Common.{◌≡◌, ◌∷◌, [], ℕ, Err, IfErr, sym, subst, rules}
+use Rattle.std.proofs.Common.{◌≡◌, Err, IfErr, refl, sym, subst, rules}
 use Rattle.journal_core.specs.Walk.{placed, gate_of}
-use Rattle.recovery.specs.Reading.{SpellsAt, IsFaultAmong}
-use Rattle.recovery.proofs.LoopFacts.{spelled_none, spelled_more, spelled_fault, spelled_all}
+use Rattle.recovery.specs.Bodies.{Placed, changes_of}
+use Rattle.recovery.specs.Reading.{IsFaultAmong}
+use Rattle.recovery.specs.declared.body.Body.{Body}
+use Rattle.recovery.proofs.LoopFacts.{spelled_none, spelled_more, spelled_fault, spelled_all, spelled_last}
 use Rattle.recovery.proofs.reading.read_all.Goals as goal
 
 pub loop-found-init : goal.loop-found-init
 loop-found-init c = λ base records holds.
     let gate = gate_of c.args.walked.now in
-    let r = c.records-records.result in spelled_none gate records r.at r.rest.now c.records-records.ensures.first (c.records-records.ensures.all c.requires base records holds)
+    let body : Body = record { records = c.records.result; spelling = c.args.first } in
+    spelled_none c.args.first gate records body c.records.ensures.first refl (c.records.ensures.all c.requires base records holds)
 
 pub returns-in_err-read_entry-clause-fault : goal.returns-in_err-read_entry-clause-fault
 returns-in_err-read_entry-clause-fault c = λ base records holds.
     let gate = gate_of c.args.walked.now in
-    let r = c.loop-found.records in
-    let b = c.in-Some.found.bytes.now in
+    let first = c.args.first in
     let fault = c.in_err-read_entry.field-0.0 in
     let so_far = c.loop-found.invariant base records holds in
+    let found : Placed = (c.in-Some.found.at, (c.next.new.self.spelling, c.in-Some.found.bytes.now)) in
     let is : c.from_residual.result ≡ Err fault = search rules in
-    let told : IsFaultAmong ((r.at, b) ∷ []) fault = subst (λ (n : ℕ). IsFaultAmong ((n, b) ∷ []) fault) c.in-Some.ensures.place c.in_err-read_entry.ensures.fault in
-    subst (λ e. IfErr e (IsFaultAmong (placed gate records))) (sym is)
-    (spelled_fault gate records r.at r.rest.now b c.next.new.self.at c.next.new.self.rest.now fault so_far (c.in-Some.ensures.some so_far.others so_far.ahead) told)
+    subst (λ e. IfErr e (IsFaultAmong (changes_of first (placed gate records)))) (sym is)
+    (spelled_fault first gate records c.loop-found.body c.next.new.self found fault so_far (c.in-Some.ensures.some so_far.others so_far.ahead) c.in_err-read_entry.ensures.fault)
 
 pub loop-found-preserved-in_ok-read_entry : goal.loop-found-preserved-in_ok-read_entry
 loop-found-preserved-in_ok-read_entry c = λ base records holds.
     let gate = gate_of c.args.walked.now in
-    let r = c.loop-found.records in
-    let b = c.in-Some.found.bytes.now in
-    let x = c.in_ok-read_entry.field-0 in
     let so_far = c.loop-found.invariant base records holds in
-    let here : SpellsAt (r.at, b) x = subst (λ (n : ℕ). SpellsAt (n, b) x) c.in-Some.ensures.place c.in_ok-read_entry.ensures.found in
-    spelled_more gate records r.at r.rest.now b x c.next.new.self.at c.next.new.self.rest.now so_far (c.in-Some.ensures.some so_far.others so_far.ahead) here
+    let found : Placed = (c.in-Some.found.at, (c.next.new.self.spelling, c.in-Some.found.bytes.now)) in
+    spelled_more c.args.first gate records c.loop-found.body c.next.new.self found c.in_ok-read_entry.field-0 so_far (c.in-Some.ensures.some so_far.others so_far.ahead) c.in_ok-read_entry.ensures.found
 
 pub loop-found-preserved : goal.loop-found-preserved
 loop-found-preserved c = λ base records holds.
     let gate = gate_of c.args.walked.now in
-    let r = c.loop-found.records in
-    let b = c.in-Some.found.bytes.now in
-    let x = c.in_ok-read_entry.field-0 in
     let so_far = c.loop-found.invariant base records holds in
-    let here : SpellsAt (r.at, b) x = subst (λ (n : ℕ). SpellsAt (n, b) x) c.in-Some.ensures.place c.in_ok-read_entry.ensures.found in
-    spelled_more gate records r.at r.rest.now b x c.next.new.self.at c.next.new.self.rest.now so_far (c.in-Some.ensures.some so_far.others so_far.ahead) here
+    let found : Placed = (c.in-Some.found.at, (c.next.new.self.spelling, c.in-Some.found.bytes.now)) in
+    spelled_more c.args.first gate records c.loop-found.body c.next.new.self found c.in_ok-read_entry.field-0 so_far (c.in-Some.ensures.some so_far.others so_far.ahead) c.in_ok-read_entry.ensures.found
 
 pub returns-clause-spelled : goal.returns-clause-spelled
 returns-clause-spelled c = λ base records holds.
     let gate = gate_of c.args.walked.now in
-    let r = c.loop-found.records in
     let so_far = c.loop-found.invariant base records holds in
-    spelled_all gate records r.at r.rest.now so_far (c.in_default.ensures.none so_far.others so_far.ahead)
+    spelled_all c.args.first gate records c.loop-found.body c.next.new.self so_far (c.in_default.ensures.none so_far.others so_far.ahead)
+
+pub returns-clause-last : goal.returns-clause-last
+returns-clause-last c = λ base records holds.
+    let gate = gate_of c.args.walked.now in
+    let so_far = c.loop-found.invariant base records holds in
+    spelled_last c.args.first gate records c.loop-found.body c.next.new.self so_far (c.in_default.ensures.none so_far.others so_far.ahead)

@@ -5,7 +5,7 @@ use Rattle.recovery.proofs.LoopFacts.{SpelledFront}
 use Rattle.recovery.proofs.reading.read_all.Given as goal
 
 abbrev pub invariant-loop-found : goal.invariant-loop-found
-invariant-loop-found l = (base : List ℕ) (records : List (List ℕ)) → Holds (bytes_of l.walked) base records → SpelledFront (gate_of l.walked) records l.records.at l.records.rest.now
+invariant-loop-found l = (base : List ℕ) (records : List (List ℕ)) → Holds (bytes_of l.walked) base records → SpelledFront l.fn.first (gate_of l.walked) records l.body
 
 abbrev pub decreases-loop-found : goal.decreases-loop-found
-decreases-loop-found l = length l.records.rest.now
+decreases-loop-found l = length l.body.records.rest.now
