@@ -63,26 +63,26 @@ accept_executes roster s past entry number version none market posted told =
           ∙ ap (λ (plan : List PlanRow). thawed (executed plan s.trades)) proposal.planned;
     }
 
-executes_by : (roster : Rows) (s : State) (past : List Entry) (seat : ℕ) (by : Option (List ℕ)) (what : What) → changes what ≡ true → first_of (refusals s by what) ≡ None → All IsSolution (solutions_posted what) → IsMarket roster s →
+executes_by : (roster : Rows) (s : State) (past : List Entry) (seat : ℕ) (by : Option (List ℕ)) (moment : ℕ) (what : What) → changes what ≡ true → first_of (refusals s by what) ≡ None → All IsSolution (solutions_posted what) → IsMarket roster s →
     (IsTrue (is_proposed s.cycle.phase) → HasPosted past s.cycle.number s.cycle.version s.cycle.solutions) → IsTrue (is_execution (accepted s by what)) →
-    RunsSolutions s (state_by s by what) (past ++ record { seat = seat; ask = record { by = by; what = what } } ∷ [])
-executes_by roster s past seat by (Post number version solutions) change none sound market posted told =
-    post_executes s past (record { seat = seat; ask = record { by = by; what = Post number version solutions } }) number version solutions refl none sound told
-executes_by roster s past seat by (Accept number version) change none sound market posted told =
-    accept_executes roster s past (record { seat = seat; ask = record { by = by; what = Accept number version } }) number version none market posted told
-executes_by roster s past seat by (End trade) change none sound market posted told = absurd (false≢true (sym (end-told trade (trade_numbered s.trades trade)) ∙ told))
-executes_by roster s past seat by (Trade seller buyer product amount day) change none sound market posted told = absurd (false≢true told)
-executes_by roster s past seat by (Affirm trade) change none sound market posted told = absurd (false≢true told)
-executes_by roster s past seat by (Hold trade) change none sound market posted told = absurd (false≢true told)
-executes_by roster s past seat by (Free trade) change none sound market posted told = absurd (false≢true told)
-executes_by roster s past seat by (Tol other product side floor ceiling) change none sound market posted told = absurd (false≢true told)
-executes_by roster s past seat by (Freeze day) change none sound market posted told = absurd (false≢true told)
-executes_by roster s past seat by (Begin number mode) change none sound market posted told = absurd (false≢true told)
-executes_by roster s past seat by (Decline number version) change none sound market posted told = absurd (false≢true told)
-executes_by roster s past seat by (Cancel number) change none sound market posted told = absurd (false≢true told)
-executes_by roster s past seat by what change none sound market posted told = absurd (false≢true change)
+    RunsSolutions s (state_by s by what) (past ++ record { seat = seat; ask = record { by = by; what = what; moment = moment } } ∷ [])
+executes_by roster s past seat by moment (Post number version solutions) change none sound market posted told =
+    post_executes s past (record { seat = seat; ask = record { by = by; what = Post number version solutions; moment = moment } }) number version solutions refl none sound told
+executes_by roster s past seat by moment (Accept number version) change none sound market posted told =
+    accept_executes roster s past (record { seat = seat; ask = record { by = by; what = Accept number version; moment = moment } }) number version none market posted told
+executes_by roster s past seat by moment (End trade) change none sound market posted told = absurd (false≢true (sym (end-told trade (trade_numbered s.trades trade)) ∙ told))
+executes_by roster s past seat by moment (Trade seller buyer product amount day) change none sound market posted told = absurd (false≢true told)
+executes_by roster s past seat by moment (Affirm trade) change none sound market posted told = absurd (false≢true told)
+executes_by roster s past seat by moment (Hold trade) change none sound market posted told = absurd (false≢true told)
+executes_by roster s past seat by moment (Free trade) change none sound market posted told = absurd (false≢true told)
+executes_by roster s past seat by moment (Tol other product side floor ceiling) change none sound market posted told = absurd (false≢true told)
+executes_by roster s past seat by moment (Freeze day) change none sound market posted told = absurd (false≢true told)
+executes_by roster s past seat by moment (Begin number mode) change none sound market posted told = absurd (false≢true told)
+executes_by roster s past seat by moment (Decline number version) change none sound market posted told = absurd (false≢true told)
+executes_by roster s past seat by moment (Cancel number) change none sound market posted told = absurd (false≢true told)
+executes_by roster s past seat by moment what change none sound market posted told = absurd (false≢true change)
 
 -- an accepted change that is answered by an execution
 pub runs_solutions : (roster : Rows) (s : State) (past : List Entry) (entry : Entry) → changes entry.ask.what ≡ true → first_of (refusals s entry.ask.by entry.ask.what) ≡ None → All IsSolution (solutions_posted entry.ask.what) → IsMarket roster s →
     (IsTrue (is_proposed s.cycle.phase) → HasPosted past s.cycle.number s.cycle.version s.cycle.solutions) → IsTrue (is_execution (accepted s entry.ask.by entry.ask.what)) → RunsSolutions s (state_by s entry.ask.by entry.ask.what) (past ++ entry ∷ [])
-runs_solutions roster s past entry = executes_by roster s past entry.seat entry.ask.by entry.ask.what
+runs_solutions roster s past entry = executes_by roster s past entry.seat entry.ask.by entry.ask.moment entry.ask.what

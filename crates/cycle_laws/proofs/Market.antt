@@ -115,7 +115,7 @@ market_base roster s base =
 pub empty_begins_markets : EmptyBeginsMarkets
 empty_begins_markets roster few_members few_products = record {
   same = refl;
-  closed = record { phase = refl; free = refl; numbered = tt };
+  closed = record { phase = refl; mode = refl; free = refl; numbered = tt };
   book = empty_book roster few_members few_products;
 }
 

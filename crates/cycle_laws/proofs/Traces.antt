@@ -95,54 +95,54 @@ module _ (base : State) (past : List Entry) (entry : Entry) where
     posted = λ on. posted_still past entry s.cycle.number s.cycle.version s.cycle.solutions (traced.posted on);
   }
 
-abbrev entry_of : ℕ → Option (List ℕ) → What → Entry
-entry_of seat by what = record { seat = seat; ask = record { by = by; what = what } }
+abbrev entry_of : ℕ → Option (List ℕ) → What → ℕ → Entry
+entry_of seat by what moment = record { seat = seat; ask = record { by = by; what = what; moment = moment } }
 
 -- an accepted BEGIN begins the next version, with the problems of the moment
-begun_now : (base : State) (past : List Entry) (seat : ℕ) (by : Option (List ℕ)) (number : ℕ) (mode : Mode) → first_of (refusals (replayed_from base past) by (Begin number mode)) ≡ None →
-    IsTraced base (past ++ entry_of seat by (Begin number mode) ∷ []) (state_by (replayed_from base past) by (Begin number mode)).cycle
-begun_now base past seat by number mode none =
+begun_now : (base : State) (past : List Entry) (seat : ℕ) (by : Option (List ℕ)) (moment number : ℕ) (mode : Mode) → first_of (refusals (replayed_from base past) by (Begin number mode)) ≡ None →
+    IsTraced base (past ++ entry_of seat by (Begin number mode) moment ∷ []) (state_by (replayed_from base past) by (Begin number mode)).cycle
+begun_now base past seat by moment number mode none =
     let s = replayed_from base past in
     let same : number ≡ s.cycle.number = eqb-true number s.cycle.number (begin-legal s by number mode none).1 in
     record {
       begun = λ stands. record {
         before = past;
-        begin = entry_of seat by (Begin number mode);
+        begin = entry_of seat by (Begin number mode) moment;
         after = [];
         split = refl;
         mode = mode;
         command = ap (λ n. Begin n mode) same;
-        answer = accepted_answer s (record { by = by; what = Begin number mode }) none ∙ ap (λ n. Begun n (1 + s.cycle.version)) same;
+        answer = accepted_answer s (record { by = by; what = Begin number mode; moment = moment }) none ∙ ap (λ n. Begun n (1 + s.cycle.version)) same;
         taken = refl;
       };
       posted = λ on. absurd (false≢true on);
     }
 
-traced_by : (base : State) (past : List Entry) (seat : ℕ) (by : Option (List ℕ)) (what : What) → first_of (refusals (replayed_from base past) by what) ≡ None → IsTraced base past (replayed_from base past).cycle →
-    IsTraced base (past ++ entry_of seat by what ∷ []) (state_by (replayed_from base past) by what).cycle
-traced_by base past seat by (End trade) none traced =
+traced_by : (base : State) (past : List Entry) (seat : ℕ) (by : Option (List ℕ)) (moment : ℕ) (what : What) → first_of (refusals (replayed_from base past) by what) ≡ None → IsTraced base past (replayed_from base past).cycle →
+    IsTraced base (past ++ entry_of seat by what moment ∷ []) (state_by (replayed_from base past) by what).cycle
+traced_by base past seat by moment (End trade) none traced =
     let s = replayed_from base past in
-    ended base past (entry_of seat by (End trade)) (may_break s.cycle.phase && is_frozen_and_marked (trade_numbered s.trades trade)) s.cycle trade traced
-traced_by base past seat by (Freeze day) none traced = untraced base (past ++ entry_of seat by (Freeze day) ∷ []) (state_by (replayed_from base past) by (Freeze day)).cycle refl refl
-traced_by base past seat by (Begin number mode) none traced = begun_now base past seat by number mode none
-traced_by base past seat by (Post number version solutions) none traced =
+    ended base past (entry_of seat by (End trade) moment) (may_break s.cycle.phase && is_frozen_and_marked (trade_numbered s.trades trade)) s.cycle trade traced
+traced_by base past seat by moment (Freeze day) none traced = untraced base (past ++ entry_of seat by (Freeze day) moment ∷ []) (state_by (replayed_from base past) by (Freeze day)).cycle refl refl
+traced_by base past seat by moment (Begin number mode) none traced = begun_now base past seat by moment number mode none
+traced_by base past seat by moment (Post number version solutions) none traced =
     let s = replayed_from base past in
-    let entry = entry_of seat by (Post number version solutions) in
+    let entry = entry_of seat by (Post number version solutions) moment in
     proposed base past entry s solutions (posted_plan s.cycle s.trades solutions) (touched_in s (posted_plan s.cycle s.trades solutions))
     (solving_limits s.cycle.phase (post_solves s by number version solutions none)) (posted_now s past entry number version solutions none refl) traced
-traced_by base past seat by (Accept number version) none traced =
+traced_by base past seat by moment (Accept number version) none traced =
     let s = replayed_from base past in
-    voted base past (entry_of seat by (Accept number version)) s (member_of s (unwrap_or by [])) (left_after s (member_of s (unwrap_or by []))) traced
-traced_by base past seat by (Decline number version) none traced = untraced base (past ++ entry_of seat by (Decline number version) ∷ []) (state_by (replayed_from base past) by (Decline number version)).cycle refl refl
-traced_by base past seat by (Cancel number) none traced = untraced base (past ++ entry_of seat by (Cancel number) ∷ []) (state_by (replayed_from base past) by (Cancel number)).cycle refl refl
-traced_by base past seat by what none traced = still base past (entry_of seat by what) (replayed_from base past).cycle traced
+    voted base past (entry_of seat by (Accept number version) moment) s (member_of s (unwrap_or by [])) (left_after s (member_of s (unwrap_or by []))) traced
+traced_by base past seat by moment (Decline number version) none traced = untraced base (past ++ entry_of seat by (Decline number version) moment ∷ []) (state_by (replayed_from base past) by (Decline number version)).cycle refl refl
+traced_by base past seat by moment (Cancel number) none traced = untraced base (past ++ entry_of seat by (Cancel number) moment ∷ []) (state_by (replayed_from base past) by (Cancel number)).cycle refl refl
+traced_by base past seat by moment what none traced = still base past (entry_of seat by what moment) (replayed_from base past).cycle traced
 
 -- so it is after every legal list of changes that is so at first
 pub traced_on : (base : State) (entries : List Entry) → IsTraced base [] base.cycle → IsLegalFrom base entries → IsTraced base entries (replayed_from base entries).cycle
 traced_on base entries first legal =
     by_entries (λ past. IsTraced base past (replayed_from base past).cycle) base
     (λ past entry is traced. subst (λ (n : State). IsTraced base (past ++ entry ∷ []) n.cycle) (sym (replayed_push base past entry))
-    (traced_by base past entry.seat entry.ask.by entry.ask.what (not_refused (replayed_from base past) entry.ask is) traced))
+    (traced_by base past entry.seat entry.ask.by entry.ask.moment entry.ask.what (not_refused (replayed_from base past) entry.ask is) traced))
     first entries legal
 
 -- as it is where no cycle is open

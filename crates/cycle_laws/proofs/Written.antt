@@ -30,7 +30,7 @@ pub fitting_is_writable : FittingIsWritable
 fitting_is_writable roster b few_members few_products can fits = record {
   market = record {
     same = refl;
-    closed = record { phase = refl; free = thawed_numbered 1 b.trades can.numbered; numbered = counted 0 b.trades can.numbered };
+    closed = record { phase = refl; mode = refl; free = thawed_numbered 1 b.trades can.numbered; numbered = counted 0 b.trades can.numbered };
     book = record {
       few_members = few_members;
       few_products = few_products;

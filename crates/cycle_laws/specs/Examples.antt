@@ -15,8 +15,8 @@ use Rattle.trade_history.specs.Examples.{chain_compressed}
 -- the operator begins version 1 in this mode, and posts these rows with these potentials
 abbrev proposal : Mode → List Row → List ℤ → List Entry
 proposal mode rows potentials =
-    record { seat = 0; ask = record { by = Some (79 ∷ 80 ∷ 83 ∷ []); what = Begin 1 mode } }
-    ∷ record { seat = 0; ask = record { by = Some (79 ∷ 80 ∷ 83 ∷ []); what = Post 1 1 (record { network = record { members = 3; rows = rows }; potentials = potentials } ∷ []) } }
+    record { seat = 0; ask = record { by = Some (79 ∷ 80 ∷ 83 ∷ []); what = Begin 1 mode; moment = 0 } }
+    ∷ record { seat = 0; ask = record { by = Some (79 ∷ 80 ∷ 83 ∷ []); what = Post 1 1 (record { network = record { members = 3; rows = rows }; potentials = potentials } ∷ []); moment = 0 } }
     ∷ []
 
 -- A owes B 10 and B owes C 7, and both trades are frozen

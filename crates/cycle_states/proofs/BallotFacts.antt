@@ -6,7 +6,7 @@ use Rattle.std.proofs.lemmas.List.Elements.{All-head, All-tail, All-weaker}
 use Rattle.std.proofs.lemmas.List.Folds.{list_any-append}
 use Rattle.network_laws.specs.Solutions.{SolutionData}
 use Rattle.command_types.specs.declared.ask.What.{What}
-use Rattle.command_types.specs.declared.ask.What.TheVariants.{Hello, Trade, Affirm, End, Hold, Free, Tol, Nets, Statement, Freeze, Begin, Limits, Row, Pot, Post, Fetch, Plan, Accept, Decline, Cancel, Bye, Unreadable}
+use Rattle.command_types.specs.declared.ask.What.TheVariants.{Hello, Trade, Affirm, End, Hold, Free, Tol, Nets, Statement, Freeze, Begin, Limits, Row, Pot, Post, Fetch, Next, Plan, Proof, Accept, Decline, Cancel, Bye, Unreadable}
 use Rattle.command_types.specs.declared.figures.Cycle.{Cycle}
 use Rattle.command_types.specs.declared.figures.State.{State}
 use Rattle.command_types.specs.declared.plan.PlanRow.{PlanRow}
@@ -154,7 +154,9 @@ ballot_stays s by (Row product seller buyer amount size sum) ballot plain below 
 ballot_stays s by (Pot product member value size) ballot plain below kept = kept
 ballot_stays s by (Post cycle version solutions) ballot plain below kept = absurd (false≢true (sym plain))
 ballot_stays s by (Fetch cycle version) ballot plain below kept = kept
+ballot_stays s by (Next position) ballot plain below kept = kept
 ballot_stays s by (Plan cycle) ballot plain below kept = kept
+ballot_stays s by (Proof cycle) ballot plain below kept = kept
 ballot_stays s by (Accept cycle version) ballot plain below kept = absurd (false≢true (sym plain))
 ballot_stays s by (Decline cycle version) ballot plain below kept = no_ballot _ _ _ ballot refl
 ballot_stays s by (Cancel cycle) ballot plain below kept = no_ballot _ _ _ ballot refl

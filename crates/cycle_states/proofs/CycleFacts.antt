@@ -8,7 +8,7 @@ use Rattle.units_core.specs.Day.{DayParts}
 use Rattle.command_types.specs.declared.ask.Ask.{Ask}
 use Rattle.command_types.specs.declared.ask.Entry.{Entry}
 use Rattle.command_types.specs.declared.ask.What.{What}
-use Rattle.command_types.specs.declared.ask.What.TheVariants.{Hello, Trade, Affirm, End, Hold, Free, Tol, Nets, Statement, Freeze, Begin, Limits, Row, Pot, Post, Fetch, Plan, Accept, Decline, Cancel, Bye, Unreadable}
+use Rattle.command_types.specs.declared.ask.What.TheVariants.{Hello, Trade, Affirm, End, Hold, Free, Tol, Nets, Statement, Freeze, Begin, Limits, Row, Pot, Post, Fetch, Next, Plan, Proof, Accept, Decline, Cancel, Bye, Unreadable}
 use Rattle.command_types.specs.declared.cycle.Phase.{Phase}
 use Rattle.command_types.specs.declared.cycle.Phase.TheVariants as phase
 use Rattle.command_types.specs.declared.figures.Cycle.{Cycle}
@@ -167,7 +167,9 @@ unbroken_by s by (Pot product member value size) none before = before
 unbroken_by s by (Post cycle version solutions) none before =
     posted_unbroken s solutions (posted_plan s.cycle s.trades solutions) (touched_in s (posted_plan s.cycle s.trades solutions)) (post_breaks s by cycle version solutions none) before
 unbroken_by s by (Fetch cycle version) none before = before
+unbroken_by s by (Next position) none before = before
 unbroken_by s by (Plan cycle) none before = before
+unbroken_by s by (Proof cycle) none before = before
 unbroken_by s by (Accept cycle version) none before = voted_unbroken s (member_of s (unwrap_or by [])) (left_after s (member_of s (unwrap_or by []))) before
 unbroken_by s by (Decline cycle version) none before = λ may. before (limits_break s.cycle.phase (proposed_limits s.cycle.phase (decline_proposed s by cycle version none)))
 unbroken_by s by (Cancel cycle) none before = λ may. absurd (false≢true may)
@@ -215,7 +217,9 @@ rises_by s by (Pot product member value size) = stay s.cycle
 rises_by s by (Post cycle version solutions) =
     rises_posted s solutions (posted_plan s.cycle s.trades solutions) (touched_in s (posted_plan s.cycle s.trades solutions))
 rises_by s by (Fetch cycle version) = stay s.cycle
+rises_by s by (Next position) = stay s.cycle
 rises_by s by (Plan cycle) = stay s.cycle
+rises_by s by (Proof cycle) = stay s.cycle
 rises_by s by (Accept cycle version) = rises_voted s (member_of s (unwrap_or by [])) (left_after s (member_of s (unwrap_or by [])))
 rises_by s by (Decline cycle version) = (omega arith, omega arith)
 rises_by s by (Cancel cycle) = (omega arith, omega arith)
@@ -241,8 +245,8 @@ pub young_small : (state : State) (h : History) → IsReplayed state h → IsSma
 young_small state h is small few = young_of state h is (omega (arith, small.cycle, few)) (omega (arith, small.version, few))
 
 -- as one is before whose history no cycle was opened
-pub young_plain : (state : State) (h : History) → IsPlain state h → length h.entries < 2 ^ 63 → IsYoung state.cycle
-young_plain state h is few =
+pub young_plain : (state : State) (begun : ℕ) (h : History) → IsPlain state begun h → length h.entries < 2 ^ 63 → IsYoung state.cycle
+young_plain state begun h is few =
     young_of state h is.replayed
     (let number = ap (λ c. c.number) is.first in omega (arith, number, few))
     (let version = ap (λ c. c.version) is.first in omega (arith, version, few))

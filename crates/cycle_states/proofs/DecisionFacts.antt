@@ -7,7 +7,7 @@ use Rattle.command_types.specs.declared.answer.Answer.TheVariants.{Marked, Ended
 use Rattle.command_types.specs.declared.ask.Ask.{Ask}
 use Rattle.command_types.specs.declared.ask.Entry.{Entry}
 use Rattle.command_types.specs.declared.ask.What.{What}
-use Rattle.command_types.specs.declared.ask.What.TheVariants.{End, Nets, Post, Accept, Unreadable}
+use Rattle.command_types.specs.declared.ask.What.TheVariants.{End, Nets, Post, Accept, Proof, Unreadable}
 use Rattle.command_types.specs.declared.figures.Cycle.{Cycle}
 use Rattle.command_types.specs.declared.figures.State.{State}
 use Rattle.command_types.specs.declared.refusal.Refusal.{Refusal}
@@ -73,6 +73,7 @@ change_told s by (End trade) change none =
 change_told s by (Post cycle version solutions) change none = posting_told s solutions (touched_in s (posted_plan s.cycle s.trades solutions))
 change_told s by (Accept cycle version) change none = vote_told s.cycle (left_after s (member_of s (unwrap_or by [])))
 change_told s by (Nets product) change none = absurd (false≢true change)
+change_told s by (Proof cycle) change none = absurd (false≢true change)
 change_told s by (Unreadable at) change none = absurd (false≢true change)
 change_told s by what change none = refl
 

@@ -9,7 +9,7 @@ use Rattle.command_types.specs.History.{solutions_posted}
 use Rattle.units_core.specs.Day.{DayParts}
 use Rattle.command_types.specs.declared.ask.Ask.{Ask}
 use Rattle.command_types.specs.declared.ask.What.{What}
-use Rattle.command_types.specs.declared.ask.What.TheVariants.{Hello, Trade, Affirm, End, Hold, Free, Tol, Nets, Statement, Freeze, Begin, Limits, Row, Pot, Post, Fetch, Plan, Accept, Decline, Cancel, Bye, Unreadable}
+use Rattle.command_types.specs.declared.ask.What.TheVariants.{Hello, Trade, Affirm, End, Hold, Free, Tol, Nets, Statement, Freeze, Begin, Limits, Row, Pot, Post, Fetch, Next, Plan, Proof, Accept, Decline, Cancel, Bye, Unreadable}
 use Rattle.command_types.specs.declared.figures.Cycle.{Cycle}
 use Rattle.command_types.specs.declared.figures.State.{State}
 use Rattle.command_types.specs.declared.plan.PlanRow.{PlanRow}
@@ -54,7 +54,9 @@ next_by s by (Pot product member value size) = refl
 next_by s by (Post cycle version solutions) =
     posting_next s solutions (posted_plan s.cycle s.trades solutions) (touched_in s (posted_plan s.cycle s.trades solutions))
 next_by s by (Fetch cycle version) = refl
+next_by s by (Next position) = refl
 next_by s by (Plan cycle) = refl
+next_by s by (Proof cycle) = refl
 next_by s by (Accept cycle version) = vote_next s (member_of s (unwrap_or by [])) (left_after s (member_of s (unwrap_or by [])))
 next_by s by (Decline cycle version) = refl
 next_by s by (Cancel cycle) = refl

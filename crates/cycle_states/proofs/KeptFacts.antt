@@ -5,7 +5,7 @@ use Rattle.network_laws.specs.Networks.{NetworkData}
 use Rattle.network_laws.specs.Solutions.{SolutionData, IsSolution}
 use Rattle.units_core.specs.Day.{DayParts}
 use Rattle.command_types.specs.declared.ask.What.{What}
-use Rattle.command_types.specs.declared.ask.What.TheVariants.{Hello, Trade, Affirm, End, Hold, Free, Tol, Nets, Statement, Freeze, Begin, Limits, Row, Pot, Post, Fetch, Plan, Accept, Decline, Cancel, Bye, Unreadable}
+use Rattle.command_types.specs.declared.ask.What.TheVariants.{Hello, Trade, Affirm, End, Hold, Free, Tol, Nets, Statement, Freeze, Begin, Limits, Row, Pot, Post, Fetch, Next, Plan, Proof, Accept, Decline, Cancel, Bye, Unreadable}
 use Rattle.command_types.specs.declared.cycle.Phase.{Phase}
 use Rattle.command_types.specs.declared.cycle.Phase.TheVariants as phase
 use Rattle.command_types.specs.declared.figures.Cycle.{Cycle}
@@ -191,7 +191,9 @@ kept_by s by (Pot product member value size) none unbroken sound kept = kept
 kept_by s by (Post cycle version solutions) none unbroken sound kept =
     posted_kept s solutions (touched_in s (posted_plan s.cycle s.trades solutions)) (post_solves s by cycle version solutions none) (post_certified s by cycle version solutions none) sound kept
 kept_by s by (Fetch cycle version) none unbroken sound kept = kept
+kept_by s by (Next position) none unbroken sound kept = kept
 kept_by s by (Plan cycle) none unbroken sound kept = kept
+kept_by s by (Proof cycle) none unbroken sound kept = kept
 kept_by s by (Accept cycle version) none unbroken sound kept = voted_kept s (member_of s (unwrap_or by [])) (left_after s (member_of s (unwrap_or by []))) kept
 kept_by s by (Decline cycle version) none unbroken sound kept = record {
   day = λ may. kept.day (limits_break s.cycle.phase (proposed_limits s.cycle.phase (decline_proposed s by cycle version none)));

@@ -14,3 +14,4 @@ pub mod RefusalFacts
 pub mod BallotFacts
 pub mod DecisionFacts
 pub mod Sends
+pub mod OfferFacts

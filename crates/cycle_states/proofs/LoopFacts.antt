@@ -12,7 +12,10 @@ use Rattle.command_types.specs.declared.roster.ProductRow.{ProductRow}
 use Rattle.command_types.specs.declared.tolerance.ToleranceRow.{ToleranceRow}
 use Rattle.command_types.specs.declared.trade.TradeRow.{TradeRow}
 use Rattle.command_types.specs.Roster.{Rows}
+use Rattle.command_types.specs.Books.{listed_below}
 use Rattle.command_types.specs.Cycles.{is_taken, frozen_rows, problem_of, problems_from}
+use Rattle.tolerance_sets.proofs.Passed.{none_listed}
+use Rattle.tolerance_sets.proofs.Walk.{listed_below-next}
 
 -- a front that is as long as the list is the list
 pub whole_front : {T : Type 0} (xs : List T) (n : ℕ) → length xs ≤ n → take n xs ≡ xs
@@ -84,3 +87,14 @@ flag_step products day flags i row flag lf lp is by before =
     below_more (λ k. get_or (set flags i flag) k false ≡ get_or (chosen_by products day) k false) i
     (λ k l. let ne : k ≢ i = omega arith in rw get_or-set_other (before k l))
     (rw get_or-set_same (by ∙ sym (flag_at products day i row lp is)))
+
+-- of numbers of which one alone gives something, all together give that
+pub only_one : {T : Type 0} (f : ℕ → List T) (k n : ℕ) → ((j : ℕ) → j ≢ k → f j ≡ []) → k < n → listed_below n f ≡ f k
+only_one f k n none lt =
+    none_listed f (k + 1) n (omega (arith, lt)) (λ j le l. none j (λ e. omega (arith, e, le)))
+    ∙ listed_below-next k f
+    ∙ ap (λ xs. xs ++ f k) (none_listed f 0 k (omega arith) (λ j le l. none j (λ e. omega (arith, e, l))))
+
+-- and nothing where it is not among them
+pub none_there : {T : Type 0} (f : ℕ → List T) (k n : ℕ) → ((j : ℕ) → j ≢ k → f j ≡ []) → n ≤ k → listed_below n f ≡ []
+none_there f k n none out = none_listed f 0 n (omega arith) (λ j le l. none j (λ e. omega (arith, e, l, out)))

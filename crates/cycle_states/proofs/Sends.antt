@@ -9,7 +9,9 @@ use Rattle.command_types.specs.contracts.roster.Roster as Roster
 use Rattle.command_types.specs.contracts.ask.What as What
 use Rattle.command_types.specs.contracts.ask.Ask as Ask
 use Rattle.command_types.specs.contracts.ask.Entry as Entry
+use Rattle.command_types.specs.contracts.moment.Moment as Moment
 use Rattle.product_book.specs.contracts.book.Book as Book
+use Rattle.tolerance_sets.specs.contracts.taken_settings.TakenSettings as TakenSettings
 use Rattle.tolerance_sets.specs.contracts.tolerances.Tolerances as Tolerances
 use Rattle.cycle_states.specs.contracts.machine.cycle.Cycle as Cycle
 use Rattle.cycle_states.specs.contracts.machine.Machine as Machine
@@ -24,6 +26,9 @@ book_send = search (sendable, crosses) depth 60
 tolerances_send : IsSend Tolerances.the_row
 tolerances_send = search (sendable, crosses) depth 60
 
+taken_send : IsSend TakenSettings.the_row
+taken_send = search (sendable, crosses) depth 60
+
 problem_send : IsSend Problem.the_row
 problem_send = search (sendable, crosses) depth 60
 
@@ -31,7 +36,7 @@ solution_send : IsSend Solution.the_row
 solution_send = search (sendable, crosses) depth 60
 
 cycle_send : IsSend Cycle.the_row
-cycle_send = search (problem_send, solution_send, sendable, crosses) depth 60 fits 100000
+cycle_send = search (problem_send, solution_send, taken_send, sendable, crosses) depth 60 fits 100000
 
 pub machine_send : IsSend Machine.the_row
 machine_send = search (roster_send, book_send, tolerances_send, cycle_send, sendable, crosses) depth 60
@@ -39,8 +44,11 @@ machine_send = search (roster_send, book_send, tolerances_send, cycle_send, send
 what_send : IsSend What.the_row
 what_send = search (solution_send, sendable, crosses) depth 200 fits 100000
 
+moment_send : IsSend Moment.the_row
+moment_send = search (sendable, crosses) depth 60
+
 ask_send : IsSend Ask.the_row
-ask_send = declared_send Ask.the_type (search (sendable, crosses) depth 60, (what_send, tt))
+ask_send = declared_send Ask.the_type (search (sendable, crosses) depth 60, (what_send, (moment_send, tt)))
 
 pub entry_send : IsSend Entry.the_row
 entry_send = declared_send Entry.the_type (search (sendable, crosses) depth 60, (ask_send, tt))

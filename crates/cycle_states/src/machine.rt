@@ -13,11 +13,13 @@ mod effects;
 mod freezing;
 mod limit_lines;
 mod making;
+mod member_proofs;
 mod of_base;
 mod parties;
 mod positions;
 mod problem_copies;
 mod problems;
+mod proof_rows;
 mod proposal;
 mod proposal_answers;
 mod ready;
@@ -27,6 +29,7 @@ mod sides;
 mod solutions;
 mod terms;
 mod trade_refusals;
+mod whose;
 
 ghost use Rattle.std.specs.Prelude.{ℕ, ◌≡◌, ◌≤◌, ◌<◌, ◌^◌, length, None, All, IsTrue, IfOk, IsOk, OnOk, is_some};
 ghost use Rattle.network_laws.specs.Solutions.{IsSolution};
@@ -101,23 +104,24 @@ impl Machine {
 
     /// The machine that stands between two cycles: after this one, with exactly these settings and trades. The settings stand in
     /// rising order of their places. The trades are numbered from 1, their parties and products are places in range, and no
-    /// product's alleged and live amounts come to more than 10^18. The only error is want of memory.
+    /// product's alleged and live amounts come to more than 10^18: their list becomes the book's. The only error is want of
+    /// memory.
     pub fn at_rest(
         alloc: Global,
         roster: Roster,
         last: LastCycle,
         tolerances: &[ToleranceRow],
-        trades: &[TradeRow],
+        trades: Vec<TradeRow>,
     ) -> Result<Machine, AllocError>
         requires rising { AreRising 0 tolerances.now }
-        requires few { length trades.now < 2 ^ 32 }
-        requires trades { AreTrades (length roster.members) (length roster.products) 1 trades.now }
-        requires bounded { (product : ℕ) → gross_of product trades.now ≤ gross_limit }
-        ensures { IfOk result (λ machine. machine.state ≡ state_with roster trades.now tolerances.now (closed last.number last.version)) }
+        requires few { length trades.items < 2 ^ 32 }
+        requires trades { AreTrades (length roster.members) (length roster.products) 1 trades.items }
+        requires bounded { (product : ℕ) → gross_of product trades.items ≤ gross_limit }
+        ensures { IfOk result (λ machine. machine.state ≡ state_with roster trades.items tolerances.now (closed last.number last.version)) }
     {
         let members = roster.members().len() as u16;
         let products = roster.products().len() as u16;
-        let book = Book::of_rows(alloc, members, products, trades)?;
+        let book = Book::of_own_rows(alloc, members, products, trades)?;
         Ok(Machine {
             roster,
             book,

@@ -1,6 +1,6 @@
 //! A desk without a journal: a machine, and the list of its changes.
 
-ghost use Rattle.std.specs.Prelude.{◌≡◌, ◌<◌, [], ◌∷◌, ◌++◌, All, IfOk, OnOk, OnErr, vec_len, vec_capacity};
+ghost use Rattle.std.specs.Prelude.{◌≡◌, ◌<◌, [], ◌∷◌, ◌++◌, All, IfOk, OnOk, OnErr, unwrap_or, vec_len, vec_capacity};
 ghost use Rattle.command_types.specs.Machine.{answer_to, state_after};
 ghost use Rattle.network_laws.specs.Solutions.{IsSolution};
 ghost use Rattle.command_types.specs.History.{solutions_posted};
@@ -8,6 +8,7 @@ ghost use Rattle.cycle_states.specs.Decision.{MayCommit};
 ghost use Rattle.cycle_states.specs.Machine.{IsYoung};
 
 use crate::machine::{Decision, Machine, Ready};
+use crate::offers::{Places, filled, is_begin, open_ask};
 use command_types::{Answer, Ask, Desk, Entry, Refusal, Reply};
 use std::alloc::{AllocError, Global};
 use std::marker::Model;
@@ -20,6 +21,16 @@ fn no_memory(at: u64) -> Reply
     Reply {
         at,
         answer: Answer::No(Refusal::Memory),
+    }
+}
+
+// The reply with this answer; one that would need an entry finds no memory, since entries have no bytes here.
+fn told(answer: Option<Answer>, at: u64) -> Reply
+    ensures { result ≡ record { at = at; answer = unwrap_or answer (Answer.No Refusal.Memory) } }
+{
+    match answer {
+        Some(answer) => Reply { at, answer },
+        None => no_memory(at),
     }
 }
 
@@ -58,8 +69,10 @@ fn record(
 pub struct PlainDesk {
     machine: Machine,
     entries: Vec<Entry>,
+    // The length of the history behind the last BEGIN; 0 where there is none.
+    begun_at: u64,
     // The machine as it was before the first entry, for contracts alone.
-    begun: Snapshot<Machine>,
+    first: Snapshot<Machine>,
 }
 
 impl Model for PlainDesk {
@@ -69,9 +82,9 @@ impl Model for PlainDesk {
 
     ghost Value = { History };
 
-    ghost view = { λ desk. history_from 0 desk.begun.value.state desk.entries.items };
+    ghost view = { λ desk. history_from 0 desk.first.value.state desk.entries.items };
 
-    ghost invariant = { λ desk. IsPlain desk.machine.state (history_from 0 desk.begun.value.state desk.entries.items) };
+    ghost invariant = { λ desk. IsPlain desk.machine.state desk.begun_at (history_from 0 desk.first.value.state desk.entries.items) };
 }
 
 impl PlainDesk {
@@ -84,9 +97,25 @@ impl PlainDesk {
         ensures { result ≡ new_history machine.state }
     {
         PlainDesk {
-            begun: Snapshot::of(&machine),
+            first: Snapshot::of(&machine),
             machine,
             entries: Vec::new(alloc),
+            begun_at: 0,
+        }
+    }
+}
+
+impl PlainDesk {
+    ghost use Rattle.cycle_states.specs.Offers.{ArePlaces};
+
+    // Where the history begins and ends, and where its last version began.
+    fn places(&self) -> Places
+        ensures { ArePlaces self.now.base self.now.entries result }
+    {
+        Places {
+            base: 0,
+            end: self.entries.len() as u64,
+            begun: self.begun_at,
         }
     }
 }
@@ -103,15 +132,20 @@ impl Desk for PlainDesk {
 
     fn ask(&mut self, seat: u32, ask: Ask) -> Reply {
         let at = self.entries.len() as u64;
+        let asked = open_ask(&ask.what);
+        let begins = is_begin(&ask.what);
         let ready = match self.machine.decide(Entry { seat, ask }) {
             Err(_) => return no_memory(at),
-            Ok(Decision::Told(answer)) => return Reply { at, answer },
+            Ok(Decision::Told(answer)) => return told(filled(answer, asked, self.places()), at),
             Ok(Decision::Ready(ready)) => ready,
         };
         let answer = match record(&mut self.machine, &mut self.entries, ready) {
             Ok(answer) => answer,
             Err(_) => return no_memory(at),
         };
+        if begins {
+            self.begun_at = at + 1;
+        }
         Reply { at: at + 1, answer }
     }
 

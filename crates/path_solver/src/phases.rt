@@ -1,4 +1,19 @@
 //! Phases, until nothing is left to send.
+//!
+//! ```text
+//!          start: receivers are level 0
+//!                    |
+//!                    v
+//!      +--------> layer: back along open arcs, a level at a time
+//!      |             |                          |
+//!      |    no sender is reached        a sender is reached
+//!      |             |                          |
+//!      |             v                          v
+//!      +--- next_phase: the prices of     send_phase: walk down the levels, push along
+//!      |    those not reached rise        the path, until none is left of that length
+//!      |                                        |
+//!      +----------------- start <---------------+      done: no sender is left
+//! ```
 
 ghost use Rattle.std.specs.Prelude.{◌+◌, ◌≤◌};
 ghost use Rattle.path_solver.specs.Groups.{AreSortedIn};

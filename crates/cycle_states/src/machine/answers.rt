@@ -1,8 +1,8 @@
 //! What the commands that are not refused are answered.
 
 ghost use Rattle.std.specs.Prelude.{◌≡◌, None, Some, IfOk, IsOk, IsTrue, length};
-ghost use Rattle.command_types.specs.Cycles.{bad_post, is_solving};
-ghost use Rattle.command_types.specs.CycleSteps.{freeze_answer, limits_answer, plan_answer, post_answer, rows_of_member};
+ghost use Rattle.command_types.specs.Cycles.{bad_post, is_proposed, is_solving};
+ghost use Rattle.command_types.specs.CycleSteps.{freeze_answer, limits_answer, plan_answer, post_answer, proof_answer, rows_of_member};
 ghost use Rattle.command_types.specs.Machine.{accepted, end_answer, first_of, member_of, nets_answer, party_answer, product_of, refusals};
 ghost use Rattle.command_types.specs.Trades.{trade_numbered};
 ghost use Rattle.cycle_states.specs.Machine.{IsYoung};
@@ -11,12 +11,13 @@ ghost use Rattle.cycle_states.specs.Effects.{is_accept};
 use super::Machine;
 use super::ballot::ballot_on;
 use super::freezing::taken_count;
+use super::member_proofs::{MemberProof, proof_rows};
 use super::parties::{place_of_member, place_of_product};
 use super::positions::{market_of, position_of};
 use super::problem_copies::problem_copies;
 use super::proposal::plan_posted;
 use super::proposal_answers::{nothing, proposed, shown_plan};
-use command_types::{Answer, Ask, Listed, Refusal, TradeState, What};
+use command_types::{Answer, Ask, Listed, ProofHead, Refusal, TradeState, What};
 use network_laws::Solution;
 use std::alloc::AllocError;
 use units_core::{Day, Name};
@@ -93,6 +94,35 @@ impl Machine {
         })
     }
 
+    // What a member's PROOF is answered. Where the version begins is not known here.
+    fn proof(&self, by: &Name) -> Result<Answer, AllocError>
+        requires { IsTrue (is_proposed self.now.state.cycle.phase) }
+        ensures { IfOk result (λ answer. answer ≡ proof_answer self.now.state (member_of self.now.state by.now)) }
+    {
+        let Some(day) = self.cycle.day() else {
+            return Ok(Answer::No(Refusal::NotGreeted));
+        };
+        let Some(mode) = self.cycle.mode() else {
+            return Ok(Answer::No(Refusal::NotGreeted));
+        };
+        let rows = proof_rows(&MemberProof {
+            roster: &self.roster,
+            book: &self.book,
+            cycle: &self.cycle,
+            mode,
+            member: place_of_member(&self.roster, by),
+        })?;
+        let head = ProofHead {
+            cycle: self.cycle.number(),
+            version: self.cycle.version(),
+            day,
+            mode,
+            begun: 0,
+        };
+        let rows = Listed::new(rows);
+        Ok(Answer::ProofRows { head, rows })
+    }
+
     // What the POST of certified solutions is answered.
     fn post_answer(&self, solutions: &[Solution]) -> Result<Answer, AllocError>
         requires solving { IsTrue (is_solving self.now.state.cycle.phase) }
@@ -143,7 +173,9 @@ impl Machine {
             What::Row { size, .. } => Ok(Answer::Noted { size: *size }),
             What::Pot { size, .. } => Ok(Answer::Noted { size: *size }),
             What::Post { solutions, .. } => self.post_answer(solutions.rows()),
+            What::Next { .. } => Ok(Answer::NoNext),
             What::Plan { .. } => self.plan_rows(by),
+            What::Proof { .. } => self.proof(by),
             What::Accept { .. } => Ok(self.vote_answer(place_of_member(&self.roster, by))),
             What::Decline { cycle, version } => Ok(Answer::Declined {
                 cycle: *cycle,

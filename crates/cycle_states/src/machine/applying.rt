@@ -87,7 +87,11 @@ pub(super) fn apply(
             freeze(roster, book, day);
             cycle.open(day);
         }
-        Effect::Begin { problems } => cycle.begin(problems.into_rows()),
+        Effect::Begin {
+            mode,
+            settings,
+            problems,
+        } => cycle.begin(mode, settings, problems.into_rows()),
         Effect::Propose { solutions, plan } => {
             cycle.propose(solutions.into_rows(), plan.into_rows())
         }

@@ -1,14 +1,26 @@
-//! The compression cycle: how far it has come, what its version began with, and what is proposed.
+//! The compression cycle: how far it has come, what its version began with, and what is proposed. The arrows are methods:
+//!
+//! ```text
+//!     none --open--> frozen --begin--> solving --propose--> proposed --close--> none
+//!                      ^                ^   |                   |
+//!                      |                +---+ begin             |
+//!                      +--------------- decline ----------------+
+//!
+//!     frozen, solving, proposed --after_end, where a frozen trade ended--> broken
+//!     frozen, solving, proposed, broken --close, by a CANCEL--> none
+//!     solving --close, where the posting touches nobody--> none
+//! ```
 
-ghost use Rattle.std.specs.Prelude.{◌≡◌, ◌<◌, ◌^◌, [], ◌∷◌, ◌++◌, IfOk, slice_get};
+ghost use Rattle.std.specs.Prelude.{◌≡◌, ◌<◌, ◌^◌, [], ◌∷◌, ◌++◌, None, IfOk, slice_get};
 ghost use Rattle.command_types.specs.Cycles.{closed, opened, begun_with, proposed_with, declined, is_open, is_broken, is_solving, is_proposed, may_begin, may_break, has_limits, lines_of_problem};
 ghost use Rattle.command_types.specs.CycleSteps.{is_frozen_and_marked, cycle_after_end};
 
 use super::limit_lines::limit_lines;
-use command_types::{LimitLine, Phase, PlanRow, TradeRow};
+use command_types::{LimitLine, Mode, Phase, PlanRow, TradeRow};
 use network_laws::{Problem, Solution};
 use std::alloc::{AllocError, Global};
 use std::marker::Model;
+use tolerance_sets::TakenSettings;
 use units_core::{Day, MemberNo, ProductNo};
 
 /// Whether a cycle is open in this phase.
@@ -86,6 +98,8 @@ pub(super) struct Cycle {
     version: u64,
     phase: Phase,
     day: Option<Day>,
+    mode: Option<Mode>,
+    settings: TakenSettings,
     begun: Vec<Problem>,
     solutions: Vec<Solution>,
     plan: Vec<PlanRow>,
@@ -98,7 +112,7 @@ impl Model for Cycle {
 
     ghost Value = { CycleFigures };
 
-    ghost view = { λ c. record { number = c.number; version = c.version; phase = c.phase; day = c.day; begun = c.begun.items; solutions = c.solutions.items; plan = c.plan.items; votes = c.votes.items; broken_by = c.broken_by } };
+    ghost view = { λ c. record { number = c.number; version = c.version; phase = c.phase; day = c.day; mode = c.mode; settings = c.settings; begun = c.begun.items; solutions = c.solutions.items; plan = c.plan.items; votes = c.votes.items; broken_by = c.broken_by } };
 }
 
 impl Cycle {
@@ -122,6 +136,8 @@ impl Cycle {
             version: last.version,
             phase: Phase::None,
             day: None,
+            mode: None,
+            settings: TakenSettings::none(alloc),
             begun: Vec::new(alloc),
             solutions: Vec::new(alloc),
             plan: Vec::new(alloc),
@@ -157,11 +173,32 @@ impl Cycle {
         self.day
     }
 
+    /// The mode in which the version began.
+    pub(super) fn mode(&self) -> Option<Mode>
+        ensures { result ≡ self.now.mode }
+    {
+        self.mode
+    }
+
+    /// All that members had set when the version began.
+    pub(super) fn settings(&self) -> &TakenSettings
+        ensures { result.now ≡ self.now.settings }
+    {
+        &self.settings
+    }
+
     /// What the version began with: one problem for each product.
     pub(super) fn begun(&self) -> &[Problem]
         ensures { result.now ≡ self.now.begun }
     {
         &self.begun
+    }
+
+    /// The posted solution of each product.
+    pub(super) fn solutions(&self) -> &[Solution]
+        ensures { result.now ≡ self.now.solutions }
+    {
+        &self.solutions
     }
 
     /// What the proposal changes in the trades.
@@ -213,6 +250,15 @@ impl Cycle {
         limit_lines(*self.begun.allocator(), self.begun.get(product.index()))
     }
 
+    // Drops the mode, the settings and the problems of the version.
+    fn drop_version(&mut self)
+        ensures { self.new ≡ record self.old { mode = None; settings = []; begun = [] } }
+    {
+        self.mode = None;
+        self.settings = TakenSettings::none(*self.begun.allocator());
+        self.begun.clear();
+    }
+
     // Drops the solutions, their plan and the votes.
     fn drop_proposal(&mut self)
         ensures { self.new ≡ record self.old { solutions = []; plan = []; votes = [] } }
@@ -231,18 +277,20 @@ impl Cycle {
         self.version = 0;
         self.phase = Phase::Frozen;
         self.day = Some(day);
-        self.begun.clear();
+        self.drop_version();
         self.broken_by = None;
         self.drop_proposal();
     }
 
-    /// Begins the next version, with these problems. It takes no memory.
-    pub(super) fn begin(&mut self, problems: Vec<Problem>)
+    /// Begins the next version in this mode, with these settings and problems. It takes no memory.
+    pub(super) fn begin(&mut self, mode: Mode, settings: TakenSettings, problems: Vec<Problem>)
         requires { self.old.version < 2 ^ 63 }
-        ensures { self.new ≡ begun_with self.old problems.items }
+        ensures { self.new ≡ begun_with self.old mode settings problems.items }
     {
         self.version = 1 + self.version;
         self.phase = Phase::Solving;
+        self.mode = Some(mode);
+        self.settings = settings;
         self.begun = problems;
         self.broken_by = None;
         self.drop_proposal();
@@ -265,12 +313,12 @@ impl Cycle {
         self.votes = votes;
     }
 
-    /// Drops the proposal and the problems; the freeze stands. It takes no memory.
+    /// Drops the proposal and its version; the freeze stands. It takes no memory.
     pub(super) fn decline(&mut self)
         ensures { self.new ≡ declined self.old }
     {
         self.phase = Phase::Frozen;
-        self.begun.clear();
+        self.drop_version();
         self.broken_by = None;
         self.drop_proposal();
     }
@@ -281,7 +329,7 @@ impl Cycle {
     {
         self.phase = Phase::None;
         self.day = None;
-        self.begun.clear();
+        self.drop_version();
         self.broken_by = None;
         self.drop_proposal();
     }

@@ -3,7 +3,7 @@
 
 ghost use Rattle.std.specs.Prelude.{◌≡◌};
 ghost use Rattle.std.specs.Result.{result_err};
-ghost use Rattle.command_types.specs.CycleRefusals.{freeze_refusals, begin_refusals, fetch_refusals, limits_refusals, row_refusals, pot_refusals, post_refusals, plan_refusals, accept_refusals, decline_refusals, cancel_refusals};
+ghost use Rattle.command_types.specs.CycleRefusals.{freeze_refusals, begin_refusals, fetch_refusals, limits_refusals, row_refusals, pot_refusals, post_refusals, next_refusals, plan_refusals, proof_refusals, accept_refusals, decline_refusals, cancel_refusals};
 ghost use Rattle.command_types.specs.Machine.{first_of};
 
 use super::Machine;
@@ -119,6 +119,13 @@ impl Machine {
         self.if_bad_post(solutions)
     }
 
+    /// NEXT: 14.
+    pub(super) fn check_next(&self, by: &Name) -> Result<(), Refusal>
+        ensures { result_err result ≡ first_of (next_refusals self.now.state by.now) }
+    {
+        self.unless_operator(by)
+    }
+
     /// PLAN: 16, 21, 17.
     pub(super) fn check_plan(&self, cycle: u64) -> Result<(), Refusal>
         ensures { result_err result ≡ first_of (plan_refusals self.now.state cycle) }
@@ -127,6 +134,19 @@ impl Machine {
         if let Err(refusal) = self.unless_cycle(cycle) {
             return Err(refusal);
         }
+        self.if_broken()?;
+        self.unless_phase(is_proposed(phase))
+    }
+
+    /// PROOF: 7, 16, 21, 17.
+    pub(super) fn check_proof(&self, by: &Name, cycle: u64) -> Result<(), Refusal>
+        ensures { result_err result ≡ first_of (proof_refusals self.now.state by.now cycle) }
+    {
+        let (phase, operator) = (self.cycle.phase(), self.roster.is_operator(by));
+        if let Err(refusal) = refuse_if(operator, Refusal::NotParty) {
+            return Err(refusal);
+        }
+        self.unless_cycle(cycle)?;
         self.if_broken()?;
         self.unless_phase(is_proposed(phase))
     }

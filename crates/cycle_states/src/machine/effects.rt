@@ -89,8 +89,11 @@ impl Machine {
                 let (roster, book, tolerances) = (&self.roster, &self.book, &self.tolerances);
                 let alloc = self.cycle.allocator();
                 let problems = problems_now(alloc, roster, book, tolerances, *mode)?;
-                let problems = Listed::new(problems);
-                Ok(Effect::Begin { problems })
+                Ok(Effect::Begin {
+                    mode: *mode,
+                    settings: tolerances.taken()?,
+                    problems: Listed::new(problems),
+                })
             }
             What::Decline { .. } => Ok(Effect::Decline),
             What::Cancel { .. } => Ok(Effect::Cancel),

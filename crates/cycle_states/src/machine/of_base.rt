@@ -26,15 +26,22 @@ impl Machine {
         if !fits(&base, &roster) {
             return Err(BaseFault::Misfit);
         }
-        let trades = base.trades.rows();
+        let Base {
+            cycle,
+            version,
+            tolerances,
+            trades,
+            ..
+        } = base;
+        let trades = trades.into_rows();
         if trades.len() > MOST_TRADES {
             return Err(BaseFault::Memory);
         }
         let last = LastCycle {
-            number: base.cycle,
-            version: base.version,
+            number: cycle,
+            version,
         };
-        let machine = Machine::at_rest(alloc, roster, last, base.tolerances.rows(), trades)?;
+        let machine = Machine::at_rest(alloc, roster, last, tolerances.rows(), trades)?;
         Ok(machine)
     }
 }

@@ -12,3 +12,6 @@ returns-in_ok-effect-in_default c = record {
   ballot = c.same_ballot-ballot.ensures;
   solutions = no_solutions c.args.what.now c.in_default.not-Post;
 }
+
+pub effect-requires : goal.effect-requires
+effect-requires c = record { plain = undecided c.args.what.now c.in_default.not-Post c.in_default.not-Accept; change = c.requires.change; accepted = c.requires.accepted }

@@ -9,9 +9,9 @@ at_rest-requires-clause-trades c =
     let members = length c.args.roster.members in
     let products = length c.args.roster.products in
     let fit : IsTrue c.fits.result = search rules in
-    subst (AreTrades members products 1) (sym c.rows-trades.ensures) (trades_of_base members products 1 c.args.base.trades c.requires.numbered (c.fits.ensures.0 fit).trades)
+    subst (AreTrades members products 1) (sym c.into_rows-trades.ensures) (trades_of_base members products 1 c.args.base.trades c.requires.numbered (c.fits.ensures.0 fit).trades)
 
 pub at_rest-requires-clause-bounded : goal.at_rest-requires-clause-bounded
 at_rest-requires-clause-bounded c =
     let fit : IsTrue c.fits.result = search rules in
-    subst (λ trades. (product : ℕ) → gross_of product trades ≤ gross_limit) (sym c.rows-trades.ensures) (c.fits.ensures.0 fit).bounded
+    subst (λ trades. (product : ℕ) → gross_of product trades ≤ gross_limit) (sym c.into_rows-trades.ensures) (c.fits.ensures.0 fit).bounded

@@ -1,0 +1,77 @@
+//! What a member is told of a proposal, so that it can test its own part.
+
+ghost use Rattle.std.specs.Prelude.{◌≡◌, ◌++◌, IfOk, OnOk};
+ghost use Rattle.command_types.specs.Books.{held_network};
+ghost use Rattle.command_types.specs.MemberProofs.{proof_rows};
+ghost use Rattle.cycle_states.specs.Machine.{FrozenAreLive, IsBookOf};
+ghost use Rattle.cycle_states.specs.MemberProofs.{asked_rows, asked_state};
+
+use super::cycle::Cycle;
+use super::proof_rows::{Part, add_part};
+use command_types::{Mode, ProofRow, Roster};
+use network_laws::Network;
+use product_book::{Book, Which};
+use std::alloc::AllocError;
+use units_core::{MemberNo, ProductNo};
+
+/// A proposal, and the member that asks about it.
+#[derive(Clone, Copy)]
+pub(super) struct MemberProof<'a> {
+    pub roster: &'a Roster,
+    pub book: &'a Book,
+    pub cycle: &'a Cycle,
+    /// The mode in which the version began.
+    pub mode: Mode,
+    pub member: MemberNo,
+}
+
+// What is held of a product's frozen trades.
+fn held_now(book: &Book, product: ProductNo) -> Result<Network, AllocError>
+    requires live { FrozenAreLive book.now.rows }
+    ensures { IfOk result (λ held. held ≡ held_network book.now.members product book.now.rows) }
+{
+    book.network(product, Which::FrozenHeld)
+}
+
+// Adds what the member is told of a product; where it has no problem or no solution, nothing.
+fn add_product(
+    rows: &mut Vec<ProofRow>,
+    proof: &MemberProof,
+    product: ProductNo,
+) -> Result<(), AllocError>
+    requires book { IsBookOf proof.now.roster.now proof.now.book.now.members proof.now.book.now.products }
+    requires live { FrozenAreLive proof.now.book.now.rows }
+    ensures { OnOk result (rows.new.items ≡ rows.old.items ++ asked_rows proof.now product) }
+{
+    let Some(problem) = proof.cycle.begun().get(product.index()) else {
+        return Ok(());
+    };
+    let Some(solution) = proof.cycle.solutions().get(product.index()) else {
+        return Ok(());
+    };
+    let held = held_now(proof.book, product)?;
+    let part = Part {
+        product,
+        mode: proof.mode,
+        members: proof.roster.members(),
+        settings: proof.cycle.settings(),
+        held: &held,
+        problem,
+        solution,
+    };
+    add_part(rows, &part, proof.member.0)?;
+    Ok(())
+}
+
+/// What the member is told of all products, in their order. The only error is want of memory.
+pub(super) fn proof_rows(proof: &MemberProof) -> Result<Vec<ProofRow>, AllocError>
+    requires book { IsBookOf proof.now.roster.now proof.now.book.now.members proof.now.book.now.products }
+    requires live { FrozenAreLive proof.now.book.now.rows }
+    ensures { IfOk result (λ rows. rows.items ≡ proof_rows (asked_state proof.now) proof.now.mode proof.now.member) }
+{
+    let mut rows = Vec::new(proof.cycle.allocator());
+    for product in 0..proof.roster.products().len() as u16 {
+        add_product(&mut rows, proof, ProductNo(product))?;
+    }
+    Ok(rows)
+}
