@@ -1,20 +1,25 @@
 -- The ways through a call that leave all as it was.
-use Rattle.std.proofs.Common.{◌≡◌, ℕ, ◌+◌, ◌≤◌, nat_lt, Bool, true, false, not, List, [], ◌∷◌, Option, Some, None, is_some, IsTrue, if◌then◌else◌, refl, sym, ◌∙◌, subst, ap, arith}
+use Rattle.std.proofs.Common.{◌≡◌, ℕ, ◌+◌, ◌≤◌, nat_lt, unwrap_or, cond, Bool, true, false, List, [], ◌∷◌, Option, Some, None, is_some, IsTrue, if◌then◌else◌, refl, sym, ◌∙◌, subst, ap, arith}
 use Rattle.std.proofs.lemmas.Bool.{false≢true}
 use Rattle.std.proofs.lemmas.List.{append-nil}
 use Rattle.command_types.specs.declared.ask.Ask.{Ask}
 use Rattle.command_types.specs.declared.ask.Entry.{Entry}
 use Rattle.command_types.specs.declared.answer.Answer.{Answer}
-use Rattle.command_types.specs.declared.answer.Answer.TheVariants.{No}
+use Rattle.command_types.specs.declared.answer.Answer.TheVariants.{No, NoNext, ProofRows}
 use Rattle.command_types.specs.declared.answer.Reply.{Reply}
 use Rattle.command_types.specs.declared.refusal.Refusal.{Refusal}
-use Rattle.command_types.specs.declared.refusal.Refusal.TheVariants.{JournalFull, Stopped, Memory}
+use Rattle.command_types.specs.declared.refusal.Refusal.TheVariants.{JournalFull, Stopped, Memory, Gone, Ahead}
 use Rattle.command_types.specs.declared.figures.State.{State}
 use Rattle.command_types.specs.Machine.{answer_to, first_of}
 use Rattle.command_types.specs.History.{end_of, longer, recorded, is_recorded, replayed}
 use Rattle.command_types.specs.Sizes.{journal_limit, frame_size}
 use Rattle.command_types.specs.Told.{IsTold, house_refusals}
-use Rattle.command_types.proofs.HistoryFacts.{told_memory, told_read}
+use Rattle.command_types.proofs.HistoryFacts.{told_memory}
+use Rattle.cycle_states.specs.declared.offers.OpenAsk.{OpenAsk}
+use Rattle.cycle_states.specs.declared.offers.OpenAsk.TheVariants as asks
+use Rattle.cycle_states.specs.declared.offers.Places.{Places}
+use Rattle.cycle_states.specs.Offers.{ArePlaces, filled_at, open_ask}
+use Rattle.cycle_states.proofs.DeskFacts.{told_filled, filled_unrecorded}
 use Rattle.house.specs.Storing.{AreStored, AreStoredAs, AreOnDisk}
 use Rattle.house.specs.House.{HouseView, JournalNow, figures_of, first_of as first_history, is_stopped, bytes_of, Keeps, IsHouse}
 use Rattle.house.specs.Calling.{is_disk_fault, Calls}
@@ -57,22 +62,40 @@ unchanged v seat ask reply keeps place told unrecorded no_fault = record {
   keeps = keeps;
 }
 
+-- what is told by a history's places is no fault of the disk
+offered_plain : (gone ahead before : Bool) (from end : ℕ) →
+    is_disk_fault (unwrap_or (cond {A = Option Answer} gone (Some (No (Gone from))) (cond {A = Option Answer} ahead (Some (No (Ahead end))) (cond {A = Option Answer} before None (Some NoNext)))) (No Memory)) ≡ false
+offered_plain true ahead before from end = refl
+offered_plain false true before from end = refl
+offered_plain false false true from end = refl
+offered_plain false false false from end = refl
+
+filled_plain : (places : Places) (ask : OpenAsk) (machine : Answer) → is_disk_fault machine ≡ false → is_disk_fault (unwrap_or (filled_at places ask machine) (No Memory)) ≡ false
+filled_plain places (asks.Next position) NoNext plain =
+    offered_plain (nat_lt position places.base) (nat_lt places.end position) (nat_lt position places.end) places.base places.end
+filled_plain places asks.Proof (ProofRows head rows) plain = refl
+filled_plain places ask machine plain = plain
+
 module _ (s : State) (now : JournalNow) (v : HouseView) (house : IsHouse s now v) (seat : ℕ) (ask : Ask) where
   -- there is no memory
   pub memory_call : (at : ℕ) (reply : Reply) → at ≡ end_of v.history → reply ≡ record { at = at; answer = No Memory } → Calls v v seat ask reply
   memory_call at reply place is =
       let told_at : reply.at ≡ end_of v.history = ap (λ (r : Reply). r.at) is ∙ place in
       let answer : reply.answer ≡ No Memory = ap (λ (r : Reply). r.answer) is in
-      unchanged v seat ask reply house.keeps told_at (told_memory (figures_of v) (is_stopped v) (is_stopped v) v.history seat ask reply told_at answer)
+      unchanged v seat ask reply house.keeps told_at (told_memory (figures_of v) (is_stopped v) (is_stopped v) v.history seat ask reply told_at (record { same = answer; takes = λ vote. refl }))
       (ap (λ a. is_recorded ask.what a) answer ∙ no_refusal_recorded ask Memory) (ap is_disk_fault answer)
 
-  -- the machine refuses the command, or it is a read
-  pub read_call : (at : ℕ) (answer : Answer) → s ≡ replayed v.history → at ≡ end_of v.history → answer ≡ answer_to s ask → is_recorded ask.what answer ≡ false → Calls v v seat ask (record { at = at; answer = answer })
-  read_call at answer here place answers unrecorded =
-      let reply : Reply = record { at = at; answer = answer } in
-      unchanged v seat ask reply house.keeps place
-      (told_read (figures_of v) (is_stopped v) (is_stopped v) v.history seat ask reply place (record { no_change = ap not unrecorded; same = answers ∙ ap (λ t. answer_to t ask) here }))
-      unrecorded (ap is_disk_fault answers ∙ machine_plain s ask)
+  -- the machine refuses the command, or it is a read, and the history's places are told in its answer
+  pub read_call : (at : ℕ) (machine : Answer) (places : Places) (reply : Reply) → at ≡ end_of v.history → machine ≡ answer_to s ask → is_recorded ask.what machine ≡ false → ArePlaces v.history.base v.history.entries places
+      → reply ≡ record { at = at; answer = unwrap_or (filled_at places (open_ask ask.what) machine) (No Memory) } → Calls v v seat ask reply
+  read_call at machine places reply place answers unrecorded are is =
+      let plain : is_disk_fault machine ≡ false = ap is_disk_fault answers ∙ machine_plain s ask in
+      let literal : Reply = record { at = at; answer = unwrap_or (filled_at places (open_ask ask.what) machine) (No Memory) } in
+      subst (λ (r : Reply). Calls v v seat ask r) (sym is)
+      (unchanged v seat ask literal house.keeps place
+      (told_filled s v.history ask machine places house.replayed unrecorded answers are (figures_of v) (is_stopped v) seat at refl place)
+      (filled_unrecorded s v.history ask machine places house.replayed unrecorded answers are)
+      (filled_plain places (open_ask ask.what) machine plain))
 
   module _ (change : IsTrue (is_recorded ask.what (answer_to (replayed v.history) ask))) where
     refused_call : (refusal : Refusal) (at : ℕ) (reply : Reply) → at ≡ end_of v.history → reply ≡ record { at = at; answer = No refusal }

@@ -31,7 +31,8 @@ use Rattle.house.proofs.StopFacts.{machine_plain}
 use Rattle.house.proofs.ToldFacts.{first_failed, told_by_journal, no_refusal_recorded}
 use Rattle.house.proofs.CallingFacts.{grows_by_nothing}
 
-rose_from : (a b c : ℕ) → a ≤ b → Rose b c → Rose a c
+-- a count that rose has risen from what it was before, too
+pub rose_from : (a b c : ℕ) → a ≤ b → Rose b c → Rose a c
 rose_from a b c le (inl more) = inl (omega (arith, le, more))
 rose_from a b c le (inr most) = inr most
 

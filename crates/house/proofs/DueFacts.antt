@@ -2,6 +2,7 @@
 use Rattle.std.proofs.Common.{◌≡◌, List, ℕ, sym, subst}
 use Rattle.command_types.specs.declared.base.Base.{Base}
 use Rattle.command_types.specs.declared.figures.State.{State}
+use Rattle.command_types.specs.declared.spelling.Spelling.TheVariants.{Second}
 use Rattle.command_types.specs.Bases.{CanBeWritten, Fits, SpellsBase, base_in, base_spelling, written}
 use Rattle.command_types.specs.Folds.{folded}
 use Rattle.command_types.specs.History.{History, replayed}
@@ -26,9 +27,9 @@ module _ (s : State) (h : History) (replayed_there : IsReplayed s h) (writable :
   fold_small = record { position = may.position; cycle = may.cycle; version = may.version }
 
   -- and its spelling stands for it
-  pub due_fold : (base : Base) (bytes : List ℕ) → base ≡ written (folded h).base → bytes ≡ base_spelling base → SpellsBase bytes base → IsFoldOf h bytes
+  pub due_fold : (base : Base) (bytes : List ℕ) → base ≡ written (folded h).base → bytes ≡ base_spelling Second base → SpellsBase bytes base → IsFoldOf h bytes
   due_fold base bytes is exact spells =
-      let here : bytes ≡ fold_bytes h = subst (λ (b : Base). bytes ≡ base_spelling b) is exact in
+      let here : bytes ≡ fold_bytes h = subst (λ (b : Base). bytes ≡ base_spelling Second b) is exact in
       let spelled : SpellsBase (fold_bytes h) (written (folded h).base) = subst (λ (l : List ℕ). SpellsBase l (written (folded h).base)) here (subst (SpellsBase bytes) is spells) in
       let r : Rows = h.base.state.roster in
       let same : (replayed h).roster ≡ r = fold_writable.market.same in

@@ -2,6 +2,8 @@
 use Rattle.std.proofs.Common.{◌≡◌, ◌⊎◌, inl, inr, ⊎_elim, ℕ, ◌≤◌, List, [], ◌∷◌, length, Option, Some, None, IfSome, refl, sym, ◌∙◌, subst, ap, arith}
 use Rattle.std.specs.List.{flat_map}
 use Rattle.command_types.specs.declared.ask.Entry.{Entry}
+use Rattle.command_types.specs.declared.spelling.Spelling.{Spelling}
+use Rattle.command_types.specs.Bases.{spelling_behind}
 use Rattle.command_types.specs.Folds.{folded}
 use Rattle.command_types.specs.History.{History}
 use Rattle.outside.specs.Disk as disks
@@ -16,26 +18,28 @@ use Rattle.journal_core.specs.declared.staged.Staged.{Staged}
 use Rattle.journal_core.proofs.MomentFacts.{leaves_more, leaves_both}
 use Rattle.journal_core.proofs.PartFacts.{journal_holds}
 use Rattle.journal_core.proofs.OneReading.{one_lead, one_reading}
-use Rattle.recovery.specs.StandsFor.{SpellAll, StandsForBase, StandsFor}
-use Rattle.recovery.proofs.PlaceFacts.{one_form}
-use Rattle.house.specs.Folding.{MayBeFolded, fold_bytes, IsToFold, end_folded, OpensWith, OpensOn, StandsForOne, StandsForOpened, LeavesOpenedAs}
+use Rattle.recovery.specs.Bodies.{spelling_after}
+use Rattle.recovery.specs.StandsFor.{SpellAll, StandsForBase, StandsFor, GoesOnIn}
+use Rattle.recovery.specs.Reading.{FindsSpelling}
+use Rattle.recovery.proofs.PlaceFacts.{ends_hold, one_form}
+use Rattle.house.specs.Folding.{MayBeFolded, fold_bytes, IsToFold, end_folded, IsEnd, OpensWith, OpensOn, StandsForOne, StandsForOpened, LeavesOpenedAs}
 use Rattle.house.specs.Due.{IsFoldOf}
-use Rattle.house.specs.Storing.{AreStoredAs, ContentStandsFor}
-use Rattle.house.proofs.JournalFacts.{staging_leaves, staging_stores, switch_leaves, switch_stores}
+use Rattle.house.specs.Storing.{AreStoredAs, AreWrittenAs, ContentStandsFor, end_turned}
+use Rattle.house.proofs.JournalFacts.{staging_leaves, staging_writes, switch_leaves, switch_stores}
 
 -- ---- which files are to be folded
 
 -- no records spell nothing
-none_spelled : (records : List (List ℕ)) (entries : List Entry) → records ≡ [] → SpellAll records entries → length entries ≡ 0
-none_spelled [] [] is all = refl
-none_spelled [] (e ∷ entries) is all = absurd all
-none_spelled (r ∷ records) entries is all = absurd cc
+none_spelled : (begins : Spelling) (records : List (List ℕ)) (entries : List Entry) → records ≡ [] → SpellAll begins records entries → length entries ≡ 0
+none_spelled begins [] [] is all = refl
+none_spelled begins [] (e ∷ entries) is all = absurd all
+none_spelled begins (r ∷ records) entries is all = absurd cc
 
 -- a file of many changes is long enough
 long_enough : (file : List ℕ) (h : History) → StandsFor file h → 1 ≤ length h.entries → IsShort file → ⊥
 long_enough file h stands many short =
     let same = one_reading file [] stands.0 [] stands.1 (inl (short, refl, refl)) stands.2 in
-    omega (arith, many, none_spelled stands.1 h.entries (sym same.1) stands.4)
+    omega (arith, many, none_spelled (spelling_behind stands.0) stands.1 h.entries (sym same.1) stands.4)
 
 -- a file in which its journal ends so, and whose history may be folded, is to be folded where the body fits
 pub is_to_fold : (file : List ℕ) (form : Form) (end : ℕ) (base : List ℕ) (records : List (List ℕ)) (h : History) → EndsAs form file end base records → IsSlots form → StandsFor file h → MayBeFolded h
@@ -86,14 +90,21 @@ opens_with None first h size opens = opens
 opens_with (Some disk) first h size (inl same) = inl same.1
 opens_with (Some disk) first h size (inr (t, is, place)) = inr (t.may.at_rest, is)
 
+-- a journal that ends there and was in this spelling, and is turned, ends so
+ends_turned : (file : List ℕ) (form : Form) (end size : ℕ) (last : Spelling) (base : List ℕ) (records : List (List ℕ)) → EndsAs form file end base records → GoesOnIn file last → size ≡ end_turned last end → IsEnd file size
+ends_turned file form end size last base records ends on same =
+    let one = one_reading file on.0 base on.1 records on.2 (ends_hold form file end base records ends) in
+    let here : last ≡ spelling_after (spelling_behind base) records = on.3 ∙ ap (λ (b : List ℕ). spelling_after (spelling_behind b) on.1) one.0 ∙ ap (λ (rs : List (List ℕ)). spelling_after (spelling_behind base) rs) one.1 in
+    record { form = form; end = end; base = base; records = records; ends = ends; turned = same ∙ ap (λ (s : Spelling). end_turned s end) here }
+
 -- with its own history, where nothing is to be folded
-pub opens_plainly : (o : Option disks.History) (h : History) (form : Form) (end size : ℕ) → EndsAt o form end → size ≡ end
+pub opens_plainly : (o : Option disks.History) (h : History) (form : Form) (end size : ℕ) (last : Spelling) → EndsAt o form end → FindsSpelling o last → size ≡ end_turned last end
     → (IsSlots form → MayBeFolded h → fold_end form end (length (fold_bytes h)) ≤ limit → ⊥) → OpensOn o h h size
-opens_plainly None h form end size ends same none = inl refl
-opens_plainly (Some disk) h form end size ends same none = inl (
+opens_plainly None h form end size last ends on same none = inl refl
+opens_plainly (Some disk) h form end size last ends on same none = inl (
   (λ (t : IsToFold disk.content h). let so = folds_as disk.content form end ends.0 ends.1 h ends.2 t in none so.0 t.may so.1),
   refl,
-  (form, ends.0, ends.1, subst (λ (n : ℕ). EndsAs form disk.content n ends.0 ends.1) (sym same) ends.2),
+  ends_turned disk.content form end size last ends.0 ends.1 ends.2 on same,
 )
 
 -- with the fold
@@ -124,25 +135,25 @@ opened_as (Some disk) after first h size (inr (t, is, place)) leaves =
 
 -- ---- staging and switching
 
-module _ (old mid : Option disks.History) (form : Form) (end : ℕ) (h : History) (staging : IsStaging old mid form end) (stored : AreStoredAs old form end h) where
+module _ (old mid : Option disks.History) (form : Form) (end : ℕ) (last : Spelling) (h : History) (staging : IsStaging old mid form end) (written : AreWrittenAs old form end last h) where
   -- the base was staged, or in part
   pub staged_only : LeavesOnly old mid (λ image. StandsFor image h ⊎ StandsFor image (folded h))
-  staged_only = leaves_more old mid (λ image. StandsFor image h) (λ image. StandsFor image h ⊎ StandsFor image (folded h)) (λ image stands. inl stands) (staging_leaves old mid form end h staging stored)
+  staged_only = leaves_more old mid (λ image. StandsFor image h) (λ image. StandsFor image h ⊎ StandsFor image (folded h)) (λ image stands. inl stands) (staging_leaves old mid form end last h staging written)
 
   module _ (beside : IsStagedBeside old mid form end) (new : Option disks.History) (bytes : List ℕ) (fold : IsFoldOf h bytes) where
     base : StandsForBase (fold_bytes h) (folded h).base
     base = subst (λ (b : List ℕ). StandsForBase b (folded h).base) fold.0 fold.1
 
-    there : AreStoredAs mid form end h
-    there = staging_stores old mid form end h staging beside stored
+    there : AreWrittenAs mid form end last h
+    there = staging_writes old mid form end last h staging beside written
 
     one_only : (s : Staged) → IsStaged mid s bytes → IsSwitching mid new form end s → LeavesOnly old new (λ image. StandsFor image h ⊎ StandsFor image (folded h))
     one_only s is switching =
         leaves_both old mid new (λ image. StandsFor image h ⊎ StandsFor image (folded h)) staged_only
-        (switch_leaves mid new form end s h base switching (subst (IsStaged mid s) fold.0 is) there)
+        (switch_leaves mid new form end last s h base switching (subst (IsStaged mid s) fold.0 is) there)
 
     one_stores : (s : Staged) (next : Form) (size : ℕ) → IsStaged mid s bytes → IsSwitching mid new form end s → IsSwitched mid new s next size → AreStoredAs new next size (folded h)
-    one_stores s next size is switching switched = switch_stores mid new form next end size s h base switching switched (subst (IsStaged mid s) fold.0 is) there
+    one_stores s next size is switching switched = switch_stores mid new form next end size last s h base switching switched (subst (IsStaged mid s) fold.0 is) there
 
     -- and switched to, or in part
     pub folds_only : (o : Option Staged) → IsReadyToSwitch mid form o → IfSome o (λ s. IsStaged mid s bytes) → IfSome o (λ s. IsSwitching mid new form end s)

@@ -6,10 +6,12 @@ pub mod ToldFacts
 pub mod CallingFacts
 pub mod ChangeFacts
 pub mod ReplayFacts
+pub mod PastFacts
 pub mod DamageFacts
 pub mod DueFacts
 pub mod FoldFacts
 pub mod StartFacts
+pub mod TurnFacts
 pub mod OpeningFacts
 pub mod NewFacts
 pub mod ExecutionFacts

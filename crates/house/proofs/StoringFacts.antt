@@ -17,7 +17,7 @@ use Rattle.house.proofs.JournalFacts.{stored_stand}
 
 -- what a crash now leaves stands for it
 left_now : (disk : disks.History) (size : ℕ) (h : History) → IsStored disk size h → (image : List ℕ) → may_leave disk.now image → StandsFor image h
-left_now disk size h stored image now = subst (λ (file : List ℕ). StandsFor file h) (sym (stored.1.2.0 image now)) (stored_stand disk size h stored)
+left_now disk size h stored image now = subst (λ (file : List ℕ). StandsFor file h) (sym (stored.1.1.2.0 image now)) (stored_stand disk size h stored)
 
 pub stored_leaves : (o : Option disks.History) (size : ℕ) (h : History) → AreStored o size h → LeavesHistory o h
 stored_leaves None size h stored = tt

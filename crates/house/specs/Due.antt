@@ -1,6 +1,7 @@
 -- A fold that is due, before its disk is asked.
 use Rattle.std.specs.Prelude.{◌≡◌, ◌⊎◌, ◌≤◌, ℕ, List, length, Option, Some, None}
 use Rattle.command_types.specs.declared.base.Base.{Base}
+use Rattle.command_types.specs.declared.spelling.Spelling.{Spelling}
 use Rattle.command_types.specs.Bases.{written}
 use Rattle.command_types.specs.Folds.{folded}
 use Rattle.command_types.specs.History.{History}
@@ -13,7 +14,7 @@ use Rattle.journal_core.specs.declared.journal.Journal.{Journal}
 use Rattle.recovery.specs.StandsFor.{StandsForBase, StandsFor}
 use Rattle.house.specs.declared.folding.Folding.{Folding}
 use Rattle.house.specs.Folding.{MayBeFolded, fold_bytes}
-use Rattle.house.specs.Storing.{AreStoredIn}
+use Rattle.house.specs.Storing.{AreStoredIn, AreWrittenIn}
 
 -- the history may be folded exactly where something is written, which is its fold's base
 abbrev pub IsDueBase : History → Option Base → Type 0
@@ -34,8 +35,8 @@ IsDue form h (Some folding) = IsSlots form × MayBeFolded h × IsFoldOf h foldin
 -- it had, or for its fold,
 abbrev pub FoldsOnly : {D : Type 0} → Option disks.History → Journal D → List ℕ → Option disks.History → Type 0
 FoldsOnly old journal bytes new =
-    (h : History) → IsFoldOf h bytes → AreStoredIn old journal h → LeavesOnly old new (λ image. StandsFor image h ⊎ StandsFor image (folded h))
+    (h : History) (last : Spelling) → IsFoldOf h bytes → AreWrittenIn old journal last h → LeavesOnly old new (λ image. StandsFor image h ⊎ StandsFor image (folded h))
 
 -- and once it is done, it has the fold.
 abbrev pub StoresFold : {D : Type 0} → Option disks.History → Journal D → List ℕ → Option disks.History → Journal D → Type 0
-StoresFold old journal bytes new later = (h : History) → IsFoldOf h bytes → AreStoredIn old journal h → AreStoredIn new later (folded h)
+StoresFold old journal bytes new later = (h : History) (last : Spelling) → IsFoldOf h bytes → AreWrittenIn old journal last h → AreStoredIn new later (folded h)

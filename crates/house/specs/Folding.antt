@@ -1,7 +1,9 @@
 -- When a house opens with the fold of the history for which its disk stands.
 use Rattle.std.specs.Prelude.{◌≡◌, ◌⊎◌, ℕ, ◌≤◌, List, length, Option, Some, None, Bool, true, false}
 use Rattle.units_core.specs.declared.limits.TheConstants.{MOST_NUMBER}
-use Rattle.command_types.specs.Bases.{base_spelling, written}
+use Rattle.command_types.specs.declared.spelling.Spelling.{Spelling}
+use Rattle.command_types.specs.declared.spelling.Spelling.TheVariants.{Second}
+use Rattle.command_types.specs.Bases.{base_spelling, spelling_behind, written}
 use Rattle.command_types.specs.Folds.{IsAtRest, folded}
 use Rattle.command_types.specs.History.{History, end_of, replayed}
 use Rattle.outside.specs.Disk as disks
@@ -11,7 +13,9 @@ use Rattle.journal_core.specs.Journal.{EndsAs}
 use Rattle.journal_core.specs.Moments.{LeavesOnly}
 use Rattle.journal_core.specs.declared.form.Form.{Form}
 use Rattle.journal_core.specs.declared.form.Form.TheVariants.{Slots}
+use Rattle.recovery.specs.Bodies.{spelling_after}
 use Rattle.recovery.specs.StandsFor.{StandsFor}
+use Rattle.house.specs.Storing.{end_turned}
 use Rattle.house.specs.declared.folding.TheConstants.{FEWEST_TO_FOLD}
 
 -- the history has changes enough, no cycle is open at its end, and a base there has small numbers
@@ -24,7 +28,7 @@ pub record MayBeFolded (h : History) : Type 0 where
 
 -- what is written of the base of its fold
 abbrev pub fold_bytes : History → List ℕ
-fold_bytes h = base_spelling (written (folded h).base)
+fold_bytes h = base_spelling Second (written (folded h).base)
 
 -- A file that stands for the history is to be folded: it has slots and is long enough, the history may be folded, and the body of
 -- its fold's base ends at or before the limit.
@@ -46,12 +50,17 @@ end_folded {file} {h} t = fold_end (Slots t.which t.offset) (end_in t.journal) (
 abbrev pub OpensWith : History → History → Type 0
 OpensWith first h = (h ≡ first) ⊎ (IsAtRest first × (h ≡ folded first))
 
--- the journal on the file ends at this place, or will when it is begun
-abbrev pub IsEnd : List ℕ → ℕ → Type 0
-IsEnd file end = (form : Form) × (base : List ℕ) × (records : List (List ℕ)) × EndsAs form file end base records
+-- the journal on the file, as it is or when it is begun, ends at this place once it is turned
+pub record IsEnd (file : List ℕ) (size : ℕ) : Type 0 where
+  pub form : Form
+  pub end : ℕ
+  pub base : List ℕ
+  pub records : List (List ℕ)
+  pub ends : EndsAs form file end base records
+  pub turned : size ≡ end_turned (spelling_after (spelling_behind base) records) end
 
 -- On a file that stands for the first history it opens with this one, and its journal has so many bytes: with the fold exactly
--- where the file is to be folded.
+-- where the file is to be folded. Where it is not, the journal is turned if it is in the first spelling and has room for that.
 abbrev pub OpensOver : List ℕ → History → History → ℕ → Type 0
 OpensOver file first h size =
     ((IsToFold file first → ⊥) × (h ≡ first) × IsEnd file size)

@@ -27,7 +27,7 @@ pub record HouseView : Type 0 where
 
 -- what it was when it was made
 abbrev pub figures_of : HouseView → Figures
-figures_of v = record { base = v.history.base; opening = v.history.base.position + v.opening; journal = Some v.journal }
+figures_of v = record { base = v.history.base; opening = v.history.base.position + v.opening; journal = Some v.journal; votes_take_memory = true }
 
 -- a disk fault stopped it
 abbrev pub is_stopped : HouseView → Bool

@@ -1,7 +1,7 @@
 pub mod Faults
 pub mod Unstored
-pub mod Folding
 pub mod Storing
+pub mod Folding
 pub mod Due
 pub mod House
 pub mod Opening

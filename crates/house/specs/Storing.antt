@@ -1,20 +1,44 @@
 -- What stands on the disk of a house.
-use Rattle.std.specs.Prelude.{◌≡◌, ◌⊎◌, ℕ, ◌+◌, ◌≤◌, ◌<◌, List, [], ◌∷◌, ◌++◌, length, Option, Some, None}
+use Rattle.std.specs.Prelude.{◌≡◌, ◌⊎◌, ℕ, ◌+◌, ◌≤◌, ◌<◌, nat_lt, List, [], ◌∷◌, ◌++◌, length, Option, Some, None, if◌then◌else◌}
 use Rattle.command_types.specs.declared.ask.Entry.{Entry}
+use Rattle.command_types.specs.declared.spelling.Spelling.{Spelling}
+use Rattle.command_types.specs.declared.spelling.Spelling.TheVariants.{First, Second}
+use Rattle.command_types.specs.Bases.{spelling_behind}
 use Rattle.command_types.specs.History.{History, longer}
 use Rattle.outside.specs.Disk.{moment, may_leave, left_since}
 use Rattle.outside.specs.Disk as disks
+use Rattle.journal_core.specs.Holds.{limit}
 use Rattle.journal_core.specs.Journal.{form_of, size_of, IsAtRest}
 use Rattle.journal_core.specs.Moments.{left_at, LeavesOnly, MayLeaveYet}
 use Rattle.journal_core.specs.declared.form.Form.{Form}
 use Rattle.journal_core.specs.declared.journal.Journal.{Journal}
+use Rattle.recovery.specs.Bodies.{spelling_after}
 use Rattle.recovery.specs.StandsFor.{SpellAll, StandsForBase, StandsFor}
 
 -- all of the disk's content is on the disk: a journal of this form that ends at this place, whose base stands for the history's, and
--- whose records spell its changes
+-- whose records spell its changes; it goes on in this spelling
+abbrev pub IsWrittenAs : disks.History → Form → ℕ → Spelling → History → Type 0
+IsWrittenAs disk form end last h =
+    (base : List ℕ) × (records : List (List ℕ)) × IsAtRest (Some disk) form end base records × StandsForBase base h.base
+    × SpellAll (spelling_behind base) records h.entries × (last ≡ spelling_after (spelling_behind base) records)
+
+-- where a journal ends behind the record that turns it: that has eight bytes, its length four, and its gate one
+abbrev pub turn_end : ℕ → ℕ
+turn_end end = end + 13
+
+-- a journal that ends there and goes on in this spelling is turned, or has no room for the record that turns it
+abbrev pub IsTurned : ℕ → Spelling → Type 0
+IsTurned end First = limit < turn_end end
+IsTurned end Second = Unit {0}
+
+-- where a journal that ended there and went on in this spelling ends once it is turned, where there is room for that
+abbrev pub end_turned : Spelling → ℕ → ℕ
+end_turned First end = if nat_lt limit (turn_end end) then end else turn_end end
+end_turned Second end = end
+
+-- so it is written, and the journal is turned if it has room for that
 abbrev pub IsStoredAs : disks.History → Form → ℕ → History → Type 0
-IsStoredAs disk form end h =
-    (base : List ℕ) × (records : List (List ℕ)) × IsAtRest (Some disk) form end base records × StandsForBase base h.base × SpellAll records h.entries
+IsStoredAs disk form end h = (last : Spelling) × IsWrittenAs disk form end last h × IsTurned end last
 
 -- a journal of some form
 abbrev pub IsStored : disks.History → ℕ → History → Type 0
@@ -94,6 +118,15 @@ abbrev pub ContentStandsFor : Option disks.History → History → Type 0
 ContentStandsFor None h = Unit {0}
 ContentStandsFor (Some disk) h = StandsFor disk.content h
 
+-- the disk has this history written so
+abbrev pub AreWrittenAs : Option disks.History → Form → ℕ → Spelling → History → Type 0
+AreWrittenAs None form size last h = Unit {0}
+AreWrittenAs (Some disk) form size last h = IsWrittenAs disk form size last h
+
+-- in the journal as it is
+abbrev pub AreWrittenIn : {D : Type 0} → Option disks.History → Journal D → Spelling → History → Type 0
+AreWrittenIn disk journal last h = AreWrittenAs disk (form_of journal) (size_of journal) last h
+
 -- the disk has this history, in a journal of this form
 abbrev pub AreStoredAs : Option disks.History → Form → ℕ → History → Type 0
 AreStoredAs None form size h = Unit {0}
@@ -107,6 +140,14 @@ AreStored (Some disk) size h = IsStored disk size h
 -- the disk has this history, in the journal as it is
 abbrev pub AreStoredIn : {D : Type 0} → Option disks.History → Journal D → History → Type 0
 AreStoredIn disk journal h = AreStoredAs disk (form_of journal) (size_of journal) h
+
+-- from a disk that had this history written in a journal that went on in this spelling, what a crash at any moment leaves stands for it,
+abbrev pub TurnsOnly : {D : Type 0} → Option disks.History → Journal D → Spelling → Option disks.History → Type 0
+TurnsOnly before journal last after = (h : History) → AreWrittenIn before journal last h → LeavesOnly before after (λ image. StandsFor image h)
+
+-- and the disk has it in the end
+abbrev pub StoresTurned : {D : Type 0} → Option disks.History → Journal D → Spelling → Option disks.History → Journal D → Type 0
+StoresTurned before journal last after later = (h : History) → AreWrittenIn before journal last h → AreStoredIn after later h
 
 -- a disk that had this history has it with the one change more
 abbrev pub StoresMore : {D : Type 0} → Option disks.History → Journal D → Option disks.History → Journal D → History → Entry → Type 0

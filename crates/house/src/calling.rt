@@ -1,13 +1,14 @@
 //! Calls of a house.
-ghost use Rattle.std.specs.Prelude.{◌≡◌, ◌<◌, ◌^◌};
+ghost use Rattle.std.specs.Prelude.{◌≡◌, ◌<◌, ◌^◌, unwrap_or};
 ghost use Rattle.command_types.specs.declared.answer.Answer.TheVariants.{No};
+ghost use Rattle.command_types.specs.declared.refusal.Refusal.TheVariants.{Memory};
 ghost use Rattle.command_types.specs.History.{end_of};
 ghost use Rattle.house.specs.Calling.{Calls};
 
 use crate::House;
 use crate::storing::{Unstored, store};
 use command_types::{Answer, Ask, Entry, Refusal, Reply};
-use cycle_states::Decision;
+use cycle_states::{Decision, filled, open_ask};
 use outside::Disk;
 use record_codec::length;
 
@@ -21,18 +22,31 @@ fn refused(at: u64, refusal: Refusal) -> Reply
     }
 }
 
+// The reply with this answer; one that would need an entry's bytes finds no memory, since a house keeps none of them.
+fn told(at: u64, answer: Option<Answer>) -> Reply
+    ensures { result ≡ record { at = at; answer = unwrap_or answer (No Memory) } }
+{
+    match answer {
+        Some(answer) => Reply { at, answer },
+        None => refused(at, Refusal::Memory),
+    }
+}
+
 impl<D: Disk> House<D> {
     /// Answers a command of this seat as the machine does. A change that the machine accepts is refused where the journal has
     /// no room for it; where a disk fault stopped the house before; where there is no memory; and where the disk fails, which
-    /// stops the house. Else it is made once its record is on the disk.
+    /// stops the house. Else it is made once its record is on the disk. A NEXT that asks for an entry finds no memory.
     pub fn call(&mut self, seat: u32, ask: Ask) -> Reply
         ensures calls { Calls self.old self.new seat ask result }
         ensures short { end_of self.new.history < 2 ^ 63 }
     {
         let at = self.past.length();
+        let asked = open_ask(&ask.what);
         let ready = match self.machine.decide(Entry { seat, ask }) {
             Err(_) => return refused(at, Refusal::Memory),
-            Ok(Decision::Told(answer)) => return Reply { at, answer },
+            Ok(Decision::Told(answer)) => {
+                return told(at, filled(answer, asked, self.past.places()));
+            }
             Ok(Decision::Ready(ready)) => ready,
         };
         if !self.journal.fits(length(ready.entry())) {

@@ -10,8 +10,9 @@ mod opening;
 pub mod past;
 pub mod recovering;
 mod storing;
+mod turning;
 
-pub use executions::Executions;
+pub use executions::{Dated, Executions};
 pub use fault::OpenFault;
 pub use folding::FEWEST_TO_FOLD;
 pub use house::House;

@@ -10,7 +10,7 @@ ghost use Rattle.cycle_states.specs.Machine.{IsYoung};
 ghost use Rattle.outside.specs.Faults.{Rose};
 ghost use Rattle.journal_core.specs.Journal.{EndsAt};
 ghost use Rattle.recovery.specs.declared.entries.EntryAt.{EntryAt};
-ghost use Rattle.recovery.specs.Reading.{file_of, entries_in, start_of, FitsIn, IsRead, HasRead};
+ghost use Rattle.recovery.specs.Reading.{file_of, entries_in, start_of, FitsIn, FindsSpelling, IsRead, HasRead};
 ghost use Rattle.house.specs.declared.fault.OpenFault.TheVariants.{DiskFault};
 ghost use Rattle.house.specs.Opening.{IsBeginFault, IsReplayFault, FindsFault};
 ghost use Rattle.house.specs.Storing.{ContentStandsFor};
@@ -18,7 +18,7 @@ ghost use Rattle.house.specs.Executions.{executions_told, told_of};
 
 use crate::past::Past;
 use crate::{Executions, OpenFault};
-use command_types::{Answer, Entry, Roster};
+use command_types::{Answer, Entry, Roster, Spelling};
 use cycle_states::{BaseFault, Decision, Machine};
 use journal_core::Form;
 use outside::Disk;
@@ -88,20 +88,22 @@ fn replay(
     let mut reader = read.reader();
     while let Some(item) = reader.next(alloc)? {
         let (entry, answer) = accept(machine, item)?;
-        past.push(&entry);
-        executions.note(past.length(), answer)?;
+        let change = &entry;
+        past.push(change);
+        executions.note(past.length(), answer, change.ask.moment)?;
     }
     Ok(past)
 }
 
 /// What is read of a disk: the machine after its changes, their history, the form of its file, the place where its journal goes
-/// on, and the executions, where they were to be kept.
+/// on and the spelling in which it does, and the executions, where they were to be kept.
 #[derive(Drop)]
 pub struct Recovered {
     pub machine: Machine,
     pub past: Past,
     pub form: Form,
     pub end: u64,
+    pub spelling: Spelling,
     pub executions: Executions,
 }
 
@@ -119,6 +121,7 @@ pub fn recover_noting<D: Disk>(
     ensures base { IfOk result (λ r. IsWritable roster r.past.base.state) }
     ensures few { IfOk result (λ r. length r.past.entries ≤ journal_limit) }
     ensures ends { IfOk result (λ r. EndsAt (D.history disk.old) r.form r.end) }
+    ensures spelling { IfOk result (λ r. FindsSpelling (D.history disk.old) r.spelling) }
     ensures told { IfOk result (λ r. told_of r.executions ≡ option_map (λ replies. replies ++ executions_told r.past.base.state r.past.base.position r.past.entries) (told_of executions)) }
     ensures fault { IfErr result (FindsFault roster (D.history disk.old)) }
     ensures same { D.history disk.new ≡ D.history disk.old }
@@ -137,6 +140,7 @@ pub fn recover_noting<D: Disk>(
         past,
         form: entries.form(),
         end: entries.end(),
+        spelling: entries.spelling(),
         executions,
     })
 }

@@ -1,9 +1,19 @@
 //! A change, made and kept.
+//!
+//! ```text
+//!   Ready of decide            bytes               frame                on the disk
+//!        |                       |                   |                       |
+//!        +-- encode (memory) ----+-- Frame::of ------+-- append (fault) -----+-- commit, push: can't fail
+//!            all stays               (memory)            Unstored::Failed        the change is made
+//! ```
+//!
+//! Before `append` nothing has changed, and after it nothing can fail.
 ghost use Rattle.std.specs.Prelude.{◌≡◌, ◌≤◌, ◌<◌, ◌+◌, ◌^◌, [], ◌∷◌, length, true, is_some, All, IsTrue, IfOk, IfErr, OnOk, OnErr, Err};
 ghost use Rattle.network_laws.specs.Solutions.{IsSolution};
 ghost use Rattle.command_types.specs.Machine.{answer_to, state_after, changes};
 ghost use Rattle.command_types.specs.History.{longer, solutions_posted};
 ghost use Rattle.command_types.specs.Sizes.{record_size, frame_size, journal_limit};
+ghost use Rattle.command_types.specs.declared.spelling.Spelling.TheVariants.{Second};
 ghost use Rattle.command_types.specs.Spelling.{Spells, posted, most_solutions};
 ghost use Rattle.cycle_states.specs.Decision.{MayCommit};
 ghost use Rattle.cycle_states.specs.Machine.{IsYoung};
@@ -44,7 +54,7 @@ fn frame_of(alloc: Global, entry: &Entry) -> Result<Frame, AllocError>
     requires party { IsTrue (is_some entry.now.ask.by) }
     requires few { posted entry.now.ask.what ≤ most_solutions }
     requires small { record_size entry.now.ask < 2 ^ 32 }
-    ensures spells { IfOk result (λ frame. Spells frame entry.now) }
+    ensures spells { IfOk result (λ frame. Spells Second frame entry.now) }
     ensures size { IfOk result (λ frame. length frame ≡ record_size entry.now.ask) }
 {
     let bytes = encode(alloc, entry)?;

@@ -18,17 +18,17 @@ pub returns-in-Ok-clause-stored : goal.returns-in-Ok-clause-stored
 returns-in-Ok-clause-stored g c = λ stored.
     subst (λ (form : Form). AreStoredAs (g.D.Disk.history (disk_of c.append.new.self)) form (size_of c.append.new.self) (longer c.args.past.now (c.args.ready.entry ∷ []))) (sym c.append.ensures.form)
     (append_adds (g.D.Disk.history (disk_of c.args.journal.now)) (g.D.Disk.history (disk_of c.append.new.self)) (form_of c.args.journal.now) (size_of c.args.journal.now) (size_of c.append.new.self)
-    c.args.past.now c.in_ok-frame.frame c.args.ready.entry (rw c.entry.ensures at c.in_ok-frame.ensures.spells) c.append.ensures.any_moment c.in-Ok.ensures.done stored)
+    c.args.past.now c.in_ok-frame.frame c.args.ready.entry (rw c.entry.ensures at c.in_ok-frame.ensures.spells) c.requires.fits c.append.ensures.any_moment c.in-Ok.ensures.done stored)
 
 pub returns-in-Ok-clause-any_moment : goal.returns-in-Ok-clause-any_moment
 returns-in-Ok-clause-any_moment g c =
     append_leaves (g.D.Disk.history (disk_of c.args.journal.now)) (g.D.Disk.history (disk_of c.append.new.self)) (form_of c.args.journal.now) (size_of c.args.journal.now)
-    c.args.past.now c.in_ok-frame.frame c.args.ready.entry (rw c.entry.ensures at c.in_ok-frame.ensures.spells) c.append.ensures.any_moment
+    c.args.past.now c.in_ok-frame.frame c.args.ready.entry (rw c.entry.ensures at c.in_ok-frame.ensures.spells) c.requires.fits c.append.ensures.any_moment
 
 pub returns-clause-any_moment : goal.returns-clause-any_moment
 returns-clause-any_moment g c =
     append_leaves (g.D.Disk.history (disk_of c.args.journal.now)) (g.D.Disk.history (disk_of c.append.new.self)) (form_of c.args.journal.now) (size_of c.args.journal.now)
-    c.args.past.now c.in_ok-frame.frame c.args.ready.entry (rw c.entry.ensures at c.in_ok-frame.ensures.spells) c.append.ensures.any_moment
+    c.args.past.now c.in_ok-frame.frame c.args.ready.entry (rw c.entry.ensures at c.in_ok-frame.ensures.spells) c.requires.fits c.append.ensures.any_moment
 
 pub returns-in_err-frame-clause-yet : goal.returns-in_err-frame-clause-yet
 returns-in_err-frame-clause-yet g c = λ stored. yet_none (g.D.Disk.history (disk_of c.args.journal.now)) (λ image. StandsFor image c.args.past.now)

@@ -1,4 +1,4 @@
-use Rattle.std.proofs.Common.{◌≡◌, ◌∙◌, ◌+◌, [], ◌∷◌, true, false, Some, None, is_some, IsTrue, arith, ap, sym, subst, length-append}
+use Rattle.std.proofs.Common.{◌≡◌, ◌∙◌, ◌+◌, rules, [], ◌∷◌, true, false, Some, None, is_some, IsTrue, arith, ap, sym, subst, length-append}
 use Rattle.command_types.specs.declared.ask.Entry.{Entry}
 use Rattle.command_types.specs.declared.figures.JournalFigures.{JournalFigures}
 use Rattle.command_types.specs.declared.figures.State.{State}
@@ -34,9 +34,9 @@ returns-in-Ok-Told-clause-calls g c =
     house_of i.past i.opening (journal_of (size_of i.opened.value) (g.D.Disk.fault_count (disk_of i.opened.value)) (g.D.Disk.history i.taken.value) (g.D.Disk.history (disk_of i.opened.value)) i.first.value) i.kept
     (g.D.Disk.history (disk_of i.journal)) (g.D.Disk.fault_count (disk_of i.journal)) in
     let nothing = rw c.in-Ok-Told.field-0-is at c.in-Ok-Told.ensures.decides in
-    subst (λ (v : HouseView). Calls v here c.args.seat c.args.ask (record { at = c.length-at.result; answer = c.in-Ok-Told.answer })) c.self.view_is
-    (read_call i.machine.state (now_of i.journal) _ c.self.invariant c.args.seat c.args.ask c.length-at.result c.in-Ok-Told.answer c.self.invariant.replayed.same c.length-at.ensures.length
-    (nothing.told ∙ ap (λ (s : State). answer_to s c.args.ask) c.decide.ensures.state) nothing.no_change)
+    subst (λ (v : HouseView). Calls v here c.args.seat c.args.ask c.told.result) c.self.view_is
+    (read_call i.machine.state (now_of i.journal) _ c.self.invariant c.args.seat c.args.ask c.length-at.result c.in-Ok-Told.answer c.places.result c.told.result c.length-at.ensures.length
+    (nothing.told ∙ ap (λ (s : State). answer_to s c.args.ask) c.decide.ensures.state) nothing.no_change c.places.ensures (search rules))
 
 pub invariant_of-self-in-Ok-Told : goal.invariant_of-self-in-Ok-Told
 invariant_of-self-in-Ok-Told g c = rw c.decide.ensures.state c.self.invariant

@@ -1,6 +1,7 @@
 use Rattle.std.proofs.Common.{◌∙◌, Option, None, arith, ap, sym, subst}
 use Rattle.outside.specs.Disk.{History}
 use Rattle.journal_core.specs.Journal.{disk_of, size_of}
+use Rattle.recovery.specs.Reading.{FindsSpelling}
 use Rattle.house.specs.House.{HouseView, house_of, journal_of, now_of}
 use Rattle.house.specs.Opening.{IsOpened, LeavesOpened}
 use Rattle.house.specs.Storing.{ContentStandsFor}
@@ -10,6 +11,9 @@ use Rattle.house.proofs.house.House.new.Goals as goal
 
 pub start-requires-clause-stands : goal.start-requires-clause-stands
 start-requires-clause-stands g c = subst (λ (o : Option History). ContentStandsFor o c.in-Ok.read.past) (sym c.reopen.ensures.same) c.in-Ok.ensures.stands
+
+pub start-requires-clause-spelling : goal.start-requires-clause-spelling
+start-requires-clause-spelling g c = subst (λ (o : Option History). FindsSpelling o c.in-Ok.read.spelling) (sym c.reopen.ensures.same) c.in-Ok.ensures.spelling
 
 pub returns-in-Err-clause-any_moment_failed : goal.returns-in-Err-clause-any_moment_failed
 returns-in-Err-clause-any_moment_failed g c = λ h own stands.
