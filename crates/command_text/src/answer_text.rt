@@ -3,10 +3,10 @@
 ghost use Rattle.std.specs.Prelude.{◌≡◌, ◌+◌, ◌≤◌, ◌++◌, length, take, codes, decimal};
 ghost use Rattle.std.specs.Fmt.{signed_decimal};
 ghost use Rattle.command_types.specs.Roster.{Rows};
-ghost use Rattle.command_types.specs.Text.{answer_text, numbers_text};
+ghost use Rattle.command_types.specs.Text.{answer_text, numbers_text, proof_head_text};
 
-use crate::put::{put, put_large, put_numbers, put_signed, put_told};
-use command_types::Answer;
+use crate::put::{put, put_large, put_mode, put_numbers, put_signed, put_told};
+use command_types::{Answer, ProofHead};
 
 // What a member owes, what it is owed, and the difference.
 fn put_own(into: &mut [u8], at: usize, out: u64, owed: u64, net: i64) -> usize
@@ -79,6 +79,20 @@ fn put_three(into: &mut [u8], at: usize, word: &[u8], first: u64, second: u64, t
     put_told(into, end, b" ", third)
 }
 
+// Which proposal a member is told of, and in how many lines.
+fn put_proof(into: &mut [u8], at: usize, head: &ProofHead, count: u64) -> usize
+    requires { at + 114 ≤ length into.old }
+    ensures end { result ≤ at + 114 }
+    ensures text { take result into.new ≡ take at into.old ++ proof_head_text head.now count }
+{
+    let end = put_two(into, at, b" proof", head.cycle, head.version);
+    let end = put(into, end, b" ");
+    let end = put(into, end, &head.day.text());
+    let end = put(into, end, b" ");
+    let end = put_mode(into, end, head.mode);
+    put_numbers(into, end, head.begun, count)
+}
+
 // The figures of a product.
 fn put_market(
     into: &mut [u8],
@@ -149,6 +163,7 @@ pub(crate) fn put_answer(into: &mut [u8], at: usize, answer: &Answer) -> usize
             *version,
             rows.rows().len() as u64,
         ),
+        Answer::ProofRows { head, rows } => put_proof(into, at, head, rows.rows().len() as u64),
         Answer::Accepted {
             cycle,
             version,
@@ -164,6 +179,10 @@ pub(crate) fn put_answer(into: &mut [u8], at: usize, answer: &Answer) -> usize
         Answer::Declined { cycle, version } => put_two(into, at, b" declined", *cycle, *version),
         Answer::Cancelled { cycle } => put_told(into, at, b" cancelled ", *cycle),
         Answer::Bye => put(into, at, b" bye"),
+        Answer::NoNext => put(into, at, b" none"),
+        Answer::EntryBytes { position, bytes } => {
+            put_two(into, at, b" entry", *position, bytes.rows().len() as u64)
+        }
         Answer::Problems(_) | Answer::No(_) => at,
     }
 }

@@ -206,12 +206,28 @@ pub(crate) fn read_propose(words: &mut Words<'_>) -> Result<Line, BadLine>
     ended(Line::Propose { cycle, mode }, words)
 }
 
+/// `POSITION`, of `NEXT`
+pub(crate) fn read_next(words: &mut Words<'_>) -> Result<Line, BadLine>
+    ensures { result ≡ read_of (numbered_line Line.Next words.old) }
+{
+    let position = next_number(words)?;
+    ended(Line::Next { position }, words)
+}
+
 /// `CYCLE`, of `PLAN`
 pub(crate) fn read_plan(words: &mut Words<'_>) -> Result<Line, BadLine>
     ensures { result ≡ read_of (numbered_line Line.Plan words.old) }
 {
     let cycle = next_number(words)?;
     ended(Line::Plan { cycle }, words)
+}
+
+/// `CYCLE`, of `PROOF`
+pub(crate) fn read_proof(words: &mut Words<'_>) -> Result<Line, BadLine>
+    ensures { result ≡ read_of (numbered_line Line.Proof words.old) }
+{
+    let cycle = next_number(words)?;
+    ended(Line::Proof { cycle }, words)
 }
 
 /// `CYCLE VERSION`, of `ACCEPT`

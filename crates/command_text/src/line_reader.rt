@@ -8,8 +8,8 @@ ghost use Rattle.units_core.specs.declared.limits.TheConstants.{MOST_LINE};
 use crate::bad_line::BadLine;
 use crate::commands::{
     read_accept, read_affirm, read_begin, read_cancel, read_decline, read_end, read_free,
-    read_freeze, read_hello, read_hold, read_limits, read_nets, read_plan, read_post,
-    read_potential, read_propose, read_row, read_tolerance, read_trade,
+    read_freeze, read_hello, read_hold, read_limits, read_nets, read_next, read_plan, read_post,
+    read_potential, read_proof, read_propose, read_row, read_tolerance, read_trade,
 };
 use crate::fields::ended;
 use crate::words::Words;
@@ -67,8 +67,14 @@ fn read_command(verb: &[u8], words: &mut Words<'_>) -> Result<Line, BadLine>
     if verb == b"PROPOSE".as_slice() {
         return read_propose(words);
     }
+    if verb == b"NEXT".as_slice() {
+        return read_next(words);
+    }
     if verb == b"PLAN".as_slice() {
         return read_plan(words);
+    }
+    if verb == b"PROOF".as_slice() {
+        return read_proof(words);
     }
     if verb == b"ACCEPT".as_slice() {
         return read_accept(words);

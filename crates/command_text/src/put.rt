@@ -3,9 +3,9 @@
 
 ghost use Rattle.std.specs.Prelude.{◌≡◌, ◌+◌, ◌<◌, ◌≤◌, ◌++◌, length, take, decimal};
 ghost use Rattle.std.specs.Fmt.{signed_decimal};
-ghost use Rattle.command_types.specs.Text.{member_name, product_name, state_text, pair_text, numbers_text};
+ghost use Rattle.command_types.specs.Text.{member_name, product_name, state_text, mode_text, pair_text, numbers_text};
 
-use command_types::{Roster, TradeState};
+use command_types::{Mode, Roster, TradeState};
 use itoa::Buffer;
 
 /// Writes bytes at a place of the buffer, and says where they end.
@@ -118,5 +118,18 @@ pub fn put_state(into: &mut [u8], at: usize, state: TradeState) -> usize
         TradeState::Alleged => put(into, at, b"alleged"),
         TradeState::Live => put(into, at, b"live"),
         TradeState::Ended => put(into, at, b"ended"),
+    }
+}
+
+/// Writes the word of a mode, of at most 12 bytes.
+pub fn put_mode(into: &mut [u8], at: usize, mode: Mode) -> usize
+    requires { at + 12 ≤ length into.old }
+    ensures end { result ≤ at + 12 }
+    ensures text { take result into.new ≡ take at into.old ++ mode_text mode }
+{
+    match mode {
+        Mode::Conservative => put(into, at, b"conservative"),
+        Mode::Hybrid => put(into, at, b"hybrid"),
+        Mode::Free => put(into, at, b"free"),
     }
 }

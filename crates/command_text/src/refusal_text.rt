@@ -111,6 +111,8 @@ pub(crate) fn put_refusal(into: &mut [u8], at: usize, roster: &Roster, refusal: 
         Refusal::GrossOver => put(into, at, b"9 gross-over"),
         Refusal::TradesFull => put(into, at, b"10 trades-full"),
         Refusal::DraftFull => put(into, at, b"29 draft-full"),
+        Refusal::Gone { from } => put_told(into, at, b"31 gone ", from),
+        Refusal::Ahead { end } => put_told(into, at, b"32 ahead ", end),
         Refusal::JournalFull { size } => put_told(into, at, b"25 journal-full ", size),
         Refusal::Stopped { at: position } => put_told(into, at, b"26 stopped ", position),
         Refusal::Memory => put(into, at, b"28 memory"),

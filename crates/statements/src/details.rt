@@ -3,7 +3,7 @@
 ghost use Rattle.std.specs.Prelude.{◌≡◌, ◌<◌, slice_get, length, Some};
 ghost use Rattle.statements.specs.Details.{details_of};
 
-use command_types::{Answer, LimitLine, PlanRow, TradeRow};
+use command_types::{Answer, LimitLine, Moment, PlanRow, ProofRow, TradeRow};
 use units_core::MemberNo;
 
 /// An execution: the length of the history then, its cycle and version, and how many trades its plan ended, cut and made.
@@ -25,9 +25,13 @@ pub enum DetailRow {
     Limit(LimitLine),
     /// A step of a plan.
     Plan(PlanRow),
+    /// What a member tests its own part of a proposal by.
+    Proof(ProofRow),
     /// A member, and how many trades it has a side in.
     Member { member: MemberNo, count: u64 },
     Execution(ExecutionLine),
+    /// When the execution in front of it was asked.
+    Asked(Moment),
 }
 
 /// How many rows an answer tells. Most answers tell none.
@@ -38,6 +42,7 @@ pub fn detail_count(answer: &Answer) -> usize
         Answer::Statement { rows } => rows.rows().len(),
         Answer::LimitRows { rows } => rows.rows().len(),
         Answer::PlanRows { rows, .. } => rows.rows().len(),
+        Answer::ProofRows { rows, .. } => rows.rows().len(),
         _ => 0,
     }
 }
@@ -51,6 +56,7 @@ pub fn detail_row(answer: &Answer, index: usize) -> DetailRow
         Answer::Statement { rows } => DetailRow::Trade(rows.rows()[index]),
         Answer::LimitRows { rows } => DetailRow::Limit(rows.rows()[index]),
         Answer::PlanRows { rows, .. } => DetailRow::Plan(rows.rows()[index]),
+        Answer::ProofRows { rows, .. } => DetailRow::Proof(rows.rows()[index]),
         _ => unreachable!(),
     }
 }

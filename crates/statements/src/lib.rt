@@ -3,6 +3,7 @@
 
 mod details;
 mod plan_text;
+mod proof_text;
 mod replay_text;
 mod row_text;
 mod trade_text;

@@ -10,7 +10,7 @@ use command_types::{LimitLine, PlanRow, Roster};
 use units_core::{Amount, MemberNo, ProductNo};
 
 // The most that a pair may come to.
-fn put_upper(into: &mut [u8], at: usize, upper: Option<u64>) -> usize
+pub(crate) fn put_upper(into: &mut [u8], at: usize, upper: Option<u64>) -> usize
     requires { at + 20 ≤ length into.old }
     ensures end { result ≤ at + 20 }
     ensures text { take result into.new ≡ take at into.old ++ upper_text upper }
