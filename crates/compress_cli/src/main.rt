@@ -3,7 +3,9 @@
 
 use compress_server::run;
 use doors::SocketListener;
-use outside::{Access, FileDisk, OpenGate, Sink, StreamSink, StreamSource, SystemFiles, write_all};
+use outside::{
+    Access, FileDisk, OpenGate, Sink, StreamSink, StreamSource, SystemClock, SystemFiles, write_all,
+};
 use std::alloc::AllocGlobal;
 use std::env::Env;
 use std::fs::File;
@@ -75,6 +77,7 @@ fn main(rt: HostRuntime) -> ExitCode {
         disk,
         &mut SocketListener::new(&rt),
         &OpenGate,
+        &SystemClock::new(&rt),
     );
     ExitCode::from(status)
 }

@@ -44,11 +44,11 @@ no_stop false stopped is runs = refl
 -- ---- a script
 
 module _ (v w : HouseView) (runs : is_stopped w ≡ false) (opened flow : Option Flow) (begun taken : Option (List ℕ)) where
-  replied_answered : (lines : List (List ℕ)) (r : IsReplied v w begun taken lines) → AreAnswered (figures_of v) w.history 0 nobody lines r.text r.session.to.over
-  replied_answered lines r =
-      talk_answered (figures_of v) w.history 0 (at_first v) lines r.text r.session.made r.session.to refl (no_stop r.session.to.stopped (is_stopped w) r.stops runs) r.session.talk
+  replied_answered : {clock : ℕ → Bool} (lines : List (List ℕ)) (r : IsReplied clock v w begun taken lines) → AreAnswered (figures_of v) w.history 0 nobody lines r.text r.session.to.over
+  replied_answered {clock} lines r =
+      talk_answered (figures_of v) w.history 0 clock (at_first v) lines r.text r.session.made r.session.to refl (no_stop r.session.to.stopped (is_stopped w) r.stops runs) r.session.talk
 
-  whole_answered : IsWhole v w opened flow begun taken → IsInputAnswered (figures_of v) w.history 0 opened flow begun taken false
+  whole_answered : {clock : ℕ → Bool} → IsWhole clock v w opened flow begun taken → IsInputAnswered (figures_of v) w.history 0 opened flow begun taken false
   whole_answered (bytes, gives, inl (at_end, within, r)) = record {
     bytes = bytes;
     gives = gives;
@@ -74,7 +74,7 @@ module _ (v w : HouseView) (runs : is_stopped w ≡ false) (opened flow : Option
         took = l.replied.took;
       }
 
-  limit_answered : IsAtLimit v w opened flow begun taken → IsInputAnswered (figures_of v) w.history 0 opened flow begun taken true
+  limit_answered : {clock : ℕ → Bool} → IsAtLimit clock v w opened flow begun taken → IsInputAnswered (figures_of v) w.history 0 opened flow begun taken true
   limit_answered (bytes, gives, size, (r, open_yet)) = record {
     bytes = bytes;
     gives = gives;
@@ -104,25 +104,25 @@ abbrev OverIt : Rows → World → World → Bool → Type 0
 OverIt rows before after limit = OverHouse rows before.seen.disk after.seen.disk (λ v w.
     IsInputAnswered (figures_of v) w.history 0 before.input.flow after.input.flow before.seen.output.taken after.seen.output.taken limit)
 
-journal_answered : (rows : Rows) (before after : World) (files input output : Type 0) (end : End) (status : ℕ) → (input → ⊥) → (output → ⊥) → (Rose before.seen.disk.faults after.seen.disk.faults → ⊥) →
-    JournalRuns rows before.input.flow after.input.flow before.seen.output.taken after.seen.output.taken before.seen.disk after.seen.disk end →
+journal_answered : (clock : ℕ → Bool) (rows : Rows) (before after : World) (files input output : Type 0) (end : End) (status : ℕ) → (input → ⊥) → (output → ⊥) → (Rose before.seen.disk.faults after.seen.disk.faults → ⊥) →
+    JournalRuns clock rows before.input.flow after.input.flow before.seen.output.taken after.seen.output.taken before.seen.disk after.seen.disk end →
     IsCounted files input output end → TellsEnd before.errors.taken after.errors.taken before.errors.faults after.errors.faults end status →
     ((status ≡ 0) × OverIt rows before after false) ⊎ (((status ≡ 8) × OverIt rows before after true) ⊎ ((status ≡ 7) ⊎ (status ≡ 9)))
-journal_answered rows before after files input output Done status no_input no_output no_disk (v, w, housed, (runs, whole)) counted told =
+journal_answered clock rows before after files input output Done status no_input no_output no_disk (v, w, housed, (runs, whole)) counted told =
     inl (told.0, (v, w, housed, whole_answered v w runs before.input.flow after.input.flow before.seen.output.taken after.seen.output.taken whole))
-journal_answered rows before after files input output No status no_input no_output no_disk r counted told = absurd r
-journal_answered rows before after files input output BadWords status no_input no_output no_disk r counted told = absurd r
-journal_answered rows before after files input output (Unloaded fault) status no_input no_output no_disk r counted told = absurd r
-journal_answered rows before after files input output (Damaged place) status no_input no_output no_disk r counted told = inr (inr (damaged_status before.errors.taken after.errors.taken before.errors.faults after.errors.faults place status told))
-journal_answered rows before after files input output DiskFault status no_input no_output no_disk (same, kept, unopened, rose) counted told = absurd (no_disk rose)
-journal_answered rows before after files input output Stopped status no_input no_output no_disk (over, rose) counted told = absurd (no_disk rose)
-journal_answered rows before after files input output ListenerFault status no_input no_output no_disk r counted told = absurd r
-journal_answered rows before after files input output SourceFault status no_input no_output no_disk r counted told = absurd (no_input counted)
-journal_answered rows before after files input output SinkFault status no_input no_output no_disk r counted told = absurd (no_output counted)
-journal_answered rows before after files input output Limit status no_input no_output no_disk (v, w, housed, limit) counted told =
+journal_answered clock rows before after files input output No status no_input no_output no_disk r counted told = absurd r
+journal_answered clock rows before after files input output BadWords status no_input no_output no_disk r counted told = absurd r
+journal_answered clock rows before after files input output (Unloaded fault) status no_input no_output no_disk r counted told = absurd r
+journal_answered clock rows before after files input output (Damaged place) status no_input no_output no_disk r counted told = inr (inr (damaged_status before.errors.taken after.errors.taken before.errors.faults after.errors.faults place status told))
+journal_answered clock rows before after files input output DiskFault status no_input no_output no_disk (same, kept, unopened, rose) counted told = absurd (no_disk rose)
+journal_answered clock rows before after files input output Stopped status no_input no_output no_disk (over, rose) counted told = absurd (no_disk rose)
+journal_answered clock rows before after files input output ListenerFault status no_input no_output no_disk r counted told = absurd r
+journal_answered clock rows before after files input output SourceFault status no_input no_output no_disk r counted told = absurd (no_input counted)
+journal_answered clock rows before after files input output SinkFault status no_input no_output no_disk r counted told = absurd (no_output counted)
+journal_answered clock rows before after files input output Limit status no_input no_output no_disk (v, w, housed, limit) counted told =
     let runs : is_stopped w ≡ false = held_false (is_stopped w) (λ stops. no_disk (housed.stopped stops)) in
     inr (inl (told.0, (v, w, housed, limit_answered v w runs before.input.flow after.input.flow before.seen.output.taken after.seen.output.taken limit)))
-journal_answered rows before after files input output Memory status no_input no_output no_disk r counted told = inr (inr (inr told.0))
+journal_answered clock rows before after files input output Memory status no_input no_output no_disk r counted told = inr (inr (inr told.0))
 
 with_roster : (before after : World) (roster : List ℕ) (status : ℕ) (faulty : Type 0) (rows : Rows) → SaysRoster before.files.folder roster rows → IsRoster rows →
     ((status ≡ 0) × OverIt rows before after false) ⊎ (((status ≡ 8) × OverIt rows before after true) ⊎ ((status ≡ 7) ⊎ (status ≡ 9))) →
@@ -131,32 +131,32 @@ with_roster before after roster status faulty rows says are (inl (done, over)) =
 with_roster before after roster status faulty rows says are (inr (inl (limit, over))) = inr (inl (limit, (rows, says, are, over)))
 with_roster before after roster status faulty rows says are (inr (inr other)) = inr (inr (inr other))
 
-script_answered : (roster journal : List ℕ) (workers : ℕ) (before after : World) (status : ℕ) (end : End) (files input output : Type 0) →
-    ScriptRuns before.files.folder roster before.input.flow after.input.flow before.seen.output.taken after.seen.output.taken before.seen.disk after.seen.disk end →
+script_answered : (clock : ℕ → Bool) (roster journal : List ℕ) (workers : ℕ) (before after : World) (status : ℕ) (end : End) (files input output : Type 0) →
+    ScriptRuns clock before.files.folder roster before.input.flow after.input.flow before.seen.output.taken after.seen.output.taken before.seen.disk after.seen.disk end →
     IsCounted files input output end → TellsEnd before.errors.taken after.errors.taken before.errors.faults after.errors.faults end status →
     (files → ⊥) → (input → ⊥) → (output → ⊥) → (Rose before.seen.disk.faults after.seen.disk.faults → ⊥) →
     ((status ≡ 0) × AnswersInput roster before after false) ⊎ (((status ≡ 8) × AnswersInput roster before after true)
     ⊎ (((status ≡ 3) × HasFault before.files.folder (Form.Script roster journal workers)) ⊎ ((status ≡ 7) ⊎ (status ≡ 9))))
-script_answered roster journal workers before after status end files input output (inl (fault, e, unread, unwritten, kept, is)) counted told no_files no_input no_output no_disk =
+script_answered clock roster journal workers before after status end files input output (inl (fault, e, unread, unwritten, kept, is)) counted told no_files no_input no_output no_disk =
     let told_so = subst (λ x. TellsEnd before.errors.taken after.errors.taken before.errors.faults after.errors.faults x status) e told in
     inr (inr (unloaded_status before.files.folder (Form.Script roster journal workers) ReadBeforeRoster files input output before.errors.taken after.errors.taken before.errors.faults after.errors.faults fault status is (subst (λ x. IsCounted files input output x) e counted) told_so no_files))
-script_answered roster journal workers before after status end files input output (inr (rows, says, are, runs)) counted told no_files no_input no_output no_disk =
-    with_roster before after roster status _ rows says are (journal_answered rows before after files input output end status no_input no_output no_disk runs counted told)
+script_answered clock roster journal workers before after status end files input output (inr (rows, says, are, runs)) counted told no_files no_input no_output no_disk =
+    with_roster before after roster status _ rows says are (journal_answered clock rows before after files input output end status no_input no_output no_disk runs counted told)
 
 pub scripts_are_answered : {D : Type 0} (visits : D → Option Visits) → ScriptsAreAnswered visits
-scripts_are_answered visits roster journal workers before after status ends held =
-    script_answered roster journal workers before after status ends.end _ _ _ ends.runs.1 ends.counted ends.tells held.files_held held.input_held held.output_held held.disk_held
+scripts_are_answered visits clock roster journal workers before after status ends held =
+    script_answered clock roster journal workers before after status ends.end _ _ _ ends.runs.1 ends.counted ends.tells held.files_held held.input_held held.output_held held.disk_held
 
 -- ---- a service
 
 module _ (most : ℕ) (lock : LockId) (v w : HouseView) (runs : is_stopped w ≡ false) where
-  seat_answered : (number : ℕ) (door : Option Visits) (end : SeatEnd) → IsSeatAt most lock v w number door end → IsSeatAnswered (figures_of v) w.history number door end
-  seat_answered number None end is = tt
-  seat_answered number (Some door) end is = connections_are_answered (final_of w) (seat_at lock v number) (end_of v.history) false door.back end is.served runs
+  seat_answered : (clock : ℕ → Bool) (number : ℕ) (door : Option Visits) (end : SeatEnd) → IsSeatAt clock most lock v w number door end → IsSeatAnswered (figures_of v) w.history number door end
+  seat_answered clock number None end is = tt
+  seat_answered clock number (Some door) end is = connections_are_answered clock (final_of w) (seat_at lock v number) (end_of v.history) false door.back end is.served runs
 
-  seats_answered : {D : Type 0} (visits : D → Option Visits) (number : ℕ) (seats : List (SeatRun D)) → AreSeats visits most lock v w number seats → AreSeatsAnswered visits (figures_of v) w.history number seats
-  seats_answered visits number [] are = tt
-  seats_answered visits number (seat ∷ seats) are = (seat_answered number (visits seat.door) seat.end are.0, seats_answered visits (number + 1) seats are.1)
+  seats_answered : {D : Type 0} (clock : ℕ → Bool) (visits : D → Option Visits) (number : ℕ) (seats : List (SeatRun D)) → AreSeats clock visits most lock v w number seats → AreSeatsAnswered visits (figures_of v) w.history number seats
+  seats_answered clock visits number [] are = tt
+  seats_answered clock visits number (seat ∷ seats) are = (seat_answered clock number (visits seat.door) seat.end are.0, seats_answered clock visits (number + 1) seats are.1)
 
 -- why a house was not opened, where the disk did not fail
 opening_status : (rows : Rows) (disk left : DiskState) (begun taken : Option (List ℕ)) (errors then_errors status : ℕ) (end : End) → OpeningFails rows disk left end → TellsEnd begun taken errors then_errors end status → (Rose disk.faults left.faults → ⊥) → (status ≡ 7) ⊎ (status ≡ 9)
@@ -178,7 +178,7 @@ unbegun_status : (rose : Type 0) (begun taken : Option (List ℕ)) (errors then_
 unbegun_status rose begun taken errors then_errors status end (inl e) told held = let so = subst (λ x. TellsEnd begun taken errors then_errors x status) e told in so.0
 unbegun_status rose begun taken errors then_errors status end (inr (e, rises)) told held = absurd (held rises)
 
-module _ {D : Type 0} (visits : D → Option Visits) (roster journal address : List ℕ) (numbers : ServiceNumbers) (before after : World) (status : ℕ) where
+module _ {D : Type 0} (clock : ℕ → Bool) (visits : D → Option Visits) (roster journal address : List ℕ) (numbers : ServiceNumbers) (before after : World) (status : ℕ) where
   abbrev plan : ServicePlan
   plan = record { address = address; seats = numbers.seats; connections = numbers.connections }
 
@@ -189,9 +189,9 @@ module _ {D : Type 0} (visits : D → Option Visits) (roster journal address : L
   Answers =
       ((((status ≡ 3) × HasFault before.files.folder form) ⊎ ((status ≡ 7) ⊎ (status ≡ 9))) × IsUnasked visits address before.seen.listener.doors after.seen.listener.doors)
       ⊎ OverRoster before.files.folder roster (λ rows. OverHouse rows before.seen.disk after.seen.disk (λ v w.
-      AnswersDoors visits plan v w before.seen.listener.doors after.seen.listener.doors))
+      AnswersDoors visits clock plan v w before.seen.listener.doors after.seen.listener.doors))
 
-  service_answered : (end : End) (files input output : Type 0) → ServeRuns visits before.files.folder roster plan before.seen after.seen end →
+  service_answered : (end : End) (files input output : Type 0) → ServeRuns clock visits before.files.folder roster plan before.seen after.seen end →
       IsCounted files input output end → TellsEnd before.errors.taken after.errors.taken before.errors.faults after.errors.faults end status →
       (files → ⊥) → (Rose before.seen.disk.faults after.seen.disk.faults → ⊥) → (Rose before.seen.listener.faults after.seen.listener.faults → ⊥) → Answers
   service_answered end files input output (inl (fault, e, kept, is)) counted told no_files no_disk no_listener =
@@ -217,11 +217,11 @@ module _ {D : Type 0} (visits : D → Option Visits) (roster journal address : L
             served = s.served;
             returned = s.returned;
             given = s.given;
-            answered = seats_answered numbers.connections s.served.lock v w runs visits 1 s.seats s.served.each;
+            answered = seats_answered numbers.connections s.served.lock v w runs clock visits 1 s.seats s.served.each;
           },
         ),
       )
 
 pub services_are_answered : {D : Type 0} (visits : D → Option Visits) → ServicesAreAnswered visits
-services_are_answered visits roster journal address numbers before after status ends held =
-    service_answered visits roster journal address numbers before after status ends.end _ _ _ ends.runs.1 ends.counted ends.tells held.files_held held.disk_held held.listener_held
+services_are_answered visits clock roster journal address numbers before after status ends held =
+    service_answered clock visits roster journal address numbers before after status ends.end _ _ _ ends.runs.1 ends.counted ends.tells held.files_held held.disk_held held.listener_held

@@ -1,5 +1,5 @@
 -- What is answered where nothing outside fails: first the ends that are left, and then their statuses.
-use Rattle.std.proofs.Common.{◌≡◌, ◌⊎◌, ℕ, Bool, true, false, List, Option, Some, refl, sym, subst, inl, inr}
+use Rattle.std.proofs.Common.{◌≡◌, ◌⊎◌, ℕ, Bool, true, false, List, Option, Some, refl, sym, subst, inl, inr, ◌∙◌}
 use Rattle.doors.specs.Visits.{Visits}
 use Rattle.outside.specs.Faults.{Rose}
 use Rattle.outside.specs.Files.{Folder}
@@ -17,8 +17,8 @@ use Rattle.compress_server.specs.Files.{ReadBeforeRoster, ReadBeforeMarket, Read
 use Rattle.compress_server.specs.Ending.{IsFault, JournalRuns, CheckRuns, SolveRuns, GenRuns, Runs, IsCounted}
 use Rattle.compress_server.specs.Housed.{DiskState, OpeningFails}
 use Rattle.compress_server.specs.Replay.{ReplayEnds}
-use Rattle.compress_server.specs.Seen.{OutputState, World}
-use Rattle.compress_server.specs.Serve.{HouseServes, IsWritten, history_line, service_end}
+use Rattle.compress_server.specs.Seen.{OutputState, ListenerState, World}
+use Rattle.compress_server.specs.Serve.{ServicePlan, HouseServes, IsWritten, history_line, service_end}
 use Rattle.compress_server.specs.Telling.{TellsEnd}
 use Rattle.compress_server.specs.Words.{Market, Form, ServiceNumbers}
 
@@ -76,21 +76,21 @@ unloaded_answered folder form Q files input output end fault e is counted held =
     subst A (sym e) (load_answered folder form Q files input output fault is (subst C e counted) held)
 
 -- a script over its disk
-journal_answered : (folder : Option Folder) (roster journal : List ℕ) (workers : ℕ) (rows : Rows) (opened flow : Option Flow) (begun taken : Option (List ℕ)) (disk left : DiskState) (files input output : Type 0) (end : End) →
-    JournalRuns rows opened flow begun taken disk left end → IsCounted files input output end → (input → ⊥) → (output → ⊥) → (Rose disk.faults left.faults → ⊥) → IsAnswer folder (Form.Script roster journal workers) end
+journal_answered : (clock : ℕ → Bool) (folder : Option Folder) (roster journal : List ℕ) (workers : ℕ) (rows : Rows) (opened flow : Option Flow) (begun taken : Option (List ℕ)) (disk left : DiskState) (files input output : Type 0) (end : End) →
+    JournalRuns clock rows opened flow begun taken disk left end → IsCounted files input output end → (input → ⊥) → (output → ⊥) → (Rose disk.faults left.faults → ⊥) → IsAnswer folder (Form.Script roster journal workers) end
 unfolding IsAnswer
-journal_answered folder roster journal workers rows opened flow begun taken disk left files input output Done r counted no_input no_output no_disk = tt
-journal_answered folder roster journal workers rows opened flow begun taken disk left files input output No r counted no_input no_output no_disk = absurd r
-journal_answered folder roster journal workers rows opened flow begun taken disk left files input output BadWords r counted no_input no_output no_disk = absurd r
-journal_answered folder roster journal workers rows opened flow begun taken disk left files input output (Unloaded fault) r counted no_input no_output no_disk = absurd r
-journal_answered folder roster journal workers rows opened flow begun taken disk left files input output (Damaged place) r counted no_input no_output no_disk = tt
-journal_answered folder roster journal workers rows opened flow begun taken disk left files input output DiskFault (same, kept, unopened, rose) counted no_input no_output no_disk = absurd (no_disk rose)
-journal_answered folder roster journal workers rows opened flow begun taken disk left files input output Stopped (over, rose) counted no_input no_output no_disk = absurd (no_disk rose)
-journal_answered folder roster journal workers rows opened flow begun taken disk left files input output ListenerFault r counted no_input no_output no_disk = absurd r
-journal_answered folder roster journal workers rows opened flow begun taken disk left files input output SourceFault r counted no_input no_output no_disk = absurd (no_input counted)
-journal_answered folder roster journal workers rows opened flow begun taken disk left files input output SinkFault r counted no_input no_output no_disk = absurd (no_output counted)
-journal_answered folder roster journal workers rows opened flow begun taken disk left files input output Limit r counted no_input no_output no_disk = tt
-journal_answered folder roster journal workers rows opened flow begun taken disk left files input output Memory r counted no_input no_output no_disk = tt
+journal_answered clock folder roster journal workers rows opened flow begun taken disk left files input output Done r counted no_input no_output no_disk = tt
+journal_answered clock folder roster journal workers rows opened flow begun taken disk left files input output No r counted no_input no_output no_disk = absurd r
+journal_answered clock folder roster journal workers rows opened flow begun taken disk left files input output BadWords r counted no_input no_output no_disk = absurd r
+journal_answered clock folder roster journal workers rows opened flow begun taken disk left files input output (Unloaded fault) r counted no_input no_output no_disk = absurd r
+journal_answered clock folder roster journal workers rows opened flow begun taken disk left files input output (Damaged place) r counted no_input no_output no_disk = tt
+journal_answered clock folder roster journal workers rows opened flow begun taken disk left files input output DiskFault (same, kept, unopened, rose) counted no_input no_output no_disk = absurd (no_disk rose)
+journal_answered clock folder roster journal workers rows opened flow begun taken disk left files input output Stopped (over, rose) counted no_input no_output no_disk = absurd (no_disk rose)
+journal_answered clock folder roster journal workers rows opened flow begun taken disk left files input output ListenerFault r counted no_input no_output no_disk = absurd r
+journal_answered clock folder roster journal workers rows opened flow begun taken disk left files input output SourceFault r counted no_input no_output no_disk = absurd (no_input counted)
+journal_answered clock folder roster journal workers rows opened flow begun taken disk left files input output SinkFault r counted no_input no_output no_disk = absurd (no_output counted)
+journal_answered clock folder roster journal workers rows opened flow begun taken disk left files input output Limit r counted no_input no_output no_disk = tt
+journal_answered clock folder roster journal workers rows opened flow begun taken disk left files input output Memory r counted no_input no_output no_disk = tt
 
 -- a check
 check_answered : (folder : Option Folder) (market : Market) (proposal : List ℕ) (begun taken : Option (List ℕ)) (files input output : Type 0) (end : End) →
@@ -180,6 +180,25 @@ count_rose : (before after : OutputState) (line : List ℕ) (written : Bool) →
 count_rose before after line true w e = absurd (cc e)
 count_rose before after line false w e = w.1
 
+-- a service ends with a fault of the output only where the line was not written whole
+line_cut : (no_memory door_fault stopped written : Bool) → service_end no_memory door_fault stopped written ≡ SinkFault → written ≡ false
+line_cut no_memory door_fault stopped false e = refl
+line_cut true door_fault stopped true e = cc
+line_cut false true stopped true e = cc
+line_cut false false true true e = cc
+line_cut false false false true e = cc
+
+no_sink : (rose : Type 0) (end : End) → (end ≡ Memory) ⊎ ((end ≡ ListenerFault) × rose) → end ≡ SinkFault → ⊥
+no_sink rose end (inl memory) e = cc
+no_sink rose end (inr (listener, rises)) e = cc
+
+-- and then the output's count rose
+pub sink_rose : {D : Type 0} (clock : ℕ → Bool) (visits : D → Option Visits) (plan : ServicePlan) (v w : HouseView) (output output' : OutputState) (listener listener' : ListenerState) (end : End) →
+    HouseServes clock visits plan v w output output' listener listener' end → end ≡ SinkFault → Rose output.faults output'.faults
+sink_rose clock visits plan v w output output' listener listener' end (inl u) e = absurd (no_sink (Rose listener.faults listener'.faults) end u.why e)
+sink_rose clock visits plan v w output output' listener listener' end (inr s) e =
+    count_rose output output' (history_line (end_of w.history)) s.written s.wrote (line_cut _ _ (is_stopped w) s.written (sym s.told ∙ e))
+
 -- a service whose seats served
 seats_answered : (folder : Option Folder) (roster journal address : List ℕ) (numbers : ServiceNumbers) (no_memory door_fault stopped written : Bool) →
     (stopped ≡ true → ⊥) → (written ≡ false → ⊥) → (door_fault ≡ true → ⊥) → IsAnswer folder (Form.Serve roster journal address numbers) (service_end no_memory door_fault stopped written)
@@ -198,43 +217,43 @@ unbegun_answered folder roster journal address numbers before after end (inl e) 
 unbegun_answered folder roster journal address numbers before after end (inr (e, rose)) held = absurd (held rose)
 
 -- a service over its house
-served_answered : {D : Type 0} (visits : D → Option Visits) (roster journal address : List ℕ) (numbers : ServiceNumbers) (before after : World) (v w : HouseView) (end : End) →
+served_answered : {D : Type 0} (clock : ℕ → Bool) (visits : D → Option Visits) (roster journal address : List ℕ) (numbers : ServiceNumbers) (before after : World) (v w : HouseView) (end : End) →
     (is_stopped w ≡ true → Rose before.seen.disk.faults after.seen.disk.faults) →
-    HouseServes visits (record { address = address; seats = numbers.seats; connections = numbers.connections }) v w before.seen.output after.seen.output before.seen.listener after.seen.listener end →
+    HouseServes clock visits (record { address = address; seats = numbers.seats; connections = numbers.connections }) v w before.seen.output after.seen.output before.seen.listener after.seen.listener end →
     IsUndisturbed before after → IsAnswer before.files.folder (Form.Serve roster journal address numbers) end
-served_answered visits roster journal address numbers before after v w end stops (inl u) held =
+served_answered clock visits roster journal address numbers before after v w end stops (inl u) held =
     unbegun_answered before.files.folder roster journal address numbers before.seen.listener.faults after.seen.listener.faults end u.why held.listener_held
-served_answered visits roster journal address numbers before after v w end stops (inr s) held =
+served_answered clock visits roster journal address numbers before after v w end stops (inr s) held =
     let A : End → Type 0 = λ x. IsAnswer before.files.folder (Form.Serve roster journal address numbers) x in
     subst A (sym s.told) (seats_answered before.files.folder roster journal address numbers _ _ (is_stopped w) s.written
     (λ e. held.disk_held (stops e)) (λ e. held.output_held (count_rose before.seen.output after.seen.output (history_line (end_of w.history)) s.written s.wrote e)) (λ e. held.listener_held (s.counted e)))
 
 -- the end of any form
-end_answered : {D : Type 0} (visits : D → Option Visits) (form : Form) (before after : World) (end : End) →
-    Runs visits before.files.folder (Some form) before.input.flow after.input.flow before.seen after.seen end →
+end_answered : {D : Type 0} (clock : ℕ → Bool) (visits : D → Option Visits) (form : Form) (before after : World) (end : End) →
+    Runs clock visits before.files.folder (Some form) before.input.flow after.input.flow before.seen after.seen end →
     IsCounted (Rose before.files.faults after.files.faults) (Rose before.input.faults after.input.faults) (Rose before.seen.output.faults after.seen.output.faults) end →
     IsUndisturbed before after → IsAnswer before.files.folder form end
-end_answered visits (Form.Script roster journal workers) before after end (same, inl (fault, e, unread, unwritten, kept, is)) counted held =
+end_answered clock visits (Form.Script roster journal workers) before after end (same, inl (fault, e, unread, unwritten, kept, is)) counted held =
     unloaded_answered before.files.folder (Form.Script roster journal workers) ReadBeforeRoster _ _ _ end fault e is counted held.files_held
-end_answered visits (Form.Script roster journal workers) before after end (same, inr (rows, says, are, runs)) counted held =
-    journal_answered before.files.folder roster journal workers rows before.input.flow after.input.flow _ _ _ _ _ _ _ end runs counted held.input_held held.output_held held.disk_held
-end_answered visits (Form.Serve roster journal address numbers) before after end (same, inl (fault, e, kept, is)) counted held =
+end_answered clock visits (Form.Script roster journal workers) before after end (same, inr (rows, says, are, runs)) counted held =
+    journal_answered clock before.files.folder roster journal workers rows before.input.flow after.input.flow _ _ _ _ _ _ _ end runs counted held.input_held held.output_held held.disk_held
+end_answered clock visits (Form.Serve roster journal address numbers) before after end (same, inl (fault, e, kept, is)) counted held =
     unloaded_answered before.files.folder (Form.Serve roster journal address numbers) ReadBeforeRoster _ _ _ end fault e is counted held.files_held
-end_answered visits (Form.Serve roster journal address numbers) before after end (same, inr (rows, says, are, inl u)) counted held =
+end_answered clock visits (Form.Serve roster journal address numbers) before after end (same, inr (rows, says, are, inl u)) counted held =
     unhoused_answered before.files.folder roster journal address numbers rows before.seen.disk after.seen.disk end u.opening held.disk_held
-end_answered visits (Form.Serve roster journal address numbers) before after end (same, inr (rows, says, are, inr (v, w, housed, serves))) counted held =
-    served_answered visits roster journal address numbers before after v w end housed.stopped serves held
-end_answered visits (Form.Check market proposal) before after end (same, only, runs) counted held =
+end_answered clock visits (Form.Serve roster journal address numbers) before after end (same, inr (rows, says, are, inr (v, w, housed, serves))) counted held =
+    served_answered clock visits roster journal address numbers before after v w end housed.stopped serves held
+end_answered clock visits (Form.Check market proposal) before after end (same, only, runs) counted held =
     check_answered before.files.folder market proposal _ _ _ _ _ end runs counted held.files_held held.output_held
-end_answered visits (Form.Solve market workers) before after end (same, only, runs) counted held =
+end_answered clock visits (Form.Solve market workers) before after end (same, only, runs) counted held =
     solve_answered before.files.folder market workers _ _ _ _ _ end runs counted held.files_held held.output_held
-end_answered visits (Form.Gen number workers) before after end (same, only, runs) counted held =
+end_answered clock visits (Form.Gen number workers) before after end (same, only, runs) counted held =
     gen_answered before.files.folder number workers _ _ _ _ _ end runs counted held.output_held
-end_answered visits (Form.Replay roster journal) before after end (unread, same, inl (fault, e, unwritten, kept, is)) counted held =
+end_answered clock visits (Form.Replay roster journal) before after end (unread, same, inl (fault, e, unwritten, kept, is)) counted held =
     unloaded_answered before.files.folder (Form.Replay roster journal) ReadBeforeRoster _ _ _ end fault e is counted held.files_held
-end_answered visits (Form.Replay roster journal) before after end (unread, same, inr (rows, says, are, (kept, ends))) counted held =
+end_answered clock visits (Form.Replay roster journal) before after end (unread, same, inr (rows, says, are, (kept, ends))) counted held =
     replay_answered before.files.folder roster journal rows before.seen.output.taken after.seen.output.taken before.seen.disk after.seen.disk (Rose before.files.faults after.files.faults) (Rose before.input.faults after.input.faults) (Rose before.seen.output.faults after.seen.output.faults) end ends counted held.output_held held.disk_held
 
 pub answers_what_it_can : {D : Type 0} (visits : D → Option Visits) → AnswersWhatItCan visits
-answers_what_it_can visits form before after status ends held =
-    status_answered before.files.folder form before.errors.taken after.errors.taken before.errors.faults after.errors.faults ends.end status ends.tells (end_answered visits form before after ends.end ends.runs ends.counted held)
+answers_what_it_can visits clock form before after status ends held =
+    status_answered before.files.folder form before.errors.taken after.errors.taken before.errors.faults after.errors.faults ends.end status ends.tells (end_answered clock visits form before after ends.end ends.runs ends.counted held)

@@ -159,10 +159,10 @@ module _ (rows : Rows) (o : Option disks.History) (count : ℕ) (v : HouseView) 
 
 module _ (rows : Rows) (disk left : DiskState) (v w : HouseView) (housed : IsHoused rows disk left v w) (opened flow : Option Flow) (begun taken : Option (List ℕ)) where
   -- a session over the house is a script over the disk
-  pub journal_runs : (end : SessionEnd) (stopped : Bool) → stopped ≡ is_stopped w → ScriptEnds v w opened flow begun taken end → JournalRuns rows opened flow begun taken disk left (script_end end stopped)
-  journal_runs Ended false is ends = (v, w, housed, (sym is, ends))
-  journal_runs Ended true is ends = ((v, w, housed, (sym is, ends)), housed.stopped (sym is))
-  journal_runs SourceFault stopped is ends = (v, w, housed, ends)
-  journal_runs SinkFault stopped is ends = (v, w, housed, ends)
-  journal_runs Limit stopped is ends = (v, w, housed, ends)
-  journal_runs Memory stopped is (same, none_taken, still) = (same, none_taken, inr (v, w, housed, still))
+  pub journal_runs : (clock : ℕ → Bool) (end : SessionEnd) (stopped : Bool) → stopped ≡ is_stopped w → ScriptEnds clock v w opened flow begun taken end → JournalRuns clock rows opened flow begun taken disk left (script_end end stopped)
+  journal_runs clock Ended false is ends = (v, w, housed, (sym is, ends))
+  journal_runs clock Ended true is ends = ((v, w, housed, (sym is, ends)), housed.stopped (sym is))
+  journal_runs clock SourceFault stopped is ends = (v, w, housed, ends)
+  journal_runs clock SinkFault stopped is ends = (v, w, housed, ends)
+  journal_runs clock Limit stopped is ends = (v, w, housed, ends)
+  journal_runs clock Memory stopped is (same, none_taken, still) = (same, none_taken, inr (v, w, housed, still))

@@ -1,5 +1,5 @@
 -- What a machine that made a journal's changes tells is what the history tells.
-use Rattle.std.proofs.Common.{◌≡◌, ◌∙◌, refl, sym, subst, ap, ℕ, ◌+◌, ◌<◌, Bool, true, false, cond, List, [], ◌∷◌, ◌++◌, length, get_or, take, Option, Some, None, unwrap_or, append_assoc}
+use Rattle.std.proofs.Common.{◌≡◌, ◌∙◌, refl, sym, subst, ap, ℕ, ◌+◌, ◌-◌, ◌<◌, Bool, true, false, cond, List, [], ◌∷◌, ◌++◌, length, get_or, take, drop, Option, Some, None, unwrap_or, append_assoc, arith}
 use Rattle.std.proofs.lemmas.List.{append-nil, length-map, take_more}
 use Rattle.std.proofs.lemmas.Option.{none-some}
 use Rattle.std.specs.Prelude.{option_map, IsFalse}
@@ -7,7 +7,6 @@ use Rattle.outside.specs.Disk as disks
 use Rattle.outside.specs.Flow.{Takes, TakesFront}
 use Rattle.network_laws.specs.Solutions.{SolutionData}
 use Rattle.command_types.specs.declared.answer.Answer.{Answer}
-use Rattle.command_types.specs.declared.answer.Reply.{Reply}
 use Rattle.command_types.specs.declared.ask.Entry.{Entry}
 use Rattle.command_types.specs.declared.ask.What.{What}
 use Rattle.command_types.specs.declared.ask.What.TheVariants.{Post}
@@ -30,6 +29,7 @@ use Rattle.trade_history.specs.Search.{Execution, execution_at}
 use Rattle.trade_history.proofs.Listed.{own_rows_are_the_historys, executions_are_listed, others_are_not_listed}
 use Rattle.trade_history.proofs.Replay.{answers_tell_executions, legal-front, run-none, run-on}
 use Rattle.trade_history.proofs.Whole.{found-at, moments-push, search_finds_executions}
+use Rattle.house.specs.declared.executions.Dated.{Dated}
 use Rattle.house.specs.declared.recovering.Recovered.{Recovered}
 use Rattle.house.specs.Executions.{told_by, executions_told, told_of}
 use Rattle.house.specs.Storing.{ContentStandsFor}
@@ -39,7 +39,7 @@ use Rattle.house.specs.declared.fault.OpenFault.TheVariants as opens
 use Rattle.house.proofs.ExecutionFacts.{executions_told-push}
 use Rattle.statements.specs.Details.{member_text}
 use Rattle.compress_server.specs.Told.{rows_told, reply_told, end_text, told_text, recovered_text}
-use Rattle.compress_server.specs.Replay.{rows_text, execution_line, replay_text, IsKept, JournalReplays}
+use Rattle.compress_server.specs.Replay.{rows_text, moment_at, first_moment, execution_line, replay_text, IsKept, JournalReplays}
 use Rattle.compress_server.specs.Housed.{disk_of}
 use Rattle.compress_server.specs.declared.ending.End.TheVariants.{Done, Damaged, SinkFault}
 use Rattle.trade_history.proofs.PlanFacts.{posted_empty}
@@ -67,17 +67,27 @@ lines-thawed roster (row ∷ rows) = ap (λ text. trade_line roster row ++ text)
 
 -- ---- one execution more
 
--- the line of an execution, and that of the answer which tells it
-line_told : (position : ℕ) (what : What) (x : Execution) (answer : Answer) → answer ≡ execution_answer what x → ((cycle version : ℕ) (solutions : List SolutionData) → what ≡ Post cycle version solutions → x.plan ≡ [])
-    → lines_text reply_told (told_by position answer) ≡ lines_text execution_line (execution_row position (Some x))
-line_told position (Post cycle version solutions) x answer is empty =
-    ap (λ a. lines_text reply_told (told_by position a)) is
-    ∙ ap (λ plan. lines_text execution_line (execution_row position (Some (record { cycle = x.cycle; version = x.version; plan = plan })))) (sym (empty cycle version solutions refl))
-line_told position what x answer is empty = ap (λ a. lines_text reply_told (told_by position a)) is
+-- the lines of an execution, and those of the answer which tells it
+line_at : (h : History) (position : ℕ) (what : What) (x : Execution) (answer : Answer) → answer ≡ execution_answer what x → ((cycle version : ℕ) (solutions : List SolutionData) → what ≡ Post cycle version solutions → x.plan ≡ [])
+    → lines_text reply_told (told_by position answer (moment_at h position)) ≡ lines_text (execution_line h) (execution_row position (Some x))
+line_at h position (Post cycle version solutions) x answer is empty =
+    ap (λ a. lines_text reply_told (told_by position a (moment_at h position))) is
+    ∙ ap (λ plan. lines_text (execution_line h) (execution_row position (Some (record { cycle = x.cycle; version = x.version; plan = plan })))) (sym (empty cycle version solutions refl))
+line_at h position what x answer is empty = ap (λ a. lines_text reply_told (told_by position a (moment_at h position))) is
 
-none_told : (position : ℕ) (answer : Answer) (b : Bool) → is_execution answer ≡ b → b ≡ false → cond {A = List Reply} b (record { at = position; answer = answer } ∷ []) [] ≡ []
-none_told position answer true is e = cc
-none_told position answer false is e = refl
+line_told : (h : History) (position moment : ℕ) (what : What) (x : Execution) (answer : Answer) → moment ≡ moment_at h position → answer ≡ execution_answer what x
+    → ((cycle version : ℕ) (solutions : List SolutionData) → what ≡ Post cycle version solutions → x.plan ≡ [])
+    → lines_text reply_told (told_by position answer moment) ≡ lines_text (execution_line h) (execution_row position (Some x))
+line_told h position moment what x answer then is empty = ap (λ m. lines_text reply_told (told_by position answer m)) then ∙ line_at h position what x answer is empty
+
+none_told : (position moment : ℕ) (answer : Answer) (b : Bool) → is_execution answer ≡ b → b ≡ false → cond {A = List Dated} b (record { reply = record { at = position; answer = answer }; moment = moment } ∷ []) [] ≡ []
+none_told position moment answer true is e = cc
+none_told position moment answer false is e = refl
+
+-- the change behind some others
+dropped : (front : List Entry) (entry : Entry) (back : List Entry) → drop (length front) (front ++ entry ∷ back) ≡ entry ∷ back
+dropped [] entry back = refl
+dropped (first ∷ front) entry back = dropped front entry back
 
 module _ (h : History) (closed : IsClosedBase h.base.state) (legal : IsLegal h) where
   abbrev s : State
@@ -93,40 +103,49 @@ module _ (h : History) (closed : IsClosedBase h.base.state) (legal : IsLegal h) 
     abbrev position : ℕ
     position = h.base.position + length front + 1
 
-    posted : (x : Execution) → found_here ≡ Some x → (by : Option (List ℕ)) (what : What) → entry.ask ≡ record { by = by; what = what } → (cycle version : ℕ) (solutions : List SolutionData) → what ≡ Post cycle version solutions → x.plan ≡ []
-    posted x is by what asked cycle version solutions post =
+    abbrev moment : ℕ
+    moment = entry.ask.moment
+
+    -- the moment of the change that led there
+    moment_here : moment ≡ moment_at h position
+    moment_here =
+        let place : length front ≡ position - (h.base.position + 1) = omega arith in
+        ap first_moment (sym (dropped front entry back)) ∙ ap (λ es. first_moment (drop (length front) es)) (sym split) ∙ ap (λ n. first_moment (drop n h.entries)) place
+
+    posted : (x : Execution) → found_here ≡ Some x → (by : Option (List ℕ)) (time : ℕ) (what : What) → entry.ask ≡ record { by = by; what = what; moment = time } → (cycle version : ℕ) (solutions : List SolutionData) → what ≡ Post cycle version solutions → x.plan ≡ []
+    posted x is by time what asked cycle version solutions post =
         let book : Book = book_from s front in
         let run = run-on s.roster s.cycle.number s (record { moments = []; rows = thawed s.trades }) front (run-none s closed) (legal-front s front entry back (subst (IsLegalFrom s) split legal)) in
-        let asks : entry.ask ≡ record { by = by; what = Post cycle version solutions } = asked ∙ ap (λ w. record { by = by; what = w }) post in
-        posted_empty s.roster s.cycle.number by cycle version solutions book.rows book.moments x run.keeps.numbered
+        let asks : entry.ask ≡ record { by = by; what = Post cycle version solutions; moment = time } = asked ∙ ap (λ w. record { by = by; what = w; moment = time }) post in
+        posted_empty s.roster s.cycle.number by time cycle version solutions book.rows book.moments x run.keeps.numbered
         (ap (λ a. execution_at s.roster s.cycle.number (record { ask = a; rows = book.rows } ∷ book.moments)) (sym asks)
         ∙ ap (execution_at s.roster s.cycle.number) (sym (moments-push s front entry)) ∙ is)
 
-    one : (o : Option Execution) → found_here ≡ o → lines_text execution_line (executions_from h.base (front ++ entry ∷ [])) ≡ lines_text execution_line (executions_from h.base front) ++ lines_text reply_told (told_by position answer)
+    one : (o : Option Execution) → found_here ≡ o → lines_text (execution_line h) (executions_from h.base (front ++ entry ∷ [])) ≡ lines_text (execution_line h) (executions_from h.base front) ++ lines_text reply_told (told_by position answer moment)
     one None is =
         let tells : IsFalse (is_execution answer) = subst (λ o. TellsExecution entry.ask.what o answer) is (answers_tell_executions h closed legal front entry back split) in
-        let none : told_by position answer ≡ [] = none_told position answer (is_execution answer) refl tells in
+        let none : told_by position answer moment ≡ [] = none_told position moment answer (is_execution answer) refl tells in
         let nothing : (cycle version : ℕ) (plan : List PlanRow) → ExecutesAfter s front entry cycle version plan → ⊥ =
         λ cycle version plan x. absurd (none-some (record { cycle = cycle; version = version; plan = plan }) (sym is ∙ (search_finds_executions h closed legal front entry back split cycle version plan).0 x)) in
-        ap (lines_text execution_line) (others_are_not_listed h closed legal front entry back split nothing)
-        ∙ sym (append-nil (lines_text execution_line (executions_from h.base front)))
-        ∙ ap (λ replies. lines_text execution_line (executions_from h.base front) ++ lines_text reply_told replies) (sym none)
+        ap (lines_text (execution_line h)) (others_are_not_listed h closed legal front entry back split nothing)
+        ∙ sym (append-nil (lines_text (execution_line h) (executions_from h.base front)))
+        ∙ ap (λ replies. lines_text (execution_line h) (executions_from h.base front) ++ lines_text reply_told replies) (sym none)
     one (Some x) is =
         let tells : answer ≡ execution_answer entry.ask.what x = subst (λ o. TellsExecution entry.ask.what o answer) is (answers_tell_executions h closed legal front entry back split) in
-        let line = line_told position entry.ask.what x answer tells (posted x is entry.ask.by entry.ask.what refl) in
-        ap (lines_text execution_line) (executions_are_listed h closed legal front entry back split x.cycle x.version x.plan (found-at s front entry x is))
-        ∙ lines-append execution_line (executions_from h.base front) (execution_row position (Some x))
-        ∙ ap (λ text. lines_text execution_line (executions_from h.base front) ++ text) (sym line)
+        let line = line_told h position moment entry.ask.what x answer moment_here tells (posted x is entry.ask.by moment entry.ask.what refl) in
+        ap (lines_text (execution_line h)) (executions_are_listed h closed legal front entry back split x.cycle x.version x.plan (found-at s front entry x is))
+        ∙ lines-append (execution_line h) (executions_from h.base front) (execution_row position (Some x))
+        ∙ ap (λ text. lines_text (execution_line h) (executions_from h.base front) ++ text) (sym line)
 
   -- the replies that told an execution have the lines of the executions
   abbrev AreTold : List Entry → Type 0
-  AreTold front = lines_text reply_told (executions_told s h.base.position front) ≡ lines_text execution_line (executions_from h.base front)
+  AreTold front = lines_text reply_told (executions_told s h.base.position front) ≡ lines_text (execution_line h) (executions_from h.base front)
 
   one_more : (front : List Entry) (entry : Entry) (back : List Entry) → h.entries ≡ front ++ entry ∷ back → AreTold front → AreTold (front ++ entry ∷ [])
   one_more front entry back split told =
-      let line = lines_text reply_told (told_by (h.base.position + length front + 1) (answer_to (replayed_from s front) entry.ask)) in
+      let line = lines_text reply_told (told_by (h.base.position + length front + 1) (answer_to (replayed_from s front) entry.ask) entry.ask.moment) in
       ap (lines_text reply_told) (executions_told-push s h.base.position front entry)
-      ∙ lines-append reply_told (executions_told s h.base.position front) (told_by (h.base.position + length front + 1) (answer_to (replayed_from s front) entry.ask))
+      ∙ lines-append reply_told (executions_told s h.base.position front) (told_by (h.base.position + length front + 1) (answer_to (replayed_from s front) entry.ask) entry.ask.moment)
       ∙ ap (λ text. text ++ line) told
       ∙ sym (one front entry back split (found_here front entry back split) refl)
 
@@ -153,10 +172,10 @@ module _ (rows : Rows) (h : History) (closed_base : IsClosedBase h.base.state) (
       ∙ sym (λ i. member_text rows member (length-map own thawed_row i) ++ lines-thawed rows own i)
       ∙ ap (lines_of rows member) same
 
-  pub text_told : (executions : List Reply) → executions ≡ executions_told h.base.state h.base.position h.entries → told_text now (end_of h) executions ≡ replay_text rows h
+  pub text_told : (executions : List Dated) → executions ≡ executions_told h.base.state h.base.position h.entries → told_text now (end_of h) executions ≡ replay_text rows h
   text_told executions told =
       let members : length now.roster.members ≡ length rows.members = ap (λ (r : Rows). length r.members) roster in
-      let lines : lines_text reply_told executions ≡ lines_text execution_line (executions_from h.base h.entries) = ap (lines_text reply_told) told ∙ executions_are_told h closed_base legal in
+      let lines : lines_text reply_told executions ≡ lines_text (execution_line h) (executions_from h.base h.entries) = ap (lines_text reply_told) told ∙ executions_are_told h closed_base legal in
       (λ i. listed_below (members i) (λ member. own_told member i) ++ (lines i ++ end_text (end_of h)))
 
 -- what was read of a disk, for these rows, is what it keeps

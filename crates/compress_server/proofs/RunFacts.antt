@@ -1,5 +1,5 @@
 -- What the program's one session says of its input and its output, over a house.
-use Rattle.std.proofs.Common.{◌≡◌, ◌⊎◌, ℕ, ◌+◌, ◌^◌, ◌≤◌, arith, true, false, List, [], Option, refl, sym, subst, ap, inl, inr, ◌∙◌}
+use Rattle.std.proofs.Common.{◌≡◌, ◌⊎◌, ℕ, Bool, ◌+◌, ◌^◌, ◌≤◌, arith, true, false, List, [], Option, refl, sym, subst, ap, inl, inr, ◌∙◌}
 use Rattle.std.proofs.lemmas.List.{append-nil}
 use Rattle.outside.specs.Flow.{Flow, IsAtEnd}
 use Rattle.command_types.specs.declared.ask.Entry.{Entry}
@@ -74,17 +74,17 @@ module _ (lock : passes.LockId) (v w : HouseView) (now : Sight) (closed : IsClos
       seen_whole [] grows ∙ ap (λ (s : Sight). s.history) there
 
   -- a talk of the session is one in the history that was given back
-  abbrev session_of : (lines : List (List ℕ)) (text : List ℕ) (made : List Entry) (to : Standing) → Grows (first_sight lock v) now made → IsTalk (figures_of v) now.history 0 (at_first v) lines text made to →
-      IsSession (figures_of v) w.history 0 (at_first v) lines text
-  session_of lines text made to grows talk = record {
+  abbrev session_of : {clock : ℕ → Bool} (lines : List (List ℕ)) (text : List ℕ) (made : List Entry) (to : Standing) → Grows (first_sight lock v) now made → IsTalk clock (figures_of v) now.history 0 (at_first v) lines text made to →
+      IsSession clock (figures_of v) w.history 0 (at_first v) lines text
+  session_of {clock = clock} lines text made to grows talk = record {
     made = made;
     to = to;
-    talk = subst (λ h. IsTalk (figures_of v) h 0 (at_first v) lines text made to) (sym (seen_whole made grows)) talk;
+    talk = subst (λ h. IsTalk clock (figures_of v) h 0 (at_first v) lines text made to) (sym (seen_whole made grows)) talk;
     own = all_own made grows;
   }
 
   module _ (begun taken : Option (List ℕ)) where
-    abbrev replied : (lines : List (List ℕ)) → Written (first_sight lock v) begun taken now lines → IsReplied v w begun taken lines
+    abbrev replied : {clock : ℕ → Bool} (lines : List (List ℕ)) → Written clock (first_sight lock v) begun taken now lines → IsReplied clock v w begun taken lines
     replied lines r = record {
       text = r.text;
       session = session_of lines r.text r.made r.to r.grows r.talk;
@@ -94,10 +94,10 @@ module _ (lock : passes.LockId) (v w : HouseView) (now : Sight) (closed : IsClos
       took = r.took;
     }
 
-    open_replied : (lines : List (List ℕ)) (r : Written (first_sight lock v) begun taken now lines) → r.to.over ≡ false → IsOpen v w begun taken lines
+    open_replied : {clock : ℕ → Bool} (lines : List (List ℕ)) (r : Written clock (first_sight lock v) begun taken now lines) → r.to.over ≡ false → IsOpen clock v w begun taken lines
     open_replied lines r e = (replied lines r, e)
 
-    left_replied : (lines : List (List ℕ)) → Left (first_sight lock v) begun taken now lines → IsLeft v w begun taken lines
+    left_replied : {clock : ℕ → Bool} (lines : List (List ℕ)) → Left clock (first_sight lock v) begun taken now lines → IsLeft clock v w begun taken lines
     left_replied lines l = record {
       said = l.said;
       others = l.others;
@@ -106,8 +106,8 @@ module _ (lock : passes.LockId) (v w : HouseView) (now : Sight) (closed : IsClos
       over = l.over;
     }
 
-    ahead_of : (bytes : List ℕ) (lines : List (List ℕ)) (r : CutLate (first_sight lock v) begun taken now bytes lines) → IsAhead v w bytes r.cut.text r.cut.took.0
-    ahead_of bytes lines r = record {
+    ahead_of : {clock : ℕ → Bool} (bytes : List ℕ) (lines : List (List ℕ)) (r : CutLate clock (first_sight lock v) begun taken now bytes lines) → IsAhead clock v w bytes r.cut.text r.cut.took.0
+    ahead_of {clock = clock} bytes lines r = record {
       early = r.early;
       late = r.late;
       split = r.split;
@@ -118,10 +118,10 @@ module _ (lock : passes.LockId) (v w : HouseView) (now : Sight) (closed : IsClos
       within = r.cut.whole.within;
       made = r.cut.whole.made;
       to = r.cut.whole.to;
-      talk = subst (λ h. IsTalk (figures_of v) h 0 (at_first v) (cut_of r.early).whole r.cut.whole.front r.cut.whole.made r.cut.whole.to) (sym (seen_whole r.cut.made r.cut.grows)) r.cut.whole.talk;
+      talk = subst (λ h. IsTalk clock (figures_of v) h 0 (at_first v) (cut_of r.early).whole r.cut.whole.front r.cut.whole.made r.cut.whole.to) (sym (seen_whole r.cut.made r.cut.grows)) r.cut.whole.talk;
     }
 
-    cut_off : (bytes : List ℕ) (lines : List (List ℕ)) → CutLate (first_sight lock v) begun taken now bytes lines → IsCutOff v w begun taken bytes lines
+    cut_off : {clock : ℕ → Bool} (bytes : List ℕ) (lines : List (List ℕ)) → CutLate clock (first_sight lock v) begun taken now bytes lines → IsCutOff clock v w begun taken bytes lines
     cut_off bytes lines late = let r = late.cut in record {
       said = r.said;
       others = r.others;
@@ -136,39 +136,39 @@ module _ (lock : passes.LockId) (v w : HouseView) (now : Sight) (closed : IsClos
     }
 
     module _ (flow : Option Flow) (bytes : List ℕ) (P Q : Type 0) where
-      ended_either : (IsAtEnd flow × P × Written (first_sight lock v) begun taken now (lines_of bytes)) ⊎ (Q × Left (first_sight lock v) begun taken now (cut_of bytes).whole) →
-          (IsAtEnd flow × P × IsReplied v w begun taken (lines_of bytes)) ⊎ (Q × IsLeft v w begun taken (cut_of bytes).whole)
+      ended_either : {clock : ℕ → Bool} → (IsAtEnd flow × P × Written clock (first_sight lock v) begun taken now (lines_of bytes)) ⊎ (Q × Left clock (first_sight lock v) begun taken now (cut_of bytes).whole) →
+          (IsAtEnd flow × P × IsReplied clock v w begun taken (lines_of bytes)) ⊎ (Q × IsLeft clock v w begun taken (cut_of bytes).whole)
       ended_either (inl (at_end, short, r)) = inl (at_end, short, replied (lines_of bytes) r)
       ended_either (inr (short, l)) = inr (short, left_replied (cut_of bytes).whole l)
 
-      cut_either : (P × CutLate (first_sight lock v) begun taken now bytes (cut_of bytes).whole) ⊎ (IsAtEnd flow × Q × CutLate (first_sight lock v) begun taken now bytes (lines_of bytes)) →
-          (P × IsCutOff v w begun taken bytes (cut_of bytes).whole) ⊎ (IsAtEnd flow × Q × IsCutOff v w begun taken bytes (lines_of bytes))
+      cut_either : {clock : ℕ → Bool} → (P × CutLate clock (first_sight lock v) begun taken now bytes (cut_of bytes).whole) ⊎ (IsAtEnd flow × Q × CutLate clock (first_sight lock v) begun taken now bytes (lines_of bytes)) →
+          (P × IsCutOff clock v w begun taken bytes (cut_of bytes).whole) ⊎ (IsAtEnd flow × Q × IsCutOff clock v w begun taken bytes (lines_of bytes))
       cut_either (inl (short, r)) = inl (short, cut_off bytes (cut_of bytes).whole r)
       cut_either (inr (at_end, short, r)) = inr (at_end, short, cut_off bytes (lines_of bytes) r)
 
-    ends_first : (opened flow : Option Flow) (end : SessionEnd) → Ends (first_sight lock v) opened flow begun taken now end → ScriptEnds v w opened flow begun taken end
-    ends_first opened flow Ended (bytes, gives, either) = (bytes, gives, ended_either flow bytes _ _ either)
-    ends_first opened flow SourceFault (bytes, gives, short, (r, open_yet)) = (bytes, gives, short, open_replied (cut_of bytes).whole r open_yet)
-    ends_first opened flow SinkFault (bytes, gives, either) = (bytes, gives, cut_either flow bytes _ _ either)
-    ends_first opened flow Limit (bytes, gives, size, (r, open_yet)) = (bytes, gives, size, open_replied (cut_of bytes).whole r open_yet)
-    ends_first opened flow Memory (same, none_taken, there) = (same, none_taken, stays there)
+    ends_first : (clock : ℕ → Bool) (opened flow : Option Flow) (end : SessionEnd) → Ends clock (first_sight lock v) opened flow begun taken now end → ScriptEnds clock v w opened flow begun taken end
+    ends_first clock opened flow Ended (bytes, gives, either) = (bytes, gives, ended_either flow bytes _ _ either)
+    ends_first clock opened flow SourceFault (bytes, gives, short, (r, open_yet)) = (bytes, gives, short, open_replied (cut_of bytes).whole r open_yet)
+    ends_first clock opened flow SinkFault (bytes, gives, either) = (bytes, gives, cut_either flow bytes _ _ either)
+    ends_first clock opened flow Limit (bytes, gives, size, (r, open_yet)) = (bytes, gives, size, open_replied (cut_of bytes).whole r open_yet)
+    ends_first clock opened flow Memory (same, none_taken, there) = (same, none_taken, stays there)
 
 -- a session over a new desk is a script
-pub script_ends : (lock : passes.LockId) (v w : HouseView) (start : Sight) (opened flow : Option Flow) (begun taken : Option (List ℕ)) (now : Sight) (end : SessionEnd) → start ≡ first_sight lock v → IsClosed v w now →
-    Ends start opened flow begun taken now end → ScriptEnds v w opened flow begun taken end
-script_ends lock v w start opened flow begun taken now end e closed ends =
-    let P : Sight → Type 0 = λ s. Ends s opened flow begun taken now end in
-    ends_first lock v w now closed begun taken opened flow end (subst P e ends)
+pub script_ends : (clock : ℕ → Bool) (lock : passes.LockId) (v w : HouseView) (start : Sight) (opened flow : Option Flow) (begun taken : Option (List ℕ)) (now : Sight) (end : SessionEnd) → start ≡ first_sight lock v → IsClosed v w now →
+    Ends clock start opened flow begun taken now end → ScriptEnds clock v w opened flow begun taken end
+script_ends clock lock v w start opened flow begun taken now end e closed ends =
+    let P : Sight → Type 0 = λ s. Ends clock s opened flow begun taken now end in
+    ends_first lock v w now closed begun taken clock opened flow end (subst P e ends)
 
 -- a session keeps its seat
-pub seat_stays : (start : Sight) (opened flow : Option Flow) (begun taken : Option (List ℕ)) (now : Sight) (end : SessionEnd) → Ends start opened flow begun taken now end → now.seat ≡ start.seat
-seat_stays start opened flow begun taken now Ended (bytes, gives, inl (at_end, short, r)) = r.grows.seat
-seat_stays start opened flow begun taken now Ended (bytes, gives, inr (short, l)) = l.written.grows.seat
-seat_stays start opened flow begun taken now SourceFault (bytes, gives, short, (r, open_yet)) = r.grows.seat
-seat_stays start opened flow begun taken now SinkFault (bytes, gives, inl (short, r)) = r.cut.grows.seat
-seat_stays start opened flow begun taken now SinkFault (bytes, gives, inr (at_end, short, r)) = r.cut.grows.seat
-seat_stays start opened flow begun taken now Limit (bytes, gives, size, (r, open_yet)) = r.grows.seat
-seat_stays start opened flow begun taken now Memory (same, none_taken, there) = ap (λ (s : Sight). s.seat) there
+pub seat_stays : (clock : ℕ → Bool) (start : Sight) (opened flow : Option Flow) (begun taken : Option (List ℕ)) (now : Sight) (end : SessionEnd) → Ends clock start opened flow begun taken now end → now.seat ≡ start.seat
+seat_stays clock start opened flow begun taken now Ended (bytes, gives, inl (at_end, short, r)) = r.grows.seat
+seat_stays clock start opened flow begun taken now Ended (bytes, gives, inr (short, l)) = l.written.grows.seat
+seat_stays clock start opened flow begun taken now SourceFault (bytes, gives, short, (r, open_yet)) = r.grows.seat
+seat_stays clock start opened flow begun taken now SinkFault (bytes, gives, inl (short, r)) = r.cut.grows.seat
+seat_stays clock start opened flow begun taken now SinkFault (bytes, gives, inr (at_end, short, r)) = r.cut.grows.seat
+seat_stays clock start opened flow begun taken now Limit (bytes, gives, size, (r, open_yet)) = r.grows.seat
+seat_stays clock start opened flow begun taken now Memory (same, none_taken, there) = ap (λ (s : Sight). s.seat) there
 
 -- what a lock tells of the house that it gives back
 pub closed_on : (v w : HouseView) (pass : Pass) → end_of v.history ≡ (figures_of v).opening → passes.seat_of pass ≡ 0 → passes.figures_of pass ≡ figures_of v → figures_of w ≡ passes.figures_of pass → passes.Continues w.history (passes.seen pass)

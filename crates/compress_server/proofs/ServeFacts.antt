@@ -39,27 +39,27 @@ pub seated_at : (v : HouseView) (pass : Pass) (number : ℕ) → passes.figures_
 seated_at v pass number figures history stop = λ i. record { seat = record { lock = passes.lock_of pass; figures = figures i; number = number; splits = 0 }; history = history i; stopped = stop i }
 
 module _ (most_visits : ℕ) (lock : passes.LockId) (v w : HouseView) (number : ℕ) where
-  stands : (old new : Option Visits) (end : SeatEnd) → IsNew old → HasServed (final_of w) (first_seen lock v number) old new most_visits end → IsSeatAt most_visits lock v w number new end
-  stands None new end fresh none = subst (λ d. IsSeatAt most_visits lock v w number d end) (sym none) tt
-  stands (Some o) None end fresh served = absurd served
-  stands (Some o) (Some n) end fresh (visits, next, served) =
+  stands : (clock : ℕ → Bool) (old new : Option Visits) (end : SeatEnd) → IsNew old → HasServed clock (final_of w) (first_seen lock v number) old new most_visits end → IsSeatAt clock most_visits lock v w number new end
+  stands clock None new end fresh none = subst (λ d. IsSeatAt clock most_visits lock v w number d end) (sym none) tt
+  stands clock (Some o) None end fresh served = absurd served
+  stands clock (Some o) (Some n) end fresh (visits, next, served) =
       let back : n.back ≡ visits = next.back ∙ ap (λ (vs : List Visit). vs ++ visits) fresh.1 in
       record {
         none_out = next.none_out ∙ fresh.0;
         few = subst (λ (vs : List Visit). length vs ≤ most_visits) (sym back) next.few;
         most = λ is. ap length back ∙ next.all is;
         over = next.over;
-        served = subst (λ (vs : List Visit). AreServed (final_of w) (seat_at lock v number) (end_of v.history) false vs end) (sym back) served;
+        served = subst (λ (vs : List Visit). AreServed clock (final_of w) (seat_at lock v number) (end_of v.history) false vs end) (sym back) served;
       }
 
-  pub seat_stands : (start : Sight) (old new : Option Visits) (end : SeatEnd) → start ≡ first_seen lock v number → IsNew old → HasServed (final_of w) start old new most_visits end → IsSeatAt most_visits lock v w number new end
-  seat_stands start old new end is fresh served = stands old new end fresh (subst (λ (s : Sight). HasServed (final_of w) s old new most_visits end) is served)
+  pub seat_stands : (clock : ℕ → Bool) (start : Sight) (old new : Option Visits) (end : SeatEnd) → start ≡ first_seen lock v number → IsNew old → HasServed clock (final_of w) start old new most_visits end → IsSeatAt clock most_visits lock v w number new end
+  seat_stands clock start old new end is fresh served = stands clock old new end fresh (subst (λ (s : Sight). HasServed clock (final_of w) s old new most_visits end) is served)
 
 -- a new door that a seat worked at gave of what was to come to it
-pub given_since : (final : Final) (start : Sight) (old new : Option Visits) (most_visits : ℕ) (end : SeatEnd) → IsNew old → HasServed final start old new most_visits end → HasGivenSince old new
-given_since final start None new most_visits end fresh served = served
-given_since final start (Some o) None most_visits end fresh served = absurd served
-given_since final start (Some o) (Some n) most_visits end fresh (visits, next, served) =
+pub given_since : (clock : ℕ → Bool) (final : Final) (start : Sight) (old new : Option Visits) (most_visits : ℕ) (end : SeatEnd) → IsNew old → HasServed clock final start old new most_visits end → HasGivenSince old new
+given_since clock final start None new most_visits end fresh served = served
+given_since clock final start (Some o) None most_visits end fresh served = absurd served
+given_since clock final start (Some o) (Some n) most_visits end fresh (visits, next, served) =
     let back : n.back ≡ visits = next.back ∙ ap (λ (vs : List Visit). vs ++ visits) fresh.1 in
     subst (λ (vs : List Visit). o.coming ≡ map input_of vs ++ n.coming) (sym back) next.given
 
@@ -67,14 +67,14 @@ none_more : (n : ℕ) → 0 + n ≡ n
 none_more n = omega arith
 
 -- the seats at these places, the first with this number
-pub seats_of : {D In Out : Type 0} (visits : D → Option Visits) (most_visits : ℕ) (lock : passes.LockId) (v w : HouseView) (n : ℕ) (places : List (Place D In Out)) →
-    ((k : ℕ) (other : Place D In Out) → k < length places → IsSeatAt most_visits lock v w (k + n) (visits (slice_index_or places k other).door) (slice_index_or places k other).end) → AreSeats visits most_visits lock v w n (runs_of places)
-seats_of visits most_visits lock v w n [] each = tt
-seats_of visits most_visits lock v w n (place ∷ places) each = (
-  subst (λ m. IsSeatAt most_visits lock v w m (visits place.door) place.end) (none_more n) (each 0 place (omega arith)),
-  seats_of visits most_visits lock v w (n + 1) places (λ k other lt.
+pub seats_of : {D In Out : Type 0} (clock : ℕ → Bool) (visits : D → Option Visits) (most_visits : ℕ) (lock : passes.LockId) (v w : HouseView) (n : ℕ) (places : List (Place D In Out)) →
+    ((k : ℕ) (other : Place D In Out) → k < length places → IsSeatAt clock most_visits lock v w (k + n) (visits (slice_index_or places k other).door) (slice_index_or places k other).end) → AreSeats clock visits most_visits lock v w n (runs_of places)
+seats_of clock visits most_visits lock v w n [] each = tt
+seats_of clock visits most_visits lock v w n (place ∷ places) each = (
+  subst (λ m. IsSeatAt clock most_visits lock v w m (visits place.door) place.end) (none_more n) (each 0 place (omega arith)),
+  seats_of clock visits most_visits lock v w (n + 1) places (λ k other lt.
       let up : suc k + n ≡ k + (n + 1) = omega arith in
-      subst (λ m. IsSeatAt most_visits lock v w m (visits (slice_index_or places k other).door) (slice_index_or places k other).end) up (each (suc k) other (omega (arith, lt)))),
+      subst (λ m. IsSeatAt clock most_visits lock v w m (visits (slice_index_or places k other).door) (slice_index_or places k other).end) up (each (suc k) other (omega (arith, lt)))),
 )
 
 -- ---- the line of the history's length, in three pieces

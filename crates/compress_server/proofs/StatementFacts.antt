@@ -58,8 +58,8 @@ module _ (s : State) (place : ℕ) (row : MemberRow) (roster : IsRoster s.roster
       no_name s.roster.operator row.name (any_last (bytes_eq row.name) products operator (none_other s.roster.members (products ++ operator) place row apart there))
 
   -- it is answered by the member's rows
-  pub statement_told : answer_to s (record { by = Some row.name; what = Statement }) ≡ Statements (rows_of_member place s.trades)
-  statement_told =
+  pub statement_told : (moment : ℕ) → answer_to s (record { by = Some row.name; what = Statement; moment = moment }) ≡ Statements (rows_of_member place s.trades)
+  statement_told moment =
       (λ i. refused_or (Statements (rows_of_member (unwrap_or (found i) 0) s.trades)) (first_of ((not (is_some (found i) || is_operator s.roster row.name), NotGreeted) ∷ (no_operator i, NotParty) ∷ [])))
 
 pub same_rows : (rows own : List TradeRow) → Statements rows ≡ Statements own → rows ≡ own

@@ -24,8 +24,8 @@ AnswersInput roster before after limit =
 -- a script that nothing outside disturbs is answered: to its end at status 0, and up to the limit at status 8; the others are a fault of the roster's file, a damaged journal and want of memory
 abbrev pub ScriptsAreAnswered : {D : Type 0} → (D → Option Visits) → Type 0
 ScriptsAreAnswered visits =
-    (roster journal : List ℕ) (workers : ℕ) (before after : World) (status : ℕ) →
-    Ends visits (Some (Form.Script roster journal workers)) before after status → IsUndisturbed before after →
+    (clock : ℕ → Bool) (roster journal : List ℕ) (workers : ℕ) (before after : World) (status : ℕ) →
+    Ends clock visits (Some (Form.Script roster journal workers)) before after status → IsUndisturbed before after →
     ((status ≡ 0) × AnswersInput roster before after false)
     ⊎ (((status ≡ 8) × AnswersInput roster before after true)
     ⊎ (((status ≡ 3) × HasFault before.files.folder (Form.Script roster journal workers)) ⊎ ((status ≡ 7) ⊎ (status ≡ 9))))
@@ -42,9 +42,9 @@ module _ {D : Type 0} (visits : D → Option Visits) where
   AreSeatsAnswered figures h number (seat ∷ seats) = IsSeatAnswered figures h number (visits seat.door) seat.end × AreSeatsAnswered figures h (number + 1) seats
 
   -- the seats served the connections that were to come to their doors, these came back to the listener, and the connections of each are answered
-  pub record AnswersDoors (plan : ServicePlan) (v w : HouseView) (before after : Option Doors) : Type 0 where
+  pub record AnswersDoors (clock : ℕ → Bool) (plan : ServicePlan) (v w : HouseView) (before after : Option Doors) : Type 0 where
     pub seats : List (SeatRun D)
-    pub served : HaveServed visits plan v w seats
+    pub served : HaveServed clock visits plan v w seats
     pub returned : Returned visits plan.address before after (map (λ (seat : SeatRun D). seat.door) seats)
     pub given : HaveGiven visits before 0 seats
     pub answered : AreSeatsAnswered (figures_of v) w.history 1 seats
@@ -52,10 +52,10 @@ module _ {D : Type 0} (visits : D → Option Visits) where
   -- in a service that nothing outside disturbs each connection is answered; or the roster's file has a fault, the journal is damaged, or there was no memory, and none was given
   abbrev pub ServicesAreAnswered : Type 0
   ServicesAreAnswered =
-      (roster journal address : List ℕ) (numbers : ServiceNumbers) (before after : World) (status : ℕ) →
-      Ends visits (Some (Form.Serve roster journal address numbers)) before after status →
+      (clock : ℕ → Bool) (roster journal address : List ℕ) (numbers : ServiceNumbers) (before after : World) (status : ℕ) →
+      Ends clock visits (Some (Form.Serve roster journal address numbers)) before after status →
       IsUndisturbed before after →
       ((((status ≡ 3) × HasFault before.files.folder (Form.Serve roster journal address numbers)) ⊎ ((status ≡ 7) ⊎ (status ≡ 9)))
       × IsUnasked visits address before.seen.listener.doors after.seen.listener.doors)
       ⊎ OverRoster before.files.folder roster (λ rows. OverHouse rows before.seen.disk after.seen.disk (λ v w.
-      AnswersDoors (record { address = address; seats = numbers.seats; connections = numbers.connections }) v w before.seen.listener.doors after.seen.listener.doors))
+      AnswersDoors clock (record { address = address; seats = numbers.seats; connections = numbers.connections }) v w before.seen.listener.doors after.seen.listener.doors))

@@ -1,5 +1,5 @@
 -- What is answered where nothing outside fails.
-use Rattle.std.specs.Prelude.{◌≡◌, ◌⊎◌, ℕ, Option, Some}
+use Rattle.std.specs.Prelude.{◌≡◌, ◌⊎◌, ℕ, Bool, Option, Some}
 use Rattle.doors.specs.Visits.{Visits}
 use Rattle.outside.specs.Faults.{Rose}
 use Rattle.outside.specs.Files.{Folder}
@@ -54,5 +54,5 @@ IsAnswered folder form status =
 -- a call whose words are in form, and that nothing outside disturbs, is answered
 abbrev pub AnswersWhatItCan : {D : Type 0} → (D → Option Visits) → Type 0
 AnswersWhatItCan visits =
-    (form : Form) (before after : World) (status : ℕ) → Ends visits (Some form) before after status → IsUndisturbed before after →
+    (clock : ℕ → Bool) (form : Form) (before after : World) (status : ℕ) → Ends clock visits (Some form) before after status → IsUndisturbed before after →
     IsAnswered before.files.folder form status

@@ -1,5 +1,5 @@
 -- What was read and what was written, by the end of a form.
-use Rattle.std.specs.Prelude.{◌≡◌, ◌⊎◌, ℕ, true, false, List, Option, Some, None}
+use Rattle.std.specs.Prelude.{◌≡◌, ◌⊎◌, ℕ, Bool, true, false, List, Option, Some, None}
 use Rattle.doors.specs.Visits.{Visits}
 use Rattle.outside.specs.Files.{Folder}
 use Rattle.outside.specs.Faults.{Rose}
@@ -36,28 +36,28 @@ IsFault P Q (Files role) = Q role
 IsFault P Q NoMemory = Unit {0}
 
 -- by the end of a script over these rows and a disk
-abbrev pub JournalRuns : Rows → Option Flow → Option Flow → Option (List ℕ) → Option (List ℕ) → DiskState → DiskState → End → Type 0
-JournalRuns rows opened flow begun taken disk left Done = OverHouse rows disk left (λ v w. (is_stopped w ≡ false) × IsWhole v w opened flow begun taken)
-JournalRuns rows opened flow begun taken disk left (Damaged place) = (flow ≡ opened) × (taken ≡ begun) × IsDamaged rows disk left place
-JournalRuns rows opened flow begun taken disk left DiskFault = (flow ≡ opened) × (taken ≡ begun) × IsUnopened rows disk left × Rose disk.faults left.faults
-JournalRuns rows opened flow begun taken disk left Stopped =
-    OverHouse rows disk left (λ v w. (is_stopped w ≡ true) × IsWhole v w opened flow begun taken) × Rose disk.faults left.faults
-JournalRuns rows opened flow begun taken disk left SourceFault = OverHouse rows disk left (λ v w. IsBrokenOff v w opened flow begun taken)
-JournalRuns rows opened flow begun taken disk left SinkFault = OverHouse rows disk left (λ v w. IsUnwritten v w opened flow begun taken)
-JournalRuns rows opened flow begun taken disk left Limit = OverHouse rows disk left (λ v w. IsAtLimit v w opened flow begun taken)
-JournalRuns rows opened flow begun taken disk left Memory =
+abbrev pub JournalRuns : (ℕ → Bool) → Rows → Option Flow → Option Flow → Option (List ℕ) → Option (List ℕ) → DiskState → DiskState → End → Type 0
+JournalRuns clock rows opened flow begun taken disk left Done = OverHouse rows disk left (λ v w. (is_stopped w ≡ false) × IsWhole clock v w opened flow begun taken)
+JournalRuns clock rows opened flow begun taken disk left (Damaged place) = (flow ≡ opened) × (taken ≡ begun) × IsDamaged rows disk left place
+JournalRuns clock rows opened flow begun taken disk left DiskFault = (flow ≡ opened) × (taken ≡ begun) × IsUnopened rows disk left × Rose disk.faults left.faults
+JournalRuns clock rows opened flow begun taken disk left Stopped =
+    OverHouse rows disk left (λ v w. (is_stopped w ≡ true) × IsWhole clock v w opened flow begun taken) × Rose disk.faults left.faults
+JournalRuns clock rows opened flow begun taken disk left SourceFault = OverHouse rows disk left (λ v w. IsBrokenOff clock v w opened flow begun taken)
+JournalRuns clock rows opened flow begun taken disk left SinkFault = OverHouse rows disk left (λ v w. IsUnwritten clock v w opened flow begun taken)
+JournalRuns clock rows opened flow begun taken disk left Limit = OverHouse rows disk left (λ v w. IsAtLimit clock v w opened flow begun taken)
+JournalRuns clock rows opened flow begun taken disk left Memory =
     (flow ≡ opened) × (taken ≡ begun) × (IsUnopened rows disk left ⊎ OverHouse rows disk left (λ v w. w.history ≡ v.history))
-JournalRuns rows opened flow begun taken disk left other = ⊥
+JournalRuns clock rows opened flow begun taken disk left other = ⊥
 
 -- the roster's file says rows, which are those of a roster, and of which this holds
 abbrev pub OverRoster : Option Folder → List ℕ → (Rows → Type 0) → Type 0
 OverRoster folder name P = (rows : Rows) × SaysRoster folder name rows × IsRoster rows × P rows
 
 -- by the end of a script: the roster could not be had, and the disk was left alone; or what came over its rows
-abbrev pub ScriptRuns : Option Folder → List ℕ → Option Flow → Option Flow → Option (List ℕ) → Option (List ℕ) → DiskState → DiskState → End → Type 0
-ScriptRuns folder roster opened flow begun taken disk left end =
+abbrev pub ScriptRuns : (ℕ → Bool) → Option Folder → List ℕ → Option Flow → Option Flow → Option (List ℕ) → Option (List ℕ) → DiskState → DiskState → End → Type 0
+ScriptRuns clock folder roster opened flow begun taken disk left end =
     ((fault : LoadFault) × (end ≡ Unloaded fault) × (flow ≡ opened) × (taken ≡ begun) × (left ≡ disk) × IsFault (IsRosterFault folder roster) ReadBeforeRoster fault)
-    ⊎ OverRoster folder roster (λ rows. JournalRuns rows opened flow begun taken disk left end)
+    ⊎ OverRoster folder roster (λ rows. JournalRuns clock rows opened flow begun taken disk left end)
 
 -- by the end of a replay: the roster could not be had, and the disk was left alone; or what came over its rows
 abbrev pub ReplayRuns : Option Folder → List ℕ → Option (List ℕ) → Option (List ℕ) → DiskState → DiskState → End → Type 0
@@ -100,25 +100,25 @@ GenRuns number begun taken Memory = taken ≡ begun
 GenRuns number begun taken other = ⊥
 
 -- by the end of a service: the roster could not be had, and nothing else was asked; or what came over its rows
-abbrev pub ServeRuns : {D : Type 0} → (D → Option Visits) → Option Folder → List ℕ → ServicePlan → Seen → Seen → End → Type 0
-ServeRuns visits folder roster plan before after end =
+abbrev pub ServeRuns : {D : Type 0} → (ℕ → Bool) → (D → Option Visits) → Option Folder → List ℕ → ServicePlan → Seen → Seen → End → Type 0
+ServeRuns clock visits folder roster plan before after end =
     ((fault : LoadFault) × (end ≡ Unloaded fault) × (after ≡ before) × IsFault (IsRosterFault folder roster) ReadBeforeRoster fault)
-    ⊎ OverRoster folder roster (λ rows. ServiceRuns visits plan rows before after end)
+    ⊎ OverRoster folder roster (λ rows. ServiceRuns clock visits plan rows before after end)
 
 -- by the end of the program: only a script reads the input, and only a service asks the listener
-abbrev pub Runs : {D : Type 0} → (D → Option Visits) → Option Folder → Option Form → Option Flow → Option Flow → Seen → Seen → End → Type 0
-Runs visits folder None opened flow before after end = (end ≡ BadWords) × (flow ≡ opened) × (after ≡ before)
-Runs visits folder (Some (Form.Script roster journal workers)) opened flow before after end =
-    (after.listener ≡ before.listener) × ScriptRuns folder roster opened flow before.output.taken after.output.taken before.disk after.disk end
-Runs visits folder (Some (Form.Serve roster journal address numbers)) opened flow before after end =
-    (flow ≡ opened) × ServeRuns visits folder roster (record { address = address; seats = numbers.seats; connections = numbers.connections }) before after end
-Runs visits folder (Some (Form.Check market proposal)) opened flow before after end =
+abbrev pub Runs : {D : Type 0} → (ℕ → Bool) → (D → Option Visits) → Option Folder → Option Form → Option Flow → Option Flow → Seen → Seen → End → Type 0
+Runs clock visits folder None opened flow before after end = (end ≡ BadWords) × (flow ≡ opened) × (after ≡ before)
+Runs clock visits folder (Some (Form.Script roster journal workers)) opened flow before after end =
+    (after.listener ≡ before.listener) × ScriptRuns clock folder roster opened flow before.output.taken after.output.taken before.disk after.disk end
+Runs clock visits folder (Some (Form.Serve roster journal address numbers)) opened flow before after end =
+    (flow ≡ opened) × ServeRuns clock visits folder roster (record { address = address; seats = numbers.seats; connections = numbers.connections }) before after end
+Runs clock visits folder (Some (Form.Check market proposal)) opened flow before after end =
     (flow ≡ opened) × IsOnlyOutput before after × CheckRuns folder market proposal before.output.taken after.output.taken end
-Runs visits folder (Some (Form.Solve market workers)) opened flow before after end =
+Runs clock visits folder (Some (Form.Solve market workers)) opened flow before after end =
     (flow ≡ opened) × IsOnlyOutput before after × SolveRuns folder market before.output.taken after.output.taken end
-Runs visits folder (Some (Form.Gen number workers)) opened flow before after end =
+Runs clock visits folder (Some (Form.Gen number workers)) opened flow before after end =
     (flow ≡ opened) × IsOnlyOutput before after × GenRuns number before.output.taken after.output.taken end
-Runs visits folder (Some (Form.Replay roster journal)) opened flow before after end =
+Runs clock visits folder (Some (Form.Replay roster journal)) opened flow before after end =
     (flow ≡ opened) × (after.listener ≡ before.listener) × ReplayRuns folder roster before.output.taken after.output.taken before.disk after.disk end
 
 -- where the files, the input or the output failed, its count rose; a fault of the disk or of the listener is counted in what a script or a service comes to

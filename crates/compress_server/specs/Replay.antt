@@ -1,15 +1,16 @@
 -- What a replay writes: the rows of each member, and the executions, by the history alone.
-use Rattle.std.specs.Prelude.{◌≡◌, ℕ, List, ◌++◌, length, Option}
+use Rattle.std.specs.Prelude.{◌≡◌, ℕ, ◌+◌, ◌-◌, List, [], ◌∷◌, ◌++◌, length, drop, Option}
 use Rattle.outside.specs.Disk as disks
 use Rattle.outside.specs.Faults.{Rose}
 use Rattle.outside.specs.Flow.{Takes, TakesFront}
+use Rattle.command_types.specs.declared.ask.Entry.{Entry}
 use Rattle.command_types.specs.Books.{listed_below}
 use Rattle.command_types.specs.Details.{lines_text, trade_line}
 use Rattle.command_types.specs.History.{History, IsLegal, end_of}
 use Rattle.command_types.specs.Roster.{Rows}
 use Rattle.cycle_laws.specs.Bases.{IsWritable}
 use Rattle.trade_history.specs.Book.{ExecutionRow, own_rows, executions_of}
-use Rattle.statements.specs.Details.{member_text, execution_text}
+use Rattle.statements.specs.Details.{member_text, execution_text, moment_text}
 use Rattle.house.specs.Storing.{ContentStandsFor}
 use Rattle.house.specs.Opening.{FindsFault}
 use Rattle.house.specs.declared.fault.OpenFault.TheVariants as opens
@@ -22,13 +23,24 @@ use Rattle.compress_server.specs.Told.{end_text}
 abbrev pub rows_text : Rows → History → ℕ → List ℕ
 rows_text rows h member = member_text rows member (length (own_rows h member)) ++ lines_text (trade_line rows) (own_rows h member)
 
-abbrev pub execution_line : ExecutionRow → List ℕ
-execution_line row =
-    execution_text (record { position = row.position; cycle = row.cycle; version = row.version; ended = row.ended; cut = row.cut; made = row.made })
+-- the moment of the first of these changes
+abbrev pub first_moment : List Entry → ℕ
+first_moment [] = 0
+first_moment (entry ∷ entries) = entry.ask.moment
 
--- each member with its rows, then each execution since the base, then the length of the history
+-- the moment of the change that led to a position behind the history's base
+abbrev pub moment_at : History → ℕ → ℕ
+moment_at h position = first_moment (drop (position - (h.base.position + 1)) h.entries)
+
+-- an execution, and the moment of the change that it came with
+abbrev pub execution_line : History → ExecutionRow → List ℕ
+execution_line h row =
+    execution_text (record { position = row.position; cycle = row.cycle; version = row.version; ended = row.ended; cut = row.cut; made = row.made })
+    ++ moment_text (moment_at h row.position)
+
+-- each member with its rows, then each execution since the base with its moment, then the length of the history
 abbrev pub replay_text : Rows → History → List ℕ
-replay_text rows h = listed_below (length rows.members) (rows_text rows h) ++ (lines_text execution_line (executions_of h) ++ end_text (end_of h))
+replay_text rows h = listed_below (length rows.members) (rows_text rows h) ++ (lines_text (execution_line h) (executions_of h) ++ end_text (end_of h))
 
 -- the disk's content stands for this history, which is legal, and begins where one of these rows may begin
 pub record IsKept (rows : Rows) (disk : Option disks.History) (h : History) : Type 0 where

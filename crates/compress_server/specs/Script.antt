@@ -9,12 +9,12 @@ use Rattle.compress_server.specs.declared.ending.End.TheVariants as script
 use Rattle.compress_server.specs.Run.{IsWhole, IsBrokenOff, IsAtLimit, IsUnwritten}
 
 -- What was read and what was written, by the end of a script over the house v, which is then w.
-abbrev pub ScriptEnds : HouseView → HouseView → Option Flow → Option Flow → Option (List ℕ) → Option (List ℕ) → SessionEnd → Type 0
-ScriptEnds v w opened flow begun taken Ended = IsWhole v w opened flow begun taken
-ScriptEnds v w opened flow begun taken SourceFault = IsBrokenOff v w opened flow begun taken
-ScriptEnds v w opened flow begun taken SinkFault = IsUnwritten v w opened flow begun taken
-ScriptEnds v w opened flow begun taken Limit = IsAtLimit v w opened flow begun taken
-ScriptEnds v w opened flow begun taken Memory = (flow ≡ opened) × (taken ≡ begun) × (w.history ≡ v.history)
+abbrev pub ScriptEnds : (ℕ → Bool) → HouseView → HouseView → Option Flow → Option Flow → Option (List ℕ) → Option (List ℕ) → SessionEnd → Type 0
+ScriptEnds clock v w opened flow begun taken Ended = IsWhole clock v w opened flow begun taken
+ScriptEnds clock v w opened flow begun taken SourceFault = IsBrokenOff clock v w opened flow begun taken
+ScriptEnds clock v w opened flow begun taken SinkFault = IsUnwritten clock v w opened flow begun taken
+ScriptEnds clock v w opened flow begun taken Limit = IsAtLimit clock v w opened flow begun taken
+ScriptEnds clock v w opened flow begun taken Memory = (flow ≡ opened) × (taken ≡ begun) × (w.history ≡ v.history)
 
 -- the end of a script, by its session's end and by whether a fault of the disk stopped the house
 abbrev pub script_end : SessionEnd → Bool → End

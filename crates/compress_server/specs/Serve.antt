@@ -38,17 +38,17 @@ abbrev pub final_of : HouseView → Final
 final_of w = record { history = w.history; stopped = is_stopped w }
 
 -- A seat's door when it was taken back, where it may serve at most so many connections: all connections that it gave were given back, and they are the seat's sessions, one after another, from the opening on, in the history of the house that came back. The seat ended where no connection was to come, where it had served as many as it may, where the door failed or for want of memory.
-pub record IsSeat (most_visits : ℕ) (lock : LockId) (v w : HouseView) (number : ℕ) (door : Visits) (end : SeatEnd) : Type 0 where
+pub record IsSeat (clock : ℕ → Bool) (most_visits : ℕ) (lock : LockId) (v w : HouseView) (number : ℕ) (door : Visits) (end : SeatEnd) : Type 0 where
   pub none_out : door.out ≡ 0
   pub few : length door.back ≤ most_visits
   pub most : end ≡ seat_end.Most → length door.back ≡ most_visits
   pub over : end ≡ seat_end.Over → door.coming ≡ []
-  pub served : AreServed (final_of w) (seat_at lock v number) (end_of v.history) false door.back end
+  pub served : AreServed clock (final_of w) (seat_at lock v number) (end_of v.history) false door.back end
 
 -- the same of a door that may tell nothing
-abbrev pub IsSeatAt : ℕ → LockId → HouseView → HouseView → ℕ → Option Visits → SeatEnd → Type 0
-IsSeatAt most_visits lock v w number None end = Unit {0}
-IsSeatAt most_visits lock v w number (Some door) end = IsSeat most_visits lock v w number door end
+abbrev pub IsSeatAt : (ℕ → Bool) → ℕ → LockId → HouseView → HouseView → ℕ → Option Visits → SeatEnd → Type 0
+IsSeatAt clock most_visits lock v w number None end = Unit {0}
+IsSeatAt clock most_visits lock v w number (Some door) end = IsSeat clock most_visits lock v w number door end
 
 -- whether a seat ended for want of memory, and whether its door failed
 abbrev pub had_no_memory : SeatEnd → Bool
@@ -144,10 +144,18 @@ module _ {D : Type 0} (visits : D → Option Visits) where
   HaveGiven doors k [] = Unit {0}
   HaveGiven doors k (seat ∷ seats) = HasGivenAt doors k (visits seat.door) × HaveGiven doors (k + 1) seats
 
+  -- The seats could not begin, and the history is what it was. No door was asked for a connection.
+  pub record IsUnbegun (address : List ℕ) (v w : HouseView) (output output' : OutputState) (listener listener' : ListenerState) (end : End) : Type 0 where
+    pub same : w ≡ v
+    pub none_written : output' ≡ output
+    pub unasked : IsUnasked address listener.doors listener'.doors
+    pub why : (end ≡ Memory) ⊎ ((end ≡ ListenerFault) × Rose listener.faults listener'.faults)
+
+module _ {D : Type 0} (clock : ℕ → Bool) (visits : D → Option Visits) where
   -- these seats, the first with this number and the next with the one above, each of which may serve so many connections, are what came of the house v, which is then w
   abbrev pub AreSeats : ℕ → LockId → HouseView → HouseView → ℕ → List (SeatRun D) → Type 0
   AreSeats most_visits lock v w number [] = Unit {0}
-  AreSeats most_visits lock v w number (seat ∷ seats) = IsSeatAt most_visits lock v w number (visits seat.door) seat.end × AreSeats most_visits lock v w (number + 1) seats
+  AreSeats most_visits lock v w number (seat ∷ seats) = IsSeatAt clock most_visits lock v w number (visits seat.door) seat.end × AreSeats most_visits lock v w (number + 1) seats
 
   -- So many seats served beside one another, over the house v, which is then w. Its history has grown, and each new entry is of one of them.
   pub record HaveServed (plan : ServicePlan) (v w : HouseView) (seats : List (SeatRun D)) : Type 0 where
@@ -158,19 +166,12 @@ module _ {D : Type 0} (visits : D → Option Visits) where
     pub lock : LockId
     pub each : AreSeats plan.connections lock v w 1 seats
 
-  -- The seats could not begin, and the history is what it was. No door was asked for a connection.
-  pub record IsUnbegun (address : List ℕ) (v w : HouseView) (output output' : OutputState) (listener listener' : ListenerState) (end : End) : Type 0 where
-    pub same : w ≡ v
-    pub none_written : output' ≡ output
-    pub unasked : IsUnasked address listener.doors listener'.doors
-    pub why : (end ≡ Memory) ⊎ ((end ≡ ListenerFault) × Rose listener.faults listener'.faults)
-
   -- The listener listened at the address, the seats served, each what was to come to its door, the line of the history's length was written, and the doors were taken back. Where a door failed, the listener's count rose.
   pub record IsService (plan : ServicePlan) (v w : HouseView) (output output' : OutputState) (listener listener' : ListenerState) (end : End) : Type 0 where
     pub seats : List (SeatRun D)
     pub served : HaveServed plan v w seats
-    pub returned : Returned plan.address listener.doors listener'.doors (map (λ (seat : SeatRun D). seat.door) seats)
-    pub given : HaveGiven listener.doors 0 seats
+    pub returned : Returned visits plan.address listener.doors listener'.doors (map (λ (seat : SeatRun D). seat.door) seats)
+    pub given : HaveGiven visits listener.doors 0 seats
     pub written : Bool
     pub wrote : IsWritten output output' (history_line (end_of w.history)) written
     pub told : end ≡ service_end (list_any (λ seat. had_no_memory seat.end) seats) (list_any (λ seat. had_door_fault seat.end) seats) (is_stopped w) written
@@ -179,7 +180,7 @@ module _ {D : Type 0} (visits : D → Option Visits) where
   -- by the end of a service over a house that was just opened
   abbrev pub HouseServes : ServicePlan → HouseView → HouseView → OutputState → OutputState → ListenerState → ListenerState → End → Type 0
   HouseServes plan v w output output' listener listener' end =
-      IsUnbegun plan.address v w output output' listener listener' end ⊎ IsService plan v w output output' listener listener' end
+      IsUnbegun visits plan.address v w output output' listener listener' end ⊎ IsService plan v w output output' listener listener' end
 
   -- by the end of a service over these rows
   abbrev pub ServiceRuns : ServicePlan → Rows → Seen → Seen → End → Type 0

@@ -1,5 +1,5 @@
 -- What the program tells of its end: its status, and a line on the errors.
-use Rattle.std.specs.Prelude.{◌≡◌, ◌⊎◌, ℕ, List, Option}
+use Rattle.std.specs.Prelude.{◌≡◌, ◌⊎◌, ℕ, Bool, List, Option}
 use Rattle.compress_server.specs.declared.load.LoadFault.TheVariants.{Files, Faulty, Memory as NoMemory}
 use Rattle.compress_server.specs.declared.ending.End.{End}
 use Rattle.compress_server.specs.declared.ending.End.TheVariants.{Done, No, BadWords, Unloaded, Damaged, DiskFault, Stopped, ListenerFault, SourceFault, SinkFault, Limit, Memory}
@@ -38,8 +38,8 @@ TellsEnd begun taken before after Limit status = IsStatus begun taken before aft
 TellsEnd begun taken before after Memory status = IsStatus begun taken before after 9 status
 
 -- From before to after the program did what its words ask for, up to an end whose status this is.
-pub record Ends {D : Type 0} (visits : D → Option Visits) (form : Option Form) (before after : World) (status : ℕ) : Type 0 where
+pub record Ends {D : Type 0} (clock : ℕ → Bool) (visits : D → Option Visits) (form : Option Form) (before after : World) (status : ℕ) : Type 0 where
   pub end : End
-  pub runs : Runs visits before.files.folder form before.input.flow after.input.flow before.seen after.seen end
+  pub runs : Runs clock visits before.files.folder form before.input.flow after.input.flow before.seen after.seen end
   pub tells : TellsEnd before.errors.taken after.errors.taken before.errors.faults after.errors.faults end status
   pub counted : IsCounted (Rose before.files.faults after.files.faults) (Rose before.input.faults after.input.faults) (Rose before.seen.output.faults after.seen.output.faults) end

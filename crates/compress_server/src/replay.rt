@@ -21,16 +21,16 @@ ghost use Rattle.compress_server.specs.Told.{rows_told, reply_told, end_text, re
 
 use crate::ending::End;
 use crate::load::{LoadFault, load_roster};
-use command_types::{Answer, Ask, Listed, Reply, Roster, TradeRow, What};
+use command_types::{Answer, Ask, Listed, Moment, Roster, TradeRow, What};
 use cycle_states::Machine;
-use house::{Executions, OpenFault, Recovered, recover_noting};
+use house::{Dated, Executions, OpenFault, Recovered, recover_noting};
 use outside::{Disk, Files, Sink, write_all};
 use statements::{DetailRow, ExecutionLine, put_row};
 use std::alloc::{AllocError, Global};
 use units_core::{MemberNo, print_u128};
 
 /// How many bytes a line has at most.
-const LINE: usize = 136;
+const LINE: usize = 154;
 
 // Puts the line of a row behind the text. The only error is want of memory, as below.
 fn push_row(text: &mut Vec<u8>, roster: &Roster, row: &DetailRow) -> Result<(), AllocError>
@@ -60,6 +60,7 @@ fn trades_of(machine: &Machine, member: u16) -> Result<Listed<TradeRow>, AllocEr
     let ask = Ask {
         by: Some(row.name),
         what: What::Statement,
+        moment: Moment::new(0),
     };
     match machine.answer(&ask)? {
         Answer::Statement { rows } => Ok(rows),
@@ -95,11 +96,12 @@ fn push_members(text: &mut Vec<u8>, machine: &Machine) -> Result<(), AllocError>
     Ok(())
 }
 
-// Puts the line of a reply behind the text, if it tells an execution. One that touched nobody changed no trade.
-fn push_reply(text: &mut Vec<u8>, roster: &Roster, reply: &Reply) -> Result<(), AllocError>
-    ensures { OnOk result (text.new.items ≡ text.old.items ++ reply_told reply.now) }
+// Puts the line of a reply and that of its moment behind the text, if it tells an execution. One that touched nobody changed no
+// trade.
+fn push_reply(text: &mut Vec<u8>, roster: &Roster, dated: &Dated) -> Result<(), AllocError>
+    ensures { OnOk result (text.new.items ≡ text.old.items ++ reply_told dated.now) }
 {
-    let (cycle, version, ended, cut, made) = match reply.answer {
+    let (cycle, version, ended, cut, made) = match dated.reply.answer {
         Answer::Executed {
             cycle,
             version,
@@ -111,17 +113,18 @@ fn push_reply(text: &mut Vec<u8>, roster: &Roster, reply: &Reply) -> Result<(), 
         _ => return Ok(()),
     };
     let line = ExecutionLine {
-        position: reply.at,
+        position: dated.reply.at,
         cycle,
         version,
         ended,
         cut,
         made,
     };
-    push_row(text, roster, &DetailRow::Execution(line))
+    push_row(text, roster, &DetailRow::Execution(line))?;
+    push_row(text, roster, &DetailRow::Asked(dated.moment))
 }
 
-fn push_replies(text: &mut Vec<u8>, roster: &Roster, replies: &[Reply]) -> Result<(), AllocError>
+fn push_replies(text: &mut Vec<u8>, roster: &Roster, replies: &[Dated]) -> Result<(), AllocError>
     ensures { OnOk result (text.new.items ≡ text.old.items ++ lines_text reply_told replies.now) }
 {
     for reply in replies {

@@ -20,7 +20,7 @@ use command_types::Roster;
 use cycle_lock::Turns;
 use house::House;
 use network_laws::Solver;
-use outside::{Disk, Files, Gate, Sink, Source};
+use outside::{Clock, Disk, Files, Gate, Sink, Source};
 use session::{Host, SessionEnd};
 use std::sync::Wait;
 use std::thread::Threads;
@@ -49,13 +49,13 @@ fn end_of_script(end: SessionEnd, stopped: bool) -> End
 
 /// A script whose roster was read: what it runs with, that roster, and the form's words.
 #[derive(Drop)]
-pub struct Script<'a, R: Threads + Wait + Sync, V: Solver, G: Gate> {
-    pub with: &'a Resources<'a, R, V, G>,
+pub struct Script<'a, R: Threads + Wait + Sync, V: Solver, G: Gate, T: Clock> {
+    pub with: &'a Resources<'a, R, V, G, T>,
     pub roster: &'a Roster,
     pub words: &'a ScriptWords<'a>,
 }
 
-impl<'a, R: Threads + Wait + Sync, V: Solver, G: Gate> Script<'a, R, V, G> {
+impl<'a, R: Threads + Wait + Sync, V: Solver, G: Gate, T: Clock> Script<'a, R, V, G, T> {
     // Serves one session under seat 0, over a house that was just opened. Where memory for the lock or the session's buffers
     // is not to be had, nothing is read or written.
     fn serve_house<D: Disk + Send, S: Source, K: Sink>(
@@ -67,7 +67,7 @@ impl<'a, R: Threads + Wait + Sync, V: Solver, G: Gate> Script<'a, R, V, G> {
         requires opened { end_of house.history ≡ (figures_of house).opening }
         requires roster { self.now.roster.now ≡ house.history.base.state.roster }
         requires running { is_stopped house ≡ false }
-        ensures ends { ScriptEnds house result.1 (S.flow input.old) (S.flow input.new) (K.taken output.old) (K.taken output.new) result.0 }
+        ensures ends { ScriptEnds (T.tells self.now.with.now.clock.now) house result.1 (S.flow input.old) (S.flow input.new) (K.taken output.old) (K.taken output.new) result.0 }
         ensures figures { figures_of result.1 ≡ figures_of house }
         ensures source_fault { result.0 ≡ SessionEnd.SourceFault → Rose (S.faults input.old) (S.faults input.new) }
         ensures sink_fault { result.0 ≡ SessionEnd.SinkFault → Rose (K.faults output.old) (K.faults output.new) }
@@ -79,6 +79,7 @@ impl<'a, R: Threads + Wait + Sync, V: Solver, G: Gate> Script<'a, R, V, G> {
         let host = Host {
             alloc: self.with.alloc,
             workers: self.with.workers(self.words.workers),
+            clock: self.with.clock,
             roster: self.roster,
         };
         let (end, pass) = host.serve(&turns, pass, input, output);
@@ -95,7 +96,7 @@ impl<'a, R: Threads + Wait + Sync, V: Solver, G: Gate> Script<'a, R, V, G> {
         requires settled { IsSettled (D.history disk) }
         requires roster { IsRoster self.now.roster.now }
         ensures runs { let seen = disk_by D.Disk in
-            JournalRuns self.now.roster.now (S.flow input.old) (S.flow input.new) (K.taken output.old) (K.taken output.new) (seen disk) (seen result.1) result.0 }
+            JournalRuns (T.tells self.now.with.now.clock.now) self.now.roster.now (S.flow input.old) (S.flow input.new) (K.taken output.old) (K.taken output.new) (seen disk) (seen result.1) result.0 }
         ensures source_fault { result.0 ≡ End.SourceFault → Rose (S.faults input.old) (S.faults input.new) }
         ensures sink_fault { result.0 ≡ End.SinkFault → Rose (K.faults output.old) (K.faults output.new) }
     {
@@ -115,12 +116,13 @@ pub fn run_script<
     R: Threads + Wait + Sync,
     V: Solver,
     G: Gate,
+    T: Clock,
     F: Files,
     S: Source,
     K: Sink,
     D: Disk + Send,
 >(
-    with: &Resources<'_, R, V, G>,
+    with: &Resources<'_, R, V, G, T>,
     files: &mut F,
     words: &ScriptWords<'_>,
     input: &mut S,
@@ -129,7 +131,7 @@ pub fn run_script<
 ) -> (End, D)
     requires { IsSettled (D.history disk) }
     ensures runs { let seen = disk_by D.Disk in
-        ScriptRuns (F.folder files.old) words.now.roster.now (S.flow input.old) (S.flow input.new)
+        ScriptRuns (T.tells with.now.clock.now) (F.folder files.old) words.now.roster.now (S.flow input.old) (S.flow input.new)
         (K.taken output.old) (K.taken output.new) (seen disk) (seen result.1) result.0 }
     ensures stays { F.folder files.new ≡ F.folder files.old }
     ensures source_fault { result.0 ≡ End.SourceFault → Rose (S.faults input.old) (S.faults input.new) }

@@ -31,7 +31,7 @@ use doors::{Door, Listener};
 use house::House;
 use itoa::Buffer;
 use network_laws::Solver;
-use outside::{Disk, Files, Gate, Sink, Trouble, write_all};
+use outside::{Clock, Disk, Files, Gate, Sink, Trouble, write_all};
 use seats::{Place, SeatEnd, Service};
 use session::Host;
 use std::sync::Wait;
@@ -83,13 +83,13 @@ fn end_of_service<C: Door + Drop>(places: &[Place<C>], stopped: bool, written: b
 
 /// What all seats have in common: what they run with, the desk's roster, and the form's words.
 #[derive(Drop)]
-pub struct Seating<'a, R: Threads + Wait + Sync, V: Solver, G: Gate> {
-    pub with: &'a Resources<'a, R, V, G>,
+pub struct Seating<'a, R: Threads + Wait + Sync, V: Solver, G: Gate, T: Clock> {
+    pub with: &'a Resources<'a, R, V, G, T>,
     pub roster: &'a Roster,
     pub words: &'a ServiceWords<'a>,
 }
 
-impl<'a, R: Threads + Wait + Sync, V: Solver, G: Gate> Seating<'a, R, V, G> {
+impl<'a, R: Threads + Wait + Sync, V: Solver, G: Gate, T: Clock> Seating<'a, R, V, G, T> {
     // Has the seats serve over a house that was just opened. Where there is no memory for the lock, none begins.
     fn serve_house<D: Disk + Send, C: Door + Drop>(
         &self,
@@ -101,7 +101,7 @@ impl<'a, R: Threads + Wait + Sync, V: Solver, G: Gate> Seating<'a, R, V, G> {
         requires running { is_stopped house ≡ false }
         requires count { length places.old ≡ self.now.words.now.seats.value }
         requires new { All (λ place. IsNew (C.visits place.door) × (C.faults place.door ≡ 0)) places.old }
-        ensures served { IfOk result (λ w. HaveServed C.visits (plan_of self.now.words.now) house w (runs_of places.new)) }
+        ensures served { IfOk result (λ w. HaveServed (T.tells self.now.with.now.clock.now) C.visits (plan_of self.now.words.now) house w (runs_of places.new)) }
         ensures figures { IfOk result (λ w. figures_of w ≡ figures_of house) }
         ensures given { OnOk result (EachPlace (λ k old new. HasGivenSince (C.visits old.door) (C.visits new.door)) places.old places.new) }
         ensures counted { OnOk result (All (λ place. place.end ≡ SeatEnd.DoorFault → 0 < C.faults place.door) places.new) }
@@ -115,6 +115,7 @@ impl<'a, R: Threads + Wait + Sync, V: Solver, G: Gate> Seating<'a, R, V, G> {
         let host = Host {
             alloc: self.with.alloc,
             workers: self.with.workers(self.words.workers),
+            clock: self.with.clock,
             roster: self.roster,
         };
         let service = Service {
@@ -136,7 +137,7 @@ impl<'a, R: Threads + Wait + Sync, V: Solver, G: Gate> Seating<'a, R, V, G> {
         requires running { is_stopped house ≡ false }
         requires told { L.idle listener.old ≡ self.now.words.now.idle }
         ensures serves { let doors = listener_by L.doors L.faults in
-            HouseServes L.Door.visits (plan_of self.now.words.now) house result.1
+            HouseServes (T.tells self.now.with.now.clock.now) L.Door.visits (plan_of self.now.words.now) house result.1
             (output_by K.Sink output.old) (output_by K.Sink output.new) (doors listener.old) (doors listener.new) result.0 }
         ensures figures { figures_of result.1 ≡ figures_of house }
         ensures waits { L.idle listener.new ≡ L.idle listener.old }
@@ -182,12 +183,13 @@ fn open_and_serve<
     R: Threads + Wait + Sync,
     V: Solver,
     G: Gate,
+    T: Clock,
     F: Files,
     K: Sink,
     D: Disk + Send,
     L: Listener,
 >(
-    with: &Resources<'_, R, V, G>,
+    with: &Resources<'_, R, V, G, T>,
     files: &mut F,
     words: &ServiceWords<'_>,
     output: &mut K,
@@ -197,7 +199,7 @@ fn open_and_serve<
     requires settled { IsSettled (D.history disk) }
     requires told { L.idle listener.old ≡ words.now.idle }
     ensures runs { let seen = seen_by K.Sink D.Disk L.doors L.faults in
-        ServeRuns L.Door.visits (F.folder files.old) words.now.roster.now (plan_of words.now)
+        ServeRuns (T.tells with.now.clock.now) L.Door.visits (F.folder files.old) words.now.roster.now (plan_of words.now)
         (seen output.old disk listener.old) (seen output.new result.1 listener.new) result.0 }
     ensures stays { F.folder files.new ≡ F.folder files.old }
     ensures sink_fault { result.0 ≡ End.SinkFault → Rose (K.faults output.old) (K.faults output.new) }
@@ -227,12 +229,13 @@ pub fn run_serve<
     R: Threads + Wait + Sync,
     V: Solver,
     G: Gate,
+    T: Clock,
     F: Files,
     K: Sink,
     D: Disk + Send,
     L: Listener,
 >(
-    with: &Resources<'_, R, V, G>,
+    with: &Resources<'_, R, V, G, T>,
     files: &mut F,
     words: &ServiceWords<'_>,
     output: &mut K,
@@ -241,7 +244,7 @@ pub fn run_serve<
 ) -> (End, D)
     requires { IsSettled (D.history disk) }
     ensures runs { let seen = seen_by K.Sink D.Disk L.doors L.faults in
-        ServeRuns L.Door.visits (F.folder files.old) words.now.roster.now (plan_of words.now)
+        ServeRuns (T.tells with.now.clock.now) L.Door.visits (F.folder files.old) words.now.roster.now (plan_of words.now)
         (seen output.old disk listener.old) (seen output.new result.1 listener.new) result.0 }
     ensures idle { L.idle listener.new ≡ words.now.idle }
     ensures stays { F.folder files.new ≡ F.folder files.old }

@@ -25,7 +25,7 @@ use crate::words::{Form, read_words};
 use command_types::FileFault;
 use doors::Listener;
 use network_laws::Solver;
-use outside::{Disk, Files, Gate, Sink, Source, write_all};
+use outside::{Clock, Disk, Files, Gate, Sink, Source, write_all};
 use path_solver::PathSolver;
 use std::alloc::Global;
 use std::sync::Wait;
@@ -87,13 +87,14 @@ fn run_form<
     R: Threads + Wait + Sync,
     V: Solver,
     G: Gate,
+    T: Clock,
     F: Files,
     S: Source,
     K: Sink,
     D: Disk + Send,
     L: Listener,
 >(
-    with: &Resources<'_, R, V, G>,
+    with: &Resources<'_, R, V, G, T>,
     words: &[String],
     files: &mut F,
     input: &mut S,
@@ -103,7 +104,7 @@ fn run_form<
 ) -> (End, D)
     requires { IsSettled (D.history disk) }
     ensures runs { let seen = seen_by K.Sink D.Disk L.doors L.faults in
-        Runs L.Door.visits (F.folder files.old) (form_of (map string_bytes words.now)) (S.flow input.old) (S.flow input.new)
+        Runs (T.tells with.now.clock.now) L.Door.visits (F.folder files.old) (form_of (map string_bytes words.now)) (S.flow input.old) (S.flow input.new)
         (seen output.old disk listener.old) (seen output.new result.1 listener.new) result.0 }
     ensures idle { L.idle listener.new ≡ idle_after (form_of (map string_bytes words.now)) (L.idle listener.old) }
     ensures stays { F.folder files.new ≡ F.folder files.old }
@@ -214,7 +215,8 @@ fn run_form<
 /// - 11: the files failed at one of them, and the files before it have no fault.
 ///
 /// At 2, 3, 7, 9 and 11 nothing was read from the input or written to the output. A check, a solve, a gen and a replay read
-/// no input; the first three leave the disk alone. For each status but 0 and 1 one line goes to the errors.
+/// no input; the first three leave the disk alone. For each status but 0 and 1 one line goes to the errors. The moment of each
+/// command is one that the clock tells.
 pub fn run<
     R: Threads + Wait + Sync,
     F: Files,
@@ -224,6 +226,7 @@ pub fn run<
     D: Disk + Send,
     L: Listener,
     G: Gate,
+    T: Clock,
 >(
     rt: &R,
     alloc: Global,
@@ -235,11 +238,12 @@ pub fn run<
     disk: D,
     listener: &mut L,
     gate: &G,
+    clock: &T,
 ) -> (u8, D)
     requires { IsSettled (D.history disk) }
     ensures ends { let seen = seen_by K.Sink D.Disk L.doors L.faults in
         let world = world_by F.Files S.Source E.Sink seen in
-        Ends L.Door.visits (form_of (map string_bytes words.now)) (world files.old input.old errors.old output.old disk listener.old)
+        Ends (T.tells clock.now) L.Door.visits (form_of (map string_bytes words.now)) (world files.old input.old errors.old output.old disk listener.old)
         (world files.new input.new errors.new output.new result.1 listener.new) result.0 }
     ensures idle { L.idle listener.new ≡ idle_after (form_of (map string_bytes words.now)) (L.idle listener.old) }
     ensures files { F.folder files.new ≡ F.folder files.old }
@@ -250,6 +254,7 @@ pub fn run<
         alloc,
         solver: &solver,
         gate,
+        clock,
     };
     let (end, disk) = run_form(&with, words, files, input, output, disk, listener);
     (tell_end(alloc, errors, end), disk)

@@ -42,6 +42,7 @@ no_figures = record {
   base = record { position = 0; state = empty_state record { members = []; products = []; operator = None } };
   opening = 0;
   journal = None;
+  votes_take_memory = false;
 }
 
 -- what a pass that was taken in has seen

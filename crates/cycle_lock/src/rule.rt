@@ -1,6 +1,20 @@
 //! What a seat at the table knows, and the rule that every step keeps. Word 0 of the table is the history's length,
 //! word 1 the next ticket, word 2 the ticket that is served, word 3 the next number. The others are bells, on which seats sleep,
 //! and may be any numbers. The one slot has the desk.
+//!
+//! The stages of a seat, with the steps between them (`plays.rt`):
+//!
+//! ```text
+//!     Resting --Draw, word 1--> Waiting --Look, word 2 is its ticket--> HasTurn --PassOn, word 2--> Passed
+//!        ^                                                                 |                          |
+//!        |                                         the desk is asked, and then Note, word 0           |
+//!        +------ LookBehind, word 1, where nobody drew the next ticket; else Ring, its bell ----------+
+//!
+//!     Resting --Number, word 3--> Drawn --Cut, a seat is split off--> Resting
+//!     Resting --Host, a seat is taken in--> Joined --Settle, word 0--> Resting
+//! ```
+//!
+//! `call` goes the first way (`turns/calls.rt`, `steps.rt`), `split` and `join` the others (`turns/shares.rt`).
 
 use atomic_table::TableRule;
 use command_types::{Desk, Entry, Figures};

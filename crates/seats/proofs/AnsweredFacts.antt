@@ -58,16 +58,16 @@ unfolding took_of
 unserved_took visit e = ap (took_of []) e
 
 module _ (seat : Seat) (h : History) (n m : ℕ) (stopped stop : Bool) (visit : Visit) (others : List Visit) (out : SeatEnd) (runs : stop ≡ false) (faultless : IsFaultless visit) where
-  visit_answered : (end : SessionEnd) → SessionEnds (sight_at seat h n stopped) (opened_in visit) (flow_in visit) (Some []) (Some visit.took) (sight_at seat h m stop) end →
+  visit_answered : (clock : ℕ → Bool) (end : SessionEnd) → SessionEnds clock (sight_at seat h n stopped) (opened_in visit) (flow_in visit) (Some []) (Some visit.took) (sight_at seat h m stop) end →
       (end ≡ session_end.SourceFault → 0 < visit.input_faults) → (end ≡ session_end.SinkFault → 0 < visit.output_faults) → MayGoOn end others out →
       IsVisitAnswered seat.figures h seat.number visit ⊎ FoundNoMemory visit others out
-  visit_answered session_end.Ended ends source sink may =
-      inl (in_whole visit seat h m false (ended_answered (sight_at seat h n stopped) (sight_at seat h m stop) (opened_in visit) (flow_in visit) (Some []) (Some visit.took) ends runs))
-  visit_answered session_end.Limit ends source sink may =
-      inl (in_whole visit seat h m true (limited_answered (sight_at seat h n stopped) (sight_at seat h m stop) (opened_in visit) (flow_in visit) (Some []) (Some visit.took) ends runs))
-  visit_answered session_end.SourceFault ends source sink may = let some = source refl in absurd (omega (arith, some, faultless.0))
-  visit_answered session_end.SinkFault ends source sink may = let some = sink refl in absurd (omega (arith, some, faultless.1))
-  visit_answered session_end.Memory (same, none, still) source sink may = inr (record {
+  visit_answered clock session_end.Ended ends source sink may =
+      inl (in_whole visit seat h m false (ended_answered clock (sight_at seat h n stopped) (sight_at seat h m stop) (opened_in visit) (flow_in visit) (Some []) (Some visit.took) ends runs))
+  visit_answered clock session_end.Limit ends source sink may =
+      inl (in_whole visit seat h m true (limited_answered clock (sight_at seat h n stopped) (sight_at seat h m stop) (opened_in visit) (flow_in visit) (Some []) (Some visit.took) ends runs))
+  visit_answered clock session_end.SourceFault ends source sink may = let some = source refl in absurd (omega (arith, some, faultless.0))
+  visit_answered clock session_end.SinkFault ends source sink may = let some = sink refl in absurd (omega (arith, some, faultless.1))
+  visit_answered clock session_end.Memory (same, none, still) source sink may = inr (record {
     gave = unserved_gave visit same;
     took = unserved_took visit none;
     last = (may refl).0;
@@ -77,14 +77,14 @@ module _ (seat : Seat) (h : History) (n m : ℕ) (stopped stop : Bool) (visit : 
 -- ---- a seat
 
 module _ (final : Final) (runs : final.stopped ≡ false) (seat : Seat) where
-  visits_answered : (n : ℕ) (stopped : Bool) (visits : List Visit) (out : SeatEnd) → AreServed final seat n stopped visits out →
+  visits_answered : (clock : ℕ → Bool) (n : ℕ) (stopped : Bool) (visits : List Visit) (out : SeatEnd) → AreServed clock final seat n stopped visits out →
       (stopped ≡ false) × AreVisitsAnswered seat.figures final.history seat.number visits out
-  visits_answered n stopped [] out (none, stops) = (no_stop stopped final.stopped stops runs, tt)
-  visits_answered n stopped (visit ∷ visits) out (m, stop, up, within, first, may, rest) =
-      let on = visits_answered m stop visits out rest in (
-        session_ran (sight_at seat final.history n stopped) (sight_at seat final.history m stop) (opened_in visit) (flow_in visit) (Some []) (Some visit.took) on.0 first.end first.ends,
-        (λ faultless. visit_answered seat final.history n m stopped stop visit visits out on.0 faultless first.end first.ends first.source_fault first.sink_fault may, on.1),
+  visits_answered clock n stopped [] out (none, stops) = (no_stop stopped final.stopped stops runs, tt)
+  visits_answered clock n stopped (visit ∷ visits) out (m, stop, up, within, first, may, rest) =
+      let on = visits_answered clock m stop visits out rest in (
+        session_ran (sight_at seat final.history n stopped) (sight_at seat final.history m stop) (opened_in visit) (flow_in visit) (Some []) (Some visit.took) on.0 clock first.end first.ends,
+        (λ faultless. visit_answered seat final.history n m stopped stop visit visits out on.0 faultless clock first.end first.ends first.source_fault first.sink_fault may, on.1),
       )
 
 pub connections_are_answered : ConnectionsAreAnswered
-connections_are_answered final seat n stopped visits end served runs = (visits_answered final runs seat n stopped visits end served).1
+connections_are_answered clock final seat n stopped visits end served runs = (visits_answered final runs seat clock n stopped visits end served).1

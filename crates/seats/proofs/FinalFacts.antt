@@ -1,5 +1,5 @@
 -- What seats did, in a history that goes on.
-use Rattle.std.proofs.Common.{◌≡◌, ℕ, ◌-◌, ◌≤◌, true, Option, Some, None, List, [], ◌∷◌, ◌++◌, length, take, drop, refl, sym, subst, ap, ◌∙◌, append_assoc, arith}
+use Rattle.std.proofs.Common.{◌≡◌, ℕ, ◌-◌, ◌≤◌, Bool, true, Option, Some, None, List, [], ◌∷◌, ◌++◌, length, take, drop, refl, sym, subst, ap, ◌∙◌, append_assoc, arith}
 use Rattle.std.proofs.lemmas.List.{append-nil, length-append, take-append-le, take_all}
 use Rattle.command_types.specs.declared.ask.Entry.{Entry}
 use Rattle.command_types.specs.History.{History, end_of, longer, cut_after, entries_of_seat}
@@ -23,14 +23,14 @@ abbrev Begins : History → History → Type 0
 Begins h g = (more : List Entry) × (h ≡ longer g more)
 
 -- what came by one connection, and by all
-visit_grows : (old new : Sight) (visit : Visit) → IsVisit old new visit → (made : List Entry) × Grows old new made
-visit_grows old new visit v = ends_grow old (Some (record { given = []; left = input_of visit })) (Some (record { given = visit.gave; left = visit.left })) (Some []) (Some visit.took) new v.end v.ends
+visit_grows : {clock : ℕ → Bool} (old new : Sight) (visit : Visit) → IsVisit clock old new visit → (made : List Entry) × Grows old new made
+visit_grows {clock} old new visit v = ends_grow clock old (Some (record { given = []; left = input_of visit })) (Some (record { given = visit.gave; left = visit.left })) (Some []) (Some visit.took) new v.end v.ends
 
-pub visits_grow : (old new : Sight) (visits : List Visit) (out : SeatEnd) → AreVisits old visits new out → (made : List Entry) × Grows old new made
-visits_grow old new [] out same = let P : Sight → Type 0 = λ s. Grows old s [] in ([], subst P (sym same) (grows_none old))
-visits_grow old new (visit ∷ visits) out (mid, first, may, rest) =
+pub visits_grow : (clock : ℕ → Bool) (old new : Sight) (visits : List Visit) (out : SeatEnd) → AreVisits clock old visits new out → (made : List Entry) × Grows old new made
+visits_grow clock old new [] out same = let P : Sight → Type 0 = λ s. Grows old s [] in ([], subst P (sym same) (grows_none old))
+visits_grow clock old new (visit ∷ visits) out (mid, first, may, rest) =
     let a = visit_grows old mid visit first in
-    let b = visits_grow mid new visits out rest in
+    let b = visits_grow clock mid new visits out rest in
     (a.0 ++ b.0, grows_both old mid new a.0 b.0 a.1 b.1)
 
 -- what a sight has seen is the history up to its end
@@ -51,18 +51,18 @@ seen_at : (seat : Seat) (h : History) (s : Sight) → s.seat ≡ seat → Begins
 seen_at seat h s same on = λ i. record { seat = same i; history = sym (cut_there h s.history on) i; stopped = s.stopped }
 
 -- The sessions of a seat stand in the final history, at positions that never fall.
-pub are_served : (final : Final) (seat : Seat) (old new : Sight) (visits : List Visit) (out : SeatEnd) → old.seat ≡ seat → Begins final.history new.history → entries_of_seat final.history seat.number (end_of new.history) ≡ [] →
-    (new.stopped ≡ true → final.stopped ≡ true) → AreVisits old visits new out → AreServed final seat (end_of old.history) old.stopped visits out
-are_served final seat old new [] out same on none stops is =
+pub are_served : (clock : ℕ → Bool) (final : Final) (seat : Seat) (old new : Sight) (visits : List Visit) (out : SeatEnd) → old.seat ≡ seat → Begins final.history new.history → entries_of_seat final.history seat.number (end_of new.history) ≡ [] →
+    (new.stopped ≡ true → final.stopped ≡ true) → AreVisits clock old visits new out → AreServed clock final seat (end_of old.history) old.stopped visits out
+are_served clock final seat old new [] out same on none stops is =
     let P : Sight → Type 0 = λ s. (entries_of_seat final.history seat.number (end_of s.history) ≡ []) × (s.stopped ≡ true → final.stopped ≡ true) in subst P is (none, stops)
-are_served final seat old new (visit ∷ visits) out same on none stops (mid, first, may, rest) =
+are_served clock final seat old new (visit ∷ visits) out same on none stops (mid, first, may, rest) =
     let h : History = final.history in
     let a = visit_grows old mid visit first in
-    let b = visits_grow mid new visits out rest in
+    let b = visits_grow clock mid new visits out rest in
     let here : mid.seat ≡ seat = a.1.seat ∙ same in
     let there : Begins h mid.history = goes_through h new.history mid.history on (b.1.more, b.1.grown) in
     let before : Begins h old.history = goes_through h mid.history old.history there (a.1.more, a.1.grown) in
-    let P : Sight → Sight → Type 0 = λ x y. (v : IsVisit x y visit) × (MayGoOn v.end visits out) in
+    let P : Sight → Sight → Type 0 = λ x y. (v : IsVisit clock x y visit) × (MayGoOn v.end visits out) in
     let told = subst (λ x. P x (sight_at seat h (end_of mid.history) mid.stopped)) (seen_at seat h old same before) (subst (P old) (seen_at seat h mid here there) (first, may)) in (
       end_of mid.history,
       mid.stopped,
@@ -70,7 +70,7 @@ are_served final seat old new (visit ∷ visits) out same on none stops (mid, fi
       end_grows h mid.history there,
       told.0,
       told.1,
-      are_served final seat mid new visits out here on none stops rest,
+      are_served clock final seat mid new visits out here on none stops rest,
     )
 
 -- behind what a pass had seen, its seat has no entry in the history of a pass that took it in
@@ -91,24 +91,24 @@ none_behind main q h (more, is) includes same made =
     let M : History → Type 0 = λ x. (n : ℕ) → StandsFor main n → entries_of_seat x n (figures_of main).opening ≡ made_by n main in
     subst P (sym is) (behind_main main q more includes same (subst M is made))
 
-served_told : (final : Final) (p q : Pass) (v w : Option Visits) (most : ℕ) (out : SeatEnd) (made : List Entry) → Grows (of_pass p) (of_pass q) made → Begins final.history (seen q) → entries_of_seat final.history (seat_of q) (end_of (seen q)) ≡ [] →
-    (saw_stop q ≡ true → final.stopped ≡ true) → SeatServes (of_pass p) (of_pass q) v w most out → HasServed final (of_pass p) v w most out
-served_told final p q None w most out made g on none stops serves = serves
-served_told final p q (Some v) None most out made g on none stops serves = absurd serves
-served_told final p q (Some v) (Some w) most out made g on none stops (visits, next, are) =
+served_told : (clock : ℕ → Bool) (final : Final) (p q : Pass) (v w : Option Visits) (most : ℕ) (out : SeatEnd) (made : List Entry) → Grows (of_pass p) (of_pass q) made → Begins final.history (seen q) → entries_of_seat final.history (seat_of q) (end_of (seen q)) ≡ [] →
+    (saw_stop q ≡ true → final.stopped ≡ true) → SeatServes clock (of_pass p) (of_pass q) v w most out → HasServed clock final (of_pass p) v w most out
+served_told clock final p q None w most out made g on none stops serves = serves
+served_told clock final p q (Some v) None most out made g on none stops serves = absurd serves
+served_told clock final p q (Some v) (Some w) most out made g on none stops (visits, next, are) =
     let N : ℕ → Type 0 = λ n. entries_of_seat final.history n (end_of (seen q)) ≡ [] in
-    (visits, next, are_served final (of_pass p).seat (of_pass p) (of_pass q) visits out refl on (subst N (ap (λ (s : Seat). s.number) g.seat) none) stops are)
+    (visits, next, are_served clock final (of_pass p).seat (of_pass p) (of_pass q) visits out refl on (subst N (ap (λ (s : Seat). s.number) g.seat) none) stops are)
 
 -- what a seat did stands in the final history
-pub served_finally : {T : Type 0} (turns : Turns T) (final : Final) (main : Pass) (start : Sight) (before after : Option Pass) (v w : Option Visits) (most : ℕ) (out : SeatEnd) → Continues final.history (seen main) →
+pub served_finally : {T : Type 0} (clock : ℕ → Bool) (turns : Turns T) (final : Final) (main : Pass) (start : Sight) (before after : Option Pass) (v w : Option Visits) (most : ℕ) (out : SeatEnd) → Continues final.history (seen main) →
     ((n : ℕ) → StandsFor main n → entries_of_seat final.history n (figures_of main).opening ≡ made_by n main) → (saw_stop main ≡ true → final.stopped ≡ true) →
-    ((q : Pass) → after ≡ Some q → Includes main q × (figures_of main ≡ figures_of q)) → HasPass turns start before → GoesOn turns before after → PassServes before after v w most out → HasServed final start v w most out
-served_finally turns final main start None after v w most out on made stops taken has goes serves = absurd has
-served_finally turns final main start (Some p) None v w most out on made stops taken has goes serves = absurd goes
-served_finally turns final main start (Some p) (Some q) v w most out on made stops taken (own, sight) (mine, (fresh, grows)) serves =
+    ((q : Pass) → after ≡ Some q → Includes main q × (figures_of main ≡ figures_of q)) → HasPass turns start before → GoesOn turns before after → PassServes clock before after v w most out → HasServed clock final start v w most out
+served_finally clock turns final main start None after v w most out on made stops taken has goes serves = absurd has
+served_finally clock turns final main start (Some p) None v w most out on made stops taken has goes serves = absurd goes
+served_finally clock turns final main start (Some p) (Some q) v w most out on made stops taken (own, sight) (mine, (fresh, grows)) serves =
     let t = taken q refl in
-    let P : Sight → Type 0 = λ s. HasServed final s v w most out in
-    subst P sight (served_told final p q v w most out fresh grows (goes_through final.history (seen main) (seen q) on t.0.seen_too) (none_behind main q final.history on t.0 t.1 made) (λ e. stops (t.0.stop_too e)) serves)
+    let P : Sight → Type 0 = λ s. HasServed clock final s v w most out in
+    subst P sight (served_told clock final p q v w most out fresh grows (goes_through final.history (seen main) (seen q) on t.0.seen_too) (none_behind main q final.history on t.0 t.1 made) (λ e. stops (t.0.stop_too e)) serves)
 
 -- a pass takes in itself
 pub itself : (p : Pass) → Includes p p

@@ -35,5 +35,5 @@ AreVisitsAnswered figures h number (visit ∷ others) end =
 -- the connections of a seat are answered where the desk that comes back is not stopped
 abbrev pub ConnectionsAreAnswered : Type 0
 ConnectionsAreAnswered =
-    (final : Final) (seat : Seat) (n : ℕ) (stopped : Bool) (visits : List Visit) (end : SeatEnd) →
-    AreServed final seat n stopped visits end → final.stopped ≡ false → AreVisitsAnswered seat.figures final.history seat.number visits end
+    (clock : ℕ → Bool) (final : Final) (seat : Seat) (n : ℕ) (stopped : Bool) (visits : List Visit) (end : SeatEnd) →
+    AreServed clock final seat n stopped visits end → final.stopped ≡ false → AreVisitsAnswered seat.figures final.history seat.number visits end

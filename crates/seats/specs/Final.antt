@@ -20,16 +20,16 @@ abbrev pub sight_at : Seat → History → ℕ → Bool → Sight
 sight_at seat h n stopped = record { seat = seat; history = cut_after h n; stopped = stopped }
 
 -- From the position n on, the connections were the seat's sessions, one after another: each went on from the position at which the one before ended. Behind the last the seat has no entry, and a stop that it was told is the desk's. Then the seat's work ended so.
-abbrev pub AreServed : Final → Seat → ℕ → Bool → List Visit → SeatEnd → Type 0
-AreServed final seat n stopped [] out = (entries_of_seat final.history seat.number n ≡ []) × (stopped ≡ true → final.stopped ≡ true)
-AreServed final seat n stopped (visit ∷ visits) out =
+abbrev pub AreServed : (ℕ → Bool) → Final → Seat → ℕ → Bool → List Visit → SeatEnd → Type 0
+AreServed clock final seat n stopped [] out = (entries_of_seat final.history seat.number n ≡ []) × (stopped ≡ true → final.stopped ≡ true)
+AreServed clock final seat n stopped (visit ∷ visits) out =
     (m : ℕ) × (stop : Bool) × (n ≤ m) × (m ≤ end_of final.history)
-    × (first : IsVisit (sight_at seat final.history n stopped) (sight_at seat final.history m stop) visit) × MayGoOn first.end visits out
-    × AreServed final seat m stop visits out
+    × (first : IsVisit clock (sight_at seat final.history n stopped) (sight_at seat final.history m stop) visit) × MayGoOn first.end visits out
+    × AreServed clock final seat m stop visits out
 
 -- What a seat did that began with this sight, by what its door tells: it served the door's next connections, and they stand in the final history.
-abbrev pub HasServed : Final → Sight → Option Visits → Option Visits → ℕ → SeatEnd → Type 0
-HasServed final start None after most out = after ≡ None
-HasServed final start (Some v) None most out = ⊥
-HasServed final start (Some v) (Some w) most out =
-    (visits : List Visit) × AreNext v w most out visits × AreServed final start.seat (end_of start.history) start.stopped visits out
+abbrev pub HasServed : (ℕ → Bool) → Final → Sight → Option Visits → Option Visits → ℕ → SeatEnd → Type 0
+HasServed clock final start None after most out = after ≡ None
+HasServed clock final start (Some v) None most out = ⊥
+HasServed clock final start (Some v) (Some w) most out =
+    (visits : List Visit) × AreNext v w most out visits × AreServed clock final start.seat (end_of start.history) start.stopped visits out

@@ -1,5 +1,5 @@
 -- Seats at work, each with a pass of one lock and a door.
-use Rattle.std.specs.Prelude.{◌≡◌, ℕ, ◌≤◌, ◌<◌, List, length, slice_index_or, Option, Some, None}
+use Rattle.std.specs.Prelude.{◌≡◌, ℕ, ◌≤◌, ◌<◌, Bool, List, length, slice_index_or, Option, Some, None}
 use Rattle.command_types.specs.declared.ask.Entry.{Entry}
 use Rattle.command_types.specs.declared.figures.Figures.{Figures}
 use Rattle.command_types.specs.Roster.{Rows}
@@ -46,24 +46,24 @@ GoesOn turns (Some p) None = ⊥
 GoesOn turns (Some p) (Some q) = IsPassOf turns q × ((made : List Entry) × Grows (of_pass p) (of_pass q) made)
 
 -- what a seat did by the passes that it had before and after
-abbrev pub PassServes : Option Pass → Option Pass → Option Visits → Option Visits → ℕ → SeatEnd → Type 0
-PassServes None after v w most out = ⊥
-PassServes (Some p) None v w most out = ⊥
-PassServes (Some p) (Some q) v w most out = SeatServes (of_pass p) (of_pass q) v w most out
+abbrev pub PassServes : (ℕ → Bool) → Option Pass → Option Pass → Option Visits → Option Visits → ℕ → SeatEnd → Type 0
+PassServes clock None after v w most out = ⊥
+PassServes clock (Some p) None v w most out = ⊥
+PassServes clock (Some p) (Some q) v w most out = SeatServes clock (of_pass p) (of_pass q) v w most out
 
 -- a door's count of faults never falls, and it rose where the seat's work ended for that
 pub record CountsFaults (before after : ℕ) (out : SeatEnd) : Type 0 where
   pub never_falls : before ≤ after
   pub failed : out ≡ seat_end.DoorFault → Rose before after
 
-module _ {D In Out : Type 0} (visits : D → Option Visits) (faults : D → ℕ) (most : ℕ) where
+module _ {D In Out : Type 0} (clock : ℕ → Bool) (visits : D → Option Visits) (faults : D → ℕ) (most : ℕ) where
   -- A seat worked at this place, with a pass of the lock.
   pub record Works {T : Type 0} (turns : Turns T) (old new : Place D In Out) : Type 0 where
     pub goes_on : GoesOn turns old.pass new.pass
-    pub serves : PassServes old.pass new.pass (visits old.door) (visits new.door) most new.end
+    pub serves : PassServes clock old.pass new.pass (visits old.door) (visits new.door) most new.end
     pub counts : CountsFaults (faults old.door) (faults new.door) new.end
 
   -- A seat that began with this sight worked at this place. Its sessions stand in the history of the desk that came back.
   pub record HasWorked (final : Final) (start : Sight) (old new : Place D In Out) : Type 0 where
-    pub served : HasServed final start (visits old.door) (visits new.door) most new.end
+    pub served : HasServed clock final start (visits old.door) (visits new.door) most new.end
     pub counts : CountsFaults (faults old.door) (faults new.door) new.end

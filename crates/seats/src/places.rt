@@ -9,16 +9,16 @@ use command_types::Desk;
 use cycle_lock::Turns;
 use doors::Door;
 use network_laws::Solver;
-use outside::Gate;
+use outside::{Clock, Gate};
 use std::sync::Wait;
 use std::thread;
 use std::thread::Threads;
 
-impl<'a, R: Threads + Wait + Sync, V: Solver, G: Gate> Service<'a, R, V, G> {
+impl<'a, R: Threads + Wait + Sync, V: Solver, G: Gate, C: Clock> Service<'a, R, V, G, C> {
     // One seat serves the connections of its door.
     fn serve_place<T: Desk, D: Door + Drop>(&self, turns: &Turns<T>, place: &mut Place<D>)
         requires { IsReady turns.now self.now.host.roster.now place.old.pass }
-        ensures { Works D.visits D.faults self.now.most turns.now place.old place.new }
+        ensures { Works (C.tells self.now.host.clock.now) D.visits D.faults self.now.most turns.now place.old place.new }
     {
         let Some(pass) = place.pass.take() else {
             unreachable!()
@@ -35,7 +35,7 @@ impl<'a, R: Threads + Wait + Sync, V: Solver, G: Gate> Service<'a, R, V, G> {
         places: &mut [Place<D>],
     )
         requires { All (λ place. IsReady turns.now self.now.host.roster.now place.pass) places.old }
-        ensures { EachPlace (λ k. Works D.visits D.faults self.now.most turns.now) places.old places.new }
+        ensures { EachPlace (λ k. Works (C.tells self.now.host.clock.now) D.visits D.faults self.now.most turns.now) places.old places.new }
     {
         thread::for_each_mut(
             self.host.workers.rt,
@@ -43,7 +43,7 @@ impl<'a, R: Threads + Wait + Sync, V: Solver, G: Gate> Service<'a, R, V, G> {
             64,
             &|_, place: &mut Place<D>|
                 requires { IsReady turns.now self.now.host.roster.now place.old.pass }
-                ensures { Works D.visits D.faults self.entry.now.most turns.entry.now place.old place.new }
+                ensures { Works (C.tells self.entry.now.host.clock.now) D.visits D.faults self.entry.now.most turns.entry.now place.old place.new }
             { self.serve_place(turns, place) },
         );
     }

@@ -11,7 +11,7 @@ use command_types::Desk;
 use cycle_lock::{Pass, Turns};
 use doors::Door;
 use network_laws::Solver;
-use outside::{Gate, Trouble};
+use outside::{Clock, Gate, Trouble};
 use session::{Host, SessionEnd};
 use std::sync::Wait;
 use std::thread::Threads;
@@ -31,12 +31,12 @@ pub enum SeatEnd {
 
 /// What all seats of a service serve with: the host of their sessions, and how many connections a seat serves at most.
 #[derive(Drop)]
-pub struct Service<'a, R: Threads + Wait + Sync, V: Solver, G: Gate> {
-    pub host: Host<'a, R, V, G>,
+pub struct Service<'a, R: Threads + Wait + Sync, V: Solver, G: Gate, C: Clock> {
+    pub host: Host<'a, R, V, G, C>,
     pub most: u64,
 }
 
-impl<'a, R: Threads + Wait + Sync, V: Solver, G: Gate> Service<'a, R, V, G> {
+impl<'a, R: Threads + Wait + Sync, V: Solver, G: Gate, C: Clock> Service<'a, R, V, G, C> {
     /// Serves the connections of a door with a pass, one after another. Each is given back after its session. The seat
     /// ends where none is to come, where as many were served as may be, where the door failed, and where there was no
     /// memory for a connection or at its session's start.
@@ -50,7 +50,7 @@ impl<'a, R: Threads + Wait + Sync, V: Solver, G: Gate> Service<'a, R, V, G> {
         requires roster { self.now.host.roster.now ≡ (seen pass).base.state.roster }
         ensures own { IsPassOf turns.now result.1 }
         ensures grows { (made : List Entry) × Grows (of_pass pass) (of_pass result.1) made }
-        ensures serves { SeatServes (of_pass pass) (of_pass result.1) (D.visits door.old) (D.visits door.new) self.now.most result.0 }
+        ensures serves { SeatServes (C.tells self.now.host.clock.now) (of_pass pass) (of_pass result.1) (D.visits door.old) (D.visits door.new) self.now.most result.0 }
         ensures never_falls { D.faults door.old ≤ D.faults door.new }
         ensures failed { result.0 ≡ SeatEnd.DoorFault → Rose (D.faults door.old) (D.faults door.new) }
     {

@@ -14,7 +14,7 @@ use command_types::Desk;
 use cycle_lock::{Pass, Turns};
 use doors::Door;
 use network_laws::Solver;
-use outside::Gate;
+use outside::{Clock, Gate};
 use std::sync::Wait;
 use std::thread::Threads;
 
@@ -80,7 +80,7 @@ fn take_in_all<T: Desk, D: Door + Drop>(turns: &Turns<T>, pass: &mut Pass, place
     }
 }
 
-impl<'a, R: Threads + Wait + Sync, V: Solver, G: Gate> Service<'a, R, V, G> {
+impl<'a, R: Threads + Wait + Sync, V: Solver, G: Gate, C: Clock> Service<'a, R, V, G, C> {
     /// Each place gets a seat, the first number 1, the next 2 and so on, which serves the connections of its door beside
     /// the others. When all have ended, their passes are taken in, and the desk comes back: in its history the
     /// connections of each seat are its sessions, one after another, and no number above the last seat's has an entry
@@ -100,7 +100,8 @@ impl<'a, R: Threads + Wait + Sync, V: Solver, G: Gate> Service<'a, R, V, G> {
         ensures own { entries_of_seat (T.history result) (seat_of pass) (T.figures result).opening ≡ made pass }
         ensures others { (n : ℕ) → length places.old < n → entries_of_seat (T.history result) n (T.figures result).opening ≡ [] }
         ensures stop { saw_stop pass ≡ true → T.stopped result ≡ true }
-        ensures seats { EachPlace (λ k. HasWorked D.visits D.faults self.now.most record { history = T.history result; stopped = T.stopped result } (seated (of_pass pass) (k + 1))) places.old places.new }
+        ensures seats { let clock = C.tells self.now.host.clock.now in
+            EachPlace (λ k. HasWorked clock D.visits D.faults self.now.most record { history = T.history result; stopped = T.stopped result } (seated (of_pass pass) (k + 1))) places.old places.new }
     {
         let mut main = pass;
         seat_all(&turns, &mut main, places);

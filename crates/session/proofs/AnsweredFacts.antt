@@ -1,7 +1,7 @@
 -- A session that was told of no stop is answered line by line.
 use Rattle.std.proofs.Common.{◌≡◌, ◌⊎◌, ◌<◌, ◌+◌, ℕ, Bool, true, false, cond, not, IsTrue, List, [], ◌∷◌, ◌++◌, length, Option, Some, None, Result, Ok, refl, sym, subst, ap, inl, inr, ◌∙◌, arith, append_assoc, length-append}
 use Rattle.std.specs.Prelude.{nat_lt}
-use Rattle.std.proofs.lemmas.Bool.{not-true}
+use Rattle.std.proofs.lemmas.Bool.{not-true, and_parts}
 use Rattle.std.proofs.lemmas.Bool.Decides.{nat_tests}
 use Rattle.network_laws.specs.Solutions.{SolutionData}
 use Rattle.outside.specs.Flow.{Flow, Gives, IsAtEnd}
@@ -20,12 +20,14 @@ use Rattle.command_types.specs.declared.refusal.Refusal.TheVariants.{JournalFull
 use Rattle.command_types.specs.Grammar.{line_within}
 use Rattle.command_types.specs.History.{History, longer, recorded, is_recorded, replayed_from}
 use Rattle.command_types.specs.Lines.{cut_of, lines_of}
-use Rattle.command_types.specs.Machine.{answer_to, first_of}
+use Rattle.command_types.specs.Machine.{answer_to, first_of, changes, is_refusal}
+use Rattle.command_types.specs.Offers.{answer_at}
 use Rattle.command_types.specs.Roster.{Rows}
 use Rattle.command_types.specs.Session.{Speaker, nobody, speaker_after, is_bye, Standing, Mark, mark_of, IsAsked, IsProposed, IsReplied, IsTalk, GoesOnFetched, GoesOnBegun, ask_begin, ask_fetch, ask_post}
 use Rattle.command_types.specs.Sizes.{journal_limit, frame_size}
 use Rattle.command_types.specs.Told.{IsTold, IsRecorded, IsNotRecorded, IsHouse, IsMemory, journal_size, tells_stop}
-use Rattle.command_types.proofs.StopFacts.{is_desks, machine_plain}
+use Rattle.command_types.proofs.OfferFacts.{changes_stay}
+use Rattle.command_types.proofs.StopFacts.{is_desks, answer_plain}
 use Rattle.session.specs.declared.serve.SessionEnd.{SessionEnd}
 use Rattle.session.specs.declared.serve.SessionEnd.TheVariants.{Ended, SourceFault, SinkFault, Limit, Memory}
 use Rattle.session.specs.Answered.{IsOfMachine, IsOfFullJournal, IsAnswer, IsCommandOf, IsLineAnswered, AreAnswered, IsInputAnswered, EveryLineIsAnswered}
@@ -67,10 +69,10 @@ module _ (figures : Figures) (h : History) (seat : ℕ) (ask : Ask) (reply : Rep
           back = t.back;
           split = t.split ∙ ap (λ es. es ++ t.back) r.last ∙ append_assoc r.before (entry ∷ []) t.back ∙ ap (λ es. r.before ++ (es ++ t.back)) (sym one);
           place = omega (arith, t.place, size, more);
-          same = r.same;
+          same = r.same ∙ sym (changes_stay h.base r.before ask.what (answer_to (replayed_from h.base.state r.before) ask) (and_parts (changes ask.what) (not (is_refusal reply.answer)) r.change).0);
         }
 
-    of_not_recorded : IsNotRecorded h.base.state t.front ask reply.answer → IsOfMachine h seat ask reply
+    of_not_recorded : IsNotRecorded h.base t.front ask reply.answer → IsOfMachine h seat ask reply
     of_not_recorded r =
         let none : recorded seat ask reply.answer ≡ [] = recorded_none seat ask reply.answer r.no_change in
         let more : length (recorded seat ask reply.answer) ≡ 0 = ap length none in
@@ -99,7 +101,7 @@ module _ (figures : Figures) (h : History) (seat : ℕ) (ask : Ask) (reply : Rep
           same = r.same ∙ ap (λ refusal. No refusal) alone.1;
         }
 
-    one_of : IsRecorded h.base.state t.front seat ask reply.answer ⊎ IsNotRecorded h.base.state t.front ask reply.answer ⊎ IsHouse figures.journal figures false false h.base.state t.front reply.at ask reply.answer ⊎ IsMemory reply.answer →
+    one_of : IsRecorded h.base.state t.front seat ask reply.answer ⊎ IsNotRecorded h.base t.front ask reply.answer ⊎ IsHouse figures.journal figures false false h.base.state t.front reply.at ask reply.answer ⊎ IsMemory figures ask.what reply.answer →
         IsAnswer figures h seat ask reply
     one_of (inl r) = inl (of_recorded r)
     one_of (inr (inl r)) = inl (of_not_recorded r)
@@ -111,9 +113,9 @@ module _ (figures : Figures) (h : History) (seat : ℕ) (ask : Ask) (reply : Rep
 
   -- no such answer tells a stop
   answer_runs : IsAnswer figures h seat ask reply → tells_stop reply.answer ≡ false
-  answer_runs (inl m) = ap tells_stop m.same ∙ stop_desks (answer_to (replayed_from h.base.state m.front) ask) (machine_plain (replayed_from h.base.state m.front) ask)
+  answer_runs (inl m) = ap tells_stop m.same ∙ stop_desks (answer_at h.base m.front ask) (answer_plain h.base m.front ask)
   answer_runs (inr (inl f)) = ap tells_stop f.same
-  answer_runs (inr (inr e)) = ap tells_stop e
+  answer_runs (inr (inr e)) = ap tells_stop e.same
 
   -- what is told in a history is told in a longer one
   answer_longer : (more : List Entry) → IsAnswer figures h seat ask reply → IsAnswer figures (longer h more) seat ask reply
@@ -143,7 +145,7 @@ ran_before true after stays runs = let stopped = stays refl in absurd (cc)
 ran_before false after stays runs = refl
 
 module _ (figures : Figures) (h : History) (seat : ℕ) where
-  module _ (from : Mark) (ask : Ask) (reply : Reply) (made : List Entry) (to : Mark) (a : IsAsked figures h seat from ask reply made to) (runs : to.stopped ≡ false) where
+  module _ {clock : ℕ → Bool} (from : Mark) (ask : Ask) (reply : Reply) (made : List Entry) (to : Mark) (a : IsAsked clock figures h seat from ask reply made to) (runs : to.stopped ≡ false) where
     not_before : a.before ≡ false
     not_before = ran_before a.before to.stopped a.stays runs
 
@@ -160,44 +162,44 @@ module _ (figures : Figures) (h : History) (seat : ℕ) where
   -- the reply is the one before, or want of memory, or what this command is answered
   abbrev OneOf : (by : Option (List ℕ)) (cycle version : ℕ) (last reply : Reply) → Type 0
   OneOf by cycle version last reply =
-      (reply ≡ last) ⊎ ((reply.answer ≡ No NoMemory) ⊎ ((solutions : List SolutionData) × IsAnswer figures h seat (ask_post by cycle version solutions) reply))
+      (reply ≡ last) ⊎ ((reply.answer ≡ No NoMemory) ⊎ ((solutions : List SolutionData) × (moment : ℕ) × IsAnswer figures h seat (ask_post by cycle version solutions moment) reply))
 
   module _ (by : Option (List ℕ)) (cycle : ℕ) where
-    fetched_on : (answer : Answer) (mid : Mark) (version begun_at : ℕ) (fetched reply : Reply) (made : List Entry) (to : Mark) → to.stopped ≡ false →
-        GoesOnFetched answer figures h seat mid by cycle version begun_at fetched reply made to → (mid.stopped ≡ false) × OneOf by cycle version fetched reply
-    fetched_on (Problems problems) mid version begun_at fetched reply made to runs (inl u) =
+    fetched_on : (clock : ℕ → Bool) (answer : Answer) (mid : Mark) (version begun_at : ℕ) (fetched reply : Reply) (made : List Entry) (to : Mark) → to.stopped ≡ false →
+        GoesOnFetched answer clock figures h seat mid by cycle version begun_at fetched reply made to → (mid.stopped ≡ false) × OneOf by cycle version fetched reply
+    fetched_on clock (Problems problems) mid version begun_at fetched reply made to runs (inl u) =
         (ap (λ (m : Mark). m.stopped) (sym u.2) ∙ runs, inr (inl (ap (λ (r : Reply). r.answer) u.0)))
-    fetched_on (Problems problems) mid version begun_at fetched reply made to runs (inr p) =
-        let ask : Ask = ask_post by cycle version p.solutions in
-        (asked_from mid ask reply made to p.asked runs, inr (inr (p.solutions, asked_answer mid ask reply made to p.asked runs)))
-    fetched_on answer mid version begun_at fetched reply made to runs l = (ap (λ (m : Mark). m.stopped) (sym l.2) ∙ runs, inl l.0)
+    fetched_on clock (Problems problems) mid version begun_at fetched reply made to runs (inr p) =
+        let ask : Ask = ask_post by cycle version p.solutions p.moment in
+        (asked_from mid ask reply made to p.asked runs, inr (inr (p.solutions, p.moment, asked_answer mid ask reply made to p.asked runs)))
+    fetched_on clock answer mid version begun_at fetched reply made to runs l = (ap (λ (m : Mark). m.stopped) (sym l.2) ∙ runs, inl l.0)
 
     -- the reply is what one of the commands is answered
     abbrev IsOfPropose : Mode → Reply → Type 0
     IsOfPropose mode reply =
-        IsAnswer figures h seat (ask_begin by cycle mode) reply
-        ⊎ (((version : ℕ) × IsAnswer figures h seat (ask_fetch by cycle version) reply)
-        ⊎ ((version : ℕ) × (solutions : List SolutionData) × IsAnswer figures h seat (ask_post by cycle version solutions) reply))
+        ((moment : ℕ) × IsAnswer figures h seat (ask_begin by cycle mode moment) reply)
+        ⊎ (((version : ℕ) × (moment : ℕ) × IsAnswer figures h seat (ask_fetch by cycle version moment) reply)
+        ⊎ ((version : ℕ) × (solutions : List SolutionData) × (moment : ℕ) × IsAnswer figures h seat (ask_post by cycle version solutions moment) reply))
 
-    fetch_or : (mode : Mode) (version : ℕ) (fetched reply : Reply) → IsAnswer figures h seat (ask_fetch by cycle version) fetched → OneOf by cycle version fetched reply → IsOfPropose mode reply
-    fetch_or mode version fetched reply answered (inl same) = inr (inl (version, subst (λ r. IsAnswer figures h seat (ask_fetch by cycle version) r) (sym same) answered))
-    fetch_or mode version fetched reply answered (inr (inl none)) = inr (inl (version, inr (inr none)))
-    fetch_or mode version fetched reply answered (inr (inr (solutions, posted))) = inr (inr (version, solutions, posted))
+    fetch_or : (mode : Mode) (version moment : ℕ) (fetched reply : Reply) → IsAnswer figures h seat (ask_fetch by cycle version moment) fetched → OneOf by cycle version fetched reply → IsOfPropose mode reply
+    fetch_or mode version moment fetched reply answered (inl same) = inr (inl (version, moment, subst (λ r. IsAnswer figures h seat (ask_fetch by cycle version moment) r) (sym same) answered))
+    fetch_or mode version moment fetched reply answered (inr (inl none)) = inr (inl (version, moment, inr (inr (record { same = none; takes = λ e. absurd (cc) }))))
+    fetch_or mode version moment fetched reply answered (inr (inr (solutions, at, posted))) = inr (inr (version, solutions, at, posted))
 
-    begun_on : (answer : Answer) (mode : Mode) (mid : Mark) (begun reply : Reply) (made : List Entry) (to : Mark) → to.stopped ≡ false → (mid.stopped ≡ false → IsAnswer figures h seat (ask_begin by cycle mode) begun) →
-        GoesOnBegun answer figures h seat mid by cycle begun reply made to → (mid.stopped ≡ false) × IsOfPropose mode reply
-    begun_on (Begun number version) mode mid begun reply made to runs answered f =
-        let on = fetched_on f.fetched.answer f.mid version begun.at f.fetched reply f.others to runs f.goes_on in
-        let ask : Ask = ask_fetch by cycle version in
-        (asked_from mid ask f.fetched f.first f.mid f.asked on.0, fetch_or mode version f.fetched reply (asked_answer mid ask f.fetched f.first f.mid f.asked on.0) on.1)
-    begun_on answer mode mid begun reply made to runs answered l =
+    begun_on : (clock : ℕ → Bool) (answer : Answer) (mode : Mode) (moment : ℕ) (mid : Mark) (begun reply : Reply) (made : List Entry) (to : Mark) → to.stopped ≡ false → (mid.stopped ≡ false → IsAnswer figures h seat (ask_begin by cycle mode moment) begun) →
+        GoesOnBegun answer clock figures h seat mid by cycle begun reply made to → (mid.stopped ≡ false) × IsOfPropose mode reply
+    begun_on clock (Begun number version) mode moment mid begun reply made to runs answered f =
+        let on = fetched_on clock f.fetched.answer f.mid version begun.at f.fetched reply f.others to runs f.goes_on in
+        let ask : Ask = ask_fetch by cycle version f.moment in
+        (asked_from mid ask f.fetched f.first f.mid f.asked on.0, fetch_or mode version f.moment f.fetched reply (asked_answer mid ask f.fetched f.first f.mid f.asked on.0) on.1)
+    begun_on clock answer mode moment mid begun reply made to runs answered l =
         let ran : mid.stopped ≡ false = ap (λ (m : Mark). m.stopped) (sym l.2) ∙ runs in
-        (ran, inl (subst (λ r. IsAnswer figures h seat (ask_begin by cycle mode) r) (sym l.0) (answered ran)))
+        (ran, inl (moment, subst (λ r. IsAnswer figures h seat (ask_begin by cycle mode moment) r) (sym l.0) (answered ran)))
 
-    proposed_on : (from : Mark) (mode : Mode) (reply : Reply) (made : List Entry) (to : Mark) → to.stopped ≡ false → IsProposed figures h seat from by cycle mode reply made to → (from.stopped ≡ false) × IsOfPropose mode reply
-    proposed_on from mode reply made to runs p =
-        let ask : Ask = ask_begin by cycle mode in
-        let on = begun_on p.begun.answer mode p.mid p.begun reply p.others to runs (asked_answer from ask p.begun p.first p.mid p.asked) p.goes_on in
+    proposed_on : {clock : ℕ → Bool} (from : Mark) (mode : Mode) (reply : Reply) (made : List Entry) (to : Mark) → to.stopped ≡ false → IsProposed clock figures h seat from by cycle mode reply made to → (from.stopped ≡ false) × IsOfPropose mode reply
+    proposed_on {clock} from mode reply made to runs p =
+        let ask : Ask = ask_begin by cycle mode p.moment in
+        let on = begun_on clock p.begun.answer mode p.moment p.mid p.begun reply p.others to runs (asked_answer from ask p.begun p.first p.mid p.asked) p.goes_on in
         (asked_from from ask p.begun p.first p.mid p.asked on.0, on.1)
 
   -- ---- one line
@@ -207,42 +209,42 @@ module _ (figures : Figures) (h : History) (seat : ℕ) where
   IsOfLine rows speaker read reply = (ask : Ask) × IsCommandOf rows speaker read ask × IsAnswer figures h seat ask reply
 
   of_propose : (rows : Rows) (speaker : Speaker) (cycle : ℕ) (mode : Mode) (reply : Reply) → IsOfPropose speaker.party cycle mode reply → IsOfLine rows speaker (Ok (Propose cycle mode)) reply
-  of_propose rows speaker cycle mode reply (inl a) = (ask_begin speaker.party cycle mode, inl refl, a)
-  of_propose rows speaker cycle mode reply (inr (inl (version, a))) = (ask_fetch speaker.party cycle version, inr (inl (version, refl)), a)
-  of_propose rows speaker cycle mode reply (inr (inr (version, solutions, a))) = (ask_post speaker.party cycle version solutions, inr (inr (version, solutions, refl)), a)
+  of_propose rows speaker cycle mode reply (inl (moment, a)) = (ask_begin speaker.party cycle mode moment, inl refl, a)
+  of_propose rows speaker cycle mode reply (inr (inl (version, moment, a))) = (ask_fetch speaker.party cycle version moment, inr (inl (version, refl)), a)
+  of_propose rows speaker cycle mode reply (inr (inr (version, solutions, moment, a))) = (ask_post speaker.party cycle version solutions moment, inr (inr (version, solutions, refl)), a)
 
-  line_on : (from : Mark) (rows : Rows) (speaker : Speaker) (read : Result Line ℕ) (reply : Reply) (made : List Entry) (to : Mark) → to.stopped ≡ false →
-      IsReplied figures h seat from rows speaker read reply made to → (from.stopped ≡ false) × IsOfLine rows speaker read reply
-  line_on from rows speaker (Ok (Propose cycle mode)) reply made to runs p =
+  line_on : (clock : ℕ → Bool) (from : Mark) (rows : Rows) (speaker : Speaker) (read : Result Line ℕ) (reply : Reply) (made : List Entry) (to : Mark) → to.stopped ≡ false →
+      IsReplied clock figures h seat from rows speaker read reply made to → (from.stopped ≡ false) × IsOfLine rows speaker read reply
+  line_on clock from rows speaker (Ok (Propose cycle mode)) reply made to runs p =
       let on = proposed_on speaker.party cycle from mode reply made to runs p in
       (on.0, of_propose rows speaker cycle mode reply on.1)
-  line_on from rows speaker read reply made to runs a =
-      let ask : Ask = ask_read rows speaker read in
-      (asked_from from ask reply made to a runs, (ask, refl, asked_answer from ask reply made to a runs))
+  line_on clock from rows speaker read reply made to runs a =
+      let ask : Ask = ask_read rows speaker read a.0 in
+      (asked_from from ask reply made to a.1 runs, (ask, refl, asked_answer from ask reply made to a.1 runs))
 
   -- ---- one line after another
 
-  talk_ran : (from : Standing) (lines : List (List ℕ)) (text : List ℕ) (made : List Entry) (to : Standing) → to.stopped ≡ false → IsTalk figures h seat from lines text made to → from.stopped ≡ false
-  talk_ran from [] text made to runs (none, unmade, same) = ap (λ (s : Standing). s.stopped) (sym same) ∙ runs
-  talk_ran from (line ∷ lines) text made to runs (next, head, more, first, others, a, joined, order, tail) =
-      (line_on (mark_of from) h.base.state.roster from.speaker (line_within line) a.reply first (mark_of next) (talk_ran next lines more others to runs tail) a.replied).0
+  talk_ran : (clock : ℕ → Bool) (from : Standing) (lines : List (List ℕ)) (text : List ℕ) (made : List Entry) (to : Standing) → to.stopped ≡ false → IsTalk clock figures h seat from lines text made to → from.stopped ≡ false
+  talk_ran clock from [] text made to runs (none, unmade, same) = ap (λ (s : Standing). s.stopped) (sym same) ∙ runs
+  talk_ran clock from (line ∷ lines) text made to runs (next, head, more, first, others, a, joined, order, tail) =
+      (line_on clock (mark_of from) h.base.state.roster from.speaker (line_within line) a.reply first (mark_of next) (talk_ran clock next lines more others to runs tail) a.replied).0
 
   -- behind an accepted BYE no line is answered
-  over_is_last : (from : Standing) (lines : List (List ℕ)) (text : List ℕ) (made : List Entry) (to : Standing) → IsTalk figures h seat from lines text made to → from.over ≡ true → (text ≡ []) × (to.over ≡ true)
-  over_is_last from [] text made to (none, unmade, same) over = (none, ap (λ (s : Standing). s.over) same ∙ over)
-  over_is_last from (line ∷ lines) text made to (next, head, more, first, others, a, joined, order, tail) over = let none = a.open_yet in absurd (cc)
+  over_is_last : (clock : ℕ → Bool) (from : Standing) (lines : List (List ℕ)) (text : List ℕ) (made : List Entry) (to : Standing) → IsTalk clock figures h seat from lines text made to → from.over ≡ true → (text ≡ []) × (to.over ≡ true)
+  over_is_last clock from [] text made to (none, unmade, same) over = (none, ap (λ (s : Standing). s.over) same ∙ over)
+  over_is_last clock from (line ∷ lines) text made to (next, head, more, first, others, a, joined, order, tail) over = let none = a.open_yet in absurd (cc)
 
   bye_or_not : (bye over : Bool) (P Q R : Type 0) → over ≡ bye → (over ≡ true → P × Q) → (over ≡ false → R) → ((bye ≡ true) × P × Q) ⊎ ((bye ≡ false) × R)
   bye_or_not true over P Q R is ends goes_on = inl (refl, (ends is).0, (ends is).1)
   bye_or_not false over P Q R is ends goes_on = inr (refl, goes_on is)
 
-  pub talk_answered : (from : Standing) (lines : List (List ℕ)) (text : List ℕ) (made : List Entry) (to : Standing) → from.over ≡ false → to.stopped ≡ false → IsTalk figures h seat from lines text made to →
+  pub talk_answered : (clock : ℕ → Bool) (from : Standing) (lines : List (List ℕ)) (text : List ℕ) (made : List Entry) (to : Standing) → from.over ≡ false → to.stopped ≡ false → IsTalk clock figures h seat from lines text made to →
       AreAnswered figures h seat from.speaker lines text to.over
-  talk_answered from [] text made to open_yet runs (none, unmade, same) = (none, ap (λ (s : Standing). s.over) same ∙ open_yet)
-  talk_answered from (line ∷ lines) text made to open_yet runs (next, head, more, first, others, a, joined, order, tail) =
-      let on = line_on (mark_of from) h.base.state.roster from.speaker (line_within line) a.reply first (mark_of next) (talk_ran next lines more others to runs tail) a.replied in
+  talk_answered clock from [] text made to open_yet runs (none, unmade, same) = (none, ap (λ (s : Standing). s.over) same ∙ open_yet)
+  talk_answered clock from (line ∷ lines) text made to open_yet runs (next, head, more, first, others, a, joined, order, tail) =
+      let on = line_on clock (mark_of from) h.base.state.roster from.speaker (line_within line) a.reply first (mark_of next) (talk_ran clock next lines more others to runs tail) a.replied in
       let rest : next.over ≡ false → AreAnswered figures h seat (speaker_after from.speaker (line_within line) a.reply.answer) lines more to.over = λ o.
-      subst (λ speaker. AreAnswered figures h seat speaker lines more to.over) a.speaker (talk_answered next lines more others to o runs tail) in
+      subst (λ speaker. AreAnswered figures h seat speaker lines more to.over) a.speaker (talk_answered clock next lines more others to o runs tail) in
       let here : IsLineAnswered figures h seat from.speaker line head a.reply = record {
         ask = on.1.0;
         command = on.1.1;
@@ -250,7 +252,7 @@ module _ (figures : Figures) (h : History) (seat : ℕ) where
         runs = answer_runs figures h seat on.1.0 a.reply on.1.2;
         said = a.text;
       } in
-      (a.reply, head, more, here, joined, bye_or_not (is_bye a.reply.answer) next.over _ _ _ a.over (over_is_last next lines more others to tail) rest)
+      (a.reply, head, more, here, joined, bye_or_not (is_bye a.reply.answer) next.over _ _ _ a.over (over_is_last clock next lines more others to tail) rest)
 
   -- lines behind an accepted BYE change nothing
   pub left_more : (speaker : Speaker) (said others : List (List ℕ)) (text : List ℕ) → AreAnswered figures h seat speaker said text true → AreAnswered figures h seat speaker (said ++ others) text true
@@ -290,30 +292,30 @@ module _ (figures : Figures) (h : History) (seat : ℕ) where
 -- ---- a session
 
 module _ (start now : Sight) (opened flow : Option Flow) (begun taken : Option (List ℕ)) (runs : now.stopped ≡ false) where
-  written_ran : (lines : List (List ℕ)) → Written start begun taken now lines → start.stopped ≡ false
-  written_ran lines w =
-      talk_ran start.seat.figures now.history start.seat.number (standing start nobody false) lines w.text w.made w.to (ap (λ (m : Mark). m.stopped) w.there ∙ runs) w.talk
+  written_ran : {clock : ℕ → Bool} (lines : List (List ℕ)) → Written clock start begun taken now lines → start.stopped ≡ false
+  written_ran {clock} lines w =
+      talk_ran start.seat.figures now.history start.seat.number clock (standing start nobody false) lines w.text w.made w.to (ap (λ (m : Mark). m.stopped) w.there ∙ runs) w.talk
 
-  cut_ran : (ahead lines : List (List ℕ)) → CutOff start ahead begun taken now lines → start.stopped ≡ false
-  cut_ran ahead lines c =
-      talk_ran start.seat.figures now.history start.seat.number (standing start nobody false) c.said c.text c.made c.to (ap (λ (m : Mark). m.stopped) c.there ∙ runs) c.talk
+  cut_ran : {clock : ℕ → Bool} (ahead lines : List (List ℕ)) → CutOff clock start ahead begun taken now lines → start.stopped ≡ false
+  cut_ran {clock} ahead lines c =
+      talk_ran start.seat.figures now.history start.seat.number clock (standing start nobody false) c.said c.text c.made c.to (ap (λ (m : Mark). m.stopped) c.there ∙ runs) c.talk
 
   -- a session that was told of no stop began before any
-  pub session_ran : (end : SessionEnd) → Ends start opened flow begun taken now end → start.stopped ≡ false
-  session_ran Ended (bytes, gives, inl (at_end, within, w)) = written_ran (lines_of bytes) w
-  session_ran Ended (bytes, gives, inr (within, l)) = written_ran l.said l.written
-  session_ran SourceFault (bytes, gives, within, (w, on)) = written_ran (cut_of bytes).whole w
-  session_ran SinkFault (bytes, gives, inl (within, c)) = cut_ran (cut_of c.early).whole (cut_of bytes).whole c.cut
-  session_ran SinkFault (bytes, gives, inr (at_end, within, c)) = cut_ran (cut_of c.early).whole (lines_of bytes) c.cut
-  session_ran Limit (bytes, gives, within, (w, on)) = written_ran (cut_of bytes).whole w
-  session_ran Memory (read, wrote, same) = ap (λ (s : Sight). s.stopped) (sym same) ∙ runs
+  pub session_ran : (clock : ℕ → Bool) (end : SessionEnd) → Ends clock start opened flow begun taken now end → start.stopped ≡ false
+  session_ran clock Ended (bytes, gives, inl (at_end, within, w)) = written_ran (lines_of bytes) w
+  session_ran clock Ended (bytes, gives, inr (within, l)) = written_ran l.said l.written
+  session_ran clock SourceFault (bytes, gives, within, (w, on)) = written_ran (cut_of bytes).whole w
+  session_ran clock SinkFault (bytes, gives, inl (within, c)) = cut_ran (cut_of c.early).whole (cut_of bytes).whole c.cut
+  session_ran clock SinkFault (bytes, gives, inr (at_end, within, c)) = cut_ran (cut_of c.early).whole (lines_of bytes) c.cut
+  session_ran clock Limit (bytes, gives, within, (w, on)) = written_ran (cut_of bytes).whole w
+  session_ran clock Memory (read, wrote, same) = ap (λ (s : Sight). s.stopped) (sym same) ∙ runs
 
-  written_answered : (lines : List (List ℕ)) (w : Written start begun taken now lines) → AreAnswered start.seat.figures now.history start.seat.number nobody lines w.text w.to.over
-  written_answered lines w =
-      talk_answered start.seat.figures now.history start.seat.number (standing start nobody false) lines w.text w.made w.to refl (ap (λ (m : Mark). m.stopped) w.there ∙ runs) w.talk
+  written_answered : {clock : ℕ → Bool} (lines : List (List ℕ)) (w : Written clock start begun taken now lines) → AreAnswered start.seat.figures now.history start.seat.number nobody lines w.text w.to.over
+  written_answered {clock} lines w =
+      talk_answered start.seat.figures now.history start.seat.number clock (standing start nobody false) lines w.text w.made w.to refl (ap (λ (m : Mark). m.stopped) w.there ∙ runs) w.talk
 
   module _ (bytes : List ℕ) (gives : Gives opened flow bytes) where
-    at_end_answered : IsAtEnd flow → Written start begun taken now (lines_of bytes) → IsInputAnswered start.seat.figures now.history start.seat.number opened flow begun taken false
+    at_end_answered : {clock : ℕ → Bool} → IsAtEnd flow → Written clock start begun taken now (lines_of bytes) → IsInputAnswered start.seat.figures now.history start.seat.number opened flow begun taken false
     at_end_answered at_end w = record {
       bytes = bytes;
       gives = gives;
@@ -325,7 +327,7 @@ module _ (start now : Sight) (opened flow : Option Flow) (begun taken : Option (
       took = w.took;
     }
 
-    left_answered : Left start begun taken now (cut_of bytes).whole → IsInputAnswered start.seat.figures now.history start.seat.number opened flow begun taken false
+    left_answered : {clock : ℕ → Bool} → Left clock start begun taken now (cut_of bytes).whole → IsInputAnswered start.seat.figures now.history start.seat.number opened flow begun taken false
     left_answered l =
         let said : AreAnswered start.seat.figures now.history start.seat.number nobody l.said l.written.text true =
         subst (λ over. AreAnswered start.seat.figures now.history start.seat.number nobody l.said l.written.text over) l.over (written_answered l.said l.written) in
@@ -341,7 +343,7 @@ module _ (start now : Sight) (opened flow : Option Flow) (begun taken : Option (
           took = l.written.took;
         }
 
-    limit_answered : length bytes ≡ session_limit → (w : Written start begun taken now (cut_of bytes).whole) → w.to.over ≡ false → IsInputAnswered start.seat.figures now.history start.seat.number opened flow begun taken true
+    limit_answered : {clock : ℕ → Bool} → length bytes ≡ session_limit → (w : Written clock start begun taken now (cut_of bytes).whole) → w.to.over ≡ false → IsInputAnswered start.seat.figures now.history start.seat.number opened flow begun taken true
     limit_answered size w open_yet = record {
       bytes = bytes;
       gives = gives;
@@ -354,8 +356,8 @@ module _ (start now : Sight) (opened flow : Option Flow) (begun taken : Option (
     }
 
 pub ended_answered : EveryLineIsAnswered Ended false
-ended_answered start now opened flow begun taken (bytes, gives, inl (at_end, within, w)) runs = at_end_answered start now opened flow begun taken runs bytes gives at_end w
-ended_answered start now opened flow begun taken (bytes, gives, inr (within, l)) runs = left_answered start now opened flow begun taken runs bytes gives l
+ended_answered clock start now opened flow begun taken (bytes, gives, inl (at_end, within, w)) runs = at_end_answered start now opened flow begun taken runs bytes gives at_end w
+ended_answered clock start now opened flow begun taken (bytes, gives, inr (within, l)) runs = left_answered start now opened flow begun taken runs bytes gives l
 
 pub limited_answered : EveryLineIsAnswered Limit true
-limited_answered start now opened flow begun taken (bytes, gives, size, (w, open_yet)) runs = limit_answered start now opened flow begun taken runs bytes gives size w open_yet
+limited_answered clock start now opened flow begun taken (bytes, gives, size, (w, open_yet)) runs = limit_answered start now opened flow begun taken runs bytes gives size w open_yet

@@ -10,7 +10,7 @@ use Rattle.units_core.specs.Number.{is_digit, value_of, of_first, number_of}
 use Rattle.units_core.specs.Signed.{has_minus, plus_of, minus_of}
 use Rattle.command_types.specs.declared.cycle.Mode.{Mode}
 use Rattle.command_types.specs.declared.line.Line.{Line}
-use Rattle.command_types.specs.declared.line.Line.TheVariants.{Hello, Trade, Affirm, End, Hold, Free, Tol, Nets, Statement, Freeze, Begin, Limits, Row, Post, Propose, Plan, Accept, Decline, Cancel, Bye, Pot}
+use Rattle.command_types.specs.declared.line.Line.TheVariants.{Hello, Trade, Affirm, End, Hold, Free, Tol, Nets, Statement, Freeze, Begin, Limits, Row, Post, Propose, Next, Plan, Proof, Accept, Decline, Cancel, Bye, Pot}
 use Rattle.command_types.specs.Lines.{line_limit}
 use Rattle.command_types.specs.Grammar.{Cursor, Taken, value_or_none, name_word, number_word, amount_word, day_word, signed_word, mode_word, side_word, ceiling_word, taken_word, next_of, next, and_then, ended_at, ended, hello_line, trade_line, numbered_line, version_line, mode_line, product_line, tolerance_line, freeze_line, row_line, potential_line, line_by, line_of_words, words_of, line_of, line_within}
 use Rattle.session.specs.KeptDraft.{HasPotential}
@@ -134,14 +134,16 @@ by_verb verb c =
     (bytes_eq verb (codes "POT"), potential_line c) ∷
     (bytes_eq verb (codes "POST"), version_line Post c) ∷
     (bytes_eq verb (codes "PROPOSE"), mode_line Propose c) ∷
+    (bytes_eq verb (codes "NEXT"), numbered_line Next c) ∷
     (bytes_eq verb (codes "PLAN"), numbered_line Plan c) ∷
+    (bytes_eq verb (codes "PROOF"), numbered_line Proof c) ∷
     (bytes_eq verb (codes "ACCEPT"), version_line Accept c) ∷
     (bytes_eq verb (codes "DECLINE"), version_line Decline c) ∷
     (bytes_eq verb (codes "CANCEL"), numbered_line Cancel c) ∷
     (bytes_eq verb (codes "BYE"), ended Bye c) ∷
     [])
     (Err 0)
-    (after (next name_word c) _ (λ a c. after (next name_word c) _ (λ b c. plain_end (Hello a b) c tt)), (after (next name_word c) _ (λ a c. after (next name_word c) _ (λ b c. after (next name_word c) _ (λ p c. after (next amount_word c) _ (λ n c. after (next day_word c) _ (λ d c. plain_end (Trade a b p n d) c tt))))), (numbered Affirm (λ n. tt) c, (numbered End (λ n. tt) c, (numbered Hold (λ n. tt) c, (numbered Free (λ n. tt) c, (after (next name_word c) _ (λ a c. after (next name_word c) _ (λ p c. after (next side_word c) _ (λ s c. after (next number_word c) _ (λ f c. after (next ceiling_word c) _ (λ e c. plain_end (Tol a p s f e) c tt))))), (with_product Nets (λ n. tt) c, (plain_end Statement c tt, (after (next day_word c) _ (λ d c. plain_end (Freeze d) c tt), (with_mode Begin (λ n m. tt) c, (with_product Limits (λ n. tt) c, (after (next name_word c) _ (λ p c. after (next name_word c) _ (λ a c. after (next name_word c) _ (λ b c. after (next amount_word c) _ (λ n c. plain_end (Row p a b n) c tt)))), (in_potential c, (versioned Post (λ m n. tt) c, (with_mode Propose (λ n m. tt) c, (numbered Plan (λ n. tt) c, (versioned Accept (λ m n. tt) c, (versioned Decline (λ m n. tt) c, (numbered Cancel (λ n. tt) c, (plain_end Bye c tt, tt)))))))))))))))))))))
+    (after (next name_word c) _ (λ a c. after (next name_word c) _ (λ b c. plain_end (Hello a b) c tt)), (after (next name_word c) _ (λ a c. after (next name_word c) _ (λ b c. after (next name_word c) _ (λ p c. after (next amount_word c) _ (λ n c. after (next day_word c) _ (λ d c. plain_end (Trade a b p n d) c tt))))), (numbered Affirm (λ n. tt) c, (numbered End (λ n. tt) c, (numbered Hold (λ n. tt) c, (numbered Free (λ n. tt) c, (after (next name_word c) _ (λ a c. after (next name_word c) _ (λ p c. after (next side_word c) _ (λ s c. after (next number_word c) _ (λ f c. after (next ceiling_word c) _ (λ e c. plain_end (Tol a p s f e) c tt))))), (with_product Nets (λ n. tt) c, (plain_end Statement c tt, (after (next day_word c) _ (λ d c. plain_end (Freeze d) c tt), (with_mode Begin (λ n m. tt) c, (with_product Limits (λ n. tt) c, (after (next name_word c) _ (λ p c. after (next name_word c) _ (λ a c. after (next name_word c) _ (λ b c. after (next amount_word c) _ (λ n c. plain_end (Row p a b n) c tt)))), (in_potential c, (versioned Post (λ m n. tt) c, (with_mode Propose (λ n m. tt) c, (numbered Next (λ n. tt) c, (numbered Plan (λ n. tt) c, (numbered Proof (λ n. tt) c, (versioned Accept (λ m n. tt) c, (versioned Decline (λ m n. tt) c, (numbered Cancel (λ n. tt) c, (plain_end Bye c tt, tt)))))))))))))))))))))))
     tt
 
 by_words : (size : ℕ) (words : List (List ℕ)) → HasPotential (line_of_words size words)

@@ -84,3 +84,25 @@ waiting_on a b c x y p s front =
 
 pub front_waiting : (a b c : Option (List ℕ)) (x y p : List ℕ) → Says a b x y p → TakesFront b c y → TakesFront a c (x ++ p)
 front_waiting a b c x y p s front = (waiting_on a b c x y p s front).0
+
+-- the same, for a text of two parts
+pub front_both : (a b c : Option (List ℕ)) (x y p q : List ℕ) → Says a b x y p → TakesFront b c (y ++ q) → TakesFront a c (x ++ (p ++ q))
+front_both a b c x y p q s front = (front_on a b c x y p q s front).0
+
+-- ---- a text that is put piece by piece
+
+-- one piece more
+pub says_piece : (a b c : Option (List ℕ)) (x y z front piece others text rest : List ℕ) → text ≡ front ++ rest → rest ≡ piece ++ others → Says a b x y front → Says b c y z piece →
+    (longer : List ℕ) × (text ≡ longer ++ others) × Says a c x z longer
+says_piece a b c x y z front piece others text rest is split first then =
+    (front ++ piece, is ∙ ap (λ t. front ++ t) split ∙ sym (append_assoc front piece others), says_both a b c x y z front piece first then)
+
+-- the last piece
+pub says_end : (a b c : Option (List ℕ)) (x y z front rest text : List ℕ) → text ≡ front ++ rest → Says a b x y front → Says b c y z rest → Says a c x z text
+says_end a b c x y z front rest text is first then = says_as a c x z (front ++ rest) text (sym is) (says_both a b c x y z front rest first then)
+
+-- the sink failed before a piece
+pub front_piece : (a b c : Option (List ℕ)) (x y front rest text : List ℕ) → text ≡ front ++ rest → Says a b x y front → TakesFront b c y → TakesFront a c (x ++ text)
+front_piece a b c x y front rest text is s failed =
+    let P : List ℕ → Type 0 = λ t. TakesFront a c t in
+    subst P (append_assoc x front rest ∙ ap (λ t. x ++ t) (sym is)) (front_more a c (x ++ front) rest (front_waiting a b c x y front s failed))

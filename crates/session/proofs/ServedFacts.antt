@@ -25,12 +25,12 @@ abbrev text_of : Sight → Reply → List ℕ
 text_of desk reply = reply_text (roster_of desk) reply
 
 -- an answer is an answer to the line
-line_answered : (start : Seat) (old new : Sight) (before after : Speaker) (line : List ℕ) (reply : Reply) → old.seat ≡ start → (a : Answers old new before after line reply) →
-    IsAnswered start.figures new.history start.number (standing old before false) line (text_of old reply) a.made (standing new after (is_bye reply.answer))
-line_answered start old new before after line reply seat a =
+line_answered : {clock : ℕ → Bool} (start : Seat) (old new : Sight) (before after : Speaker) (line : List ℕ) (reply : Reply) → old.seat ≡ start → (a : Answers clock old new before after line reply) →
+    IsAnswered clock start.figures new.history start.number (standing old before false) line (text_of old reply) a.made (standing new after (is_bye reply.answer))
+line_answered {clock} start old new before after line reply seat a =
     let rows : roster_of old ≡ roster_of new = sym (same_roster old new a.made a.grows) in
-    let R : Rows → Type 0 = λ r. IsReplied start.figures new.history start.number (mark old) r before (line_within line) reply a.made (mark new) in
-    let F : Seat → Type 0 = λ s. IsReplied s.figures new.history s.number (mark old) (roster_of old) before (line_within line) reply a.made (mark new) in
+    let R : Rows → Type 0 = λ r. IsReplied clock start.figures new.history start.number (mark old) r before (line_within line) reply a.made (mark new) in
+    let F : Seat → Type 0 = λ s. IsReplied clock s.figures new.history s.number (mark old) (roster_of old) before (line_within line) reply a.made (mark new) in
     record {
       reply = reply;
       open_yet = refl;
@@ -41,15 +41,15 @@ line_answered start old new before after line reply seat a =
     }
 
 -- a line of the same command as another
-read_alike : (old new : Sight) (before after : Speaker) (a b : List ℕ) (reply : Reply) → line_within a ≡ line_within b → Answers old new before after a reply → Answers old new before after b reply
-read_alike old new before after a b reply e r = let P : Result Line ℕ → Type 0 = λ l. AnswersRead old new before after l reply in subst P e r
+read_alike : {clock : ℕ → Bool} (old new : Sight) (before after : Speaker) (a b : List ℕ) (reply : Reply) → line_within a ≡ line_within b → Answers clock old new before after a reply → Answers clock old new before after b reply
+read_alike {clock} old new before after a b reply e r = let P : Result Line ℕ → Type 0 = λ l. AnswersRead clock old new before after l reply in subst P e r
 
 -- a byte that ends no line
-pub served_byte : (start : Sight) (ahead : List (List ℕ)) (begun taken : Option (List ℕ)) (stand : Stand) (kept next bytes : List ℕ) (b : ℕ) →
-    Served start ahead begun taken stand kept bytes → (b == 10) ≡ false → next ≡ take 4097 (kept ++ b ∷ []) → Served start ahead begun taken stand next (bytes ++ b ∷ [])
-served_byte start ahead begun taken stand kept next bytes b v other is =
+pub served_byte : {clock : ℕ → Bool} (start : Sight) (ahead : List (List ℕ)) (begun taken : Option (List ℕ)) (stand : Stand) (kept next bytes : List ℕ) (b : ℕ) →
+    Served clock start ahead begun taken stand kept bytes → (b == 10) ≡ false → next ≡ take 4097 (kept ++ b ∷ []) → Served clock start ahead begun taken stand next (bytes ++ b ∷ [])
+served_byte {clock} start ahead begun taken stand kept next bytes b v other is =
     let same = cut_byte bytes b other in
-    let P : List (List ℕ) → Type 0 = λ lines. IsTalk start.seat.figures stand.sight.history start.seat.number (standing start nobody false) lines v.text v.made (standing stand.sight stand.speaker false) in
+    let P : List (List ℕ) → Type 0 = λ lines. IsTalk clock start.seat.figures stand.sight.history start.seat.number (standing start nobody false) lines v.text v.made (standing stand.sight stand.speaker false) in
     record {
       text = v.text;
       made = v.made;
@@ -65,8 +65,8 @@ ended_front : (kept rest : List ℕ) → kept ≡ take 4097 rest → line_within
 ended_front kept rest is = ap (λ k. line_within (ended_line k)) is ∙ read_of_ended_front rest
 
 -- where nothing waits, the replies to all whole lines were written whole
-pub whole_all : (start : Sight) (ahead : List (List ℕ)) (begun taken : Option (List ℕ)) (stand : Stand) (kept bytes : List ℕ) →
-    Served start ahead begun taken stand kept bytes → stand.waits ≡ [] → Served start (cut_of bytes).whole begun taken stand kept bytes
+pub whole_all : {clock : ℕ → Bool} (start : Sight) (ahead : List (List ℕ)) (begun taken : Option (List ℕ)) (stand : Stand) (kept bytes : List ℕ) →
+    Served clock start ahead begun taken stand kept bytes → stand.waits ≡ [] → Served clock start (cut_of bytes).whole begun taken stand kept bytes
 whole_all start ahead begun taken stand kept bytes v none =
     let all : v.text ≡ v.said.written = v.said.order ∙ ap (λ w. v.said.written ++ w) none ∙ append-nil v.said.written in
     let size : length v.text ≡ length v.said.written = ap length all in
@@ -85,20 +85,20 @@ last_front : (kept rest : List ℕ) → kept ≡ take 4097 rest → line_within 
 last_front kept rest is = ap line_within is ∙ read_of_front rest
 
 -- the lines with one more, which was replied to
-talk_with : (start : Sight) (ahead : List (List ℕ)) (begun taken : Option (List ℕ)) (old new : Stand) (kept bytes line : List ℕ) (reply : Reply) →
-    (v : Served start ahead begun taken old kept bytes) → (a : Answers old.sight new.sight old.speaker new.speaker line reply) →
-    IsTalk start.seat.figures new.sight.history start.seat.number (standing start nobody false) ((cut_of bytes).whole ++ line ∷ []) (v.text ++ text_of old.sight reply) (v.made ++ a.made) (standing new.sight new.speaker (is_bye reply.answer))
-talk_with start ahead begun taken old new kept bytes line reply v a =
-    talk_on start.seat.figures new.sight.history start.seat.number (standing start nobody false) (cut_of bytes).whole v.text v.made (standing old.sight old.speaker false) line (text_of old.sight reply) a.made (standing new.sight new.speaker (is_bye reply.answer))
-    (talk_there start old.sight new.sight a.made (cut_of bytes).whole v.text v.made (standing old.sight old.speaker false) a.grows v.talk)
+talk_with : {clock : ℕ → Bool} (start : Sight) (ahead : List (List ℕ)) (begun taken : Option (List ℕ)) (old new : Stand) (kept bytes line : List ℕ) (reply : Reply) →
+    (v : Served clock start ahead begun taken old kept bytes) → (a : Answers clock old.sight new.sight old.speaker new.speaker line reply) →
+    IsTalk clock start.seat.figures new.sight.history start.seat.number (standing start nobody false) ((cut_of bytes).whole ++ line ∷ []) (v.text ++ text_of old.sight reply) (v.made ++ a.made) (standing new.sight new.speaker (is_bye reply.answer))
+talk_with {clock} start ahead begun taken old new kept bytes line reply v a =
+    talk_on clock start.seat.figures new.sight.history start.seat.number (standing start nobody false) (cut_of bytes).whole v.text v.made (standing old.sight old.speaker false) line (text_of old.sight reply) a.made (standing new.sight new.speaker (is_bye reply.answer))
+    (talk_there clock start old.sight new.sight a.made (cut_of bytes).whole v.text v.made (standing old.sight old.speaker false) a.grows v.talk)
     (line_answered start.seat old.sight new.sight old.speaker new.speaker line reply v.grows.seat a)
 
 -- these lines are written, with one more
-written_with : (start : Sight) (ahead : List (List ℕ)) (begun taken taken' : Option (List ℕ)) (old new : Stand) (kept bytes line : List ℕ) (reply : Reply) (lines : List (List ℕ)) →
-    (v : Served start ahead begun taken old kept bytes) → Answers old.sight new.sight old.speaker new.speaker line reply → Says taken taken' old.waits new.waits (text_of old.sight reply) → new.waits ≡ [] → lines ≡ (cut_of bytes).whole ++ line ∷ [] →
-    Written start begun taken' new.sight lines
-written_with start ahead begun taken taken' old new kept bytes line reply lines v a says none order =
-    let P : List (List ℕ) → Type 0 = λ ls. IsTalk start.seat.figures new.sight.history start.seat.number (standing start nobody false) ls (v.text ++ text_of old.sight reply) (v.made ++ a.made) (standing new.sight new.speaker (is_bye reply.answer)) in
+written_with : {clock : ℕ → Bool} (start : Sight) (ahead : List (List ℕ)) (begun taken taken' : Option (List ℕ)) (old new : Stand) (kept bytes line : List ℕ) (reply : Reply) (lines : List (List ℕ)) →
+    (v : Served clock start ahead begun taken old kept bytes) → Answers clock old.sight new.sight old.speaker new.speaker line reply → Says taken taken' old.waits new.waits (text_of old.sight reply) → new.waits ≡ [] → lines ≡ (cut_of bytes).whole ++ line ∷ [] →
+    Written clock start begun taken' new.sight lines
+written_with {clock} start ahead begun taken taken' old new kept bytes line reply lines v a says none order =
+    let P : List (List ℕ) → Type 0 = λ ls. IsTalk clock start.seat.figures new.sight.history start.seat.number (standing start nobody false) ls (v.text ++ text_of old.sight reply) (v.made ++ a.made) (standing new.sight new.speaker (is_bye reply.answer)) in
     record {
       text = v.text ++ text_of old.sight reply;
       made = v.made ++ a.made;
@@ -110,15 +110,15 @@ written_with start ahead begun taken taken' old new kept bytes line reply lines 
     }
 
 -- a line feed after which the session goes on
-pub served_line : (start : Sight) (ahead : List (List ℕ)) (begun taken taken' : Option (List ℕ)) (old new : Stand) (kept next bytes : List ℕ) (b : ℕ) (reply : Reply) →
-    Served start ahead begun taken old kept bytes → (b == 10) ≡ true → next ≡ [] → Answers old.sight new.sight old.speaker new.speaker (ended_line kept) reply → Says taken taken' old.waits new.waits (text_of old.sight reply) → is_bye reply.answer ≡ false →
-    Served start ahead begun taken' new next (bytes ++ b ∷ [])
-served_line start ahead begun taken taken' old new kept next bytes b reply v feed is answered says stays =
+pub served_line : {clock : ℕ → Bool} (start : Sight) (ahead : List (List ℕ)) (begun taken taken' : Option (List ℕ)) (old new : Stand) (kept next bytes : List ℕ) (b : ℕ) (reply : Reply) →
+    Served clock start ahead begun taken old kept bytes → (b == 10) ≡ true → next ≡ [] → Answers clock old.sight new.sight old.speaker new.speaker (ended_line kept) reply → Says taken taken' old.waits new.waits (text_of old.sight reply) → is_bye reply.answer ≡ false →
+    Served clock start ahead begun taken' new next (bytes ++ b ∷ [])
+served_line {clock} start ahead begun taken taken' old new kept next bytes b reply v feed is answered says stays =
     let same = cut_line bytes b feed in
     let line = ended_line (cut_of bytes).rest in
     let a = read_alike old.sight new.sight old.speaker new.speaker (ended_line kept) line reply (ended_front kept (cut_of bytes).rest v.line) answered in
-    let P : List (List ℕ) → Type 0 = λ lines. IsTalk start.seat.figures new.sight.history start.seat.number (standing start nobody false) lines (v.text ++ text_of old.sight reply) (v.made ++ a.made) (standing new.sight new.speaker false) in
-    let Q : Bool → Type 0 = λ over. IsTalk start.seat.figures new.sight.history start.seat.number (standing start nobody false) ((cut_of bytes).whole ++ line ∷ []) (v.text ++ text_of old.sight reply) (v.made ++ a.made) (standing new.sight new.speaker over) in
+    let P : List (List ℕ) → Type 0 = λ lines. IsTalk clock start.seat.figures new.sight.history start.seat.number (standing start nobody false) lines (v.text ++ text_of old.sight reply) (v.made ++ a.made) (standing new.sight new.speaker false) in
+    let Q : Bool → Type 0 = λ over. IsTalk clock start.seat.figures new.sight.history start.seat.number (standing start nobody false) ((cut_of bytes).whole ++ line ∷ []) (v.text ++ text_of old.sight reply) (v.made ++ a.made) (standing new.sight new.speaker over) in
     let both = says_on begun taken taken' [] old.waits new.waits v.text (text_of old.sight reply) v.said says in
     record {
       text = v.text ++ text_of old.sight reply;
@@ -131,9 +131,9 @@ served_line start ahead begun taken taken' old new kept next bytes b reply v fee
     }
 
 -- a line feed after which the session is over
-pub left_line : (start : Sight) (ahead : List (List ℕ)) (begun taken taken' : Option (List ℕ)) (old new : Stand) (kept bytes : List ℕ) (b : ℕ) (reply : Reply) →
-    Served start ahead begun taken old kept bytes → (b == 10) ≡ true → Answers old.sight new.sight old.speaker new.speaker (ended_line kept) reply → Says taken taken' old.waits new.waits (text_of old.sight reply) → new.waits ≡ [] → is_bye reply.answer ≡ true →
-    Left start begun taken' new.sight (cut_of (bytes ++ b ∷ [])).whole
+pub left_line : {clock : ℕ → Bool} (start : Sight) (ahead : List (List ℕ)) (begun taken taken' : Option (List ℕ)) (old new : Stand) (kept bytes : List ℕ) (b : ℕ) (reply : Reply) →
+    Served clock start ahead begun taken old kept bytes → (b == 10) ≡ true → Answers clock old.sight new.sight old.speaker new.speaker (ended_line kept) reply → Says taken taken' old.waits new.waits (text_of old.sight reply) → new.waits ≡ [] → is_bye reply.answer ≡ true →
+    Left clock start begun taken' new.sight (cut_of (bytes ++ b ∷ [])).whole
 unfolding written_with
 left_line start ahead begun taken taken' old new kept bytes b reply v feed answered says none bye =
     let line = ended_line (cut_of bytes).rest in
@@ -147,7 +147,7 @@ left_line start ahead begun taken taken' old new kept bytes b reply v feed answe
     }
 
 -- a front of the lines up to a BYE is one of more lines
-pub left_more : (start : Sight) (begun taken : Option (List ℕ)) (now : Sight) (xs ys : List ℕ) → Left start begun taken now (cut_of xs).whole → Left start begun taken now (cut_of (xs ++ ys)).whole
+pub left_more : {clock : ℕ → Bool} (start : Sight) (begun taken : Option (List ℕ)) (now : Sight) (xs ys : List ℕ) → Left clock start begun taken now (cut_of xs).whole → Left clock start begun taken now (cut_of (xs ++ ys)).whole
 left_more start begun taken now xs ys v =
     let more = whole_grows xs ys in
     record {
@@ -159,9 +159,9 @@ left_more start begun taken now xs ys v =
     }
 
 -- a reply that is not written whole
-cut_off_at : (start : Sight) (ahead : List (List ℕ)) (begun taken taken' : Option (List ℕ)) (old new : Stand) (kept bytes line : List ℕ) (reply : Reply) (lines : List (List ℕ)) →
-    Served start ahead begun taken old kept bytes → Answers old.sight new.sight old.speaker new.speaker line reply → TakesFront taken taken' (old.waits ++ text_of old.sight reply) → lines ≡ (cut_of bytes).whole ++ line ∷ [] →
-    CutOff start ahead begun taken' new.sight lines
+cut_off_at : {clock : ℕ → Bool} (start : Sight) (ahead : List (List ℕ)) (begun taken taken' : Option (List ℕ)) (old new : Stand) (kept bytes line : List ℕ) (reply : Reply) (lines : List (List ℕ)) →
+    Served clock start ahead begun taken old kept bytes → Answers clock old.sight new.sight old.speaker new.speaker line reply → TakesFront taken taken' (old.waits ++ text_of old.sight reply) → lines ≡ (cut_of bytes).whole ++ line ∷ [] →
+    CutOff clock start ahead begun taken' new.sight lines
 cut_off_at start ahead begun taken taken' old new kept bytes line reply lines v a front order =
     let cut = front_on begun taken taken' [] old.waits v.text (text_of old.sight reply) v.said front in
     record {
@@ -179,17 +179,17 @@ cut_off_at start ahead begun taken taken' old new kept bytes line reply lines v 
     }
 
 -- a line feed whose reply is not written whole
-pub cut_off_line : (start : Sight) (ahead : List (List ℕ)) (begun taken taken' : Option (List ℕ)) (old new : Stand) (kept bytes : List ℕ) (b : ℕ) →
-    Served start ahead begun taken old kept bytes → (b == 10) ≡ true → RepliesInPart old new (ended_line kept) taken taken' →
-    CutOff start ahead begun taken' new.sight (cut_of (bytes ++ b ∷ [])).whole
+pub cut_off_line : {clock : ℕ → Bool} (start : Sight) (ahead : List (List ℕ)) (begun taken taken' : Option (List ℕ)) (old new : Stand) (kept bytes : List ℕ) (b : ℕ) →
+    Served clock start ahead begun taken old kept bytes → (b == 10) ≡ true → RepliesInPart clock old new (ended_line kept) taken taken' →
+    CutOff clock start ahead begun taken' new.sight (cut_of (bytes ++ b ∷ [])).whole
 cut_off_line start ahead begun taken taken' old new kept bytes b v feed r =
     let line = ended_line (cut_of bytes).rest in
     let a = read_alike old.sight new.sight old.speaker new.speaker (ended_line kept) line r.reply (ended_front kept (cut_of bytes).rest v.line) r.answers in
     cut_off_at start ahead begun taken taken' old new kept bytes line r.reply _ v a r.took (ap (λ c. c.whole) (cut_line bytes b feed))
 
 -- what waits is not written whole
-pub cut_off_waiting : (start : Sight) (ahead : List (List ℕ)) (begun taken taken' : Option (List ℕ)) (stand : Stand) (kept bytes : List ℕ) →
-    Served start ahead begun taken stand kept bytes → TakesFront taken taken' stand.waits → CutOff start ahead begun taken' stand.sight (cut_of bytes).whole
+pub cut_off_waiting : {clock : ℕ → Bool} (start : Sight) (ahead : List (List ℕ)) (begun taken taken' : Option (List ℕ)) (stand : Stand) (kept bytes : List ℕ) →
+    Served clock start ahead begun taken stand kept bytes → TakesFront taken taken' stand.waits → CutOff clock start ahead begun taken' stand.sight (cut_of bytes).whole
 cut_off_waiting start ahead begun taken taken' stand kept bytes v front =
     let cut = waiting_on begun taken taken' [] stand.waits v.text v.said front in
     record {
@@ -207,8 +207,8 @@ cut_off_waiting start ahead begun taken taken' stand kept bytes v front =
     }
 
 -- some of what waited is written, or all of it
-pub served_flushed : (start : Sight) (ahead : List (List ℕ)) (begun taken taken' : Option (List ℕ)) (stand : Stand) (waits' kept bytes : List ℕ) →
-    Says taken taken' stand.waits waits' [] → Served start ahead begun taken stand kept bytes → Served start ahead begun taken' (record stand { waits = waits' }) kept bytes
+pub served_flushed : {clock : ℕ → Bool} (start : Sight) (ahead : List (List ℕ)) (begun taken taken' : Option (List ℕ)) (stand : Stand) (waits' kept bytes : List ℕ) →
+    Says taken taken' stand.waits waits' [] → Served clock start ahead begun taken stand kept bytes → Served clock start ahead begun taken' (record stand { waits = waits' }) kept bytes
 served_flushed start ahead begun taken taken' stand waits' kept bytes says v =
     let P : List ℕ → Type 0 = λ text. (s : Says begun taken' [] waits' text) × (length v.said.written ≤ length s.written) in
     let both = subst P (append-nil v.text) (says_on begun taken taken' [] stand.waits waits' v.text [] v.said says) in
@@ -223,26 +223,26 @@ served_flushed start ahead begun taken taken' stand waits' kept bytes says v =
     }
 
 -- before the first byte of a piece
-pub served_begun : (start : Sight) (ahead : List (List ℕ)) (begun taken : Option (List ℕ)) (stand : Stand) (kept bytes : List ℕ) →
-    Served start ahead begun taken stand kept bytes → Served start ahead begun taken stand kept (bytes ++ [])
-served_begun start ahead begun taken stand kept bytes v = let P : List ℕ → Type 0 = λ bs. Served start ahead begun taken stand kept bs in subst P (sym (append-nil bytes)) v
+pub served_begun : {clock : ℕ → Bool} (start : Sight) (ahead : List (List ℕ)) (begun taken : Option (List ℕ)) (stand : Stand) (kept bytes : List ℕ) →
+    Served clock start ahead begun taken stand kept bytes → Served clock start ahead begun taken stand kept (bytes ++ [])
+served_begun {clock} start ahead begun taken stand kept bytes v = let P : List ℕ → Type 0 = λ bs. Served clock start ahead begun taken stand kept bs in subst P (sym (append-nil bytes)) v
 
 -- a whole piece, whose replies are written
-pub served_piece : (start : Sight) (ahead : List (List ℕ)) (begun taken taken' : Option (List ℕ)) (stand : Stand) (waits' kept bytes p : List ℕ) (i : ℕ) →
-    length p ≤ i → Takes taken taken' stand.waits → waits' ≡ [] → Served start ahead begun taken stand kept (bytes ++ take i p) → Served start ahead begun taken' (record stand { waits = waits' }) kept (bytes ++ p)
-served_piece start ahead begun taken taken' stand waits' kept bytes p i past took none v =
-    let P : List ℕ → Type 0 = λ bs. Served start ahead begun taken' (record stand { waits = waits' }) kept (bytes ++ bs) in
+pub served_piece : {clock : ℕ → Bool} (start : Sight) (ahead : List (List ℕ)) (begun taken taken' : Option (List ℕ)) (stand : Stand) (waits' kept bytes p : List ℕ) (i : ℕ) →
+    length p ≤ i → Takes taken taken' stand.waits → waits' ≡ [] → Served clock start ahead begun taken stand kept (bytes ++ take i p) → Served clock start ahead begun taken' (record stand { waits = waits' }) kept (bytes ++ p)
+served_piece {clock} start ahead begun taken taken' stand waits' kept bytes p i past took none v =
+    let P : List ℕ → Type 0 = λ bs. Served clock start ahead begun taken' (record stand { waits = waits' }) kept (bytes ++ bs) in
     subst P (take_all i p past) (served_flushed start ahead begun taken taken' stand waits' kept (bytes ++ take i p) (says_flushed taken taken' stand.waits waits' took none) v)
 
 -- a whole piece, whose replies are not written whole
-pub cut_off_piece : (start : Sight) (ahead : List (List ℕ)) (begun taken taken' : Option (List ℕ)) (stand : Stand) (kept bytes p : List ℕ) (i : ℕ) →
-    length p ≤ i → TakesFront taken taken' stand.waits → Served start ahead begun taken stand kept (bytes ++ take i p) → CutOff start ahead begun taken' stand.sight (cut_of (bytes ++ p)).whole
-cut_off_piece start ahead begun taken taken' stand kept bytes p i past front v =
-    let P : List ℕ → Type 0 = λ bs. CutOff start ahead begun taken' stand.sight (cut_of (bytes ++ bs)).whole in
+pub cut_off_piece : {clock : ℕ → Bool} (start : Sight) (ahead : List (List ℕ)) (begun taken taken' : Option (List ℕ)) (stand : Stand) (kept bytes p : List ℕ) (i : ℕ) →
+    length p ≤ i → TakesFront taken taken' stand.waits → Served clock start ahead begun taken stand kept (bytes ++ take i p) → CutOff clock start ahead begun taken' stand.sight (cut_of (bytes ++ p)).whole
+cut_off_piece {clock} start ahead begun taken taken' stand kept bytes p i past front v =
+    let P : List ℕ → Type 0 = λ bs. CutOff clock start ahead begun taken' stand.sight (cut_of (bytes ++ bs)).whole in
     subst P (take_all i p past) (cut_off_waiting start ahead begun taken taken' stand kept (bytes ++ take i p) v front)
 
 -- a front of the lines is a front of more lines
-cut_off_by : (start : Sight) (ahead : List (List ℕ)) (begun taken : Option (List ℕ)) (now : Sight) (lines more all : List (List ℕ)) → all ≡ lines ++ more → CutOff start ahead begun taken now lines → CutOff start ahead begun taken now all
+cut_off_by : {clock : ℕ → Bool} (start : Sight) (ahead : List (List ℕ)) (begun taken : Option (List ℕ)) (now : Sight) (lines more all : List (List ℕ)) → all ≡ lines ++ more → CutOff clock start ahead begun taken now lines → CutOff clock start ahead begun taken now all
 cut_off_by start ahead begun taken now lines more all is v = record {
   said = v.said;
   others = v.others ++ more;
@@ -258,7 +258,7 @@ cut_off_by start ahead begun taken now lines more all is v = record {
 }
 
 -- a front of the lines is a front of the lines of more bytes
-pub cut_off_more : (start : Sight) (ahead : List (List ℕ)) (begun taken : Option (List ℕ)) (now : Sight) (xs ys : List ℕ) → CutOff start ahead begun taken now (cut_of xs).whole → CutOff start ahead begun taken now (cut_of (xs ++ ys)).whole
+pub cut_off_more : {clock : ℕ → Bool} (start : Sight) (ahead : List (List ℕ)) (begun taken : Option (List ℕ)) (now : Sight) (xs ys : List ℕ) → CutOff clock start ahead begun taken now (cut_of xs).whole → CutOff clock start ahead begun taken now (cut_of (xs ++ ys)).whole
 cut_off_more start ahead begun taken now xs ys v =
     let more = whole_grows xs ys in
     cut_off_by start ahead begun taken now (cut_of xs).whole more.0 (cut_of (xs ++ ys)).whole more.1 v
@@ -274,16 +274,16 @@ piece_rest bytes p i lt =
     ∙ append_assoc bytes (take (i + 1) p) (drop (i + 1) p) ∙ ap (λ v. bytes ++ v) (take-append-drop (i + 1) p)
 
 -- an input that ended, where no begun line is left
-pub written_none : (start : Sight) (ahead : List (List ℕ)) (begun taken : Option (List ℕ)) (stand : Stand) (kept bytes : List ℕ) →
-    Served start ahead begun taken stand kept bytes → stand.waits ≡ [] → kept ≡ [] → Written start begun taken stand.sight (lines_of bytes)
-written_none start ahead begun taken stand kept bytes v none empty =
+pub written_none : {clock : ℕ → Bool} (start : Sight) (ahead : List (List ℕ)) (begun taken : Option (List ℕ)) (stand : Stand) (kept bytes : List ℕ) →
+    Served clock start ahead begun taken stand kept bytes → stand.waits ≡ [] → kept ≡ [] → Written clock start begun taken stand.sight (lines_of bytes)
+written_none {clock} start ahead begun taken stand kept bytes v none empty =
     let all : lines_of bytes ≡ (cut_of bytes).whole = ap (λ l. (cut_of bytes).whole ++ l) (none_last (cut_of bytes).rest (sym v.line ∙ empty)) ∙ append-nil (cut_of bytes).whole in
-    let P : List (List ℕ) → Type 0 = λ lines. IsTalk start.seat.figures stand.sight.history start.seat.number (standing start nobody false) lines v.text v.made (standing stand.sight stand.speaker false) in
+    let P : List (List ℕ) → Type 0 = λ lines. IsTalk clock start.seat.figures stand.sight.history start.seat.number (standing start nobody false) lines v.text v.made (standing stand.sight stand.speaker false) in
     record { text = v.text; made = v.made; to = standing stand.sight stand.speaker false; there = refl; grows = v.grows; took = says_whole begun taken [] stand.waits v.text none v.said; talk = subst P (sym all) v.talk }
 
 -- the whole lines so far, without a BYE among them
-pub whole_open : (start : Sight) (ahead : List (List ℕ)) (begun taken : Option (List ℕ)) (stand : Stand) (kept bytes : List ℕ) →
-    Served start ahead begun taken stand kept bytes → stand.waits ≡ [] → (written : Written start begun taken stand.sight (cut_of bytes).whole) × (written.to.over ≡ false)
+pub whole_open : {clock : ℕ → Bool} (start : Sight) (ahead : List (List ℕ)) (begun taken : Option (List ℕ)) (stand : Stand) (kept bytes : List ℕ) →
+    Served clock start ahead begun taken stand kept bytes → stand.waits ≡ [] → (written : Written clock start begun taken stand.sight (cut_of bytes).whole) × (written.to.over ≡ false)
 whole_open start ahead begun taken stand kept bytes v none =
     (record { text = v.text; made = v.made; to = standing stand.sight stand.speaker false; there = refl; grows = v.grows; took = says_whole begun taken [] stand.waits v.text none v.said; talk = v.talk }, refl)
 
@@ -291,24 +291,24 @@ all_lines : (bytes kept : List ℕ) → kept ≡ take 4097 (cut_of bytes).rest �
 all_lines bytes kept is some = ap (λ l. (cut_of bytes).whole ++ l) (some_last (cut_of bytes).rest (λ e. some (is ∙ e)))
 
 -- and where one is left, which is replied to
-pub written_last : (start : Sight) (ahead : List (List ℕ)) (begun taken between taken' : Option (List ℕ)) (old new : Stand) (kept bytes : List ℕ) (step : Step) →
-    Served start ahead begun taken old kept bytes → (kept ≡ [] → ⊥) → RepliesWhole old new kept taken between step → Takes between taken' new.waits →
-    Written start begun taken' new.sight (lines_of bytes)
+pub written_last : {clock : ℕ → Bool} (start : Sight) (ahead : List (List ℕ)) (begun taken between taken' : Option (List ℕ)) (old new : Stand) (kept bytes : List ℕ) (step : Step) →
+    Served clock start ahead begun taken old kept bytes → (kept ≡ [] → ⊥) → RepliesWhole clock old new kept taken between step → Takes between taken' new.waits →
+    Written clock start begun taken' new.sight (lines_of bytes)
 written_last start ahead begun taken between taken' old new kept bytes step v some r took =
     let a = read_alike old.sight new.sight old.speaker new.speaker kept (cut_of bytes).rest r.reply (last_front kept (cut_of bytes).rest v.line) r.answers in
     let said = says_then_flushed taken between taken' old.waits new.waits (text_of old.sight r.reply) r.said took in
     written_with start ahead begun taken taken' old (record new { waits = [] }) kept bytes (cut_of bytes).rest r.reply (lines_of bytes) v a said refl (all_lines bytes kept v.line some)
 
-pub cut_off_last : (start : Sight) (ahead : List (List ℕ)) (begun taken taken' : Option (List ℕ)) (old new : Stand) (kept bytes : List ℕ) →
-    Served start ahead begun taken old kept bytes → (kept ≡ [] → ⊥) → RepliesInPart old new kept taken taken' →
-    CutOff start ahead begun taken' new.sight (lines_of bytes)
+pub cut_off_last : {clock : ℕ → Bool} (start : Sight) (ahead : List (List ℕ)) (begun taken taken' : Option (List ℕ)) (old new : Stand) (kept bytes : List ℕ) →
+    Served clock start ahead begun taken old kept bytes → (kept ≡ [] → ⊥) → RepliesInPart clock old new kept taken taken' →
+    CutOff clock start ahead begun taken' new.sight (lines_of bytes)
 cut_off_last start ahead begun taken taken' old new kept bytes v some r =
     let a = read_alike old.sight new.sight old.speaker new.speaker kept (cut_of bytes).rest r.reply (last_front kept (cut_of bytes).rest v.line) r.answers in
     cut_off_at start ahead begun taken taken' old new kept bytes (cut_of bytes).rest r.reply (lines_of bytes) v a r.took (all_lines bytes kept v.line some)
 
 -- a reply that waits and is not written whole
-pub part_of_whole : (taken between taken' : Option (List ℕ)) (old new : Stand) (line : List ℕ) (step : Step) →
-    RepliesWhole old new line taken between step → TakesFront between taken' new.waits → RepliesInPart old new line taken taken'
+pub part_of_whole : {clock : ℕ → Bool} (taken between taken' : Option (List ℕ)) (old new : Stand) (line : List ℕ) (step : Step) →
+    RepliesWhole clock old new line taken between step → TakesFront between taken' new.waits → RepliesInPart clock old new line taken taken'
 part_of_whole taken between taken' old new line step r front = record {
   reply = r.reply;
   answers = r.answers;
@@ -316,9 +316,9 @@ part_of_whole taken between taken' old new line step r front = record {
 }
 
 -- nothing is served yet
-pub served_none : (begun : Option (List ℕ)) (stand : Stand) (kept : List ℕ) → stand.speaker ≡ nobody → stand.waits ≡ [] → kept ≡ [] → Served stand.sight [] begun begun stand kept []
-served_none begun stand kept first none empty =
-    let begins : Served stand.sight [] begun begun (record { sight = stand.sight; speaker = nobody; waits = [] }) kept [] = record {
+pub served_none : {clock : ℕ → Bool} (begun : Option (List ℕ)) (stand : Stand) (kept : List ℕ) → stand.speaker ≡ nobody → stand.waits ≡ [] → kept ≡ [] → Served clock stand.sight [] begun begun stand kept []
+served_none {clock} begun stand kept first none empty =
+    let begins : Served clock stand.sight [] begun begun (record { sight = stand.sight; speaker = nobody; waits = [] }) kept [] = record {
       text = [];
       made = [];
       grows = grows_none stand.sight;
@@ -327,7 +327,7 @@ served_none begun stand kept first none empty =
       talk = (refl, refl, refl);
       line = empty;
     } in
-    let P : Speaker × List ℕ → Type 0 = λ x. Served stand.sight [] begun begun (record { sight = stand.sight; speaker = x.0; waits = x.1 }) kept [] in
+    let P : Speaker × List ℕ → Type 0 = λ x. Served clock stand.sight [] begun begun (record { sight = stand.sight; speaker = x.0; waits = x.1 }) kept [] in
     subst P (λ i. (sym first i, sym none i)) begins
 
 -- the byte is a line feed, or not

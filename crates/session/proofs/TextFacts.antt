@@ -6,7 +6,7 @@ use Rattle.outside.specs.Flow.{TakesFront}
 use Rattle.command_types.specs.declared.answer.Reply.{Reply}
 use Rattle.command_types.specs.Roster.{Rows}
 use Rattle.command_types.specs.Text.{head_text}
-use Rattle.command_types.specs.Details.{lines_text, reply_text}
+use Rattle.command_types.specs.Details.{lines_text, details_text, raw_text, reply_text}
 use Rattle.statements.specs.declared.details.DetailRow.{DetailRow}
 use Rattle.statements.specs.Details.{row_text, details_of}
 use Rattle.statements.proofs.DetailFacts.{details_by_row}
@@ -30,8 +30,12 @@ text_more rows reply n row is =
     ∙ ap (λ text. head_text rows reply.at reply.answer ++ (lines_text (row_text rows) (take n details) ++ text)) (sym (append-nil (row_text rows row)))
     ∙ ap (λ text. head_text rows reply.at reply.answer ++ text) (sym (ap (lines_text (row_text rows)) next ∙ lines_both (row_text rows) (take n details) (row ∷ [])))
 
+-- the head line and all detail lines; behind them come the bytes of an entry, if the reply tells one
+abbrev pub lines_of_reply : Rows → Reply → List ℕ
+lines_of_reply rows reply = head_text rows reply.at reply.answer ++ details_text rows reply.answer
+
 -- the text before a place and the rest of it
-text_split : (rows : Rows) (reply : Reply) (n : ℕ) → text_before rows reply n ++ lines_text (row_text rows) (drop n (details_of reply.answer)) ≡ reply_text rows reply
+text_split : (rows : Rows) (reply : Reply) (n : ℕ) → text_before rows reply n ++ lines_text (row_text rows) (drop n (details_of reply.answer)) ≡ lines_of_reply rows reply
 text_split rows reply n =
     let details = details_of reply.answer in
     append_assoc (head_text rows reply.at reply.answer) (lines_text (row_text rows) (take n details)) (lines_text (row_text rows) (drop n details))
@@ -41,11 +45,14 @@ text_split rows reply n =
 -- a front of the text before a place is a front of the whole
 pub front_of_reply : (begun after : Option (List ℕ)) (waited : List ℕ) (rows : Rows) (reply : Reply) (n : ℕ) → TakesFront begun after (waited ++ text_before rows reply n) → TakesFront begun after (waited ++ reply_text rows reply)
 front_of_reply begun after waited rows reply n front =
-    let rest = lines_text (row_text rows) (drop n (details_of reply.answer)) in
+    let rest = lines_text (row_text rows) (drop n (details_of reply.answer)) ++ raw_text reply.answer in
     let P : List ℕ → Type 0 = λ text. TakesFront begun after text in
-    subst P (append_assoc waited (text_before rows reply n) rest ∙ ap (λ text. waited ++ text) (text_split rows reply n)) (front_more begun after (waited ++ text_before rows reply n) rest front)
+    let whole : text_before rows reply n ++ rest ≡ reply_text rows reply =
+    sym (append_assoc (text_before rows reply n) (lines_text (row_text rows) (drop n (details_of reply.answer))) (raw_text reply.answer))
+    ∙ ap (λ text. text ++ raw_text reply.answer) (text_split rows reply n) in
+    subst P (append_assoc waited (text_before rows reply n) rest ∙ ap (λ text. waited ++ text) whole) (front_more begun after (waited ++ text_before rows reply n) rest front)
 
--- behind the last row the text is whole
-pub text_whole : (rows : Rows) (reply : Reply) (n : ℕ) → length (details_of reply.answer) ≤ n → text_before rows reply n ≡ reply_text rows reply
+-- behind the last row all lines are there
+pub text_whole : (rows : Rows) (reply : Reply) (n : ℕ) → length (details_of reply.answer) ≤ n → text_before rows reply n ≡ lines_of_reply rows reply
 text_whole rows reply n past =
     ap (λ text. head_text rows reply.at reply.answer ++ text) (ap (lines_text (row_text rows)) (take_all n (details_of reply.answer) past) ∙ sym (details_by_row rows reply.answer))

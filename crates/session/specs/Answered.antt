@@ -10,27 +10,28 @@ use Rattle.command_types.specs.declared.figures.Figures.{Figures}
 use Rattle.command_types.specs.declared.figures.JournalFigures.{JournalFigures}
 use Rattle.command_types.specs.declared.line.Line.{Line}
 use Rattle.command_types.specs.declared.line.Line.TheVariants.{Propose}
-use Rattle.command_types.specs.declared.refusal.Refusal.TheVariants.{JournalFull, Memory}
+use Rattle.command_types.specs.declared.refusal.Refusal.TheVariants.{JournalFull}
 use Rattle.command_types.specs.Details.{reply_text}
 use Rattle.command_types.specs.Grammar.{line_within}
 use Rattle.command_types.specs.History.{History, recorded, is_recorded, replayed_from}
 use Rattle.command_types.specs.Lines.{cut_of, lines_of}
 use Rattle.command_types.specs.Machine.{answer_to}
+use Rattle.command_types.specs.Offers.{answer_at}
 use Rattle.command_types.specs.Roster.{Rows}
 use Rattle.command_types.specs.Session.{Speaker, nobody, speaker_after, is_bye, ask_begin, ask_fetch, ask_post}
 use Rattle.command_types.specs.Sizes.{journal_limit, frame_size}
-use Rattle.command_types.specs.Told.{journal_size, tells_stop}
+use Rattle.command_types.specs.Told.{IsMemory, journal_size, tells_stop}
 use Rattle.session.specs.declared.serve.SessionEnd.{SessionEnd}
 use Rattle.session.specs.Ending.{session_limit, Ends}
 use Rattle.session.specs.Serving.{Sight, ask_read}
 
--- The answer is the machine's, at a position of the history. A change that it accepts is the next entry there, and the reply tells the position behind it.
+-- The answer is the machine's, at a position of the history, and what it leaves open is from the changes before. A change that it accepts is the next entry there, and the reply tells the position behind it.
 pub record IsOfMachine (h : History) (seat : ℕ) (ask : Ask) (reply : Reply) : Type 0 where
   pub front : List Entry
   pub back : List Entry
   pub split : h.entries ≡ front ++ (recorded seat ask reply.answer ++ back)
   pub place : reply.at ≡ h.base.position + length front + length (recorded seat ask reply.answer)
-  pub same : reply.answer ≡ answer_to (replayed_from h.base.state front) ask
+  pub same : reply.answer ≡ answer_at h.base front ask
 
 -- The machine accepts the change at the position that the reply tells, but with its record the journal would pass its limit. The answer tells the journal's size there.
 pub record IsOfFullJournal (figures : Figures) (h : History) (ask : Ask) (reply : Reply) : Type 0 where
@@ -47,15 +48,15 @@ pub record IsOfFullJournal (figures : Figures) (h : History) (ask : Ask) (reply 
 -- A command is answered by the machine, or for a full journal, or for want of memory.
 abbrev pub IsAnswer : Figures → History → ℕ → Ask → Reply → Type 0
 IsAnswer figures h seat ask reply =
-    IsOfMachine h seat ask reply ⊎ (IsOfFullJournal figures h ask reply ⊎ (reply.answer ≡ No Memory))
+    IsOfMachine h seat ask reply ⊎ (IsOfFullJournal figures h ask reply ⊎ IsMemory figures ask.what reply.answer)
 
 -- the commands of what was read of a line: a PROPOSE has those that begin a version, fetch its problems and post their solutions, each other line one
 abbrev pub IsCommandOf : Rows → Speaker → Result Line ℕ → Ask → Type 0
 IsCommandOf rows speaker (Ok (Propose cycle mode)) ask =
-    (ask ≡ ask_begin speaker.party cycle mode)
-    ⊎ (((version : ℕ) × (ask ≡ ask_fetch speaker.party cycle version))
-    ⊎ ((version : ℕ) × (solutions : List SolutionData) × (ask ≡ ask_post speaker.party cycle version solutions)))
-IsCommandOf rows speaker read ask = ask ≡ ask_read rows speaker read
+    (ask ≡ ask_begin speaker.party cycle mode ask.moment)
+    ⊎ (((version : ℕ) × (ask ≡ ask_fetch speaker.party cycle version ask.moment))
+    ⊎ ((version : ℕ) × (solutions : List SolutionData) × (ask ≡ ask_post speaker.party cycle version solutions ask.moment)))
+IsCommandOf rows speaker read ask = ask ≡ ask_read rows speaker read ask.moment
 
 -- A line is answered: its reply is what a command of the line is answered, and does not tell that the desk is stopped; its text is the reply's.
 pub record IsLineAnswered (figures : Figures) (h : History) (seat : ℕ) (speaker : Speaker) (line text : List ℕ) (reply : Reply) : Type 0 where
@@ -92,6 +93,6 @@ pub record IsInputAnswered (figures : Figures) (h : History) (seat : ℕ) (opene
 -- a session that ended so, and was told of no stop, is answered
 abbrev pub EveryLineIsAnswered : SessionEnd → Bool → Type 0
 EveryLineIsAnswered end limit =
-    (start now : Sight) (opened flow : Option Flow) (begun taken : Option (List ℕ)) →
-    Ends start opened flow begun taken now end → now.stopped ≡ false →
+    (clock : ℕ → Bool) (start now : Sight) (opened flow : Option Flow) (begun taken : Option (List ℕ)) →
+    Ends clock start opened flow begun taken now end → now.stopped ≡ false →
     IsInputAnswered start.seat.figures now.history start.seat.number opened flow begun taken limit

@@ -1,8 +1,8 @@
 -- What is read of a line that may be too long.
-use Rattle.std.specs.Prelude.{ℕ, List, Option, Some, None, Result, Ok, Err}
+use Rattle.std.specs.Prelude.{ℕ, Bool, true, false, List, Option, Some, None, Result, Ok, Err}
 use Rattle.command_types.specs.declared.cycle.Mode.{Mode}
 use Rattle.command_types.specs.declared.line.Line.{Line}
-use Rattle.command_types.specs.declared.line.Line.TheVariants.{Propose}
+use Rattle.command_types.specs.declared.line.Line.TheVariants.{Propose, Accept}
 use Rattle.command_types.specs.Grammar.{line_within}
 use Rattle.command_text.specs.declared.bad_line.BadLine.{BadLine}
 use Rattle.command_text.specs.ReadOf.{read_of}
@@ -20,3 +20,8 @@ line_read (Err fault) = Err fault.at
 abbrev pub proposal_in : Result Line ℕ → Option (ℕ × Mode)
 proposal_in (Ok (Propose cycle mode)) = Some (cycle, mode)
 proposal_in read = None
+
+-- a vote for a plan
+abbrev pub is_vote : Result Line ℕ → Bool
+is_vote (Ok (Accept cycle version)) = true
+is_vote read = false

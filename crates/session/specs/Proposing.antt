@@ -20,19 +20,19 @@ has_problems (Problems problems) = true
 has_problems answer = false
 
 -- The problems are solved and posted, or there is no memory for that.
-pub record Posts (old new : Sight) (by : Option (List ℕ)) (cycle version begun_at : ℕ) (problems : List ProblemData) (reply : Reply) : Type 0 where
+pub record Posts (clock : ℕ → Bool) (old new : Sight) (by : Option (List ℕ)) (cycle version begun_at : ℕ) (problems : List ProblemData) (reply : Reply) : Type 0 where
   pub made : List Entry
   pub grows : Grows old new made
-  pub goes_on : IsUnsolved begun_at (mark old) reply made (mark new) ⊎ IsPosted old.seat.figures new.history old.seat.number (mark old) by cycle version problems reply made (mark new)
+  pub goes_on : IsUnsolved begun_at (mark old) reply made (mark new) ⊎ IsPosted clock old.seat.figures new.history old.seat.number (mark old) by cycle version problems reply made (mark new)
 
 -- The problems of the version are asked for, and what follows on that.
-pub record Fetches (old new : Sight) (by : Option (List ℕ)) (cycle version begun_at : ℕ) (reply : Reply) : Type 0 where
+pub record Fetches (clock : ℕ → Bool) (old new : Sight) (by : Option (List ℕ)) (cycle version begun_at : ℕ) (reply : Reply) : Type 0 where
   pub made : List Entry
   pub grows : Grows old new made
-  pub fetched : IsFetched old.seat.figures new.history old.seat.number (mark old) by cycle version begun_at reply made (mark new)
+  pub fetched : IsFetched clock old.seat.figures new.history old.seat.number (mark old) by cycle version begun_at reply made (mark new)
 
 -- A version is begun, and what follows on that.
-pub record Proposes (old new : Sight) (by : Option (List ℕ)) (cycle : ℕ) (mode : Mode) (reply : Reply) : Type 0 where
+pub record Proposes (clock : ℕ → Bool) (old new : Sight) (by : Option (List ℕ)) (cycle : ℕ) (mode : Mode) (reply : Reply) : Type 0 where
   pub made : List Entry
   pub grows : Grows old new made
-  pub proposed : IsProposed old.seat.figures new.history old.seat.number (mark old) by cycle mode reply made (mark new)
+  pub proposed : IsProposed clock old.seat.figures new.history old.seat.number (mark old) by cycle mode reply made (mark new)

@@ -55,55 +55,55 @@ pub record Grows (old new : Sight) (made : List Entry) : Type 0 where
   pub legal : IsLegal old.history → IsLegal new.history
 
 -- A command is replied to at the new end of what the asker has seen. Its seat's own changes have grown by it where it is recorded.
-pub record Asks (old new : Sight) (ask : Ask) (reply : Reply) : Type 0 where
+pub record Asks (clock : ℕ → Bool) (old new : Sight) (ask : Ask) (reply : Reply) : Type 0 where
   pub grows : Grows old new (recorded old.seat.number ask reply.answer)
-  pub asked : IsAsked old.seat.figures new.history old.seat.number (mark old) ask reply (recorded old.seat.number ask reply.answer) (mark new)
+  pub asked : IsAsked clock old.seat.figures new.history old.seat.number (mark old) ask reply (recorded old.seat.number ask reply.answer) (mark new)
 
--- the one command of what was read of a line that is no PROPOSE
-abbrev pub ask_read : Rows → Speaker → Result Line ℕ → Ask
-ask_read rows speaker read = record { by = speaker.party; what = what_or_fault rows speaker.draft read }
+-- the one command of what was read of a line that is no PROPOSE, asked at this moment
+abbrev pub ask_read : Rows → Speaker → Result Line ℕ → ℕ → Ask
+ask_read rows speaker read moment = record { by = speaker.party; what = what_or_fault rows speaker.draft read; moment = moment }
 
 -- What was read of a line is replied to.
-pub record AnswersRead (old new : Sight) (before after : Speaker) (read : Result Line ℕ) (reply : Reply) : Type 0 where
+pub record AnswersRead (clock : ℕ → Bool) (old new : Sight) (before after : Speaker) (read : Result Line ℕ) (reply : Reply) : Type 0 where
   pub made : List Entry
   pub grows : Grows old new made
-  pub replied : IsReplied old.seat.figures new.history old.seat.number (mark old) (roster_of old) before read reply made (mark new)
+  pub replied : IsReplied clock old.seat.figures new.history old.seat.number (mark old) (roster_of old) before read reply made (mark new)
   pub speaker : after ≡ speaker_after before read reply.answer
 
 -- A line is replied to.
-abbrev pub Answers : Sight → Sight → Speaker → Speaker → List ℕ → Reply → Type 0
-Answers old new before after line reply = AnswersRead old new before after (line_within line) reply
+abbrev pub Answers : (ℕ → Bool) → Sight → Sight → Speaker → Speaker → List ℕ → Reply → Type 0
+Answers clock old new before after line reply = AnswersRead clock old new before after (line_within line) reply
 
 -- These lines are replied to, and the replies are written, all of them.
-pub record Written (start : Sight) (begun taken : Option (List ℕ)) (now : Sight) (lines : List (List ℕ)) : Type 0 where
+pub record Written (clock : ℕ → Bool) (start : Sight) (begun taken : Option (List ℕ)) (now : Sight) (lines : List (List ℕ)) : Type 0 where
   pub text : List ℕ
   pub made : List Entry
   pub to : Standing
   pub there : mark_of to ≡ mark now
   pub grows : Grows start now made
   pub took : Takes begun taken text
-  pub talk : IsTalk start.seat.figures now.history start.seat.number (standing start nobody false) lines text made to
+  pub talk : IsTalk clock start.seat.figures now.history start.seat.number (standing start nobody false) lines text made to
 
 -- The first of these lines are replied to, up to an accepted BYE, and the replies are written.
-pub record Left (start : Sight) (begun taken : Option (List ℕ)) (now : Sight) (lines : List (List ℕ)) : Type 0 where
+pub record Left (clock : ℕ → Bool) (start : Sight) (begun taken : Option (List ℕ)) (now : Sight) (lines : List (List ℕ)) : Type 0 where
   pub said : List (List ℕ)
   pub others : List (List ℕ)
   pub order : lines ≡ said ++ others
-  pub written : Written start begun taken now said
+  pub written : Written clock start begun taken now said
   pub over : written.to.over ≡ true
 
 -- The replies to these lines, a session's first, are a front of the text, within this many of its bytes.
-pub record AreWithin (start now : Sight) (lines : List (List ℕ)) (text : List ℕ) (count : ℕ) : Type 0 where
+pub record AreWithin (clock : ℕ → Bool) (start now : Sight) (lines : List (List ℕ)) (text : List ℕ) (count : ℕ) : Type 0 where
   pub front : List ℕ
   pub back : List ℕ
   pub order : text ≡ front ++ back
   pub within : length front ≤ count
   pub made : List Entry
   pub to : Standing
-  pub talk : IsTalk start.seat.figures now.history start.seat.number (standing start nobody false) lines front made to
+  pub talk : IsTalk clock start.seat.figures now.history start.seat.number (standing start nobody false) lines front made to
 
 -- The first of these lines are replied to, and of their text a front is written that is not the whole. The replies to the lines ahead are in it whole.
-pub record CutOff (start : Sight) (ahead : List (List ℕ)) (begun taken : Option (List ℕ)) (now : Sight) (lines : List (List ℕ)) : Type 0 where
+pub record CutOff (clock : ℕ → Bool) (start : Sight) (ahead : List (List ℕ)) (begun taken : Option (List ℕ)) (now : Sight) (lines : List (List ℕ)) : Type 0 where
   pub said : List (List ℕ)
   pub others : List (List ℕ)
   pub order : lines ≡ said ++ others
@@ -113,5 +113,5 @@ pub record CutOff (start : Sight) (ahead : List (List ℕ)) (begun taken : Optio
   pub there : mark_of to ≡ mark now
   pub grows : Grows start now made
   pub took : TakesFront begun taken text
-  pub whole : AreWithin start now ahead text took.0
-  pub talk : IsTalk start.seat.figures now.history start.seat.number (standing start nobody false) said text made to
+  pub whole : AreWithin clock start now ahead text took.0
+  pub talk : IsTalk clock start.seat.figures now.history start.seat.number (standing start nobody false) said text made to

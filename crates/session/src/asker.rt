@@ -1,7 +1,8 @@
 //! What a session asks with.
 
-ghost use Rattle.std.specs.Prelude.{◌≡◌, IfOk};
+ghost use Rattle.std.specs.Prelude.{◌≡◌, ℕ, Bool, IfOk};
 ghost use Rattle.command_types.specs.History.{end_of};
+ghost use Rattle.command_types.specs.Session.{IsTime};
 ghost use Rattle.network_laws.specs.Solved.{AreSolved};
 ghost use Rattle.cycle_lock.specs.Passes.{IsPassOf, seen};
 ghost use Rattle.session.specs.Serving.{of_pass, Asks};
@@ -59,7 +60,7 @@ impl<'a, T: Desk, R: Threads + Wait + Sync, V: Solver, G: Gate> Asker<'a, T, R, 
 
     /// Asks the desk. What others ask meanwhile is seen too.
     pub fn ask(&mut self, ask: Ask) -> Reply
-        ensures { Asks (of_pass self.old.pass) (of_pass self.new.pass) ask result }
+        ensures { (clock : ℕ → Bool) → IsTime clock ask.moment → Asks clock (of_pass self.old.pass) (of_pass self.new.pass) ask result }
     {
         self.turns.call(self.workers.rt, &mut self.pass, ask)
     }

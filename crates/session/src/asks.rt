@@ -1,9 +1,9 @@
 //! The command of a line.
 
-ghost use Rattle.std.specs.Prelude.{◌≡◌, ◌≤◌, take, length, IfOk};
+ghost use Rattle.std.specs.Prelude.{◌≡◌, ◌≤◌, false, take, length, IfOk, OnErr, Ok};
 ghost use Rattle.command_types.specs.Lines.{ended_line, without_return};
 ghost use Rattle.command_types.specs.Session.{what_by, what_or_fault, draft_size, draft_sum, capped, noted_row, noted_potential};
-ghost use Rattle.session.specs.Asks.{read_within, line_read};
+ghost use Rattle.session.specs.Asks.{read_within, line_read, is_vote};
 ghost use Rattle.session.specs.KeptDraft.{draft_of};
 
 use crate::draft::Draft;
@@ -79,14 +79,15 @@ fn what_of_potential(draft: &Draft, product: Name, member: Name, value: i32) -> 
     }
 }
 
-// The command of a line of the grammar. The only error is want of memory, for the solutions of a POST.
+// The command of a line of the grammar. The only error is want of memory, for the solutions of a POST; a vote takes none.
 fn what_of_line(
     alloc: Global,
     roster: &Roster,
     draft: &Draft,
     line: &Line,
 ) -> Result<What, AllocError>
-    ensures { IfOk result (λ what. what ≡ what_by roster.now (draft_of draft.now) line.now) }
+    ensures what { IfOk result (λ what. what ≡ what_by roster.now (draft_of draft.now) line.now) }
+    ensures other { OnErr result (is_vote (Ok line.now) ≡ false) }
 {
     Ok(match *line {
         Line::Hello { name, key } => What::Hello { name, key },
@@ -145,7 +146,9 @@ fn what_of_line(
             }
         }
         Line::Propose { cycle, mode } => What::Begin { cycle, mode },
+        Line::Next { position } => What::Next { position },
         Line::Plan { cycle } => What::Plan { cycle },
+        Line::Proof { cycle } => What::Proof { cycle },
         Line::Accept { cycle, version } => What::Accept { cycle, version },
         Line::Decline { cycle, version } => What::Decline { cycle, version },
         Line::Cancel { cycle } => What::Cancel { cycle },
@@ -160,7 +163,8 @@ pub fn what_of_read(
     draft: &Draft,
     read: &Result<Line, BadLine>,
 ) -> Result<What, AllocError>
-    ensures { IfOk result (λ what. what ≡ what_or_fault roster.now (draft_of draft.now) (line_read read.now)) }
+    ensures what { IfOk result (λ what. what ≡ what_or_fault roster.now (draft_of draft.now) (line_read read.now)) }
+    ensures other { OnErr result (is_vote (line_read read.now) ≡ false) }
 {
     match read {
         Ok(line) => what_of_line(alloc, roster, draft, line),

@@ -1,8 +1,8 @@
 //! The draft of a session: the rows and potentials that it has noted for a posting.
 
-ghost use Rattle.std.specs.Prelude.{◌≡◌, ◌+◌, ◌≤◌, ℕ, ℤ, length, Result, OnOk, Ok};
+ghost use Rattle.std.specs.Prelude.{◌≡◌, ◌+◌, ◌≤◌, ℕ, ℤ, false, length, Result, OnOk, OnErr, Ok};
 ghost use Rattle.command_types.specs.Session.{empty_draft, draft_size, draft_sum, capped, noted_row, noted_potential, draft_after};
-ghost use Rattle.session.specs.Asks.{line_read};
+ghost use Rattle.session.specs.Asks.{line_read, is_vote};
 ghost use Rattle.session.specs.Kept.{kept_rows, kept_potentials};
 ghost use Rattle.units_core.specs.declared.limits.TheConstants.{MOST_DRAFT};
 
@@ -77,6 +77,7 @@ impl Draft {
     pub fn prepare(&mut self, read: &Result<Line, BadLine>) -> Result<(), AllocError>
         ensures draft { draft_of self.new ≡ draft_of self.old }
         ensures room { OnOk result (HasRoom self.new read.now) }
+        ensures other { OnErr result (is_vote (line_read read.now) ≡ false) }
     {
         match read {
             Ok(Line::Row { .. }) => self.rows.reserve(),

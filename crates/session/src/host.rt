@@ -15,25 +15,26 @@ use crate::speaker::Speaker;
 use command_types::{Desk, Roster};
 use cycle_lock::{Pass, Turns};
 use network_laws::Solver;
-use outside::{Gate, Sink, Source};
+use outside::{Clock, Gate, Sink, Source};
 use parallel_solver::Workers;
 use std::alloc::Global;
 use std::sync::Wait;
 use std::thread::Threads;
 
-/// What all sessions of a desk have in common: memory, the workers that solve, and the desk's roster.
+/// What all sessions of a desk have in common: memory, the workers that solve, the clock, and the desk's roster.
 #[derive(Drop)]
-pub struct Host<'a, R: Threads + Wait + Sync, V: Solver, G: Gate> {
+pub struct Host<'a, R: Threads + Wait + Sync, V: Solver, G: Gate, C: Clock> {
     pub alloc: Global,
     pub workers: Workers<'a, R, V, G>,
+    pub clock: &'a C,
     pub roster: &'a Roster,
 }
 
-impl<'a, R: Threads + Wait + Sync, V: Solver, G: Gate> Host<'a, R, V, G> {
+impl<'a, R: Threads + Wait + Sync, V: Solver, G: Gate, C: Clock> Host<'a, R, V, G, C> {
     /// Replies to the lines of a source with a pass, up to the input's end, an accepted BYE or the session's limit of 2^30
     /// bytes. Every whole line that was read is answered, and the replies are written, before more is read; replies to lines
     /// that were read together are written together. What was read behind an accepted BYE is dropped. It takes its memory
-    /// before it reads. The roster is the desk's, and the pass comes back.
+    /// before it reads. Each command's moment is one that the clock tells. The roster is the desk's, and the pass comes back.
     pub fn serve<T: Desk, S: Source, K: Sink>(
         &'a self,
         turns: &'a Turns<T>,
@@ -44,7 +45,7 @@ impl<'a, R: Threads + Wait + Sync, V: Solver, G: Gate> Host<'a, R, V, G> {
         requires own { IsPassOf turns.now pass }
         requires roster { self.now.roster.now ≡ (seen pass).base.state.roster }
         ensures own { IsPassOf turns.now result.1 }
-        ensures ends { Ends (of_pass pass) (S.flow source.old) (S.flow source.new) (K.taken sink.old) (K.taken sink.new) (of_pass result.1) result.0 }
+        ensures ends { Ends (C.tells self.now.clock.now) (of_pass pass) (S.flow source.old) (S.flow source.new) (K.taken sink.old) (K.taken sink.new) (of_pass result.1) result.0 }
         ensures source_fault { result.0 ≡ SessionEnd.SourceFault → Rose (S.faults source.old) (S.faults source.new) }
         ensures sink_fault { result.0 ≡ SessionEnd.SinkFault → Rose (K.faults sink.old) (K.faults sink.new) }
     {
@@ -64,7 +65,7 @@ impl<'a, R: Threads + Wait + Sync, V: Solver, G: Gate> Host<'a, R, V, G> {
             speaker: Speaker::nobody(self.alloc),
             writer,
         };
-        let end = session.serve(&mut line, &mut piece, source, sink);
+        let end = session.serve(self.clock, &mut line, &mut piece, source, sink);
         (end, session.asker.into_pass())
     }
 }

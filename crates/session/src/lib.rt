@@ -10,6 +10,7 @@ mod given;
 mod host;
 mod laws;
 mod line_buffer;
+mod moments;
 mod outbox;
 mod product_network;
 mod proposals;

@@ -9,6 +9,7 @@ ghost use Rattle.units_core.specs.declared.limits.TheConstants.{MOST_LINE};
 use outside::{Failed, Sink, write_all};
 use std::alloc::{AllocError, Global};
 use std::marker::Model;
+use units_core::MOST_LINE;
 
 // How many bytes wait at the most.
 const ROOM: usize = 65536;
@@ -85,6 +86,28 @@ impl Outbox {
                 self.append(text);
                 Ok(())
             }
+            Err(fault) => Err(fault),
+        }
+    }
+
+    /// Puts a text of any length behind what waits, piece by piece.
+    pub fn put_long<K: Sink>(&mut self, text: &[u8], sink: &mut K) -> Result<(), Failed>
+        ensures said { OnOk result (Says (K.taken sink.old) (K.taken sink.new) self.old self.new text.now) }
+        ensures front { OnErr result (TakesFront (K.taken sink.old) (K.taken sink.new) (self.old ++ text.now)) }
+        ensures never_falls { K.faults sink.old ≤ K.faults sink.new }
+        ensures failed { OnErr result (Rose (K.faults sink.old) (K.faults sink.new)) }
+    {
+        let mut rest = text;
+        while rest.len() > MOST_LINE {
+            let (piece, others) = rest.split_at(MOST_LINE);
+            match self.put(piece, sink) {
+                Ok(()) => {}
+                Err(fault) => return Err(fault),
+            }
+            rest = others;
+        }
+        match self.put(rest, sink) {
+            Ok(()) => Ok(()),
             Err(fault) => Err(fault),
         }
     }

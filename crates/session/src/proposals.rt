@@ -1,13 +1,24 @@
 //! How a PROPOSE is replied to: by a BEGIN, by the problems of that version, and by a POST of their solutions.
+//!
+//! ```text
+//!   BEGIN --- refused ----------------------------> its reply
+//!     | begun
+//!   FETCH --- refused: overtaken, or no memory ---> its reply
+//!     | problems           (no turn of the lock is held from here on)
+//!   solve_all -- no memory --> `28 memory` at the BEGIN's position
+//!     | solutions
+//!   POST ----------------------------------------> its reply
+//! ```
 
 ghost use Rattle.std.specs.Prelude.{◌≡◌};
 ghost use Rattle.session.specs.Serving.{of_pass};
 ghost use Rattle.session.specs.Proposing.{begun_version, has_problems, Proposes, Fetches, Posts};
 
 use crate::asker::Asker;
+use crate::moments::moment_now;
 use command_types::{Answer, Ask, Desk, Listed, Mode, Refusal, Reply, What};
 use network_laws::{Problem, Solver};
-use outside::Gate;
+use outside::{Clock, Gate};
 use std::alloc::Global;
 use std::sync::Wait;
 use std::thread::Threads;
@@ -40,13 +51,14 @@ struct Begun {
 
 // Posts a solution of each problem. Where there is no memory for them, the reply is that, at the position at which the
 // version began.
-fn solve_and_post<T: Desk, R: Threads + Wait + Sync, V: Solver, G: Gate>(
+fn solve_and_post<T: Desk, R: Threads + Wait + Sync, V: Solver, G: Gate, C: Clock>(
     alloc: Global,
     asker: &mut Asker<'_, T, R, V, G>,
+    clock: &C,
     begun: &Begun,
     problems: &[Problem],
 ) -> Reply
-    ensures { Posts (of_pass asker.old.pass) (of_pass asker.new.pass) begun.now.by begun.now.cycle begun.now.version begun.now.at problems.now result }
+    ensures { Posts (C.tells clock.now) (of_pass asker.old.pass) (of_pass asker.new.pass) begun.now.by begun.now.cycle begun.now.version begun.now.at problems.now result }
 {
     let Ok(solutions) = asker.solve_all(alloc, problems) else {
         return Reply {
@@ -60,42 +72,59 @@ fn solve_and_post<T: Desk, R: Threads + Wait + Sync, V: Solver, G: Gate>(
         version: begun.version,
         solutions,
     };
-    asker.ask(Ask { by: begun.by, what })
+    let moment = moment_now(clock);
+    asker.ask(Ask {
+        by: begun.by,
+        what,
+        moment,
+    })
 }
 
 // Asks for the problems of the version that was begun, and goes on with them.
-fn fetch<T: Desk, R: Threads + Wait + Sync, V: Solver, G: Gate>(
+fn fetch<T: Desk, R: Threads + Wait + Sync, V: Solver, G: Gate, C: Clock>(
     alloc: Global,
     asker: &mut Asker<'_, T, R, V, G>,
+    clock: &C,
     begun: &Begun,
 ) -> Reply
-    ensures { Fetches (of_pass asker.old.pass) (of_pass asker.new.pass) begun.now.by begun.now.cycle begun.now.version begun.now.at result }
+    ensures { Fetches (C.tells clock.now) (of_pass asker.old.pass) (of_pass asker.new.pass) begun.now.by begun.now.cycle begun.now.version begun.now.at result }
 {
     let (cycle, version) = (begun.cycle, begun.version);
     let what = What::Fetch { cycle, version };
-    let reply = asker.ask(Ask { by: begun.by, what });
+    let moment = moment_now(clock);
+    let reply = asker.ask(Ask {
+        by: begun.by,
+        what,
+        moment,
+    });
     if !has_problems(&reply.answer) {
         return reply;
     }
     let Answer::Problems(problems) = &reply.answer else {
         unreachable!()
     };
-    solve_and_post(alloc, asker, begun, problems.rows())
+    solve_and_post(alloc, asker, clock, begun, problems.rows())
 }
 
 /// Begins a version, solves its problems, with no turn held, and posts the solutions. The reply is the first refusal on
 /// the way, or that to the POST.
-pub fn propose<T: Desk, R: Threads + Wait + Sync, V: Solver, G: Gate>(
+pub fn propose<T: Desk, R: Threads + Wait + Sync, V: Solver, G: Gate, C: Clock>(
     alloc: Global,
     asker: &mut Asker<'_, T, R, V, G>,
+    clock: &C,
     by: &Option<Name>,
     cycle: u64,
     mode: Mode,
 ) -> Reply
-    ensures { Proposes (of_pass asker.old.pass) (of_pass asker.new.pass) by.now cycle mode result }
+    ensures { Proposes (C.tells clock.now) (of_pass asker.old.pass) (of_pass asker.new.pass) by.now cycle mode result }
 {
     let what = What::Begin { cycle, mode };
-    let reply = asker.ask(Ask { by: *by, what });
+    let moment = moment_now(clock);
+    let reply = asker.ask(Ask {
+        by: *by,
+        what,
+        moment,
+    });
     match begun_version(&reply.answer) {
         Some(version) => {
             let begun = Begun {
@@ -104,7 +133,7 @@ pub fn propose<T: Desk, R: Threads + Wait + Sync, V: Solver, G: Gate>(
                 version,
                 at: reply.at,
             };
-            fetch(alloc, asker, &begun)
+            fetch(alloc, asker, clock, &begun)
         }
         None => reply,
     }

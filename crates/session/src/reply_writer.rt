@@ -1,15 +1,15 @@
-//! How the text of a reply is written: its head line and its detail lines, each behind what waits for the sink.
+//! How the text of a reply is written: its head line, its detail lines and an entry's bytes, each behind what waits for the sink.
 
 ghost use Rattle.std.specs.Prelude.{◌≡◌, ◌≤◌, ◌++◌, [], OnOk, OnErr, IfOk};
 ghost use Rattle.outside.specs.Faults.{Rose};
 ghost use Rattle.outside.specs.Flow.{Takes, TakesFront};
-ghost use Rattle.command_types.specs.Details.{reply_text};
+ghost use Rattle.command_types.specs.Details.{raw_text, reply_text};
 ghost use Rattle.session.specs.Pending.{Says};
 
 use crate::given::Given;
 use crate::outbox::Outbox;
 use command_text::write_head;
-use command_types::Roster;
+use command_types::{Answer, Roster};
 use outside::{Failed, Sink};
 use statements::{detail_count, detail_row, write_row};
 use std::alloc::{AllocError, Global};
@@ -58,7 +58,30 @@ impl ReplyWriter {
                 Err(fault) => return Err(fault),
             }
         }
-        Ok(())
+        match self.write_raw(&given.reply.answer, sink) {
+            Ok(()) => Ok(()),
+            Err(fault) => Err(fault),
+        }
+    }
+
+    // Puts the bytes of an entry and a line feed behind what waits, if the answer tells an entry.
+    fn write_raw<K: Sink>(&mut self, answer: &Answer, sink: &mut K) -> Result<(), Failed>
+        ensures said { OnOk result (Says (K.taken sink.old) (K.taken sink.new) self.old.outbox self.new.outbox (raw_text answer.now)) }
+        ensures front { OnErr result (TakesFront (K.taken sink.old) (K.taken sink.new) (self.old.outbox ++ raw_text answer.now)) }
+        ensures never_falls { K.faults sink.old ≤ K.faults sink.new }
+        ensures failed { OnErr result (Rose (K.faults sink.old) (K.faults sink.new)) }
+    {
+        let Answer::EntryBytes { bytes, .. } = answer else {
+            return Ok(());
+        };
+        match self.outbox.put_long(bytes.rows(), sink) {
+            Ok(()) => {}
+            Err(fault) => return Err(fault),
+        }
+        match self.outbox.put(b"\n", sink) {
+            Ok(()) => Ok(()),
+            Err(fault) => Err(fault),
+        }
     }
 
     /// Gives the sink all that waits. Where the sink fails, it took a front.

@@ -11,7 +11,7 @@ use crate::host::Host;
 use command_types::{Desk, Roster};
 use cycle_lock::{Pass, Turns};
 use network_laws::Solver;
-use outside::{Gate, Sink, Source};
+use outside::{Clock, Gate, Sink, Source};
 use parallel_solver::Workers;
 use std::alloc::Global;
 use std::sync::Wait;
@@ -32,14 +32,24 @@ pub enum SessionEnd {
     Memory,
 }
 
-/// Replies to the lines of a source with a pass, as `Host::serve` does, with so many workers, this solver and this gate.
-pub fn serve_session<T: Desk, R: Threads + Wait + Sync, V: Solver, G: Gate, S: Source, K: Sink>(
+/// Replies to the lines of a source with a pass, as `Host::serve` does, with so many workers, this solver, this gate and this
+/// clock.
+pub fn serve_session<
+    T: Desk,
+    R: Threads + Wait + Sync,
+    V: Solver,
+    G: Gate,
+    C: Clock,
+    S: Source,
+    K: Sink,
+>(
     rt: &R,
     alloc: Global,
     turns: &Turns<T>,
     workers: u32,
     solver: &V,
     gate: &G,
+    clock: &C,
     roster: &Roster,
     pass: Pass,
     source: &mut S,
@@ -49,7 +59,7 @@ pub fn serve_session<T: Desk, R: Threads + Wait + Sync, V: Solver, G: Gate, S: S
     requires workers { (1 ≤ workers) × (workers ≤ MOST_WORKERS) }
     requires roster { roster.now ≡ (seen pass).base.state.roster }
     ensures own { IsPassOf turns.now result.1 }
-    ensures ends { Ends (of_pass pass) (S.flow source.old) (S.flow source.new) (K.taken sink.old) (K.taken sink.new) (of_pass result.1) result.0 }
+    ensures ends { Ends (C.tells clock.now) (of_pass pass) (S.flow source.old) (S.flow source.new) (K.taken sink.old) (K.taken sink.new) (of_pass result.1) result.0 }
     ensures source_fault { result.0 ≡ SessionEnd.SourceFault → Rose (S.faults source.old) (S.faults source.new) }
     ensures sink_fault { result.0 ≡ SessionEnd.SinkFault → Rose (K.faults sink.old) (K.faults sink.new) }
 {
@@ -57,6 +67,7 @@ pub fn serve_session<T: Desk, R: Threads + Wait + Sync, V: Solver, G: Gate, S: S
     let host = Host {
         alloc,
         workers,
+        clock,
         roster,
     };
     host.serve(turns, pass, source, sink)

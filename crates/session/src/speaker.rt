@@ -1,8 +1,8 @@
 //! What a session keeps between two lines: the party that has greeted, and its draft.
 
-ghost use Rattle.std.specs.Prelude.{◌≡◌, ℕ, Option, None, Some, OnOk, IfOk};
+ghost use Rattle.std.specs.Prelude.{◌≡◌, ℕ, false, Option, None, Some, OnOk, OnErr, IfOk};
 ghost use Rattle.command_types.specs.Session.{nobody, what_or_fault, speaker_after};
-ghost use Rattle.session.specs.Asks.{line_read};
+ghost use Rattle.session.specs.Asks.{line_read, is_vote};
 ghost use Rattle.session.specs.KeptDraft.{HasRoom, MayNote, draft_of};
 
 use crate::asks::what_of_read;
@@ -40,7 +40,7 @@ impl Speaker {
     }
 
     /// The command of what was read of a line. It takes the memory that the command needs, and that the draft needs to
-    /// note it. The only error is want of memory.
+    /// note it. The only error is want of memory; a vote takes none.
     pub fn prepare(
         &mut self,
         alloc: Global,
@@ -50,6 +50,7 @@ impl Speaker {
         ensures same { speaker_of self.new ≡ speaker_of self.old }
         ensures room { OnOk result (HasRoom self.new.draft read.now) }
         ensures what { IfOk result (λ what. what ≡ what_or_fault roster.now (speaker_of self.old).draft (line_read read.now)) }
+        ensures other { OnErr result (is_vote (line_read read.now) ≡ false) }
     {
         self.draft.prepare(read)?;
         what_of_read(alloc, roster, &self.draft, read)

@@ -21,7 +21,7 @@ use crate::serve::SessionEnd;
 use crate::session::Session;
 use command_types::{Answer, Desk};
 use network_laws::Solver;
-use outside::{Failed, Gate, Sink, Source};
+use outside::{Clock, Failed, Gate, Sink, Source};
 use std::sync::Wait;
 use std::thread::Threads;
 use units_core::MOST_INPUT;
@@ -61,15 +61,21 @@ fn flush_before<K: Sink>(line: &[u8], writer: &mut ReplyWriter, sink: &mut K) ->
 
 impl<'a, T: Desk, R: Threads + Wait + Sync, V: Solver, G: Gate> Session<'a, T, R, V, G> {
     /// Replies to a line. The reply waits for the sink, but that to a BYE is written.
-    pub fn answer<K: Sink>(&mut self, line: &[u8], sink: &mut K) -> Result<Step, Failed>
-        ensures whole { IfOk result (RepliesWhole (stand_of self.old) (stand_of self.new) line.now (K.taken sink.old) (K.taken sink.new)) }
-        ensures in_part { OnErr result (RepliesInPart (stand_of self.old) (stand_of self.new) line.now (K.taken sink.old) (K.taken sink.new)) }
+    pub fn answer<C: Clock, K: Sink>(
+        &mut self,
+        clock: &C,
+        line: &[u8],
+        sink: &mut K,
+    ) -> Result<Step, Failed>
+        ensures whole { IfOk result (RepliesWhole (C.tells clock.now) (stand_of self.old) (stand_of self.new) line.now (K.taken sink.old) (K.taken sink.new)) }
+        ensures in_part { OnErr result (RepliesInPart (C.tells clock.now) (stand_of self.old) (stand_of self.new) line.now (K.taken sink.old) (K.taken sink.new)) }
         ensures never_falls { K.faults sink.old ≤ K.faults sink.new }
         ensures failed { OnErr result (Rose (K.faults sink.old) (K.faults sink.new)) }
     {
         let reply = reply_to(
             self.alloc,
             &mut self.asker,
+            clock,
             self.roster,
             &mut self.speaker,
             line,
@@ -88,15 +94,16 @@ impl<'a, T: Desk, R: Threads + Wait + Sync, V: Solver, G: Gate> Session<'a, T, R
     }
 
     // Takes one byte of the input. A line feed ends a line, which is replied to.
-    fn take_byte<K: Sink>(
+    fn take_byte<C: Clock, K: Sink>(
         &mut self,
+        clock: &C,
         line: &mut LineBuffer,
         byte: u8,
         sink: &mut K,
     ) -> Result<Step, Failed>
-        ensures on { result ≡ Ok Step.On → GoesOn (stand_of self.old) (stand_of self.new) line.old line.new (K.taken sink.old) (K.taken sink.new) (byte ∷ []) }
-        ensures over { result ≡ Ok Step.Over → IsLeft (stand_of self.old) (stand_of self.new) line.old (K.taken sink.old) (K.taken sink.new) (byte ∷ []) }
-        ensures cut_off { OnErr result (IsCut (stand_of self.old) (stand_of self.new) line.old (K.taken sink.old) (K.taken sink.new) (byte ∷ [])) }
+        ensures on { result ≡ Ok Step.On → GoesOn (C.tells clock.now) (stand_of self.old) (stand_of self.new) line.old line.new (K.taken sink.old) (K.taken sink.new) (byte ∷ []) }
+        ensures over { result ≡ Ok Step.Over → IsLeft (C.tells clock.now) (stand_of self.old) (stand_of self.new) line.old (K.taken sink.old) (K.taken sink.new) (byte ∷ []) }
+        ensures cut_off { OnErr result (IsCut (C.tells clock.now) (stand_of self.old) (stand_of self.new) line.old (K.taken sink.old) (K.taken sink.new) (byte ∷ [])) }
         ensures never_falls { K.faults sink.old ≤ K.faults sink.new }
         ensures failed { OnErr result (Rose (K.faults sink.old) (K.faults sink.new)) }
     {
@@ -105,27 +112,28 @@ impl<'a, T: Desk, R: Threads + Wait + Sync, V: Solver, G: Gate> Session<'a, T, R
             return Ok(Step::On);
         }
         flush_before(line.bytes(), &mut self.writer, sink)?;
-        let step = self.answer(ended(line.bytes()), sink);
+        let step = self.answer(clock, ended(line.bytes()), sink);
         line.clear();
         step
     }
 
     // Takes a piece of the input, up to a BYE. Then all its replies are written.
-    fn take_piece<K: Sink>(
+    fn take_piece<C: Clock, K: Sink>(
         &mut self,
+        clock: &C,
         line: &mut LineBuffer,
         piece: &[u8],
         sink: &mut K,
     ) -> Result<Step, Failed>
-        ensures on { result ≡ Ok Step.On → GoesOn (stand_of self.old) (stand_of self.new) line.old line.new (K.taken sink.old) (K.taken sink.new) piece.now }
-        ensures over { result ≡ Ok Step.Over → IsLeft (stand_of self.old) (stand_of self.new) line.old (K.taken sink.old) (K.taken sink.new) piece.now }
-        ensures cut_off { OnErr result (IsCut (stand_of self.old) (stand_of self.new) line.old (K.taken sink.old) (K.taken sink.new) piece.now) }
+        ensures on { result ≡ Ok Step.On → GoesOn (C.tells clock.now) (stand_of self.old) (stand_of self.new) line.old line.new (K.taken sink.old) (K.taken sink.new) piece.now }
+        ensures over { result ≡ Ok Step.Over → IsLeft (C.tells clock.now) (stand_of self.old) (stand_of self.new) line.old (K.taken sink.old) (K.taken sink.new) piece.now }
+        ensures cut_off { OnErr result (IsCut (C.tells clock.now) (stand_of self.old) (stand_of self.new) line.old (K.taken sink.old) (K.taken sink.new) piece.now) }
         ensures none_waits { result ≡ Ok Step.On → self.new.writer.outbox ≡ [] }
         ensures never_falls { K.faults sink.old ≤ K.faults sink.new }
         ensures failed { OnErr result (Rose (K.faults sink.old) (K.faults sink.new)) }
     {
         for byte in piece {
-            match self.take_byte(line, *byte, sink)? {
+            match self.take_byte(clock, line, *byte, sink)? {
                 Step::On => {}
                 Step::Over => return Ok(Step::Over),
             }
@@ -135,23 +143,29 @@ impl<'a, T: Desk, R: Threads + Wait + Sync, V: Solver, G: Gate> Session<'a, T, R
     }
 
     // Replies to a last line without a line feed, if it is not empty.
-    fn take_end<K: Sink>(&mut self, line: &LineBuffer, sink: &mut K) -> Result<(), Failed>
+    fn take_end<C: Clock, K: Sink>(
+        &mut self,
+        clock: &C,
+        line: &LineBuffer,
+        sink: &mut K,
+    ) -> Result<(), Failed>
         requires waits { self.old.writer.outbox ≡ [] }
-        ensures written { OnOk result (EndsWritten (stand_of self.old) (stand_of self.new) line.now (K.taken sink.old) (K.taken sink.new)) }
-        ensures cut_off { OnErr result (EndsCut (stand_of self.old) (stand_of self.new) line.now (K.taken sink.old) (K.taken sink.new)) }
+        ensures written { OnOk result (EndsWritten (C.tells clock.now) (stand_of self.old) (stand_of self.new) line.now (K.taken sink.old) (K.taken sink.new)) }
+        ensures cut_off { OnErr result (EndsCut (C.tells clock.now) (stand_of self.old) (stand_of self.new) line.now (K.taken sink.old) (K.taken sink.new)) }
         ensures never_falls { K.faults sink.old ≤ K.faults sink.new }
         ensures failed { OnErr result (Rose (K.faults sink.old) (K.faults sink.new)) }
     {
         if line.bytes().is_empty() {
             return Ok(());
         }
-        self.answer(line.bytes(), sink)?;
+        self.answer(clock, line.bytes(), sink)?;
         self.writer.flush(sink)
     }
 
     /// Replies to the lines of a source, which is read into this piece. The session is at its start.
-    pub fn serve<S: Source, K: Sink>(
+    pub fn serve<C: Clock, S: Source, K: Sink>(
         &mut self,
+        clock: &C,
         line: &mut LineBuffer,
         piece: &mut [u8],
         source: &mut S,
@@ -161,7 +175,7 @@ impl<'a, T: Desk, R: Threads + Wait + Sync, V: Solver, G: Gate> Session<'a, T, R
         requires line { line.old ≡ [] }
         requires waits { self.old.writer.outbox ≡ [] }
         requires speaker { speaker_of self.old.speaker ≡ nobody }
-        ensures ends { Ends (of_pass self.old.asker.pass) (S.flow source.old) (S.flow source.new) (K.taken sink.old) (K.taken sink.new) (of_pass self.new.asker.pass) result }
+        ensures ends { Ends (C.tells clock.now) (of_pass self.old.asker.pass) (S.flow source.old) (S.flow source.new) (K.taken sink.old) (K.taken sink.new) (of_pass self.new.asker.pass) result }
         ensures memory { result ≢ SessionEnd.Memory }
         ensures source_fault { result ≡ SessionEnd.SourceFault → Rose (S.faults source.old) (S.faults source.new) }
         ensures sink_fault { result ≡ SessionEnd.SinkFault → Rose (K.faults sink.old) (K.faults sink.new) }
@@ -174,12 +188,12 @@ impl<'a, T: Desk, R: Threads + Wait + Sync, V: Solver, G: Gate> Session<'a, T, R
                 Err(Failed) => return SessionEnd::SourceFault,
             };
             if n == 0 {
-                match self.take_end(line, sink) {
+                match self.take_end(clock, line, sink) {
                     Ok(()) => return SessionEnd::Ended,
                     Err(Failed) => return SessionEnd::SinkFault,
                 }
             }
-            match self.take_piece(line, &piece[..n], sink) {
+            match self.take_piece(clock, line, &piece[..n], sink) {
                 Ok(Step::On) => taken += n,
                 Ok(Step::Over) => return SessionEnd::Ended,
                 Err(Failed) => return SessionEnd::SinkFault,

@@ -18,5 +18,5 @@ returns-clause-runs g c =
     let flow = g.S.Source.flow c.serve_house-end.new.input in
     let begun = g.K.Sink.taken c.args.output.now in
     let taken = g.K.Sink.taken c.serve_house-end.new.output in
-    subst (λ e. JournalRuns rows opened flow begun taken (disk_of was n) (disk_of left count) e) (sym c.end_of_script.ensures)
-    (journal_runs rows (disk_of was n) (disk_of left count) v w over opened flow begun taken c.serve_house-end.result.0 c.is_stopped-stopped.result c.is_stopped-stopped.ensures.stopped c.serve_house-end.ensures.ends)
+    subst (λ e. JournalRuns (g.T.Clock.tells c.args.self.now.with.now.clock.now) rows opened flow begun taken (disk_of was n) (disk_of left count) e) (sym c.end_of_script.ensures)
+    (journal_runs rows (disk_of was n) (disk_of left count) v w over opened flow begun taken (g.T.Clock.tells c.args.self.now.with.now.clock.now) c.serve_house-end.result.0 c.is_stopped-stopped.result c.is_stopped-stopped.ensures.stopped c.serve_house-end.ensures.ends)

@@ -24,8 +24,8 @@ returns-clause-ends g c =
     let e = c.in-Ok.ensures in
     let done = c.close.ensures in
     let ends = c.serve-end.ensures.ends in
-    let seat = seat_stays (of_pass pass) _ _ _ _ (of_pass after) c.serve-end.result.0 ends in
-    script_ends (lock_of pass) c.args.house c.close.result (of_pass pass) _ _ _ _ (of_pass after) c.serve-end.result.0
+    let seat = seat_stays (g.T.Clock.tells c.args.self.now.with.now.clock.now) (of_pass pass) _ _ _ _ (of_pass after) c.serve-end.result.0 ends in
+    script_ends (g.T.Clock.tells c.args.self.now.with.now.clock.now) (lock_of pass) c.args.house c.close.result (of_pass pass) _ _ _ _ (of_pass after) c.serve-end.result.0
     (first_at c.args.house pass e.figures e.seat.0 e.seen (e.stop ∙ c.requires.running) e.left)
     (closed_on c.args.house c.close.result after c.requires.opened (ap (λ (s : Seat). s.number) seat ∙ e.seat.0) (ap (λ (s : Seat). s.figures) seat ∙ e.figures) done.figures done.seen after.mine done.made done.numbers done.stop done.lone)
     ends

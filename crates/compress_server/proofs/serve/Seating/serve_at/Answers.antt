@@ -69,6 +69,17 @@ returns-in-Ok-serve_house-clause-serves g c =
           (failed (some_failed visits g.L.Door.Door.faults places out.counted (any_run visits had_door_fault places ∙ any)));
     })
 
+-- the places are as many as were taken
+pub give_back-requires-in-Ok-serve_house-clause-lent : goal.give_back-requires-in-Ok-serve_house-clause-lent
+give_back-requires-in-Ok-serve_house-clause-lent g c κs within =
+    let old = c.take_places.new.places in
+    let places = c.serve_house.new.places in
+    let told = c.in_default-take_places.ensures in
+    let count : length places ≡ c.args.self.now.words.now.seats.value = sym (length-map places run_of) ∙ c.in-Ok-serve_house.ensures.served.count in
+    let anew : take old.len (places ++ drop (length places) old.items) ≡ places = written_anew old.len places old.items (omega (arith, count, told.all, old.ok.0)) in
+    let lent = lent_of (length old.items) (g.L.Listener.doors c.bind.new.self) (g.L.Listener.doors c.take_places.new.listener) told.lends in
+    subst (λ n. AreLent n (g.L.Listener.doors c.take_places.new.listener)) (told.all ∙ sym count ∙ ap length (sym anew)) lent
+
 -- the places are those that were taken
 pub give_back-requires-in-Err-serve_house-clause-lent : goal.give_back-requires-in-Err-serve_house-clause-lent
 give_back-requires-in-Err-serve_house-clause-lent g c κs within =

@@ -38,13 +38,13 @@ returns-clause-served g c =
       others = λ n past. ap (λ k. entries_of_seat w.history n k) (sym opening) ∙ done.others n (omega (arith, past, c.requires.count));
       none = ap (λ k. entries_of_seat w.history 0 k) (sym opening) ∙ (ap (λ n. entries_of_seat w.history n (figures_of w).opening) (sym e.seat.0) ∙ (done.own ∙ e.made));
       lock = lock_of pass;
-      each = seats_of g.C.Door.visits most (lock_of pass) v w 1 c.serve.new.places (λ k other lt.
+      each = seats_of (g.T.Clock.tells c.args.self.now.with.now.clock.now) g.C.Door.visits most (lock_of pass) v w 1 c.serve.new.places (λ k other lt.
           let there : k < length c.args.places.now = omega (arith, lt, same) in
-          seat_stands most (lock_of pass) v w (k + 1) (seated (of_pass pass) (k + 1)) _ _ _ (seated_at v pass (k + 1) e.figures e.seen (e.stop ∙ c.requires.running)) (c.requires.new k other there).0 (done.seats k other there).served);
+          seat_stands most (lock_of pass) v w (k + 1) (g.T.Clock.tells c.args.self.now.with.now.clock.now) (seated (of_pass pass) (k + 1)) _ _ _ (seated_at v pass (k + 1) e.figures e.seen (e.stop ∙ c.requires.running)) (c.requires.new k other there).0 (done.seats k other there).served);
     }
 
 pub returns-clause-given : goal.returns-clause-given
-returns-clause-given g c = λ k other there. given_since (final_of c.serve.result) (seated (of_pass c.in-Ok.lock.1) (k + 1)) _ _ _ _ (c.requires.new k other there).0 (c.serve.ensures.seats k other there).served
+returns-clause-given g c = λ k other there. given_since (g.T.Clock.tells c.args.self.now.with.now.clock.now) (final_of c.serve.result) (seated (of_pass c.in-Ok.lock.1) (k + 1)) _ _ _ _ (c.requires.new k other there).0 (c.serve.ensures.seats k other there).served
 
 pub returns-clause-counted : goal.returns-clause-counted
 returns-clause-counted g c = λ k other lt is.

@@ -54,7 +54,7 @@ returns-clause-seats g c = λ k d lt.
     let same : figures_of main ≡ figures = c.take_in_all.ensures.figures ∙ ap (λ (s : Sight). s.seat.figures) c.seat_all.ensures.main.1 in
     let belongs = belongs_after c.args.turns figures start taken_place.pass mid.pass refl has works.goes_on in
     let F : Figures → Type 0 = λ f. (n : ℕ) → StandsFor main n → entries_of_seat final.history n f.opening ≡ made_by n main in
-    let served = served_finally c.args.turns final main start taken_place.pass mid.pass (visits taken_place.door) (visits mid.door) most mid.end c.close.ensures.seen (subst F c.close.ensures.figures c.close.ensures.made) c.close.ensures.stop
+    let served = served_finally (g.C.Clock.tells c.args.self.now.host.clock.now) c.args.turns final main start taken_place.pass mid.pass (visits taken_place.door) (visits mid.door) most mid.end c.close.ensures.seen (subst F c.close.ensures.figures c.close.ensures.made) c.close.ensures.stop
     (λ q is. (
       subst (TakesIn main) is (c.take_in_all.ensures.taken k d second),
       same ∙ sym (subst (Belongs c.args.turns figures) is belongs).1,
@@ -62,7 +62,7 @@ returns-clause-seats g c = λ k d lt.
     let begins = c.seat_all.ensures.doors k d lt in
     let door = sym (c.take_in_all.ensures.doors k d second) in
     let end = sym (c.take_in_all.ensures.ends k d second) in
-    let S : Option Visits × Option Visits × SeatEnd → Type 0 = λ x. HasServed final start x.0 x.1 most x.2 in
+    let S : Option Visits × Option Visits × SeatEnd → Type 0 = λ x. HasServed (g.C.Clock.tells c.args.self.now.host.clock.now) final start x.0 x.1 most x.2 in
     let C : ℕ × ℕ × SeatEnd → Type 0 = λ x. CountsFaults x.0 x.1 x.2 in
     record {
       served = subst S (λ i. (visits (begins i), visits (door i), end i)) served;

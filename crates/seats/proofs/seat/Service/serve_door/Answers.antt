@@ -14,7 +14,7 @@ returns-then-eq-clause-serves g c =
     let visits = g.D.Door.visits in
     let given = c.in-Ok-Some in
     let s = c.serve-end in
-    let round = round_of (of_pass c.loop.pass) (of_pass s.result.1) (visits c.loop.door) (visits c.accept.new.self) (visits c.give_back.new.self) _ _ _ _ s.result.0 _ _ _ _ (some_holds _ _ _ given.field-0-is given.ensures.opens)
+    let round = round_of {clock = g.C.Clock.tells c.args.self.now.host.clock.now} (of_pass c.loop.pass) (of_pass s.result.1) (visits c.loop.door) (visits c.accept.new.self) (visits c.give_back.new.self) _ _ _ _ s.result.0 _ _ _ _ (some_holds _ _ _ given.field-0-is given.ensures.opens)
     (some_holds _ _ _ given.field-0-is given.ensures.fresh) s.ensures.ends s.ensures.source_fault s.ensures.sink_fault c.give_back.ensures.returns in
     serves_on _ _ _ _ _ _ _ _ c.loop.counter _ seat_end.Memory c.loop.invariant.serves round (omega (arith, c.loop-test.true)) (λ e. absurd cc) (λ e. absurd cc) (λ e. refl)
 
@@ -24,9 +24,9 @@ loop-preserved g c =
     let visits = g.D.Door.visits in
     let given = c.in-Ok-Some in
     let s = c.serve-end in
-    let round = round_of (of_pass c.loop.pass) (of_pass s.result.1) (visits c.loop.door) (visits c.accept.new.self) (visits c.give_back.new.self) _ _ _ _ s.result.0 _ _ _ _ (some_holds _ _ _ given.field-0-is given.ensures.opens)
+    let round = round_of {clock = g.C.Clock.tells c.args.self.now.host.clock.now} (of_pass c.loop.pass) (of_pass s.result.1) (visits c.loop.door) (visits c.accept.new.self) (visits c.give_back.new.self) _ _ _ _ s.result.0 _ _ _ _ (some_holds _ _ _ given.field-0-is given.ensures.opens)
     (some_holds _ _ _ given.field-0-is given.ensures.fresh) s.ensures.ends s.ensures.source_fault s.ensures.sink_fault c.give_back.ensures.returns in
-    let came = ends_grow (of_pass c.loop.pass) _ _ _ _ (of_pass c.serve-end.result.1) c.serve-end.result.0 c.serve-end.ensures.ends in
+    let came = ends_grow (g.C.Clock.tells c.args.self.now.host.clock.now) (of_pass c.loop.pass) _ _ _ _ (of_pass c.serve-end.result.1) c.serve-end.result.0 c.serve-end.ensures.ends in
     record {
       own = c.serve-end.ensures.own;
       roster = before.roster ∙ sym (same_roster _ _ came.0 came.1);
@@ -38,12 +38,12 @@ loop-preserved g c =
 pub returns-in-Ok-None-clause-serves : goal.returns-in-Ok-None-clause-serves
 returns-in-Ok-None-clause-serves g c =
     let none = ap (λ o. Ok o) c.in-Ok-None.field-0-is in
-    serves_end _ _ _ _ _ _ _ seat_end.Over (c.in-Ok-None.ensures.same none) (omega (arith, c.loop-test.true)) (λ e. absurd cc) (λ e. c.in-Ok-None.ensures.over none) c.loop.invariant.serves
+    serves_end (g.C.Clock.tells c.args.self.now.host.clock.now) _ _ _ _ _ _ _ seat_end.Over (c.in-Ok-None.ensures.same none) (omega (arith, c.loop-test.true)) (λ e. absurd cc) (λ e. c.in-Ok-None.ensures.over none) c.loop.invariant.serves
 
 pub returns-in-Err-Failed-clause-serves : goal.returns-in-Err-Failed-clause-serves
 returns-in-Err-Failed-clause-serves g c =
-    serves_end _ _ _ _ _ _ _ seat_end.DoorFault c.in-Err-Failed.ensures.nothing (omega (arith, c.loop-test.true)) (λ e. absurd cc) (λ e. absurd cc) c.loop.invariant.serves
+    serves_end (g.C.Clock.tells c.args.self.now.host.clock.now) _ _ _ _ _ _ _ seat_end.DoorFault c.in-Err-Failed.ensures.nothing (omega (arith, c.loop-test.true)) (λ e. absurd cc) (λ e. absurd cc) c.loop.invariant.serves
 
 pub returns-in-Err-Memory-clause-serves : goal.returns-in-Err-Memory-clause-serves
 returns-in-Err-Memory-clause-serves g c =
-    serves_end _ _ _ _ _ _ _ seat_end.Memory c.in-Err-Memory.ensures.nothing (omega (arith, c.loop-test.true)) (λ e. absurd cc) (λ e. absurd cc) c.loop.invariant.serves
+    serves_end (g.C.Clock.tells c.args.self.now.host.clock.now) _ _ _ _ _ _ _ seat_end.Memory c.in-Err-Memory.ensures.nothing (omega (arith, c.loop-test.true)) (λ e. absurd cc) (λ e. absurd cc) c.loop.invariant.serves

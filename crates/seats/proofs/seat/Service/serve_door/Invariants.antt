@@ -11,6 +11,6 @@ invariant-loop g l = record {
   own : IsPassOf l.turns l.pass;
   roster : l.self.host.roster.now ≡ (seen l.pass).base.state.roster;
   grows : (made : List Entry) × Grows (of_pass l.fn.pass) (of_pass l.pass) made;
-  serves : SeatServes (of_pass l.fn.pass) (of_pass l.pass) (g.D.Door.visits l.fn.door) (g.D.Door.visits l.door) l.counter seat_end.Most;
+  serves : SeatServes (g.C.Clock.tells l.self.host.clock.now) (of_pass l.fn.pass) (of_pass l.pass) (g.D.Door.visits l.fn.door) (g.D.Door.visits l.door) l.counter seat_end.Most;
   faults : g.D.Door.faults l.fn.door ≤ g.D.Door.faults l.door;
 }

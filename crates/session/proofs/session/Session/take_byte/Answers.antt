@@ -13,7 +13,7 @@ returns-then-byte-ne10-clause-on g c = λ step start ahead begun bytes v.
 pub returns-in_err-flush_before-clause-cut_off : goal.returns-in_err-flush_before-clause-cut_off
 returns-in_err-flush_before-clause-cut_off g c =
     let stand = stand_of c.args.self.now in
-    let cut : IsCut stand stand c.args.line.now (g.K.Sink.taken c.args.sink.now) (g.K.Sink.taken c.flush_before.new.sink) (c.args.byte ∷ []) =
+    let cut : IsCut (g.C.Clock.tells c.args.clock.now) stand stand c.args.line.now (g.K.Sink.taken c.args.sink.now) (g.K.Sink.taken c.flush_before.new.sink) (c.args.byte ∷ []) =
     λ start ahead begun bytes v. cut_off_more start ahead begun _ _ bytes (c.args.byte ∷ []) (cut_off_waiting start ahead begun _ _ _ _ bytes v c.in_err-flush_before.ensures.front) in
     at_error _ cut
 

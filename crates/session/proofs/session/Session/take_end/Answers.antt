@@ -30,6 +30,6 @@ pub returns-in_err-answer-clause-cut_off : goal.returns-in_err-answer-clause-cut
 returns-in_err-answer-clause-cut_off g c =
     let some = not_empty c.bytes.result.now (sym c.is_empty.ensures ∙ c.if-is_empty.false) in
     let part = rw c.bytes-2.ensures at c.in_err-answer.ensures.in_part in
-    let cut : EndsCut (stand_of c.args.self.now) (stand_of c.answer.new.self) c.args.line.now (g.K.Sink.taken c.args.sink.now) (g.K.Sink.taken c.answer.new.sink) =
+    let cut : EndsCut (g.C.Clock.tells c.args.clock.now) (stand_of c.args.self.now) (stand_of c.answer.new.self) c.args.line.now (g.K.Sink.taken c.args.sink.now) (g.K.Sink.taken c.answer.new.sink) =
     λ start ahead begun bytes v. cut_off_last start ahead begun _ _ _ _ _ bytes v (λ e. some (c.bytes.ensures ∙ e)) part in
     at_error _ cut
