@@ -1,19 +1,22 @@
 //! The laws, each called once, and the definitions at small histories: what executes there, and which trades are left.
 
-ghost use Rattle.std.specs.Prelude.{◌≡◌, List, [], ◌∷◌};
+ghost use Rattle.std.specs.Prelude.{◌≡◌, List, [], ◌∷◌, map, pos};
+ghost use Rattle.command_types.specs.declared.answer.Answer.TheVariants.{Own};
 ghost use Rattle.command_types.specs.declared.trade.TradeState.TheVariants.{Live, Ended};
 ghost use Rattle.command_types.specs.History.{end_of, longer};
 ghost use Rattle.command_types.specs.Folds.{folded};
 ghost use Rattle.trade_history.specs.Book.{executions_of};
 ghost use Rattle.trade_history.specs.Examples.{ring_compressed, pair_in_cycle_2, ring_waiting, ring_with_later_trade, ring_broken, ring_declined, chain_unchanged, chain_compressed, lines_of};
+ghost use Rattle.book_tests.specs.Questions.{nets_at};
 
 use std::test::Fail;
 use trade_history::{
     answers_tell_executions, begun_limits_stand, empty_is_closed, executions_are_listed,
-    executions_stay_in_folds, folds_are_closed, folds_go_on, others_are_not_listed,
-    others_change_one_row, own_rows_are_the_historys, plans_execute_whole, positions_are_changes,
-    search_finds_executions, trades_are_the_historys, trades_follow_at_each_position,
-    trades_stay_in_folds, versions_are_posted_once,
+    executions_stay_in_folds, folds_are_closed, folds_go_on, folds_tell_the_same,
+    others_are_not_listed, others_change_one_row, own_rows_are_the_historys, plans_execute_whole,
+    positions_are_changes, search_finds_executions, sessions_stay_in_folds,
+    trades_are_the_historys, trades_follow_at_each_position, trades_stay_in_folds,
+    versions_are_posted_once,
 };
 
 fn the_last_vote_executes()
@@ -45,6 +48,14 @@ fn changes_behind_a_fold_execute_as_behind_the_history()
         ∷ record { number = 4; seller = 0; buyer = 1; amount = 10; state = Ended }
         ∷ record { number = 5; seller = 1; buyer = 0; amount = 10; state = Ended }
         ∷ [] }
+{}
+
+// What A owes and is owed at the fold, behind each of the two trades, and behind the cycle.
+fn questions_behind_a_fold_are_answered_as_behind_the_history()
+    ensures behind { map (nets_at (longer (folded ring_compressed) pair_in_cycle_2)) (12 ∷ 14 ∷ 16 ∷ 21 ∷ []) ≡
+        Own 0 0 (pos 0) ∷ Own 10 0 (pos 10) ∷ Own 10 10 (pos 0) ∷ Own 0 0 (pos 0) ∷ [] }
+    ensures whole { map (nets_at (longer ring_compressed pair_in_cycle_2)) (12 ∷ 14 ∷ 16 ∷ 21 ∷ []) ≡
+        Own 0 0 (pos 0) ∷ Own 10 0 (pos 10) ∷ Own 10 10 (pos 0) ∷ Own 0 0 (pos 0) ∷ [] }
 {}
 
 fn a_missing_vote_executes_nothing()
@@ -96,6 +107,7 @@ fn small_histories_execute_as_written(_rt: HostRuntime) -> Result<(), Fail> {
     the_last_vote_executes();
     a_fold_keeps_the_trades_and_no_execution();
     changes_behind_a_fold_execute_as_behind_the_history();
+    questions_behind_a_fold_are_answered_as_behind_the_history();
     a_missing_vote_executes_nothing();
     a_later_trade_stays();
     an_ended_trade_stops_the_execution();
@@ -124,5 +136,7 @@ fn the_laws_can_be_called(_rt: HostRuntime) -> Result<(), Fail> {
     folds_are_closed();
     trades_stay_in_folds();
     executions_stay_in_folds();
+    folds_tell_the_same();
+    sessions_stay_in_folds();
     Ok(())
 }

@@ -3,16 +3,18 @@
 
 ghost use Rattle.std.specs.Prelude.{◌≡◌, List, [], ◌∷◌, pos, negsuc};
 ghost use Rattle.command_types.specs.declared.answer.Answer.TheVariants.{Executed, Nothing};
+ghost use Rattle.command_types.specs.Bases.{base_in, written, CanBeWritten, Fits};
 ghost use Rattle.command_types.specs.Folds.{folded};
 ghost use Rattle.command_types.specs.History.{IsLegal};
 ghost use Rattle.trade_history.specs.Examples.{three_dealers, ring_compressed, ring_with_later_trade};
+ghost use Rattle.cycle_laws.specs.Bases.{IsWritable};
 ghost use Rattle.cycle_laws.specs.Histories.{IsMarketBase, IsMarketHistory};
 ghost use Rattle.cycle_laws.specs.Examples.{chain_in_hybrid, chain_in_conservative, nets_after, gross_after, answers_after};
 
 use cycle_laws::{
-    empty_begins_markets, empty_is_writable, executions_follow_the_posting, folds_are_writable,
-    folds_begin_markets, nets_stay_at_executions, postings_are_least, writable_comes_back,
-    writable_fits,
+    empty_begins_markets, empty_is_writable, executions_follow_the_posting, fitting_is_writable,
+    folds_are_writable, folds_begin_markets, nets_stay_at_executions, postings_are_least,
+    spellings_stand_for_bases, writable_can_be_written, writable_comes_back, writable_fits,
 };
 use std::test::Fail;
 
@@ -60,6 +62,13 @@ fn the_laws_have_a_history()
     ensures later { IsMarketBase three_dealers (folded chain_in_hybrid).base.state }
 {}
 
+fn the_laws_have_a_base()
+    ensures writable { IsWritable three_dealers (folded chain_in_hybrid).base.state }
+    ensures written { CanBeWritten (written (folded chain_in_hybrid).base) }
+    ensures fits { Fits three_dealers (written (folded chain_in_hybrid).base) }
+    ensures back { base_in three_dealers (written (folded chain_in_hybrid).base) ≡ (folded chain_in_hybrid).base }
+{}
+
 #[test]
 fn nets_stay_in_small_histories(_rt: HostRuntime) -> Result<(), Fail> {
     a_ring_falls_to_nothing();
@@ -68,6 +77,7 @@ fn nets_stay_in_small_histories(_rt: HostRuntime) -> Result<(), Fail> {
     nothing_falls_and_nothing_grows();
     these_histories_are_legal();
     the_laws_have_a_history();
+    the_laws_have_a_base();
     Ok(())
 }
 
@@ -82,5 +92,8 @@ fn the_laws_can_be_called(_rt: HostRuntime) -> Result<(), Fail> {
     folds_are_writable();
     writable_fits();
     writable_comes_back();
+    writable_can_be_written();
+    fitting_is_writable();
+    spellings_stand_for_bases();
     Ok(())
 }

@@ -3,17 +3,21 @@
 
 pub mod answers;
 pub mod commands;
+mod member_proofs;
+mod misfits;
 mod rests;
+mod sheets;
 mod starts;
 mod unsaid;
 pub mod words;
+mod writable;
 
 ghost use Rattle.std.specs.Prelude.{◌≡◌, IfOk};
 ghost use Rattle.command_types.specs.History.{end_of};
 
 use crate::market::three_dealers;
 use answers::{Told, is_told};
-use command_types::{Ask, Desk};
+use command_types::{Ask, Desk, Moment};
 use commands::{Said, command_of};
 use cycle_states::{Machine, PlainDesk};
 use std::alloc::{AllocError, Global};
@@ -43,7 +47,8 @@ pub fn goes(alloc: Global, desk: &mut PlainDesk, rows: &[Row]) -> Result<bool, F
             return Ok(false);
         };
         let by = Some(by.name());
-        if !is_answered(desk, Ask { by, what }, *at, *told) {
+        let moment = Moment::new(0);
+        if !is_answered(desk, Ask { by, what, moment }, *at, *told) {
             return Ok(false);
         }
     }

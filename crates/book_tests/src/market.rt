@@ -42,12 +42,11 @@ fn operator() -> OperatorRow
     }
 }
 
-// The product P.
-fn product() -> Result<ProductRow, AllocError>
-    ensures { IfOk result (λ row. row.name ≡ 80 ∷ []) }
+fn product(name: Name) -> Result<ProductRow, AllocError>
+    ensures { IfOk result (λ row. row.name ≡ name) }
 {
     Ok(ProductRow {
-        name: named(b"P"),
+        name,
         maturity: Day::new(2031, 6, 30).ok_or(AllocError)?,
     })
 }
@@ -61,7 +60,20 @@ pub fn three_dealers(alloc: Global) -> Result<Roster, AllocError>
     let b = member(named(b"B"), Role::Dealer, named(b"KB"));
     let c = member(named(b"C"), Role::Dealer, named(b"KC"));
     let members = Vec::from_array(alloc, [a, b, c])?;
-    let products = Vec::from_array(alloc, [product()?])?;
+    let products = Vec::from_array(alloc, [product(named(b"P"))?])?;
+    Ok(Roster::new(members, products, Some(operator())))
+}
+
+/// The dealer A and the customer D with the keys KA and KD, the operator OPS with KO, and the products P and Q.
+pub fn two_products(alloc: Global) -> Result<Roster, AllocError>
+    ensures members { IfOk result (λ roster. length roster.members ≡ 2) }
+    ensures products { IfOk result (λ roster. length roster.products ≡ 2) }
+{
+    let a = member(named(b"A"), Role::Dealer, named(b"KA"));
+    let d = member(named(b"D"), Role::Customer, named(b"KD"));
+    let members = Vec::from_array(alloc, [a, d])?;
+    let (p, q) = (product(named(b"P"))?, product(named(b"Q"))?);
+    let products = Vec::from_array(alloc, [p, q])?;
     Ok(Roster::new(members, products, Some(operator())))
 }
 

@@ -1,13 +1,18 @@
 //! Records that break the grammar: the first byte of the first field that does, that is cut, or that is too many.
 
 use crate::records::{AFFIRM, TRADE};
-use record_codec::{DecodeFault, decode};
+use record_codec::{DecodeFault, Spelling, decode};
 use std::alloc::Global;
 use std::test::Fail;
 
-/// Whether these bytes spell a change, or are told as no record at this byte.
+/// Whether these bytes spell a change without a moment, or are told as no record at this byte.
 pub fn is_told(alloc: Global, bytes: &[u8], offset: Option<usize>) -> bool {
-    match decode(alloc, bytes) {
+    is_told_as(alloc, bytes, Spelling::First, offset)
+}
+
+/// The same in this spelling.
+fn is_told_as(alloc: Global, bytes: &[u8], form: Spelling, offset: Option<usize>) -> bool {
+    match decode(alloc, bytes, form) {
         Ok(_) => offset.is_none(),
         Err(fault) => offset.map(|at| DecodeFault::BadRecord { at }) == Some(fault),
     }
@@ -106,6 +111,28 @@ fn cut_fields_and_a_byte_too_many(rt: HostRuntime) -> Result<(), Fail> {
     ];
     for (record, offset) in cases {
         assert!(rt; is_told(rt.alloc(), record, offset), "{offset:?}");
+    }
+    Ok(())
+}
+
+#[test]
+fn a_moment_has_a_most_and_stands_in_the_second_spelling(rt: HostRuntime) -> Result<(), Fail> {
+    let mut last = [0; 23];
+    last[..8].copy_from_slice(&253_402_300_799_u64.to_le_bytes());
+    last[8..].copy_from_slice(&AFFIRM);
+    let cases = [
+        (last.as_slice(), Spelling::Second, None),
+        (&with(last, 0, 0x80), Spelling::Second, Some(0)),
+        (&last[..7], Spelling::Second, Some(0)),
+        (&last[..11], Spelling::Second, Some(8)),
+        (&with(last, 14, 13), Spelling::Second, Some(14)),
+        (&AFFIRM, Spelling::Second, Some(0)),
+        (last.as_slice(), Spelling::First, Some(4)),
+        (b"MOMENTS2", Spelling::First, Some(4)),
+        (b"MOMENTS2", Spelling::Second, Some(0)),
+    ];
+    for (record, form, offset) in cases {
+        assert!(rt; is_told_as(rt.alloc(), record, form, offset), "{offset:?}");
     }
     Ok(())
 }

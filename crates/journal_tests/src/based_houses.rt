@@ -1,7 +1,9 @@
 //! Houses on files that hold a base.
 
 use crate::bases::{AT, based, based_with};
-use crate::houses::{crashed, disk_below, has_gross, house_on, is_found, is_told, large_disk_of};
+use crate::houses::{
+    content_of, crashed, disk_below, has_gross, house_on, is_found, is_told, large_disk_of,
+};
 use crate::openings::{answer_to, damaged};
 use command_types::What;
 use std::test::Fail;
@@ -18,6 +20,23 @@ fn a_house_goes_on_from_a_base(rt: HostRuntime) -> Result<(), Fail> {
     assert!(rt; house.length() == 3 && has_gross(&mut house, 3, 7));
     assert!(rt; is_told(&mut house, b"B", What::Affirm { trade: 1 }, 4, None));
     assert!(rt; is_found(&rt, alloc, crashed(disk_below(house)), 4, 17)?);
+    Ok(())
+}
+
+// With the mark 2 changes behind the base have their moments: none does without one, and the journal needs no turn.
+#[test]
+fn behind_a_base_of_the_second_mark_changes_have_moments(rt: HostRuntime) -> Result<(), Fail> {
+    let alloc = rt.alloc();
+    let mut file = based_with(AT, &[2]);
+    assert!(rt; answer_to(&rt, alloc, &file)? == damaged(150));
+    file[150] = 0;
+    let mut disk = large_disk_of(alloc, &file)?;
+    let before = content_of(alloc, &mut disk)?;
+    let mut house = house_on(&rt, alloc, disk)?;
+    assert!(rt; house.length() == 3 && has_gross(&mut house, 3, 7));
+    assert!(rt;
+        content_of(alloc, &mut crashed(disk_below(house)))?.as_slice() == before.as_slice()
+    );
     Ok(())
 }
 

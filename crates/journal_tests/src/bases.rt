@@ -128,8 +128,8 @@ fn written_again(alloc: Global, file: &[u8]) -> Result<Vec<u8>, Fail> {
 }
 
 #[test]
-fn a_base_is_written_as_it_was_read(rt: HostRuntime) -> Result<(), Fail> {
-    assert!(rt; written_again(rt.alloc(), &based())?.as_slice() == BASE.as_slice());
+fn a_base_is_written_as_it_was_read_with_the_mark_of_moments(rt: HostRuntime) -> Result<(), Fail> {
+    assert!(rt; written_again(rt.alloc(), &based())?.as_slice() == with(0, &[2]).as_slice());
     Ok(())
 }
 
@@ -152,7 +152,7 @@ fn empty(alloc: Global) -> Base
 fn an_empty_base_is_written(rt: HostRuntime) -> Result<(), Fail> {
     let alloc = rt.alloc();
     let mut bytes = [0; 45];
-    (bytes[0], bytes[1], bytes[9], bytes[17]) = (1, 7, 8, 9);
+    (bytes[0], bytes[1], bytes[9], bytes[17]) = (2, 7, 8, 9);
     assert!(rt; encode_base(alloc, &empty(alloc))?.as_slice() == bytes.as_slice());
     assert!(rt; decode_base(alloc, &bytes)?.position == 7);
     Ok(())
@@ -183,8 +183,10 @@ fn is_told(alloc: Global, bytes: &[u8], offset: Option<usize>) -> bool {
 fn each_field_of_a_base_has_its_limits(rt: HostRuntime) -> Result<(), Fail> {
     let all = [0xff; 8];
     let cases = [
-        // The mark; a member more, which would begin at the products' number; names of no byte, of a small letter, of 17 bytes.
-        (0, [2].as_slice(), Some(0)),
+        // The marks, and none; a member more, which would begin at the products' number; names of no byte, of a small letter, of 17 bytes.
+        (0, [2].as_slice(), None),
+        (0, &[0], Some(0)),
+        (0, &[3], Some(0)),
         (25, &[4], Some(33)),
         (27, &[0], Some(27)),
         (28, b"a", Some(27)),
@@ -250,7 +252,9 @@ fn a_base_that_is_not_spelled_is_damage_at_its_offset(rt: HostRuntime) -> Result
     let alloc = rt.alloc();
     let (few, all) = ([0xff; 4], [0xff; 8]);
     let cases = [
-        (AT, [2].as_slice(), damaged(25)),
+        (AT, [3].as_slice(), damaged(25)),
+        // With the other mark a record without its moment spells no change.
+        (AT, &[2], damaged(150)),
         // Settings and trades of a count that passes the file's end.
         (AT + 37, &all, damaged(25)),
         (AT + 69, &all, damaged(25)),
@@ -281,7 +285,7 @@ fn damage_of_the_journal_then_of_the_base_then_of_a_record_is_told(
     let mut record = based();
     record[161] = 13;
     let mut both = record;
-    both[AT] = 2;
+    both[AT] = 3;
     let mut open = both;
     open[170] = 1;
     let cases = [

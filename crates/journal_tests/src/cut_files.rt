@@ -1,6 +1,6 @@
 //! Cut files, and records that spell no change.
 
-use crate::disks::{BEGUN_ONE, FIRST_TAG, ONE, SECOND_TAG, TWO, damaged, is_read};
+use crate::disks::{BEGUN_ONE, FIRST_TAG, ONE, SECOND_TAG, TURNED_TWO, TWO, damaged, is_read};
 use recovery::RecoverFault;
 use std::test::Fail;
 
@@ -128,6 +128,64 @@ fn what_is_short_or_behind_a_closed_gate_is_not_read(rt: HostRuntime) -> Result<
     ];
     for (file, answer) in cases {
         assert!(rt; is_read(rt.alloc(), file, Ok(answer))?, "{answer:?}");
+    }
+    Ok(())
+}
+
+/// The answer to the turned file of two changes cut to this size: a gate is due at the bytes 8, 38, 51 and 79.
+fn answer_when_turned_and_cut(size: usize) -> Result<(usize, u64), RecoverFault> {
+    match size {
+        0..=9 => Ok((0, 30)),
+        10..=37 => damaged(8),
+        38..=50 => damaged(38),
+        51..=78 => damaged(51),
+        79 => damaged(79),
+        _ => Ok((2, 80)),
+    }
+}
+
+#[test]
+fn each_cut_of_a_turned_file_has_its_answer(rt: HostRuntime) -> Result<(), Fail> {
+    for size in 0..=80 {
+        assert!(rt;
+            is_read(
+                rt.alloc(),
+                &TURNED_TWO[..size],
+                answer_when_turned_and_cut(size)
+            )?,
+            "cut to {size}"
+        );
+    }
+    Ok(())
+}
+
+/// The turned file with a change without moment, or a second turn, in place of its last change.
+fn behind_the_turn(record_bytes: &[u8]) -> [u8; 80] {
+    let mut file = TURNED_TWO;
+    let size = record_bytes.len().min(20);
+    file[52] = size as u8;
+    file[56..56 + size].copy_from_slice(&record_bytes[..size]);
+    file[56 + size] = 0;
+    file
+}
+
+#[test]
+fn a_change_has_a_moment_exactly_behind_the_turn(rt: HostRuntime) -> Result<(), Fail> {
+    let mut early = TURNED_TWO;
+    early[43..51].copy_from_slice(b"MOMENTS1");
+    let mut last = TURNED_TWO;
+    last[56..64].copy_from_slice(&253_402_300_799u64.to_le_bytes());
+    let mut late = TURNED_TWO;
+    late[56..64].copy_from_slice(&253_402_300_800u64.to_le_bytes());
+    let cases = [
+        (early, damaged(38)),
+        (behind_the_turn(&TWO[43..58]), damaged(51)),
+        (behind_the_turn(b"MOMENTS2"), damaged(51)),
+        (last, Ok((2, 80))),
+        (late, damaged(51)),
+    ];
+    for (file, answer) in cases {
+        assert!(rt; is_read(rt.alloc(), &file, answer)?, "{answer:?}");
     }
     Ok(())
 }

@@ -25,6 +25,15 @@ pub const ONE: [u8; 39] =
 pub const TWO: [u8; 59] =
     *b"OTCJRNL1\x01\x19\0\0\0\0\0\0\0\x01A\x01\x01A\x01B\x01P\x0a\0\0\0\0\0\0\0\xea\x07\x03\x02\x01\x0f\0\0\0\0\0\0\0\x01B\x02\x01\0\0\0\0\0\0\0\0";
 
+/// The file with slots that is begun and turned: behind the record of the eight bytes, changes have their moments.
+pub const BEGUN_TURNED: [u8; 43] =
+    *b"OTCJRNLC\0\x19\0\0\0\0\0\0\0\0\0\0\0\0\0\0\0\0\0\0\0\x01\x08\0\0\0MOMENTS2\0";
+
+/// The plain file of one record, turned, and then B's command AFFIRM 1 of noon on 2026-03-31. The turn's gate is byte 38 and its
+/// record bytes 43 to 50; the change's gate is byte 51, its moment bytes 56 to 63, and its tag byte 70.
+pub const TURNED_TWO: [u8; 80] =
+    *b"OTCJRNL1\x01\x19\0\0\0\0\0\0\0\x01A\x01\x01A\x01B\x01P\x0a\0\0\0\0\0\0\0\xea\x07\x03\x02\x01\x08\0\0\0MOMENTS2\x01\x17\0\0\0\x40\xb7\xcb\x69\0\0\0\0\0\0\0\0\x01B\x02\x01\0\0\0\0\0\0\0\0";
+
 /// The place of the first change's tag in a file.
 pub const FIRST_TAG: usize = 19;
 

@@ -1,9 +1,9 @@
 //! The entries that files have.
 
-use crate::disks::{BEGUN_ONE, ONE, TWO, append_to, disk_of};
+use crate::disks::{BEGUN_ONE, ONE, TURNED_TWO, TWO, append_to, disk_of};
 use crate::records::named;
-use command_types::{Entry, What};
-use recovery::{Contents, Entries, read_entries};
+use command_types::{Entry, Spelling, What};
+use recovery::{Contents, Entries, EntryAt, EntryReader, read_entries};
 use std::alloc::Global;
 use std::test::Fail;
 
@@ -90,5 +90,45 @@ fn a_journal_goes_on_where_the_entries_end(rt: HostRuntime) -> Result<(), Fail> 
     let mut disk = disk.crash();
     let Contents { entries, .. } = read_entries(alloc, &mut disk)?;
     assert!(rt; answer.is_ok() && are_two(alloc, &entries)?);
+    Ok(())
+}
+
+/// The moment of this entry.
+fn moment_of(item: &EntryAt) -> u64 {
+    item.entry.ask.moment.seconds()
+}
+
+/// The moment of the next entry, if there is one.
+fn next_moment(alloc: Global, reader: &mut EntryReader<'_>) -> Result<Option<u64>, Fail> {
+    let item = reader.next(alloc)?;
+    Ok(item.map(|item| moment_of(&item)))
+}
+
+/// The moments of the entries of a file, at most two of them, and the spelling in which it goes on.
+fn moments_of(alloc: Global, bytes: &[u8]) -> Result<([Option<u64>; 2], Spelling), Fail> {
+    let entries = entries_of(alloc, bytes)?;
+    let mut reader = entries.reader();
+    let first = next_moment(alloc, &mut reader)?;
+    let second = next_moment(alloc, &mut reader)?;
+    Ok(([first, second], entries.spelling()))
+}
+
+#[test]
+fn entries_have_their_moments_behind_the_turn(rt: HostRuntime) -> Result<(), Fail> {
+    let mut turned = TURNED_TWO;
+    turned[51] = 0;
+    let cases = [
+        (b"".as_slice(), [None, None], Spelling::First),
+        (ONE.as_slice(), [Some(0), None], Spelling::First),
+        (turned.as_slice(), [Some(0), None], Spelling::Second),
+        (
+            TURNED_TWO.as_slice(),
+            [Some(0), Some(1_774_958_400)],
+            Spelling::Second,
+        ),
+    ];
+    for (file, moments, spelling) in cases {
+        assert!(rt; moments_of(rt.alloc(), file)? == (moments, spelling));
+    }
     Ok(())
 }

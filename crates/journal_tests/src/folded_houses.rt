@@ -20,16 +20,35 @@ const TRADE: [u8; 30] =
 /// The front of that of B's command AFFIRM, up to the trade's number.
 const AFFIRM: [u8; 12] = *b"\x01\x0f\0\0\0\0\0\0\0\x01B\x02";
 
+/// The same of moment 0.
+const DATED_TRADE: [u8; 38] =
+    *b"\x01\x21\0\0\0\0\0\0\0\0\0\0\0\0\0\0\0\x01A\x01\x01A\x01B\x01P\x01\0\0\0\0\0\0\0\xea\x07\x03\x02";
+
+const DATED_AFFIRM: [u8; 20] = *b"\x01\x17\0\0\0\0\0\0\0\0\0\0\0\0\0\0\0\x01B\x02";
+
 /// Puts the frames of trades that are alleged and affirmed, so many of them from this number on, in place of the last byte.
-fn push_trades(file: &mut Vec<u8>, first: u64, count: u64) -> Result<(), AllocError> {
+fn push_trades(
+    file: &mut Vec<u8>,
+    first: u64,
+    count: u64,
+    trade: &[u8],
+    affirm: &[u8],
+) -> Result<(), AllocError> {
     let _ = file.pop();
     for number in first..first.saturating_add(count) {
-        file.extend_from_slice(&TRADE)?;
-        file.extend_from_slice(&AFFIRM)?;
+        file.extend_from_slice(trade)?;
+        file.extend_from_slice(affirm)?;
         file.extend_from_slice(&number.to_le_bytes())?;
     }
     file.push(0)?;
     Ok(())
+}
+
+/// The file, turned.
+fn turned(alloc: Global, file: &[u8]) -> Result<Vec<u8>, AllocError> {
+    let mut turned = file[..file.len().saturating_sub(1)].to_vec(alloc)?;
+    turned.extend_from_slice(b"\x01\x08\0\0\0MOMENTS2\0")?;
+    Ok(turned)
 }
 
 /// A disk with room for some thousand trades, that holds these bytes, all of them synced.
@@ -60,7 +79,7 @@ fn content_opened(rt: &impl Abort, alloc: Global, file: &[u8]) -> Result<Vec<u8>
 /// A file with slots of so many trades, each alleged and affirmed.
 fn file_of(alloc: Global, trades: u64) -> Result<Vec<u8>, AllocError> {
     let mut file = BEGUN.to_vec(alloc)?;
-    push_trades(&mut file, 1, trades)?;
+    push_trades(&mut file, 1, trades, &TRADE, &AFFIRM)?;
     Ok(file)
 }
 
@@ -84,7 +103,7 @@ fn a_thousand_changes_are_folded(rt: HostRuntime) -> Result<(), Fail> {
     assert!(rt; folded.len() == 36_088 && is_selected(&folded, 1, 25_030, 11_053));
     let slot = folded.get(9..17) == file.get(9..17);
     assert!(rt; slot && folded.get(25..25_030) == file.get(25..));
-    // What was folded is not folded again.
+    // What was folded is not folded again, nor turned.
     assert!(rt; content_opened(&rt, alloc, &folded)?.as_slice() == folded.as_slice());
     let mut house = house_on(&rt, alloc, disk_of(alloc, &folded)?)?;
     assert!(rt; house.length() == 1000 && has_gross(&mut house, 1000, 500));
@@ -100,7 +119,7 @@ fn one_change_fewer_is_not_folded(rt: HostRuntime) -> Result<(), Fail> {
     let _ = file.pop();
     file.extend_from_slice(&TRADE)?;
     file.push(0)?;
-    assert!(rt; content_opened(&rt, alloc, &file)?.as_slice() == file.as_slice());
+    assert!(rt; content_opened(&rt, alloc, &file)?.as_slice() == turned(alloc, &file)?.as_slice());
     Ok(())
 }
 
@@ -108,17 +127,17 @@ fn one_change_fewer_is_not_folded(rt: HostRuntime) -> Result<(), Fail> {
 fn a_plain_journal_is_not_folded(rt: HostRuntime) -> Result<(), Fail> {
     let alloc = rt.alloc();
     let mut file = b"OTCJRNL1\0".to_vec(alloc)?;
-    push_trades(&mut file, 1, 500)?;
-    assert!(rt; content_opened(&rt, alloc, &file)?.as_slice() == file.as_slice());
+    push_trades(&mut file, 1, 500, &TRADE, &AFFIRM)?;
+    assert!(rt; content_opened(&rt, alloc, &file)?.as_slice() == turned(alloc, &file)?.as_slice());
     Ok(())
 }
 
-// 25 bytes and the new body's 22,058 end before the old body, which stands at 25,030.
+// 25 bytes and the new body's 22,058 end before the old body, which stands at 25,030. Behind a fold changes have their moments.
 #[test]
 fn the_next_thousand_are_folded_to_the_front(rt: HostRuntime) -> Result<(), Fail> {
     let alloc = rt.alloc();
     let mut file = content_opened(&rt, alloc, &file_of(alloc, 500)?)?;
-    push_trades(&mut file, 501, 500)?;
+    push_trades(&mut file, 501, 500, &DATED_TRADE, &DATED_AFFIRM)?;
     let folded = content_opened(&rt, alloc, &file)?;
     assert!(rt; folded.len() == file.len() && is_selected(&folded, 0, 25, 22_053));
     assert!(rt; is_found(&rt, alloc, disk_of(alloc, &folded)?, 2000, 1000)?);

@@ -5,7 +5,7 @@ ghost use Rattle.outside.specs.Disk.{IsSettled};
 ghost use Rattle.units_core.specs.Name.{is_name};
 
 use command_types::{
-    Answer, Ask, MemberRow, OperatorRow, ProductRow, Refusal, Reply, Role, Roster, What,
+    Answer, Ask, MemberRow, Moment, OperatorRow, ProductRow, Refusal, Reply, Role, Roster, What,
 };
 use house::{House, OpenFault};
 use outside::{Disk, MemoryDisk};
@@ -62,7 +62,7 @@ pub fn three_dealers(alloc: Global, maturity: Day) -> Result<Roster, AllocError>
 pub fn large_disk_of(alloc: Global, bytes: &[u8]) -> Result<MemoryDisk, Fail>
     ensures { IfOk result (λ d. IsSettled (Some d.history)) }
 {
-    let mut disk = MemoryDisk::new(alloc, 8192, 64)?;
+    let mut disk = MemoryDisk::new(alloc, 8192, 96)?;
     disk.write_at(0, bytes)?;
     disk.sync()?;
     Ok(disk.crash())
@@ -110,12 +110,13 @@ pub fn content_of(alloc: Global, disk: &mut MemoryDisk) -> Result<Vec<u8>, Fail>
     Ok(bytes)
 }
 
-/// The reply to a party's command.
+/// The reply to a party's command of noon on 2026-03-31.
 pub fn said(house: &mut House<MemoryDisk>, by: &[u8], what: What) -> Reply
     requires { IsTrue (is_name by.now) }
 {
     let by = Some(named(by));
-    house.call(0, Ask { by, what })
+    let moment = Moment::new(1_774_958_400);
+    house.call(0, Ask { by, what, moment })
 }
 
 /// Whether a party's command is refused so, or accepted, at this position.

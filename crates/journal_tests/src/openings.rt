@@ -1,7 +1,9 @@
 //! What opening a house finds.
 
-use crate::disks::{BEGUN, BEGUN_ONE, ONE, TWO};
-use crate::houses::{content_of, day, disk_below, house_on, large_disk_of, opened, three_dealers};
+use crate::disks::{BEGUN, BEGUN_ONE, BEGUN_TURNED, ONE, TURNED_TWO, TWO};
+use crate::houses::{
+    content_of, crashed, day, disk_below, house_on, is_found, large_disk_of, opened, three_dealers,
+};
 use house::{Executions, OpenFault, recover_noting};
 use outside::Disk;
 use std::alloc::Global;
@@ -9,13 +11,60 @@ use std::process::Abort;
 use std::test::Fail;
 
 #[test]
-fn an_empty_disk_gets_its_slots_and_a_closed_gate(rt: HostRuntime) -> Result<(), Fail> {
+fn an_empty_disk_gets_its_slots_and_a_turn(rt: HostRuntime) -> Result<(), Fail> {
     let alloc = rt.alloc();
     let house = house_on(&rt, alloc, large_disk_of(alloc, b"")?)?;
     assert!(rt; house.length() == 0 && !house.is_stopped());
     let mut disk = disk_below(house);
     let bytes = content_of(alloc, &mut disk)?;
-    assert!(rt; bytes.as_slice() == BEGUN.as_slice());
+    assert!(rt; bytes.as_slice() == BEGUN_TURNED.as_slice());
+    Ok(())
+}
+
+/// What opening a house leaves of a file.
+fn content_opened(rt: &impl Abort, alloc: Global, file: &[u8]) -> Result<Vec<u8>, Fail> {
+    let mut disk = crashed(disk_below(house_on(rt, alloc, large_disk_of(alloc, file)?)?));
+    content_of(alloc, &mut disk)
+}
+
+#[test]
+fn a_journal_without_moments_is_turned_behind_its_own_bytes(rt: HostRuntime) -> Result<(), Fail> {
+    let alloc = rt.alloc();
+    for file in [
+        BEGUN.as_slice(),
+        BEGUN_ONE.as_slice(),
+        ONE.as_slice(),
+        TWO.as_slice(),
+    ] {
+        let mut turned = file[..file.len().saturating_sub(1)].to_vec(alloc)?;
+        turned.extend_from_slice(b"\x01\x08\0\0\0MOMENTS2\0")?;
+        assert!(rt; content_opened(&rt, alloc, file)?.as_slice() == turned.as_slice());
+        assert!(rt; content_opened(&rt, alloc, &turned)?.as_slice() == turned.as_slice());
+    }
+    assert!(rt; content_opened(&rt, alloc, &TURNED_TWO)?.as_slice() == TURNED_TWO.as_slice());
+    Ok(())
+}
+
+/// Whether an opening of the file of one record whose call with this number fails gives the disk back with its fault, and both
+/// what was synced and what was written stand for the one change.
+fn survives(rt: &impl Abort, alloc: Global, call: u64) -> Result<bool, Fail> {
+    let mut disk = large_disk_of(alloc, &ONE)?;
+    disk.fail_at(call)?;
+    let Err((fault, mut disk)) = opened(rt, alloc, disk)? else {
+        return Ok(false);
+    };
+    let content = content_of(alloc, &mut disk)?;
+    let is_told = fault == OpenFault::DiskFault && disk.faults() == 1;
+    let is_synced = is_found(rt, alloc, crashed(disk), 1, 0)?;
+    Ok(is_told && is_synced && is_found(rt, alloc, large_disk_of(alloc, &content)?, 1, 0)?)
+}
+
+// The length and a read, and four calls of the turn.
+#[test]
+fn each_call_of_a_turn_may_fail(rt: HostRuntime) -> Result<(), Fail> {
+    for call in 1..=6 {
+        assert!(rt; survives(&rt, rt.alloc(), call)?, "call {call}");
+    }
     Ok(())
 }
 
@@ -47,6 +96,8 @@ fn a_journal_has_its_entries_or_its_damage(rt: HostRuntime) -> Result<(), Fail> 
         (TWO.as_slice(), Ok(2)),
         (BEGUN.as_slice(), Ok(0)),
         (BEGUN_ONE.as_slice(), Ok(1)),
+        (BEGUN_TURNED.as_slice(), Ok(0)),
+        (TURNED_TWO.as_slice(), Ok(2)),
         (&BEGUN_ONE[..59], damaged(59)),
         (&ONE[..38], damaged(38)),
         (&ONE[..30], damaged(8)),
@@ -82,6 +133,7 @@ fn a_history_is_recovered_without_a_house(rt: HostRuntime) -> Result<(), Fail> {
         (BEGUN_ONE.as_slice(), Ok([1, 1, 60])),
         (ONE.as_slice(), Ok([1, 1, 39])),
         (TWO.as_slice(), Ok([2, 2, 59])),
+        (TURNED_TWO.as_slice(), Ok([2, 2, 80])),
         (&ONE[..30], Err(OpenFault::Damaged { offset: 8 })),
     ];
     for (file, answer) in cases {
@@ -127,8 +179,8 @@ fn opening_fails(rt: &impl Abort, alloc: Global, call: u64) -> Result<bool, Fail
 
 #[test]
 fn opening_fails_where_one_of_its_calls_does(rt: HostRuntime) -> Result<(), Fail> {
-    // The length and a read; then the header and the slots, each a write and a sync.
-    for call in 1..=6 {
+    // The length and a read; then the header and the slots, each a write and a sync; then the four calls of the turn.
+    for call in 1..=10 {
         assert!(rt; opening_fails(&rt, rt.alloc(), call)?, "call {call}");
     }
     Ok(())

@@ -2,7 +2,7 @@
 
 use crate::bad_records::is_told;
 use command_types::What;
-use record_codec::{decode, encode};
+use record_codec::{Spelling, decode, encode};
 use std::alloc::Global;
 use std::test::Fail;
 use units_core::MOST_GROSS;
@@ -34,7 +34,7 @@ fn posts(
     posted: Posted<'_>,
     rows: &[(u16, u16, u64)],
 ) -> Result<bool, Fail> {
-    let entry = decode(alloc, bytes)?;
+    let entry = decode(alloc, bytes, Spelling::First)?;
     let What::Post {
         cycle,
         version,
@@ -90,15 +90,15 @@ fn solutions_are_read(rt: HostRuntime) -> Result<(), Fail> {
     Ok(())
 }
 
-/// Whether a post of one solution is written again as it was read.
+/// Whether a post of one solution is written again as it was read, behind its moment.
 fn is_written_again(alloc: Global, bytes: &[u8]) -> Result<bool, Fail> {
-    let entry = decode(alloc, bytes)?;
+    let entry = decode(alloc, bytes, Spelling::First)?;
     let is_post = match &entry.ask.what {
         What::Post { solutions, .. } => solutions.rows().len() == 1,
         _ => false,
     };
     if is_post && entry.ask.by.is_some() {
-        return Ok(encode(alloc, &entry)?.as_slice() == bytes);
+        return Ok(encode(alloc, &entry)?.get(8..) == Some(bytes));
     }
     Ok(false)
 }

@@ -4,8 +4,8 @@ ghost use Rattle.std.specs.Prelude.{◌≤◌, IsTrue};
 ghost use Rattle.command_types.specs.Machine.{changes};
 ghost use Rattle.command_types.specs.Spelling.{posted, most_solutions};
 
-use command_types::{Ask, Entry, Level, Mode, Side, What};
-use record_codec::{decode, encode, encode_short, length};
+use command_types::{Ask, Entry, Level, Mode, Moment, Side, What};
+use record_codec::{Spelling, decode, encode, encode_short, length};
 use std::alloc::{AllocError, Global};
 use std::test::Fail;
 use units_core::{Amount, Day, Name};
@@ -23,23 +23,39 @@ const ACCEPT: [u8; 23] = [
     0, 0, 0, 0, 1, 0x42, 10, 1, 0, 0, 0, 0, 0, 0, 0, 2, 0, 0, 0, 0, 0, 0, 0,
 ];
 
+/// 2026-03-31 12:00:00 in UTC, as a record has it.
+pub const NOON: [u8; 8] = [0x40, 0xb7, 0xcb, 0x69, 0, 0, 0, 0];
+
+/// The same moment, in seconds.
+const NOON_SECONDS: u64 = 1_774_958_400;
+
+/// The second spelling of a change at that moment, of which these are the bytes of the first.
+pub fn timed(alloc: Global, bytes: &[u8]) -> Result<Vec<u8>, AllocError> {
+    let mut whole = Vec::new(alloc);
+    whole.extend_from_slice(&NOON)?;
+    whole.extend_from_slice(bytes)?;
+    Ok(whole)
+}
+
 /// The name of this text.
 pub fn named(text: &[u8]) -> Result<Name, AllocError> {
     Name::read(text).ok_or(AllocError)
 }
 
-/// Whether this party's change from that seat is written as these bytes, and is as long.
+/// Whether this party's change from that seat is written as the moment and these bytes, and is as long.
 fn is_written(alloc: Global, seat: u32, by: &[u8], what: What, bytes: &[u8]) -> Result<bool, Fail>
     requires change { IsTrue (changes what) }
     requires few { posted what ≤ most_solutions }
 {
     let by = Some(named(by)?);
+    let moment = Moment::new(NOON_SECONDS);
     let entry = Entry {
         seat,
-        ask: Ask { by, what },
+        ask: Ask { by, what, moment },
     };
-    let is_as_long = length(&entry) == bytes.len() as u64;
-    Ok(is_as_long && encode(alloc, &entry)?.as_slice() == bytes)
+    let whole = timed(alloc, bytes)?;
+    let is_as_long = length(&entry) == whole.len() as u64;
+    Ok(is_as_long && encode(alloc, &entry)?.as_slice() == whole.as_slice())
 }
 
 #[test]
@@ -85,13 +101,15 @@ fn is_written_alike(
 ) -> Result<bool, Fail> {
     let by = named(by)?;
     let (cycle, version) = numbers;
+    let moment = Moment::new(NOON_SECONDS);
     let mut into = [0xff; 64];
-    let written = encode_short(seat, &by, cycle, version, &mut into);
+    let written = encode_short(seat, &by, cycle, version, moment, &mut into);
     let entry = Entry {
         seat,
         ask: Ask {
             by: Some(by),
             what: What::Accept { cycle, version },
+            moment,
         },
     };
     let bytes = encode(alloc, &entry)?;
@@ -101,13 +119,14 @@ fn is_written_alike(
 #[test]
 fn an_accept_is_written_without_memory(rt: HostRuntime) -> Result<(), Fail> {
     let mut into = [0xff; 64];
-    let size = encode_short(0, &named(b"B")?, 1, 2, &mut into);
-    assert!(rt; into.get(..size) == Some(ACCEPT.as_slice()));
+    let moment = Moment::new(NOON_SECONDS);
+    let size = encode_short(0, &named(b"B")?, 1, 2, moment, &mut into);
+    assert!(rt; into.get(..size) == Some(timed(rt.alloc(), &ACCEPT)?.as_slice()));
     let most = (u64::MAX, u64::MAX);
     let cases = [
-        (0, b"B".as_slice(), (1, 2), 23),
-        (1_000_000, b"MEMBER-2".as_slice(), (256, 0), 30),
-        (u32::MAX, b"ABCDEFGHIJKLMNOP".as_slice(), most, 38),
+        (0, b"B".as_slice(), (1, 2), 31),
+        (1_000_000, b"MEMBER-2".as_slice(), (256, 0), 38),
+        (u32::MAX, b"ABCDEFGHIJKLMNOP".as_slice(), most, 46),
     ];
     for (seat, by, numbers, size) in cases {
         assert!(rt;
@@ -198,7 +217,13 @@ fn dated(number: u64, day: &Day) -> [u64; 5] {
     ]
 }
 
-/// Whether these bytes are this party's change from that seat, as told.
+/// Whether the entry is this party's change of this moment from that seat, as told.
+fn is_said(entry: &Entry, seat: u32, by: Name, seconds: u64, told: (u8, [u64; 5])) -> bool {
+    let is_from = entry.seat == seat && entry.ask.by == Some(by);
+    is_from && entry.ask.moment.seconds() == seconds && told_of(&entry.ask.what) == told
+}
+
+/// Whether these bytes are this party's change from that seat, as told: without a moment, and at noon with it in front.
 fn is_spelled(
     alloc: Global,
     bytes: &[u8],
@@ -206,14 +231,16 @@ fn is_spelled(
     by: &[u8],
     told: (u8, [u64; 5]),
 ) -> Result<bool, Fail> {
-    let entry = decode(alloc, bytes)?;
-    let is_said = entry.seat == seat && entry.ask.by == Some(named(by)?);
-    Ok(is_said && told_of(&entry.ask.what) == told)
+    let by = named(by)?;
+    let untimed = decode(alloc, bytes, Spelling::First)?;
+    let whole = timed(alloc, bytes)?;
+    let at_noon = decode(alloc, &whole, Spelling::Second)?;
+    Ok(is_said(&untimed, seat, by, 0, told) && is_said(&at_noon, seat, by, NOON_SECONDS, told))
 }
 
 /// Whether these bytes name these parties and this product of a trade.
 fn has_names(alloc: Global, bytes: &[u8], names: [&[u8]; 3]) -> Result<bool, Fail> {
-    let entry = decode(alloc, bytes)?;
+    let entry = decode(alloc, bytes, Spelling::First)?;
     let What::Trade {
         seller,
         buyer,

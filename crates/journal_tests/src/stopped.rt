@@ -11,11 +11,11 @@ use std::alloc::Global;
 use std::process::Abort;
 use std::test::Fail;
 
-/// A house of 11 changes, in whose twelfth the last sync failed. Opening takes six calls on an empty disk, since the slots
-/// are written after the header, and each change four, so that is call 54.
+/// A house of 11 changes, in whose twelfth the last sync failed. Opening takes ten calls on an empty disk: the length and a read,
+/// four for the header and the slots, and four for the turn. Each change takes four, so that is call 58.
 fn stopped_in_the_last_vote(rt: &impl Abort, alloc: Global) -> Result<House<MemoryDisk>, Fail> {
     let mut disk = large_disk_of(alloc, b"")?;
-    disk.fail_at(54)?;
+    disk.fail_at(58)?;
     let mut house = house_on(rt, alloc, disk)?;
     let is_voted = is_voted_by_two(rt, alloc, &mut house)?;
     if is_told(&mut house, b"C", vote(), 11, Some(Refusal::DiskFault)) && is_voted {

@@ -24,7 +24,7 @@ use Rattle.compress_server.specs.Seen.{listener_of}
 use Rattle.compress_server.specs.Serve.{SeatRun, HaveServed, IsService, history_line}
 use Rattle.compress_server.specs.Telling.{Ends}
 use Rattle.compress_server.proofs.CycleFacts.{keeps_laws}
-use Rattle.server_tests.specs.Premises.{header, nobody_there, said, replied, first_history, first_house, took, folder, untold, script_before, script_after, script_form, service_plan, service_form, visit, door, doors_before, doors_bound, doors_lent, doors_after, service_before, service_after, lock, seat, final}
+use Rattle.server_tests.specs.Premises.{clock, header, nobody_there, said, replied, first_history, first_house, took, folder, untold, script_before, script_after, script_form, service_plan, service_form, visit, door, doors_before, doors_bound, doors_lent, doors_after, service_before, service_after, lock, seat, final}
 use Rattle.server_tests.proofs.ByeFacts.{gone, line, talk}
 
 -- a count that stays 0 has not risen
@@ -81,16 +81,16 @@ housed = record {
 
 -- ---- the script
 
-abbrev session : IsSession (figures_of first_house) first_history 0 (record gone { over = false }) (line ∷ []) replied
+abbrev session : IsSession clock (figures_of first_house) first_history 0 (record gone { over = false }) (line ∷ []) replied
 session = record { made = []; to = gone; talk = talk (figures_of first_house) 0; own = refl }
 
-left : IsLeft first_house first_house (Some []) (Some replied) (cut_of said).whole
+left : IsLeft clock first_house first_house (Some []) (Some replied) (cut_of said).whole
 left = record { said = line ∷ []; others = []; order = refl; replied = record { text = replied; session = session; all = refl; stops = λ e. absurd cc; known = λ e. absurd cc; took = refl }; over = refl }
 
-left_untold : IsLeft first_house first_house None None (cut_of said).whole
+left_untold : IsLeft clock first_house first_house None None (cut_of said).whole
 left_untold = record { said = line ∷ []; others = []; order = refl; replied = record { text = replied; session = session; all = refl; stops = λ e. absurd cc; known = λ e. absurd cc; took = tt }; over = refl }
 
-pub script_ends : Ends {D = Option Visits} (λ d. d) (Some script_form) script_before script_after 0
+pub script_ends : Ends {D = Option Visits} clock (λ d. d) (Some script_form) script_before script_after 0
 script_ends = record {
   end = Done;
   runs = (refl, inr (nobody_there, says, is_roster, (first_house, first_house, housed, (refl, (said, (refl, refl), inr (omega arith, left))))));
@@ -98,7 +98,7 @@ script_ends = record {
   counted = tt;
 }
 
-pub untold_ends : Ends {D = Option Visits} (λ d. d) (Some script_form) untold untold 0
+pub untold_ends : Ends {D = Option Visits} clock (λ d. d) (Some script_form) untold untold 0
 untold_ends = record {
   end = Done;
   runs = (refl, inr (nobody_there, says_untold, is_roster, (first_house, first_house, housed, (refl, (said, tt, inr (omega arith, left_untold))))));
@@ -117,7 +117,7 @@ untold_undisturbed = record { files_held = still; input_held = still; output_hel
 abbrev sight : Sight
 sight = sight_at seat first_history 0 false
 
-abbrev written : Written sight (Some []) (Some replied) sight (line ∷ [])
+abbrev written : Written clock sight (Some []) (Some replied) sight (line ∷ [])
 written = record {
   text = replied;
   made = [];
@@ -128,7 +128,7 @@ written = record {
   talk = talk (figures_of first_house) 1;
 }
 
-visited : IsVisit sight sight visit
+visited : IsVisit clock sight sight visit
 visited = record {
   end = session_end.Ended;
   ends = (said, (refl, refl), inr (omega arith, record { said = line ∷ []; others = []; order = refl; written = written; over = refl }));
@@ -136,14 +136,14 @@ visited = record {
   sink_fault = λ e. absurd cc;
 }
 
-pub seat_served : AreServed final seat 0 false (visit ∷ []) Over
+pub seat_served : AreServed clock final seat 0 false (visit ∷ []) Over
 unfolding visited
 seat_served = (0, false, omega arith, omega arith, visited, (λ e. absurd cc), (refl, λ e. absurd cc))
 
 abbrev seats : List (SeatRun (Option Visits))
 seats = record { door = Some door; end = Over } ∷ []
 
-have_served : HaveServed (λ (d : Option Visits). d) service_plan first_house first_house seats
+have_served : HaveServed clock (λ (d : Option Visits). d) service_plan first_house first_house seats
 have_served = record {
   count = refl;
   goes_on = ([], refl);
@@ -153,7 +153,7 @@ have_served = record {
   each = (record { none_out = refl; few = omega arith; most = λ e. absurd cc; over = λ e. refl; served = seat_served }, tt);
 }
 
-a_service : IsService (λ (d : Option Visits). d) service_plan first_house first_house (took []) (took (history_line 0)) (listener_of (Some doors_before) 0) (listener_of (Some doors_after) 0) Done
+a_service : IsService clock (λ (d : Option Visits). d) service_plan first_house first_house (took []) (took (history_line 0)) (listener_of (Some doors_before) 0) (listener_of (Some doors_after) 0) Done
 a_service = record {
   seats = seats;
   served = have_served;
@@ -165,7 +165,7 @@ a_service = record {
   counted = λ e. absurd cc;
 }
 
-pub service_ends : Ends {D = Option Visits} (λ d. d) (Some service_form) service_before service_after 0
+pub service_ends : Ends {D = Option Visits} clock (λ d. d) (Some service_form) service_before service_after 0
 service_ends = record {
   end = Done;
   runs = (refl, inr (nobody_there, says, is_roster, inr (first_house, first_house, housed, inr a_service)));

@@ -1,5 +1,5 @@
 -- A script and a service over a roster of nobody, each of which is told BYE, and what is outside before and after them.
-use Rattle.std.specs.Prelude.{ℕ, zero, suc, ◌+◌, List, [], ◌∷◌, Option, Some, None, codes}
+use Rattle.std.specs.Prelude.{ℕ, zero, suc, ◌+◌, Bool, true, List, [], ◌∷◌, Option, Some, None, codes}
 use Rattle.doors.specs.Visits.{Visit, Visits, Doors}
 use Rattle.outside.specs.Files.{Folder}
 use Rattle.outside.specs.Flow.{Flow}
@@ -28,6 +28,10 @@ said = codes "BYE\n"
 
 abbrev pub replied : List ℕ
 replied = codes "ok 0 bye\n"
+
+-- a clock that may tell every moment
+abbrev pub clock : ℕ → Bool
+clock moment = true
 
 -- the house that is opened on a disk that tells nothing, whose history stays as it is
 abbrev pub first_history : History

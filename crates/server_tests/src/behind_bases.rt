@@ -32,7 +32,7 @@ fn answers_as_over_all<R: Threads + Wait + Sync + AllocGlobal>(rt: &R) -> Result
     Ok(since == whole && is_without_first_execution(alloc, &whole_text, &since_text)?)
 }
 
-const FIRST_EXECUTION: &[u8] = b"execution 12 1 1 3 0 0\n";
+const FIRST_EXECUTION: &[u8] = b"execution 12 1 1 3 0 0\nat 1774958400\n";
 
 // Whether the second text is the first one without the execution that came before the base.
 fn is_without_first_execution(alloc: Global, whole: &[u8], since: &[u8]) -> Result<bool, Fail> {

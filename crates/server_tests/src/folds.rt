@@ -1,21 +1,20 @@
 //! Journals that begin again from a base: what a fold writes byte for byte, and each call of the disk that fails in it.
 
-use crate::journal_files::{content_of, file_after, holds, plain_of, replay_of};
+use crate::journal_files::{content_of, file_after, held, plain_of, replay_of, traded};
 use crate::journals::{crashed, disk_of, left_by};
 use std::alloc::{AllocError, AllocGlobal, Global};
 use std::sync::Wait;
 use std::test::Fail;
 use std::thread::Threads;
 
-// So many trades by which A sells 1 to B, of which B affirms the first so many.
-fn lines_of(alloc: Global, trades: u64, affirmed: u64) -> Result<String, AllocError> {
+// 500 trades by which A sells 1 to B, and which B affirms.
+fn thousand_lines(alloc: Global) -> Result<String, AllocError> {
     let mut lines = String::from_str(alloc, "HELLO A KA\n")?;
-    for _ in 0..trades {
+    for _ in 0..500 {
         lines.push_str("TRADE A B P 1 2026-03-02\n")?;
     }
     lines.push_str("HELLO B KB\n")?;
-    for k in 0..affirmed {
-        let number = k.saturating_add(1);
+    for number in 1..=500u64 {
         lines.push_str(&format!(in alloc; "AFFIRM {number}\n")?)?;
     }
     Ok(lines)
@@ -24,7 +23,7 @@ fn lines_of(alloc: Global, trades: u64, affirmed: u64) -> Result<String, AllocEr
 // The body behind these changes: the base's length, its mark, a position, no cycle and no version, the roster's names, no
 // setting, 500 trades of A and B, which A submitted and which are live, and a closed gate.
 fn body_of(alloc: Global, position: u64) -> Result<Vec<u8>, AllocError> {
-    let mut body = b"\x2d\x2b\0\0\x01".to_vec(alloc)?;
+    let mut body = b"\x2d\x2b\0\0\x02".to_vec(alloc)?;
     body.extend_from_slice(&position.to_le_bytes())?;
     body.extend_from_slice(&[0; 16])?;
     body.extend_from_slice(b"\x03\0\x01A\x01B\x01C\x01\0\x01P")?;
@@ -43,19 +42,13 @@ fn has_at(file: &[u8], place: usize, bytes: &[u8]) -> bool {
         .is_some_and(|rest| rest.starts_with(bytes))
 }
 
-// The file of 25,030 bytes with this body behind it, and slot 1, which has that place, selected.
+// The file of 33,043 bytes with this body behind it, and slot 1, which has that place, selected.
 fn folded_to(alloc: Global, file: &[u8], body: &[u8]) -> Result<Vec<u8>, AllocError> {
     let mut whole = file.get(..8).unwrap_or(file).to_vec(alloc)?;
-    whole.extend_from_slice(b"\x01\x19\0\0\0\0\0\0\0\xc6\x61\0\0\0\0\0\0")?;
+    whole.extend_from_slice(b"\x01\x19\0\0\0\0\0\0\0\x13\x81\0\0\0\0\0\0")?;
     whole.extend_from_slice(file.get(25..).unwrap_or(&[]))?;
     whole.extend_from_slice(body)?;
     Ok(whole)
-}
-
-// The journal of 500 live trades, which has 1,000 changes.
-fn thousand<R: Threads + Wait + Sync + AllocGlobal>(rt: &R) -> Result<Vec<u8>, Fail> {
-    let lines = lines_of(rt.alloc(), 500, 500)?;
-    file_after(rt, b"", lines.as_str())
 }
 
 const GOES_ON: &str = "HELLO A KA\nTRADE A B P 1 2026-03-02\n";
@@ -64,15 +57,16 @@ const GOES_ON_REPLIES: &str = "ok 1000 hello A\nok 1001 trade 501\n";
 
 fn is_folded_byte_for_byte<R: Threads + Wait + Sync + AllocGlobal>(rt: &R) -> Result<bool, Fail> {
     let alloc = rt.alloc();
-    let whole = thousand(rt)?;
+    let whole = file_after(rt, b"", thousand_lines(alloc)?.as_str())?;
     let after = file_after(rt, &whole, "")?;
     let want = folded_to(alloc, &whole, &body_of(alloc, 1000)?)?;
     let told = replay_of(rt, &after)?;
     let disk = disk_of(alloc, &after)?;
     let _ = left_by(rt, disk, GOES_ON, (0, GOES_ON_REPLIES, ""))?;
     Ok(
-        whole.len() == 25030
-            && after.len() == 36088
+        whole.len() == 33043
+            && whole == traded(alloc, 500)?
+            && after.len() == 44101
             && after == want
             && told.ends_with(b"\nend 1000\n")
             && told == replay_of(rt, &whole)?,
@@ -91,10 +85,9 @@ fn a_journal_of_a_thousand_changes_is_folded_when_it_is_opened(
 // One change fewer; an open cycle; a plain journal: each stays as it is.
 fn stay<R: Threads + Wait + Sync + AllocGlobal>(rt: &R) -> Result<bool, Fail> {
     let alloc = rt.alloc();
-    let fewer = file_after(rt, b"", lines_of(alloc, 500, 499)?.as_str())?;
-    let whole = thousand(rt)?;
+    let fewer = traded(alloc, 499)?;
     let frozen = file_after(rt, &fewer, "HELLO OPS KO\nFREEZE 2026-03-31\n")?;
-    let plain = plain_of(alloc, &whole)?;
+    let plain = plain_of(alloc, &traded(alloc, 500)?)?;
     for file in [&fewer, &frozen, &plain] {
         if file_after(rt, file, "")? != *file {
             return Ok(false);
@@ -102,7 +95,7 @@ fn stay<R: Threads + Wait + Sync + AllocGlobal>(rt: &R) -> Result<bool, Fail> {
     }
     let disk = disk_of(alloc, &plain)?;
     let _ = left_by(rt, disk, GOES_ON, (0, GOES_ON_REPLIES, ""))?;
-    Ok(fewer.len() == 25010)
+    Ok(fewer.len() == 33015)
 }
 
 #[test]
@@ -119,20 +112,20 @@ fn folds_to_the_front_and_to_the_end<R: Threads + Wait + Sync + AllocGlobal>(
     rt: &R,
 ) -> Result<bool, Fail> {
     let alloc = rt.alloc();
-    let more = holds(alloc, 1)?;
-    let first = file_after(rt, &thousand(rt)?, more.as_str())?;
+    let folded = file_after(rt, &traded(alloc, 500)?, "")?;
+    let first = held(alloc, &folded, 44100)?;
     let second = file_after(rt, &first, "")?;
     let body = body_of(alloc, 2000)?;
-    let third = file_after(rt, &file_after(rt, &second, more.as_str())?, "")?;
+    let third = file_after(rt, &held(alloc, &second, 11082)?, "")?;
     let late = body_of(alloc, 3000)?;
     Ok(
-        first.len() == 56088
-            && second.len() == 56088
+        first.len() == 72101
+            && second.len() == 72101
             && has_at(&second, 8, b"\0\x19\0\0\0\0\0\0\0")
             && has_at(&second, 25, &body)
-            && third.len() == 56088
-            && has_at(&third, 8, b"\x01\x19\0\0\0\0\0\0\0\x6b\x79\0\0\0\0\0\0")
-            && has_at(&third, 31083, &late),
+            && third.len() == 72101
+            && has_at(&third, 8, b"\x01\x19\0\0\0\0\0\0\0\xab\x98\0\0\0\0\0\0")
+            && has_at(&third, 39083, &late),
     )
 }
 
@@ -150,7 +143,7 @@ const MARKET_REPLIES: &str = "ok 1000 hello OPS\nok 1000 market 500 500 0 500\n"
 // An opening with a fold has the attaching, two calls of a walk, and three writes, each with its sync.
 fn each_call_fails<R: Threads + Wait + Sync + AllocGlobal>(rt: &R) -> Result<(), Fail> {
     let alloc = rt.alloc();
-    let whole = thousand(rt)?;
+    let whole = traded(alloc, 500)?;
     for call in 1..=9 {
         let mut disk = disk_of(alloc, &whole)?;
         disk.fail_at(call)?;

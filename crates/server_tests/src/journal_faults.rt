@@ -38,14 +38,14 @@ const UNSTOPPED: &str = "ok 0 hello A\nok 1 trade 1\nok 2 trade 2\nok 2 nets 0 0
 // What a session finds after so many changes.
 const FOUND: [&str; 3] = ["ok 0 hello A\n", "ok 1 hello A\n", "ok 2 hello A\n"];
 
-// An opening has the attaching, two calls of a walk and four of a start, and a change has four: its record is written and
-// synced, and then its gate.
+// An opening has the attaching, two calls of a walk, four of a start and four of the turn, and a change has four: its record is
+// written and synced, and then its gate.
 fn each_call_fails<R: Threads + Wait + Sync + AllocGlobal>(rt: &R) -> Result<(), Fail> {
-    for call in 1..=7 {
+    for call in 1..=11 {
         fails_at(rt, call, (6, "", "disk fault\n"), (FOUND[0], FOUND[0]))?;
     }
-    for call in 8..=11 {
-        let at_most = if call == 11 { FOUND[1] } else { FOUND[0] };
+    for call in 12..=15 {
+        let at_most = if call == 15 { FOUND[1] } else { FOUND[0] };
         fails_at(
             rt,
             call,
@@ -53,8 +53,8 @@ fn each_call_fails<R: Threads + Wait + Sync + AllocGlobal>(rt: &R) -> Result<(),
             (FOUND[0], at_most),
         )?;
     }
-    for call in 12..=15 {
-        let at_most = if call == 15 { FOUND[2] } else { FOUND[1] };
+    for call in 16..=19 {
+        let at_most = if call == 19 { FOUND[2] } else { FOUND[1] };
         fails_at(
             rt,
             call,
@@ -65,10 +65,10 @@ fn each_call_fails<R: Threads + Wait + Sync + AllocGlobal>(rt: &R) -> Result<(),
     Ok(())
 }
 
-// A script of two changes makes fifteen calls: the next one, which fails, is the test's own.
+// A script of two changes makes nineteen calls: the next one, which fails, is the test's own.
 fn no_call_is_left<R: Threads + Wait + Sync + AllocGlobal>(rt: &R) -> Result<bool, Fail> {
     let mut disk = empty_disk(rt.alloc())?;
-    disk.fail_at(16)?;
+    disk.fail_at(20)?;
     let mut disk = left_by(rt, disk, TWO_CHANGES, (0, UNSTOPPED, ""))?;
     let is_the_next = disk.faults() == 0 && disk.length().is_err();
     let all = kept(rt.alloc(), &mut disk)?;

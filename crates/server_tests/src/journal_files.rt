@@ -12,7 +12,7 @@ use std::test::Fail;
 use std::thread::Threads;
 
 // How many bytes a test reads of a disk at most.
-const MOST: usize = 65536;
+const MOST: usize = 81920;
 
 /// What a disk holds.
 pub fn content_of(alloc: Global, disk: &mut MemoryDisk) -> Result<Vec<u8>, Fail> {
@@ -77,4 +77,48 @@ pub fn holds(alloc: Global, number: u64) -> Result<String, AllocError> {
         lines.push_str(&format!(in alloc; "HOLD {number}\nFREE {number}\n")?)?;
     }
     Ok(lines)
+}
+
+// A file with slots up to the gate behind its turn.
+const BEGUN: &[u8] = b"OTCJRNLC\0\x19\0\0\0\0\0\0\0\0\0\0\0\0\0\0\0\0\0\0\0\x01\x08\0\0\0MOMENTS2";
+
+// A's command TRADE A B P 1 2026-03-02 from seat 0 at noon on 31 March 2026, with its gate and its length.
+const TRADE: &[u8] =
+    b"\x01\x21\0\0\0\x40\xb7\xcb\x69\0\0\0\0\0\0\0\0\x01A\x01\x01A\x01B\x01P\x01\0\0\0\0\0\0\0\xea\x07\x03\x02";
+
+// B's AFFIRM, A's HOLD and A's FREE in the same way, up to the trade's number.
+const AFFIRM: &[u8] = b"\x01\x17\0\0\0\x40\xb7\xcb\x69\0\0\0\0\0\0\0\0\x01B\x02";
+
+const HOLD: &[u8] = b"\x01\x17\0\0\0\x40\xb7\xcb\x69\0\0\0\0\0\0\0\0\x01A\x04";
+
+const FREE: &[u8] = b"\x01\x17\0\0\0\x40\xb7\xcb\x69\0\0\0\0\0\0\0\0\x01A\x05";
+
+/// The journal of 500 of these trades, of which B affirmed the first so many: what a session leaves, written by hand, since a
+/// thousand changes of a disk in memory take long.
+pub fn traded(alloc: Global, affirmed: u64) -> Result<Vec<u8>, AllocError> {
+    let mut file = BEGUN.to_vec(alloc)?;
+    for _ in 0..500 {
+        file.extend_from_slice(TRADE)?;
+    }
+    for number in 1..=affirmed {
+        file.extend_from_slice(AFFIRM)?;
+        file.extend_from_slice(&number.to_le_bytes())?;
+    }
+    file.push(0)?;
+    Ok(file)
+}
+
+/// The file in which A held and freed trade 1 behind the closed gate at this place, 500 times.
+pub fn held(alloc: Global, file: &[u8], gate: usize) -> Result<Vec<u8>, AllocError> {
+    let mut longer = file.get(..gate).unwrap_or(file).to_vec(alloc)?;
+    for _ in 0..500 {
+        for front in [HOLD, FREE] {
+            longer.extend_from_slice(front)?;
+            longer.extend_from_slice(&1u64.to_le_bytes())?;
+        }
+    }
+    longer.push(0)?;
+    let behind = longer.len();
+    longer.extend_from_slice(file.get(behind..).unwrap_or(&[]))?;
+    Ok(longer)
 }

@@ -11,23 +11,42 @@ use std::test::Fail;
 use std::thread::Threads;
 
 // The header, slot 0 selected, its offset 25 and that of slot 1, no base, and a closed gate.
-const NONE: &[u8] = b"OTCJRNLC\0\x19\0\0\0\0\0\0\0\0\0\0\0\0\0\0\0\0\0\0\0\0";
+const BEGUN: &[u8] = b"OTCJRNLC\0\x19\0\0\0\0\0\0\0\0\0\0\0\0\0\0\0\0\0\0\0\0";
 
-/// The same with A's command TRADE A B P 10 2026-03-02 from seat 0.
-pub const ONE: &[u8] =
+/// The same with A's command TRADE A B P 10 2026-03-02 from seat 0, which has no moment.
+pub const BEGUN_ONE: &[u8] =
     b"OTCJRNLC\0\x19\0\0\0\0\0\0\0\0\0\0\0\0\0\0\0\0\0\0\0\x01\x19\0\0\0\0\0\0\0\x01A\x01\x01A\x01B\x01P\x0a\0\0\0\0\0\0\0\xea\x07\x03\x02\0";
 
-// And with B's command AFFIRM 1.
+// And with the turn.
+const TURNED_ONE: &[u8] =
+    b"OTCJRNLC\0\x19\0\0\0\0\0\0\0\0\0\0\0\0\0\0\0\0\0\0\0\x01\x19\0\0\0\0\0\0\0\x01A\x01\x01A\x01B\x01P\x0a\0\0\0\0\0\0\0\xea\x07\x03\x02\x01\x08\0\0\0MOMENTS2\0";
+
+// And with B's command AFFIRM 1 of noon on 31 March 2026.
+const TURNED_TWO: &[u8] =
+    b"OTCJRNLC\0\x19\0\0\0\0\0\0\0\0\0\0\0\0\0\0\0\0\0\0\0\x01\x19\0\0\0\0\0\0\0\x01A\x01\x01A\x01B\x01P\x0a\0\0\0\0\0\0\0\xea\x07\x03\x02\x01\x08\0\0\0MOMENTS2\x01\x17\0\0\0\x40\xb7\xcb\x69\0\0\0\0\0\0\0\0\x01B\x02\x01\0\0\0\0\0\0\0\0";
+
+// What is begun now: turned before its first change.
+const NONE: &[u8] = b"OTCJRNLC\0\x19\0\0\0\0\0\0\0\0\0\0\0\0\0\0\0\0\0\0\0\x01\x08\0\0\0MOMENTS2\0";
+
+/// A's command at that noon.
+pub const ONE: &[u8] =
+    b"OTCJRNLC\0\x19\0\0\0\0\0\0\0\0\0\0\0\0\0\0\0\0\0\0\0\x01\x08\0\0\0MOMENTS2\x01\x21\0\0\0\x40\xb7\xcb\x69\0\0\0\0\0\0\0\0\x01A\x01\x01A\x01B\x01P\x0a\0\0\0\0\0\0\0\xea\x07\x03\x02\0";
+
+// And B's.
 const TWO: &[u8] =
-    b"OTCJRNLC\0\x19\0\0\0\0\0\0\0\0\0\0\0\0\0\0\0\0\0\0\0\x01\x19\0\0\0\0\0\0\0\x01A\x01\x01A\x01B\x01P\x0a\0\0\0\0\0\0\0\xea\x07\x03\x02\x01\x0f\0\0\0\0\0\0\0\x01B\x02\x01\0\0\0\0\0\0\0\0";
+    b"OTCJRNLC\0\x19\0\0\0\0\0\0\0\0\0\0\0\0\0\0\0\0\0\0\0\x01\x08\0\0\0MOMENTS2\x01\x21\0\0\0\x40\xb7\xcb\x69\0\0\0\0\0\0\0\0\x01A\x01\x01A\x01B\x01P\x0a\0\0\0\0\0\0\0\xea\x07\x03\x02\x01\x17\0\0\0\x40\xb7\xcb\x69\0\0\0\0\0\0\0\0\x01B\x02\x01\0\0\0\0\0\0\0\0";
 
 /// A's command in a plain journal, which has the header, the records and a closed gate.
 pub const PLAIN_ONE: &[u8] =
     b"OTCJRNL1\x01\x19\0\0\0\0\0\0\0\x01A\x01\x01A\x01B\x01P\x0a\0\0\0\0\0\0\0\xea\x07\x03\x02\0";
 
-// Both commands in one.
+// The same, turned.
+const PLAIN_TURNED: &[u8] =
+    b"OTCJRNL1\x01\x19\0\0\0\0\0\0\0\x01A\x01\x01A\x01B\x01P\x0a\0\0\0\0\0\0\0\xea\x07\x03\x02\x01\x08\0\0\0MOMENTS2\0";
+
+// And with B's command.
 const PLAIN_TWO: &[u8] =
-    b"OTCJRNL1\x01\x19\0\0\0\0\0\0\0\x01A\x01\x01A\x01B\x01P\x0a\0\0\0\0\0\0\0\xea\x07\x03\x02\x01\x0f\0\0\0\0\0\0\0\x01B\x02\x01\0\0\0\0\0\0\0\0";
+    b"OTCJRNL1\x01\x19\0\0\0\0\0\0\0\x01A\x01\x01A\x01B\x01P\x0a\0\0\0\0\0\0\0\xea\x07\x03\x02\x01\x08\0\0\0MOMENTS2\x01\x17\0\0\0\x40\xb7\xcb\x69\0\0\0\0\0\0\0\0\x01B\x02\x01\0\0\0\0\0\0\0\0";
 
 const TRADE: &str = "HELLO A KA\nTRADE A B P 10 2026-03-02\n";
 
@@ -101,7 +120,10 @@ pub fn left_by<R: Threads + Wait + Sync + AllocGlobal>(
 // What a disk holds, a script over it with its replies, and what the disk then holds.
 const SCRIPTS: &[(&[u8], &str, &str, &[u8])] = &[
     (b"", "", "", NONE),
+    (BEGUN, "", "", NONE),
     (NONE, "", "", NONE),
+    (BEGUN_ONE, "", "", TURNED_ONE),
+    (PLAIN_ONE, "", "", PLAIN_TURNED),
     (b"OTC", "", "", NONE),
     (b"OTCJRNL1\0", "", "", NONE),
     (
@@ -123,6 +145,12 @@ const SCRIPTS: &[(&[u8], &str, &str, &[u8])] = &[
         AFFIRM,
         "ok 1 hello B\nok 2 live 1\nok 2 nets 0 10 -10\n",
         TWO,
+    ),
+    (
+        BEGUN_ONE,
+        AFFIRM,
+        "ok 1 hello B\nok 2 live 1\nok 2 nets 0 10 -10\n",
+        TURNED_TWO,
     ),
     (
         PLAIN_ONE,
@@ -163,10 +191,22 @@ fn a_script_goes_on_from_its_journal_and_keeps_each_change(rt: HostRuntime) -> R
 }
 
 // A journal of one change that is cut: its bytes, how many of them at most stand for no change, the place of the record's gate,
-// which is told while the record is cut, and what is told where the gate behind it is missing.
-const CUT: &[(&[u8], usize, &str, &str)] = &[
-    (ONE, 30, "damaged at 29\n", "damaged at 59\n"),
-    (PLAIN_ONE, 9, "damaged at 8\n", "damaged at 38\n"),
+// which is told while the record is cut, what is told where the gate behind it is missing, and the bytes of the whole one, turned.
+const CUT: &[(&[u8], usize, &str, &str, &[u8])] = &[
+    (
+        BEGUN_ONE,
+        30,
+        "damaged at 29\n",
+        "damaged at 59\n",
+        TURNED_ONE,
+    ),
+    (
+        PLAIN_ONE,
+        9,
+        "damaged at 8\n",
+        "damaged at 38\n",
+        PLAIN_TURNED,
+    ),
 ];
 
 // Whether a script over the journal's first bytes, so many of them, ends so, and leaves these.
@@ -183,7 +223,7 @@ fn is_told_where_cut<R: Threads + Wait + Sync + AllocGlobal>(
 
 fn each_cut_is_told<R: Threads + Wait + Sync + AllocGlobal>(rt: &R) -> Result<bool, Fail> {
     let mut told = true;
-    for (file, short, in_record, at_end) in CUT {
+    for (file, short, in_record, at_end, turned) in CUT {
         for size in 0..file.len() {
             let cut = file.get(..size).unwrap_or(file);
             told = told
@@ -195,7 +235,7 @@ fn each_cut_is_told<R: Threads + Wait + Sync + AllocGlobal>(rt: &R) -> Result<bo
                     is_told_where_cut(rt, cut, (7, "", at_end), cut)?
                 };
         }
-        told = told && is_told_where_cut(rt, file, (0, "ok 1 hello A\n", ""), file)?;
+        told = told && is_told_where_cut(rt, file, (0, "ok 1 hello A\n", ""), turned)?;
     }
     Ok(told)
 }

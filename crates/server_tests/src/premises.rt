@@ -8,7 +8,7 @@ ghost use Rattle.seats.specs.declared.seat.SeatEnd.TheVariants.{Over};
 ghost use Rattle.compress_server.specs.declared.ending.End.TheVariants.{DiskFault};
 ghost use Rattle.compress_server.specs.Complete.{IsUndisturbed};
 ghost use Rattle.compress_server.specs.Telling.{Ends, TellsEnd};
-ghost use Rattle.server_tests.specs.Premises.{untold, script_before, script_after, script_form, service_before, service_after, service_form, seat, final, visit};
+ghost use Rattle.server_tests.specs.Premises.{clock, untold, script_before, script_after, script_form, service_before, service_after, service_form, seat, final, visit};
 
 use compress_server::{answers_what_it_can, every_line_is_answered, statuses_tell_the_end};
 use doors::MemoryListener;
@@ -16,23 +16,23 @@ use seats::connections_are_answered;
 use std::test::Fail;
 
 fn a_script_is_undisturbed()
-    ensures ends { Ends {D = Option Visits} (λ d. d) (Some script_form) script_before script_after 0 }
+    ensures ends { Ends {D = Option Visits} clock (λ d. d) (Some script_form) script_before script_after 0 }
     ensures undisturbed { IsUndisturbed script_before script_after }
 {}
 
 // The program's own files, streams, disks and listeners tell nothing.
 fn a_script_over_what_tells_nothing_is_undisturbed()
-    ensures ends { Ends {D = Option Visits} (λ d. d) (Some script_form) untold untold 0 }
+    ensures ends { Ends {D = Option Visits} clock (λ d. d) (Some script_form) untold untold 0 }
     ensures undisturbed { IsUndisturbed untold untold }
 {}
 
 fn a_service_is_undisturbed()
-    ensures ends { Ends {D = Option Visits} (λ d. d) (Some service_form) service_before service_after 0 }
+    ensures ends { Ends {D = Option Visits} clock (λ d. d) (Some service_form) service_before service_after 0 }
     ensures undisturbed { IsUndisturbed service_before service_after }
 {}
 
 fn a_seat_has_served()
-    ensures served { AreServed final seat 0 false (visit ∷ []) Over }
+    ensures served { AreServed clock final seat 0 false (visit ∷ []) Over }
     ensures runs { final.stopped ≡ false }
 {}
 

@@ -5,7 +5,9 @@ ghost use Rattle.outside.specs.Disk.{IsSettled};
 
 use compress_server::run;
 use doors::{Listener, MemoryListener};
-use outside::{Gate, MemoryDisk, MemoryFiles, MemorySink, MemorySource, OpenGate, Sink, Source};
+use outside::{
+    Gate, MemoryClock, MemoryDisk, MemoryFiles, MemorySink, MemorySource, OpenGate, Sink, Source,
+};
 use std::alloc::{AllocError, AllocGlobal, Global};
 use std::sync::Wait;
 use std::thread::Threads;
@@ -13,6 +15,9 @@ use std::thread::Threads;
 /// Dealers A, B and C, an operator and a product.
 pub const ROSTER: &str =
     "name,role,key\nA,dealer,KA\nB,dealer,KB\nC,dealer,KC\nOPS,operator,KO\nP,product,2031-06-30\n";
+
+/// Noon of 31 March 2026, at which all is asked.
+pub const NOON: u64 = 1_774_958_400;
 
 /// What a run of the program left.
 #[derive(Drop)]
@@ -83,6 +88,7 @@ pub fn run_at<R: Threads + Wait + Sync + AllocGlobal, S: Source, K: Sink, L: Lis
         disk,
         listener,
         gate,
+        &MemoryClock::new(NOON),
     );
     Ok((status, errors, disk))
 }

@@ -3,7 +3,7 @@
 ghost use Rattle.std.specs.Prelude.{Some};
 ghost use Rattle.outside.specs.Disk.{IsSettled};
 
-use crate::journals::{ONE, PLAIN_ONE, crashed, disk_of};
+use crate::journals::{BEGUN_ONE, ONE, PLAIN_ONE, crashed, disk_of};
 use crate::program::{ROSTER, run_on};
 use crate::torn_cycles::with_other;
 use outside::{Disk, MemoryDisk, MemorySink, MemorySource};
@@ -75,11 +75,14 @@ const JOURNALS: &[(&[u8], usize, u8, &str, &str)] = &[
     (b"", 0, 0, NONE_TEXT, ""),
     (b"OTCJRNL1\0", 9, 0, NONE_TEXT, ""),
     (b"OTCJRNLC\0\xff\xff\xff", 12, 0, NONE_TEXT, ""),
-    (ONE, 60, 0, ONE_TEXT, ""),
-    (ONE, 30, 0, NONE_TEXT, ""),
-    (ONE, 31, 7, "", "damaged at 29\n"),
-    (ONE, 58, 7, "", "damaged at 29\n"),
-    (ONE, 59, 7, "", "damaged at 59\n"),
+    (BEGUN_ONE, 60, 0, ONE_TEXT, ""),
+    (BEGUN_ONE, 30, 0, NONE_TEXT, ""),
+    (BEGUN_ONE, 31, 7, "", "damaged at 29\n"),
+    (BEGUN_ONE, 58, 7, "", "damaged at 29\n"),
+    (BEGUN_ONE, 59, 7, "", "damaged at 59\n"),
+    (ONE, 81, 0, ONE_TEXT, ""),
+    (ONE, 42, 7, "", "damaged at 42\n"),
+    (ONE, 80, 7, "", "damaged at 80\n"),
     (PLAIN_ONE, 39, 0, ONE_TEXT, ""),
     (ENDED_BY_SEVEN, 39, 0, ONE_TEXT, ""),
     (BEGUN_BY_SEVEN, 39, 0, NONE_TEXT, ""),
@@ -96,8 +99,9 @@ const JOURNALS: &[(&[u8], usize, u8, &str, &str)] = &[
     (BASED, 31, 7, "", "damaged at 33\n"),
 ];
 
-// A byte of it that is another one, and what is told. The slot that is not selected means nothing; the other one, the selector, and
-// each field of a base that is spelled otherwise, or fits no roster with these names, are damage where the base stands.
+// A byte of it that is another one, and what is told. The slot that is not selected means nothing, and a base may have either mark.
+// The other slot, the selector, and each field of a base that is spelled otherwise, or fits no roster with these names, are damage
+// where the base stands.
 const CHANGED: &[(usize, u8, u8, &str)] = &[
     (8, 2, 7, "damaged at 25\n"),
     (9, 7, 0, ""),
@@ -105,7 +109,8 @@ const CHANGED: &[(usize, u8, u8, &str)] = &[
     (24, 0xff, 7, "damaged at 18374686479671623713\n"),
     (33, 0x62, 7, "damaged at 33\n"),
     (36, 0xff, 7, "damaged at 33\n"),
-    (37, 2, 7, "damaged at 33\n"),
+    (37, 2, 0, ""),
+    (37, 3, 7, "damaged at 33\n"),
     (45, 0xff, 7, "damaged at 33\n"),
     (53, 0xff, 7, "damaged at 33\n"),
     (61, 0xff, 7, "damaged at 33\n"),
@@ -163,7 +168,7 @@ fn a_replay_tells_what_the_journal_stands_for_or_its_damage(rt: HostRuntime) -> 
 
 // Where the output has less room, a front of the text is told. The journal stays.
 fn a_front_is_told<R: Threads + Wait + Sync + AllocGlobal>(rt: &R) -> Result<(), Fail> {
-    let disk = disk_of(rt.alloc(), ONE)?;
+    let disk = disk_of(rt.alloc(), BEGUN_ONE)?;
     let disk = replayed(rt, disk, 22, (5, "member A 1\ntrade 1 A B", "sink fault\n"))?;
     let _ = replayed(rt, crashed(disk), 256, (0, ONE_TEXT, ""))?;
     Ok(())
@@ -177,7 +182,7 @@ fn an_output_that_fails_is_told_and_keeps_a_front(rt: HostRuntime) -> Result<(),
 // Each of the three calls of a disk that a replay makes: it is attached, its length is asked for, and it is read.
 fn each_fault_is_told<R: Threads + Wait + Sync + AllocGlobal>(rt: &R) -> Result<(), Fail> {
     for call in 1..4u64 {
-        let mut disk = disk_of(rt.alloc(), ONE)?;
+        let mut disk = disk_of(rt.alloc(), BEGUN_ONE)?;
         disk.fail_at(call)?;
         let disk = replayed(rt, disk, 256, (6, "", "disk fault\n"))?;
         let _ = replayed(rt, crashed(disk), 256, (0, ONE_TEXT, ""))?;

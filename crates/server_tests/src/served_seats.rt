@@ -4,10 +4,10 @@ ghost use Rattle.std.specs.Prelude.{IfOk};
 ghost use Rattle.doors.specs.MemoryDoor.{IsFresh};
 
 use crate::lock::opened;
-use crate::program::ROSTER;
+use crate::program::{NOON, ROSTER};
 use command_types::Desk;
 use doors::{Door, MemoryConnection, MemoryDoor};
-use outside::{MemorySink, MemorySource, OpenGate};
+use outside::{MemoryClock, MemorySink, MemorySource, OpenGate};
 use parallel_solver::Workers;
 use path_solver::PathSolver;
 use seats::{Place, SeatEnd, Service};
@@ -36,6 +36,7 @@ pub fn history_served<R: Threads + Wait + Sync, D: Door + Drop>(
     let host = Host {
         alloc,
         workers: Workers::new(rt, 2, &solver, &OpenGate),
+        clock: &MemoryClock::new(NOON),
         roster: &roster,
     };
     let service = Service { host, most };

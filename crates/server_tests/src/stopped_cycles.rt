@@ -37,7 +37,7 @@ fn joined<R: AllocGlobal>(rt: &R, texts: &[&str]) -> Result<String, AllocError> 
     Ok(all)
 }
 
-// The last sync of the last vote fails, which is call 55.
+// The last sync of the last vote fails, which is call 59.
 fn the_last_vote_fails<R: Threads + Wait + Sync + AllocGlobal>(rt: &R) -> Result<(), Fail> {
     let lines = whole_cycle(rt)?;
     let replies = joined(
@@ -45,7 +45,7 @@ fn the_last_vote_fails<R: Threads + Wait + Sync + AllocGlobal>(rt: &R) -> Result
         &[RING_REPLIES, UP_TO_TWO_VOTES_REPLIES, LAST_VOTE_FAILS],
     )?;
     let mut disk = disk_of(rt.alloc(), b"")?;
-    disk.fail_at(55)?;
+    disk.fail_at(59)?;
     let end = (6, replies.as_str(), "disk fault\n");
     let mut disk = left_by(rt, disk, lines.as_str(), end)?;
     let all = kept(rt.alloc(), &mut disk)?;
@@ -114,17 +114,17 @@ pub fn market_after(changes: u64) -> &'static str {
 }
 
 // What is found where that call of the disk failed: after a crash that loses what no sync followed, and after one that
-// keeps all that was written. An opening has seven calls, and a change four, of which the last is the sync of its gate.
+// keeps all that was written. An opening has eleven calls, and a change four, of which the last is the sync of its gate.
 fn found_after(call: u64) -> (&'static str, &'static str) {
-    let done = call.saturating_sub(8) / 4;
-    let is_last_sync = call >= 11 && call % 4 == 3;
+    let done = call.saturating_sub(12) / 4;
+    let is_last_sync = call >= 15 && call % 4 == 3;
     let made = if is_last_sync { done + 1 } else { done };
     (market_after(done), market_after(made))
 }
 
 fn each_call_fails<R: Threads + Wait + Sync + AllocGlobal>(rt: &R) -> Result<(), Fail> {
     let lines = whole_cycle(rt)?;
-    for call in 1..=55 {
+    for call in 1..=59 {
         let (least, most) = found_after(call);
         let mut disk = left_by_fault(rt, call, lines.as_str())?;
         let all = kept(rt.alloc(), &mut disk)?;

@@ -93,14 +93,14 @@ fn around<R: Threads + Wait + Sync + AllocGlobal>(
     Ok((old, new))
 }
 
-// An opening has seven calls, and a change four: its record is written and synced, and then its gate. A call that writes and
+// An opening has eleven calls, and a change four: its record is written and synced, and then its gate. A call that writes and
 // fails leaves what the sync behind it may leave.
 fn each_write_is_torn<R: Threads + Wait + Sync + AllocGlobal>(rt: &R) -> Result<(), Fail> {
     for change in 0..12u64 {
         let done = market_after(change);
-        let (old, new) = around(rt, 9 + 4 * change)?;
+        let (old, new) = around(rt, 13 + 4 * change)?;
         finds_torn(rt, &old, &new, done)?;
-        let (old, new) = around(rt, 11 + 4 * change)?;
+        let (old, new) = around(rt, 15 + 4 * change)?;
         finds_gate(rt, &old, &new, (done, market_after(change + 1)))?;
     }
     Ok(())

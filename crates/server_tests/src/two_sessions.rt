@@ -6,10 +6,11 @@ ghost use Rattle.cycle_lock.specs.Passes.{IsPassOf, seen};
 
 use crate::lock::opened;
 use crate::paced::{CountingSink, MANY_LOOKS, PacedGate, PacedSource, Piece, Steps};
-use crate::program::ROSTER;
+use crate::program::{NOON, ROSTER};
 use crate::trades::{RING, RING_REPLIES};
 use command_types::{Desk, Roster};
 use cycle_lock::{Pass, Turns};
+use outside::MemoryClock;
 use path_solver::PathSolver;
 use session::{SessionEnd, serve_session};
 use std::alloc::{AllocError, AllocGlobal, Global};
@@ -62,6 +63,7 @@ fn is_served<R: Threads + Wait + Sync, D: Desk>(
         2,
         &PathSolver::new(alloc),
         &PacedGate::new(part.gate, steps),
+        &MemoryClock::new(NOON),
         roster,
         pass,
         &mut source,

@@ -1,10 +1,10 @@
 //! A PROPOSE whose problems can't be solved for want of memory.
 
 use crate::lock::opened;
-use crate::program::ROSTER;
+use crate::program::{NOON, ROSTER};
 use crate::trades::{RING, RING_REPLIES};
 use network_laws::{Limits, Network, Solution, Solver};
-use outside::{MemorySink, MemorySource, OpenGate};
+use outside::{MemoryClock, MemorySink, MemorySource, OpenGate};
 use session::{SessionEnd, serve_session};
 use std::alloc::{AllocError, AllocGlobal};
 use std::sync::Wait;
@@ -48,6 +48,7 @@ fn tells_want_of_memory<R: Threads + Wait + Sync + AllocGlobal>(
         64,
         &Forgetful,
         &OpenGate,
+        &MemoryClock::new(NOON),
         &roster,
         pass,
         &mut source,

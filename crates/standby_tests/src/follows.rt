@@ -3,8 +3,8 @@ ghost use Rattle.std.specs.Prelude.{IsTrue};
 ghost use Rattle.units_core.specs.Name.{is_name};
 
 use crate::houses::{crashed, disk_below, house_on, is_found, large_disk_of, named};
-use command_types::{Ask, Entry, What};
-use outside::MemoryDisk;
+use command_types::{Ask, Entry, Moment, What};
+use outside::{Disk, MemoryDisk};
 use standby::{FollowEnd, MemoryPeer, follow_over};
 use std::alloc::{AllocError, Global};
 use std::collections::VecDeque;
@@ -12,14 +12,18 @@ use std::process::Abort;
 use std::test::Fail;
 use units_core::{Amount, Day};
 
-// A change by a party, from seat 3.
+// A change by a party, from seat 3, of noon on 2026-03-31.
 fn change(by: &[u8], what: What) -> Entry
     requires { IsTrue (is_name by.now) }
 {
     let by = Some(named(by));
     Entry {
         seat: 3,
-        ask: Ask { by, what },
+        ask: Ask {
+            by,
+            what,
+            moment: Moment::new(1_774_958_400),
+        },
     }
 }
 
@@ -78,14 +82,31 @@ fn a_standby_takes_what_its_machine_accepts(rt: HostRuntime) -> Result<(), Fail>
     Ok(())
 }
 
-// Opening takes six calls of the disk, and each entry four.
+// Opening takes ten calls of the disk, and each entry four.
 #[test]
 fn a_fault_of_its_disk_stops_it(rt: HostRuntime) -> Result<(), Fail> {
     let alloc = rt.alloc();
-    for (call, length) in [(7, 0), (9, 0), (11, 1), (14, 1)] {
+    for (call, length) in [(11, 0), (13, 0), (15, 1), (18, 1)] {
         let both = two_entries(&rt, alloc, b"B")?;
         let found = (FollowEnd::DiskFault, length, 0);
         assert!(rt; follows(&rt, alloc, both, call, found)?, "call {call}");
     }
+    Ok(())
+}
+
+// Slots and turn have 43 bytes, the records with their frames 38 and 28. The first record begins at byte 47.
+#[test]
+fn an_entry_is_kept_with_its_moment(rt: HostRuntime) -> Result<(), Fail> {
+    let alloc = rt.alloc();
+    let mut house = house_on(&rt, alloc, large_disk_of(alloc, b"")?)?;
+    if house.is_stopped() {
+        return Err(Fail::new("the house is stopped"));
+    }
+    let mut peer: MemoryPeer<MemoryDisk> = MemoryPeer::new(alloc, two_entries(&rt, alloc, b"B")?);
+    assert!(rt; follow_over(&mut house, &mut peer) == FollowEnd::Caught);
+    let mut disk = disk_below(house);
+    let mut moment = [0; 8];
+    let is_read = disk.read(47, &mut moment)? == 8;
+    assert!(rt; is_read && u64::from_le_bytes(moment) == 1_774_958_400 && disk.length()? == 109);
     Ok(())
 }

@@ -4,7 +4,9 @@ ghost use Rattle.std.specs.Prelude.{◌≡◌, Some, IfOk, IsTrue};
 ghost use Rattle.outside.specs.Disk.{IsSettled};
 ghost use Rattle.units_core.specs.Name.{is_name};
 
-use command_types::{Answer, Ask, MemberRow, OperatorRow, ProductRow, Reply, Role, Roster, What};
+use command_types::{
+    Answer, Ask, MemberRow, Moment, OperatorRow, ProductRow, Reply, Role, Roster, What,
+};
 use house::{House, OpenFault};
 use outside::{Disk, MemoryDisk};
 use std::alloc::{AllocError, Global};
@@ -60,7 +62,7 @@ fn three_dealers(alloc: Global, maturity: Day) -> Result<Roster, AllocError> {
 pub fn large_disk_of(alloc: Global, bytes: &[u8]) -> Result<MemoryDisk, Fail>
     ensures { IfOk result (λ d. IsSettled (Some d.history)) }
 {
-    let mut disk = MemoryDisk::new(alloc, 8192, 64)?;
+    let mut disk = MemoryDisk::new(alloc, 8192, 96)?;
     disk.write_at(0, bytes)?;
     disk.sync()?;
     Ok(disk.crash())
@@ -100,12 +102,13 @@ pub fn crashed(disk: MemoryDisk) -> MemoryDisk
     disk.crash()
 }
 
-/// The reply to a party's command.
+/// The reply to a party's command of moment 0.
 pub fn said(house: &mut House<MemoryDisk>, by: &[u8], what: What) -> Reply
     requires { IsTrue (is_name by.now) }
 {
     let by = Some(named(by));
-    house.call(0, Ask { by, what })
+    let moment = Moment::new(0);
+    house.call(0, Ask { by, what, moment })
 }
 
 /// Whether the market has this gross in the product, as the operator is told at this position.

@@ -8,12 +8,15 @@ use crate::flaw::Flaw;
 use crate::screen::{Display, Keyboard, Pace, Screen};
 use crate::transcript::{Run, runs_of};
 use doors::MemoryListener;
-use outside::{MemoryDisk, OpenGate, SystemFiles};
+use outside::{MemoryClock, MemoryDisk, OpenGate, SystemFiles};
 use std::alloc::{AllocError, AllocGlobal};
 use std::fs;
 use std::rt::Files;
 use std::sync::Wait;
 use std::thread::Threads;
+
+// Noon of 31 March 2026, at which all is asked.
+const NOON: u64 = 1_774_958_400;
 
 // What is seen of the program in a run over this disk, its status if that is not 0, and the disk that a crash leaves then.
 fn seen<R: Threads + Wait + Sync + Files + AllocGlobal>(
@@ -40,6 +43,7 @@ fn seen<R: Threads + Wait + Sync + Files + AllocGlobal>(
         disk,
         &mut MemoryListener::new(alloc),
         &OpenGate,
+        &MemoryClock::new(NOON),
     );
     let mut shown = screen.into_bytes();
     if status != 0 {

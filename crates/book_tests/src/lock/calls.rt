@@ -5,7 +5,7 @@ ghost use Rattle.cycle_lock.specs.Passes.{IsPassOf};
 use crate::NotedDesk;
 use crate::machine::answers::{Told, is_told};
 use crate::market::named;
-use command_types::{Ask, What};
+use command_types::{Ask, Moment, What};
 use cycle_lock::{Pass, Turns};
 use std::sync::Wait;
 use units_core::{Amount, Day};
@@ -31,6 +31,7 @@ pub fn trade(number: u64) -> Option<Ask> {
             amount,
             day: Day::new(2026, 3, 2)?,
         },
+        moment: Moment::new(0),
     })
 }
 
@@ -40,6 +41,7 @@ fn ask_of(call: Call) -> Option<Ask> {
         Call::Unreadable(at) => Some(Ask {
             by: None,
             what: What::Unreadable { at },
+            moment: Moment::new(0),
         }),
     }
 }

@@ -3,7 +3,7 @@
 use super::commands::Date;
 use super::words::Word;
 use crate::market::{Step, are_steps};
-use command_types::{Answer, LimitLine, PlanRow, Refusal, TradeRow};
+use command_types::{Answer, LimitLine, Mode, PlanRow, Refusal, TradeRow};
 use net_positions::gross;
 use network_laws::Problem;
 use units_core::Day;
@@ -51,6 +51,9 @@ pub enum Told {
     TwoSteps(Step, Step),
     /// The three steps of version 1 of cycle 1.
     Steps(Step, Step, Step),
+    /// The version of cycle 1, its mode and the position at which it began, and how many potentials and pairs are told.
+    Proof(u64, Mode, u64, usize),
+    NoNext,
     /// The version of cycle 1, and how many votes are missing.
     Accepted(u64, u32),
     /// How many trades end, are cut and are made in version 1 of cycle 1.
@@ -177,6 +180,11 @@ fn is_sum(answer: &Answer, told: Told) -> bool {
             Told::Market(sum, nets, rest, pairs),
         ) => *gross == sum && *floor_m == nets && *excess == rest && *bilateral == pairs,
         (Answer::Noted { size }, Told::Noted(want)) => *size == want,
+        (Answer::ProofRows { head, rows }, Told::Proof(version, mode, begun, count)) => {
+            (head.cycle, head.version, head.begun) == (1, version, begun)
+                && head.mode == mode
+                && rows.rows().len() == count
+        }
         _ => is_of_trade(answer, told),
     }
 }
@@ -243,6 +251,7 @@ pub fn is_told(answer: &Answer, told: Told) -> bool {
         (Answer::Hello { name }, Told::Hello(want)) => *name == want.name(),
         (Answer::Tolerance, Told::Tolerance) => true,
         (Answer::Bye, Told::Bye) => true,
+        (Answer::NoNext, Told::NoNext) => true,
         (Answer::No(refusal), Told::No(want)) => *refusal == want,
         (Answer::No(refusal), Told::Matured(date)) => is_matured(*refusal, date),
         _ => is_of_cycle(answer, told),

@@ -54,7 +54,9 @@ pub enum Said {
     PostNone(u64),
     /// The cycle and the version.
     Fetch(u64, u64),
+    Next(u64),
     Plan(u64),
+    Proof(u64),
     /// The cycle and the version.
     Accept(u64, u64),
     /// The cycle and the version.
@@ -134,7 +136,9 @@ fn cyclic(said: Said) -> Option<What> {
     let what = match said {
         Said::Begin(cycle, mode) => What::Begin { cycle, mode },
         Said::Fetch(cycle, version) => What::Fetch { cycle, version },
+        Said::Next(position) => What::Next { position },
         Said::Plan(cycle) => What::Plan { cycle },
+        Said::Proof(cycle) => What::Proof { cycle },
         Said::Accept(cycle, version) => What::Accept { cycle, version },
         Said::Decline(cycle, version) => What::Decline { cycle, version },
         Said::Cancel(cycle) => What::Cancel { cycle },

@@ -18,7 +18,7 @@ use crate::market::three_dealers;
 use crate::trade_book::P as PRODUCT;
 use crate::trade_book::loads::three_trades;
 use command_types::Mode::Conservative;
-use command_types::{Ask, Level, Phase, Refusal, Side, ToleranceRow, TradeState};
+use command_types::{Ask, Level, Moment, Phase, Refusal, Side, ToleranceRow, TradeState};
 use cycle_states::{LastCycle, Machine};
 use std::alloc::{AllocError, Global};
 use std::test::Fail;
@@ -72,6 +72,7 @@ fn at_rest(alloc: Global) -> Result<Machine, Fail>
     ensures { IfOk result (λ machine. IsYoung machine.state.cycle) }
 {
     let book = three_trades(alloc)?;
+    let trades = book.rows().to_vec(alloc)?;
     let settings = [ToleranceRow {
         member: market::A,
         product: PRODUCT,
@@ -84,7 +85,7 @@ fn at_rest(alloc: Global) -> Result<Machine, Fail>
         number: 1,
         version: 0,
     };
-    let machine = Machine::at_rest(alloc, three_dealers(alloc)?, last, &settings, book.rows())?;
+    let machine = Machine::at_rest(alloc, three_dealers(alloc)?, last, &settings, trades)?;
     Ok(machine)
 }
 
@@ -97,7 +98,8 @@ fn answers(alloc: Global, machine: &Machine, rows: &[Row]) -> Result<bool, Fail>
             return Ok(false);
         };
         let by = Some(by.name());
-        let answer = machine.answer(&Ask { by, what })?;
+        let moment = Moment::new(0);
+        let answer = machine.answer(&Ask { by, what, moment })?;
         if !is_told(&answer, *told) {
             return Ok(false);
         }
