@@ -89,6 +89,7 @@ CALLS = (
         ("proposed", "nothing"),
     ),
     Call("PLAN", "GET", "/api/cycles/{cycle}/plan", "What the proposal changes, of what concerns the caller.", ("cycle",), ("plan",)),
+    Call("PROOF", "GET", "/api/cycles/{cycle}/proof", "What a member needs to test its own part.", ("cycle",), ("proof",)),
     Call("ACCEPT", "POST", f"{VERSION}/accept", "Agrees to the proposal.", ("cycle", "version"), ("accepted", "executed")),
     Call("DECLINE", "POST", f"{VERSION}/decline", "Drops the proposal.", ("cycle", "version"), ("declined",)),
     Call("CANCEL", "POST", "/api/cycles/{cycle}/cancel", "Ends the cycle.", ("cycle",), ("cancelled",)),

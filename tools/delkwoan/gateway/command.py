@@ -1,4 +1,4 @@
-"""The command compress-gateway: an API over HTTP in front of a service, for members and the operator."""
+"""The command compress-gateway: a page and an API over HTTP in front of a service, for members and the operator."""
 
 import importlib.util
 import logging
@@ -25,8 +25,8 @@ def seats_of(text: str) -> int:
 def words() -> Words:
     parser = Words(
         "compress-gateway",
-        "An API over HTTP in front of a service: calls of many members over few connections, each with a seat of the service. "
-        "`/api` lists the calls, and `/openapi.json` has their forms.",
+        "A page and an API over HTTP in front of a service: calls of many members over few connections, each with a seat of the service. "
+        "`/` is the page, `/api` lists the calls, and `/openapi.json` has their forms.",
     )
     seats = "how many connections to the service to have, each of which takes a seat; 3 where it is absent"
     parser.add_argument("--seats", metavar="N", action=Once, type=seats_of, help=seats)
@@ -38,6 +38,8 @@ def words() -> Words:
     parser.add_argument("--patience", metavar="SECONDS", action=Once, type=seconds_of, help=patience)
     journal = "the service's journal, whose figures are shown where it may be read"
     parser.add_argument("--journal", metavar="FILE", action=Once, type=plain, help=journal)
+    roster = "a roster, whose names, roles and products the page shows to who is signed in; no key of it goes out"
+    parser.add_argument("--roster", metavar="FILE", action=Once, type=plain, help=roster)
     certificate = "the certificate for TLS, with those between it and its root"
     parser.add_argument("--certificate", metavar="FILE", action=Once, type=plain, help=certificate)
     parser.add_argument("--key", metavar="FILE", action=Once, type=plain, help="the certificate's private key")

@@ -5,7 +5,7 @@ from html import escape
 from typing import Any
 
 from .calls import CALLS, POSTING, POTENTIAL, ROW, Call
-from .fields import HEADS, ROWS, WITH_ROWS, Form
+from .fields import HEADS, ROWS, TOLD, WITH_ROWS, Form
 
 NAME = {"type": "string", "pattern": "^[A-Z0-9-]{1,16}$"}
 NUMBER = {"type": "integer", "format": "int64", "minimum": 0}
@@ -46,8 +46,8 @@ def fields_of(form: Form) -> dict[str, Any]:
 
 
 def row_of(word: str) -> dict[str, Any]:
-    step = {"step": {"type": "string", "enum": [word]}} if word in WITH_ROWS["plan"] else {}
-    return object_of({**step, **fields_of(ROWS[word])})
+    told = {TOLD[word]: {"type": "string", "enum": [word]}} if word in TOLD else {}
+    return object_of({**told, **fields_of(ROWS[word])})
 
 
 def answer_of(kind: str) -> dict[str, Any]:
@@ -107,7 +107,29 @@ def own_paths() -> dict[str, Any]:
     signs_out = {"summary": "Signs out; the key is forgotten.", "responses": {"204": {"description": "It is done."}}, **secured}
     stands = object_of({"reply": TYPES[str], "position": TYPES[int], "kind": TYPES[str], "fields": fields})
     cycle = {"summary": "Where the last cycle stands.", "responses": {"200": {"description": "Its phase.", **content(stands)}}, **secured}
-    return {"/api/session": {"post": sign_in, "get": asks, "delete": signs_out}, "/api/cycle": {"get": cycle}}
+    session = {"post": sign_in, "get": asks, "delete": signs_out}
+    return {"/api/session": session, "/api/cycle": {"get": cycle}, **paths_of_page()}
+
+
+def paths_of_page() -> dict[str, Any]:
+    """The calls that are the page's."""
+
+    def operation(summary: str, told: str, schema: dict[str, Any], more: dict[str, Any]) -> dict[str, Any]:
+        return {"summary": summary, "responses": {"200": {"description": told, **content(schema)}}, "security": [{"token": []}], **more}
+
+    text = TYPES[str]
+    parts = object_of({name: text for name in ("roster", "notes", "proof", "plan")}, ["notes", "proof", "plan"])
+    verdict = object_of({name: text for name in ("verdict", "all", "clash", "line")}, ["verdict"])
+    fields: dict[str, Any] = {"cycle": NUMBER, "version": NUMBER, "accepted": {"type": "array", "items": NAME}}
+    fields["declined"] = {**NAME, "nullable": True}
+    fields["left"] = {**NUMBER, "nullable": True}
+    votes = object_of(fields)
+    body = {"requestBody": {"required": True, **content(parts)}}
+    return {
+        "/api/roster": {"get": operation("The roster without keys.", "Its text.", object_of({"roster": text}), {})},
+        "/api/check": {"post": operation("A member's own test of a proposal, by its texts.", "yes, or no with the first clash.", verdict, body)},
+        "/api/votes": {"get": operation("Who has voted through this gateway, for the operator.", "The votes on a version.", votes, {})},
+    }
 
 
 def document() -> dict[str, Any]:

@@ -6,7 +6,9 @@ from .. import replies
 from ..replies import BadReply
 
 STEPS = ("end", "cut", "new")
-"""The detail lines that have their word as a field, since one reply may have each of them."""
+PARTS = ("pot", "pair")
+TOLD = {**dict.fromkeys(STEPS, "step"), **dict.fromkeys(PARTS, "row")}
+"""The field that has a detail line's word, where one reply may have lines of several words."""
 
 
 class Form(NamedTuple):
@@ -23,7 +25,7 @@ def form_of(kind: Callable[..., Any]) -> Form:
 
 HEADS = {word: form_of(kind) for word, kind in replies.HEADS.items()}
 ROWS = {word: form_of(kind) for word, kind in replies.DETAILS.items()}
-WITH_ROWS = {"statement": ("trade",), "limits": ("limit",), "plan": STEPS}
+WITH_ROWS = {"statement": ("trade",), "limits": ("limit",), "plan": STEPS, "proof": PARTS}
 """The replies that have detail lines, and the words of these."""
 
 
@@ -49,7 +51,7 @@ def values_of(form: Form, words: list[str]) -> dict[str, Any]:
 def row_of(line: str) -> dict[str, Any]:
     word, *words = line.split(" ")
     fields = values_of(ROWS[word], words)
-    return {"step": word, **fields} if word in STEPS else fields
+    return {TOLD[word]: word, **fields} if word in TOLD else fields
 
 
 def kind_of(text: str) -> str:

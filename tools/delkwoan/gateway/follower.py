@@ -9,7 +9,7 @@ from typing import BinaryIO, NamedTuple
 from ..bases import base_of
 from ..book import MOST_SUBMITTED
 from ..frames import LIMIT, PLAIN, SELECTOR, SLOTS, SLOTTED
-from ..records import BadField
+from ..records import DATED_MARK, TURN, BadField
 
 TRADE = 1
 """The tag of a TRADE's record."""
@@ -28,19 +28,22 @@ class Fill(NamedTuple):
     trades_left: int
 
 
-def is_trade(record: bytes) -> bool:
-    """Whether a record is of a TRADE: its tag stands behind the seat and the party."""
-    at = 5 + record[4] if len(record) > 4 else len(record)
+def is_trade(record: bytes, is_dated: bool) -> bool:
+    """Whether a record is of a TRADE: its tag stands behind the moment, if it has one, the seat and the party."""
+    name = 12 if is_dated else 4
+    at = name + 1 + record[name] if len(record) > name else len(record)
     return record[at : at + 1] == bytes([TRADE])
 
 
 class Follower:
-    """Where in a journal's file the next gate is, and how many trades were submitted before it."""
+    """Where in a journal's file the next gate is, whether the records behind it have moments, and how many trades were submitted
+    before it."""
 
     def __init__(self, path: str) -> None:
         self.path = path
         self.head: bytes | None = None
         self.gate = 0
+        self.is_dated = False
         self.trades = 0
 
     def fill(self) -> Fill | None:
@@ -59,13 +62,14 @@ class Follower:
 
     def begin(self, file: BinaryIO, head: bytes) -> None:
         """Reads what stands before the first gate: nothing, or the base that the selected slot leads to."""
-        self.head, self.gate, self.trades = head, len(PLAIN), 0
+        self.head, self.gate, self.is_dated, self.trades = head, len(PLAIN), False, 0
         if head.startswith(SLOTTED):
             slot = SLOTS[head[SELECTOR] == 1]
             offset = int.from_bytes(head[slot : slot + 8], "little")
             file.seek(offset)
             base = file.read(int.from_bytes(file.read(4), "little"))
             self.gate = offset + 4 + len(base)
+            self.is_dated = base.startswith(DATED_MARK)
             self.trades = sum(trade.submitter is not None for trade in base_of(base).trades) if base else 0
         elif not head.startswith(PLAIN):
             raise OSError("no journal")
@@ -83,6 +87,8 @@ class Follower:
                     break
                 bytes, at = bytes[at:] + more, 0
                 continue
-            self.trades += is_trade(bytes[at + 5 : end])
+            record = bytes[at + 5 : end]
+            self.trades += is_trade(record, self.is_dated)
+            self.is_dated = self.is_dated or record == TURN
             self.gate += end - at
             at = end

@@ -5,6 +5,8 @@ from typing import NamedTuple
 from .desk import Desk
 from .metrics import Figures
 from .sessions import Sessions, Slowing
+from .votes import Votes
+from .watch import Watch
 
 
 class Parts(NamedTuple):
@@ -16,3 +18,7 @@ class Parts(NamedTuple):
     figures: Figures
     patience: float
     """The seconds that the body of a request may take."""
+    watch: Watch
+    votes: Votes
+    roster: str | None
+    """The roster's text without keys, where there is one."""

@@ -10,9 +10,10 @@ from typing import Any, AsyncIterator, Awaitable, Callable
 from starlette.applications import Starlette
 from starlette.requests import Request
 from starlette.responses import Response
-from starlette.routing import BaseRoute, Route
+from starlette.routing import BaseRoute, Route, WebSocketRoute
+from starlette.websockets import WebSocket
 
-from . import document
+from . import document, page, verdict
 from .answers import answer_to, problem_of, told
 from .calls import CALLS, POSTING, POTENTIAL, ROW, BadWord, Call
 from .connection import BadKey
@@ -22,8 +23,10 @@ from .kept import Faulty
 from .own import cycle, health, metrics, sign_in, sign_out, who
 from .parts import Parts
 from .requests import MOST_DRAFT, given_by, key_of, session_of
+from .watch import follow
 
 MINUTE = 60.0
+VOTES = ("ACCEPT", "DECLINE")
 
 log = logging.getLogger("delkwoan.gateway")
 
@@ -73,6 +76,8 @@ async def call_of(parts: Parts, call: Call, request: Request) -> Response:
     else:
         outcome = await parts.desk.plainly(asked)
     text = getattr(outcome, "text", None)
+    if text and call.verb in VOTES:
+        parts.votes.take(session.name, text)
     parts.figures.replies.labels(kind_of(text) if text else "found").inc()
     return await answer_to(call, outcome)
 
@@ -95,13 +100,24 @@ def routes_of(parts: Parts) -> list[BaseRoute]:
         ("/api/session", "GET", "who", partial(who, parts)),
         ("/api/session", "DELETE", "sign-out", partial(sign_out, parts)),
         ("/api/cycle", "GET", "cycle", partial(cycle, parts)),
+        ("/api/votes", "GET", "votes", partial(verdict.votes, parts)),
+        ("/api/roster", "GET", "roster", partial(verdict.roster, parts)),
+        ("/api/check", "POST", "check", partial(verdict.check, parts, asyncio.Lock())),
         ("/healthz", "GET", "health", partial(health, parts)),
         ("/metrics", "GET", "metrics", partial(metrics, parts, asyncio.Lock())),
     ]
     routes: list[BaseRoute] = [route(*it) for it in own]
     routes += [route(it.path, it.method, it.verb, partial(call_of, parts, it), it) for it in (*CALLS, POSTING)]
     routes.append(Route("/openapi.json", fixed(document.text(), "application/json")))
-    return [*routes, Route("/api", fixed(document.page(), "text/html"))]
+    routes += [Route("/api", fixed(document.page(), "text/html")), WebSocketRoute("/api/follow", follower(parts))]
+    return [*routes, *page.routes()]
+
+
+def follower(parts: Parts) -> Callable[[WebSocket], Awaitable[None]]:
+    async def endpoint(socket: WebSocket) -> None:
+        await follow(parts.watch, parts.sessions, parts.patience, socket)
+
+    return endpoint
 
 
 async def tend(parts: Parts) -> None:
@@ -120,9 +136,10 @@ def application(parts: Parts) -> Starlette:
     @asynccontextmanager
     async def lifespan(_: Starlette) -> AsyncIterator[None]:
         parts.desk.seats.start()
-        tending = asyncio.create_task(tend(parts))
+        tasks = [asyncio.create_task(tend(parts)), asyncio.create_task(parts.watch.run())]
         yield
-        tending.cancel()
+        for task in tasks:
+            task.cancel()
         await parts.desk.seats.stop()
         parts.desk.kept.close()
 

@@ -1,5 +1,6 @@
 """The gateway as its words say it, served by uvicorn."""
 
+import importlib.util
 import socket
 import ssl
 from argparse import Namespace
@@ -7,7 +8,9 @@ from typing import Any
 
 import uvicorn
 
-from ..ending import Stop
+from .. import own_part
+from ..checker import MOST_BYTES, Fault
+from ..ending import Stop, read_file
 from .desk import Desk
 from .follower import Follower
 from .kept import Faulty, Kept
@@ -17,10 +20,14 @@ from .seats import Seats
 from .server import application
 from .sessions import Sessions, Slowing
 from .silence import SLACK, Silence
+from .votes import Votes
+from .watch import Watch
 
 SEATS = 3
 WAIT, IDLE, PATIENCE = 10.0, 1800.0, 20.0
 """What holds where the words say nothing."""
+LONGEST_WORD = 4096
+"""The bytes of what a page may say over a WebSocket."""
 LOOKS = 1.0
 """The seconds between two looks for silent peers."""
 
@@ -29,7 +36,16 @@ def or_else(given: float | None, otherwise: float) -> float:
     return otherwise if given is None else given
 
 
+def roster_of(file: str | None) -> str | None:
+    """A roster's text without keys, whether or not the file has them."""
+    try:
+        return None if file is None else own_part.public_roster(read_file(file, MOST_BYTES + 1))
+    except Fault as fault:
+        raise Stop(3, str(fault)) from None
+
+
 def parts_of(given: Namespace) -> Parts:
+    roster = roster_of(given.roster)
     try:
         kept = Kept(given.calls)
     except Faulty:
@@ -37,7 +53,8 @@ def parts_of(given: Namespace) -> Parts:
     seats = Seats(given.service, given.seats or SEATS, or_else(given.wait, WAIT))
     sessions = Sessions(or_else(given.idle, IDLE))
     figures = Figures(seats, sessions, None if given.journal is None else Follower(given.journal))
-    return Parts(Desk(seats, sessions, kept), sessions, Slowing(), figures, or_else(given.patience, PATIENCE))
+    desk, watch = Desk(seats, sessions, kept), Watch(seats)
+    return Parts(desk, sessions, Slowing(), figures, or_else(given.patience, PATIENCE), watch, Votes(), roster)
 
 
 def secured(given: Namespace) -> dict[str, Any]:
@@ -61,7 +78,8 @@ def serve(given: Namespace, bound: socket.socket) -> None:
         log_config=None,
         access_log=False,
         server_header=False,
-        ws="none",
+        ws="websockets" if importlib.util.find_spec("websockets") else "none",
+        ws_max_size=LONGEST_WORD,
         timeout_keep_alive=SLACK * parts.patience,
         callback_notify=look,
         timeout_notify=LOOKS,

@@ -67,6 +67,10 @@ class Sessions:
         session.used = now
         return session
 
+    def has(self, session: SignedIn) -> bool:
+        """Whether a session is open still, which does not use it."""
+        return self.by_token.get(session.token) is session and session.used >= time.monotonic() - self.idle
+
     def close(self, session: SignedIn) -> None:
         self.by_token.pop(session.token, None)
 

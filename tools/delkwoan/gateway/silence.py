@@ -23,6 +23,8 @@ class Silence:
         now = time.monotonic()
         before, self.since = self.since, {}
         for peer in peers:
+            if not hasattr(peer, "cycle"):
+                continue  # a WebSocket, whose pings end it
             cycle: Any = getattr(peer, "cycle", None)
             is_served = cycle is not None and not cycle.response_complete
             is_answered = bool(is_served and (cycle.response_started or peer.flow.write_paused))

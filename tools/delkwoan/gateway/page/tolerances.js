@@ -1,0 +1,58 @@
+// A member's tolerances, as this browser noted them.
+
+import { button, field, form, make, tell } from "/page/elements.js";
+import { call } from "/page/calls.js";
+import { save } from "/page/notes.js";
+import { Table } from "/page/table.js";
+
+const COLUMNS = [["other", "Other member"], ["product", "Product"], ["side", "Side"], ["floor", "Floor", true], ["ceiling", "Ceiling", true], ["position", "Set at", true]];
+
+export class Tolerances {
+  constructor({ name, notes, act }) {
+    Object.assign(this, { name, notes, act });
+    const empty = "This browser has noted none.";
+    this.table = new Table({ label: "My tolerances", columns: COLUMNS, key: "position", empty });
+    const load = field("Load notes", { type: "file", accept: "text/plain,.txt" });
+    load.input.addEventListener("change", () => this.load(load.input));
+    this.element = make("div", {}, make("p", {}, "Of each pair of yours: what its amount may fall to, and what it may grow to. What is not set is from 0 on without a most."),
+      this.entry(), this.table.element,
+      make("p", { class: "soft" }, "The service does not tell tolerances again. So this browser notes those that are set here, and your trades at the freeze, for your own test of a proposal."),
+      make("div", { class: "line" }, make("p", {}, button("Save notes", () => save(`${name}-notes.txt`, notes.text()))), load.element,
+        make("p", {}, button("Forget notes", () => this.forget()))));
+  }
+
+  entry() {
+    const other = field("Other member", { list: "members", required: true });
+    const product = field("Product", { list: "products", required: true });
+    const side = field("Side", {}, [["out", "out: I am the seller"], ["in", "in: I am the buyer"]]);
+    const floor = field("Floor", { inputmode: "numeric", pattern: "[0-9]+", value: "0", required: true });
+    const ceiling = field("Ceiling, or none", { inputmode: "numeric", pattern: "[0-9]*" });
+    return form("A tolerance", [other, product, side, floor, ceiling], "Set", () => this.set([other, product, side, floor, ceiling].map((it) => it.input.value)));
+  }
+
+  set([other, product, side, floor, ceiling]) {
+    return this.act(async () => {
+      const path = [other, product, side].map(encodeURIComponent).join("/");
+      const told = await call("PUT", `/api/tolerances/${path}`, { floor, ceiling: ceiling || null });
+      this.notes.addTolerance(told.reply.split(" ")[1], [other, product, side, floor, ceiling || "-"]);
+      tell("It is set. It counts from the next version of a proposal on.");
+    });
+  }
+
+  load(input) {
+    return this.act(async () => {
+      this.notes.load(await input.files[0].text());
+      tell("The notes are loaded.");
+    });
+  }
+
+  forget() {
+    this.notes.forget();
+    this.update();
+    tell("The notes are forgotten.");
+  }
+
+  update() {
+    this.table.update(this.notes.settings().map((it) => ({ ...it, ceiling: it.ceiling === "-" ? "none" : it.ceiling })));
+  }
+}

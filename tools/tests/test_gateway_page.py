@@ -1,0 +1,217 @@
+"""The gateway's page, in a headless Chromium and with the program that was built."""
+
+import os
+import re
+from pathlib import Path
+
+from browsing import PHONE, InBrowser, Page
+from gateways import InGateway
+from running import PATIENCE
+from serving import ROSTER
+
+PICTURES = Path(os.environ["PICTURES"]) if "PICTURES" in os.environ else None
+"""Where to leave a picture of each step, for eyes."""
+
+
+class Day(InBrowser):
+    """A day of three members and the operator."""
+
+    def picture(self, page: Page, name: str) -> None:
+        if PICTURES is not None:
+            page.picture(PICTURES / f"{name}.png")
+
+    def alleged(self, page: Page, other: str, amount: str) -> None:
+        page.type("Other party", other)
+        page.type("Product", "P")
+        page.type("Amount", amount)
+        page.type("Day", "2026-03-02")
+        page.press("Allege")
+        page.shows(f"is alleged; {other} has to affirm it.")
+
+    def test_from_sign_in_to_execution(self) -> None:
+        self.serve()
+        first, third = self.page(), self.page("C", PHONE)
+        self.picture(first, "sign-in")
+        first.sign_in("A")
+        second, operator = self.page("B", is_dark=True), self.page("OPS")
+        self.trades(first, second, third)
+        second.go("Tolerances")
+        self.tolerance(second)
+        self.proposed(operator)
+        self.declined(first, second, third, operator)
+        self.executed(first, second, third, operator)
+        for page in (first, second, third, operator):
+            self.assertEqual(page.complaints(), [])
+            self.assertNotIn("token", page.driver.current_url)
+        self.kill()
+        kept = [f"{it.party}: {it.line}" for it in self.records()]
+        self.assertEqual(kept[:5], ["A: TRADE A B P 10 2026-03-02", "B: AFFIRM 1", "B: TRADE B C P 7 2026-03-02", "C: AFFIRM 2", "B: TOL A P in 5 -"])
+        self.assertEqual([it for it in kept if "ACCEPT" in it], ["B: ACCEPT 1 1", "A: ACCEPT 1 2", "B: ACCEPT 1 2", "C: ACCEPT 1 2"])
+
+    def trades(self, first: Page, second: Page, third: Page) -> None:
+        self.alleged(first, "B", "10")
+        second.press("Affirm trade 1")
+        second.shows("Trade 1 is live.")
+        self.alleged(second, "C", "7")
+        self.picture(third, "affirm-phone")
+        third.press("Affirm trade 2")
+        third.shows("Trade 2 is live.")
+        first.shows("owes 10, is owed 0")
+        self.picture(first, "book")
+        self.picture(third, "book-phone")
+
+    def tolerance(self, page: Page) -> None:
+        page.type("Other member", "A")
+        page.type("Product", "P")
+        page.choose("Side", "in")
+        page.type("Floor", "5")
+        page.press("Set")
+        page.shows("It is set.")
+        self.picture(page, "tolerances-dark")
+
+    def proposed(self, operator: Page) -> None:
+        operator.shows("P\t17\t10\t7\t17")
+        self.picture(operator, "market")
+        operator.go("Cycle")
+        operator.type("Freeze what matures after", "2026-03-31")
+        operator.press("Freeze")
+        operator.shows("Cycle 1: 2 trades are frozen.")
+        operator.press("Propose hybrid")
+        operator.shows("Version 1, hybrid: the gross goes from 17 to 12.")
+
+    def finds(self, page: Page, version: int, name: str) -> None:
+        """The proposal came by itself, and the member's own test takes it."""
+        page.go("Proposal")
+        page.shows(f"Cycle 1, version {version}, ")
+        page.shows("yes — by check_mine, it is right for all that this browser noted.")
+        self.picture(page, name)
+
+    def declined(self, first: Page, second: Page, third: Page, operator: Page) -> None:
+        self.finds(first, 1, "proposal")
+        self.finds(second, 1, "proposal-dark")
+        self.finds(third, 1, "proposal-phone")
+        second.press("Accept")
+        self.picture(second, "sure-dark")
+        second.press("Accept", "dialog button")
+        second.shows("Accepted. 2 more to accept.")
+        operator.shows("Cycle 1, version 1, through this gateway: accepted by B. By the last reply 2 had not accepted.")
+        third.press("Decline")
+        third.press("Decline", "dialog button")
+        third.shows("Nothing is proposed.")
+        first.shows("Cycle 1: trades are frozen.")
+        operator.shows("Declined by C.")
+
+    def executed(self, first: Page, second: Page, third: Page, operator: Page) -> None:
+        operator.press("Propose free")
+        operator.shows("Version 2, free: the gross goes from 17 to 12.")
+        self.picture(operator, "operator")
+        for version, page in enumerate((first, second, third)):
+            self.finds(page, 2, f"accept-{version}")
+            page.press("Accept")
+            page.press("Accept", "dialog button")
+            page.shows("carried out" if page is third else "more to accept.")
+        self.picture(operator, "votes")
+        for page in (first, operator):
+            page.shows("No cycle is open; the last was 1.")
+        first.go("Book")
+        first.shows("2 of 2")
+        first.shows("owes 10, is owed 0")
+        self.picture(first, "executed")
+
+
+class Following(InBrowser):
+    """What the page does without its WebSocket, without the service, and at a sign-in's end."""
+
+    def test_it_asks_where_it_can_not_listen(self) -> None:
+        self.serve()
+        script = "window.WebSocket = class { constructor() { setTimeout(() => this.onclose({ code: 1006 })); } close() {} };"
+        page = self.page(before=script)
+        page.sign_in("B")
+        self.assertEqual(self.caller("A").say("TRADE A B P 10 2026-03-02").status, 200)
+        page.press("Affirm trade 1")
+        page.shows("Trade 1 is live.")
+
+    def test_the_service_ends_and_begins_again(self) -> None:
+        self.serve("--wait", "1")
+        page = self.page("A")
+        self.kill()
+        page.shows("The service does not answer.")
+        self.start("--seats", "5")
+        page.until(lambda: "does not answer" not in page.text(), "the service")
+        page.press("Sign out")
+        page.shows("Signed out.")
+        self.assertNotIn("My trades", page.text())
+
+    def test_a_session_that_ends_elsewhere(self) -> None:
+        """The gateway starts again: its sessions are gone, and the page says so."""
+        self.serve()
+        page = self.page("A")
+        assert self.gateway is not None
+        self.gateway.terminate()
+        self.assertEqual((self.gateway.wait(PATIENCE), self.logged()), (0, ""))
+        self.open()
+        page.shows("The session is over: sign in again.")
+        page.sign_in("A")
+
+    def test_a_wrong_key_and_a_refusal_are_told_as_text(self) -> None:
+        self.serve()
+        page = self.page()
+        page.type("Name", "<img/src=x>")
+        page.type("Key", "K")
+        page.press("Sign in")
+        page.shows("This name and key are not known.")
+        self.assertEqual(page.driver.find_elements("css selector", "img"), [])
+        page.driver.refresh()
+        page.until(lambda: self.caller().sign_in("A").status == 201, "a sign-in")
+        page.sign_in("A")
+        page.type("Other party", "A")
+        page.type("Product", "P")
+        page.type("Amount", "1")
+        page.press("Allege")
+        page.shows("Refused: own-trade")
+
+
+class Served(InGateway):
+    """What the page's calls answer, and what a browser is told of the page."""
+
+    def test_the_calls(self) -> None:
+        self.start("--seats", "5")
+        self.open("--roster", ROSTER)
+        page = self.caller().ask("GET", "/")
+        policy = page.headers["Content-Security-Policy"]
+        self.assertIn("default-src 'none'; script-src 'self'", policy)
+        self.assertNotIn("unsafe", policy)
+        for name in re.findall(r'"(/page/[a-z-]+\.[a-z]+)"', str(page.content)):
+            asked = self.caller().ask("GET", name)
+            self.assertEqual((asked.status, asked.headers["X-Content-Type-Options"]), (200, "nosniff"), name)
+        self.assertEqual(re.findall(r"https?://|style=|onclick", str(page.content)), [])
+        for path in ("/page/../command.py", "/page/main.py", "/page/"):
+            self.assertEqual(self.caller().ask("GET", path).status, 404, path)
+        caller = self.caller("A")
+        told = caller.ask("GET", "/api/roster").content["roster"]
+        self.assertEqual(told, "name,role,key\nA,dealer,-\nB,dealer,-\nC,dealer,-\nOPS,operator,-\nP,product,2031-06-30\n")
+        without = [self.caller().ask(*it) for it in (("GET", "/api/roster"), ("GET", "/api/votes"), ("POST", "/api/check"))]
+        self.assertEqual([it.status for it in without], [401, 401, 401])
+        self.assertEqual(caller.ask("GET", "/api/votes").error, "wrong-role")
+        self.assertEqual(self.caller("OPS").ask("GET", "/api/votes").content["accepted"], [])
+
+    def test_a_members_own_test(self) -> None:
+        """The verdict is that of check_mine: over right notes, and over those with a tolerance more."""
+        self.start("--seats", "5")
+        self.open("--roster", ROSTER)
+        first, second, operator = (self.caller(name) for name in ("A", "B", "OPS"))
+        for caller, line in [(first, "TRADE A B P 10 2026-03-02"), (second, "AFFIRM 1"), (second, "TRADE B A P 7 2026-03-02"), (first, "AFFIRM 2")]:
+            self.assertEqual(caller.say(line).status, 200)
+        notes = first.say("STATEMENT").text.partition("\n")[2] + "\n"
+        for line in ("FREEZE 2026-03-31", "PROPOSE 1 conservative"):
+            self.assertEqual(operator.say(line).status, 200)
+        texts = {"notes": notes, "proof": first.say("PROOF 1").text + "\n", "plan": first.say("PLAN 1").text + "\n"}
+        self.assertEqual(first.ask("POST", "/api/check", texts).content["verdict"], "yes")
+        more = first.ask("POST", "/api/check", {**texts, "notes": f"1 TOL B P out 9 -\n{notes}"}).content
+        self.assertEqual((more["verdict"], more["clash"]), ("no", "lower below your own"))
+        bad = first.ask("POST", "/api/check", {**texts, "proof": "no\n"})
+        self.assertEqual((bad.status, bad.content["told"]), (422, "proof row 1: bad-line"))
+        self.assertEqual(first.ask("POST", "/api/check", {**texts, "more": ""}).error, "bad-field")
+        self.assertEqual(operator.ask("POST", "/api/check", texts).error, "not-in-roster")
+        self.assertEqual(first.ask("POST", "/api/check", {**texts, "roster": "name"}).error, "fault")
+
