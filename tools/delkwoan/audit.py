@@ -17,7 +17,7 @@ from .ending import Stop, read_file, run
 from .fitting import Misfit, history_at
 from .frames import MOST_BYTES, Damaged, Lead, frames_of, lead_of
 from .history import History, Moved
-from .records import BadField, record_of
+from .records import BadField, Kind, body_of, record_of
 from .words import Words, text
 
 
@@ -60,8 +60,9 @@ class Audit:
             pass
         if lead.base:
             self.begin(lead)
-        for at, bytes in frames_of(self.file, lead):
-            self.take(at, bytes)
+        for at, bytes, kind in body_of(lead.base, frames_of(self.file, lead)):
+            if kind is not Kind.TURN:
+                self.take(at, bytes, kind)
         if self.refused is not None:
             raise self.refused
 
@@ -74,10 +75,10 @@ class Audit:
         except Misfit as misfit:
             self.refused = Damaged(lead.offset, f"its base does not fit the roster: {misfit}")
 
-    def take(self, at: int, bytes: bytes) -> None:
+    def take(self, at: int, bytes: bytes, kind: Kind) -> None:
         """Makes the change of a record behind the gate at a place."""
         try:
-            record = record_of(bytes)
+            record = record_of(bytes, kind)
             if self.refused is None:
                 self.history.take(record)
         except BadField as bad:

@@ -8,8 +8,8 @@ from typing import NamedTuple
 from .quick import MOST_NUMBER
 from .records import BadField, Fields
 
-MARK = 1
-"""The first byte of a base."""
+LEAST_MARK, MOST_MARK = 1, 2
+"""The first bytes that a base may have: behind a base with the second, all records have moments."""
 SIDES = ("out", "in")
 STATES = ("alleged", "live", "ended")
 PARTIES = (None, *SIDES)
@@ -93,7 +93,7 @@ def trade_of(fields: Fields) -> Kept:
 def base_of(bytes: bytes) -> Base:
     """The base that the bytes spell; raises BadField at the first field that breaks the rules."""
     fields = Fields(bytes)
-    fields.number(1, "the mark of the form", MARK, MARK)
+    fields.number(1, "the mark of the form", LEAST_MARK, MOST_MARK)
     position, cycle, version = (fields.number(8, what) for what in ("the position", "the cycle", "the version"))
     members, products = names_of(fields, "member"), names_of(fields, "product")
     settings = settings_of(fields)

@@ -66,14 +66,14 @@ class History:
         elif isinstance(change, changes.Accept | changes.Decline):
             self.cycle.vote(member, change)
             if isinstance(change, changes.Accept) and not self.cycle.left:
-                self.execute()
+                self.execute(record.moment)
         elif member is not None:
             raise Refused("14 not-operator")
         else:
-            self.operate(change)
+            self.operate(change, record.moment)
 
-    def operate(self, change: changes.Freeze | changes.Begin | changes.Post | changes.Cancel) -> None:
-        """Makes a change of the operator."""
+    def operate(self, change: changes.Freeze | changes.Begin | changes.Post | changes.Cancel, moment: int) -> None:
+        """Makes a change of the operator, asked at a moment."""
         if isinstance(change, changes.Freeze):
             self.cycle.freeze(self.book, change.day)
         elif isinstance(change, changes.Begin):
@@ -86,10 +86,10 @@ class History:
             if posting.fault is not None:
                 raise Refused(f"24 bad-certificate {posting.fault}")
             if not self.cycle.left:
-                self.execute()
+                self.execute(moment)
 
-    def execute(self) -> None:
-        """Executes the plan that stands, and tests that each net position stays and no gross grows."""
+    def execute(self, moment: int) -> None:
+        """Executes the plan that stands at a moment, and tests that each net position stays and no gross grows."""
         before = [*self.book.gross]
         done = execute(self.book, self.cycle.plan, self.cycle.day)
         products, members = list(self.names.products), list(self.names.members)
@@ -101,7 +101,7 @@ class History:
                 raise Moved(f"execution {self.position} raises the gross of {products[product]}")
         self.cycle.close()
         numbers = self.position, self.cycle.number, self.cycle.version, done.ended, done.cut, done.made
-        self.executions.append(" ".join(map(str, ["execution", *numbers])))
+        self.executions += [" ".join(map(str, ["execution", *numbers])), f"at {moment}"]
 
     def lines(self) -> Iterator[str]:
         """The text of `replay`."""

@@ -10,8 +10,9 @@ from typing import Iterator, NoReturn
 from .bases import Base, Kept, Setting, base_of
 from .changes import Tolerance, rows_of
 from .ending import Stop, read_file, run
-from .frames import MOST_BYTES, SELECTOR, SLOTS, Form, Lead, walk
-from .records import BadField, record_of
+from .frames import MOST_BYTES, SELECTOR, SLOTS, Form, Lead, Walk, walk
+from .moments import moment_text
+from .records import BadField, Kind, body_of, record_of
 from .words import Words, plain
 
 BEGUN_END = 30
@@ -75,17 +76,31 @@ def print_slots(file: bytes, lead: Lead) -> None:
         print(f"{place} slot {slot}: offset {offset}")
 
 
-def print_record(at: int, number: int, bytes: bytes) -> BadField | None:
+def print_record(at: int, number: int, bytes: bytes, kind: Kind) -> BadField | None:
     """A record in words; where it spells no change, that."""
     try:
-        record = record_of(bytes)
+        record = record_of(bytes, kind)
     except BadField as bad:
         print(f"{at} record {number}, {len(bytes)} bytes: spells no change at offset {at + 5 + bad.at}, {bad.what}")
         return bad
-    print(f"{at} record {number}, {len(bytes)} bytes: seat {record.seat}, {record.party}: {record.change}")
+    asked = f"{moment_text(record.moment)}, " if kind is Kind.DATED else ""
+    print(f"{at} record {number}, {len(bytes)} bytes: {asked}seat {record.seat}, {record.party}: {record.change}")
     for line in rows_of(record.change):
         print(line)
     return None
+
+
+def print_body(found: Walk, base: bytes) -> int:
+    """The records in words, and how many are changes; stops at one that spells none, unless the walk found damage."""
+    number = 0
+    for at, bytes, kind in body_of(base, found.frames):
+        if kind is Kind.TURN:
+            print(f"{at} turn, {len(bytes)} bytes: each change behind it has its moment")
+            continue
+        number += 1
+        if print_record(at, number, bytes, kind) is not None and found.damage is None:
+            raise Stop(7, f"damaged at {at}: its record spells no change")
+    return number
 
 
 def inspect(file: bytes) -> None:
@@ -99,13 +114,10 @@ def inspect(file: bytes) -> None:
         print_slots(file, found.lead)
         if print_base(found.lead) is not None and found.damage is None:
             raise Stop(7, f"damaged at {found.lead.offset}: its base spells no state")
-    for number, (at, bytes) in enumerate(found.frames, 1):
-        bad = print_record(at, number, bytes)
-        if bad is not None and found.damage is None:
-            raise Stop(7, f"damaged at {at}: its record spells no change")
+    changes = print_body(found, found.lead.base)
     if found.damage is not None:
         raise Stop(7, f"damaged at {found.closed}: {found.damage}")
-    print(f"{found.closed} closed gate, end {found.closed + 1}; records: {len(found.frames)}")
+    print(f"{found.closed} closed gate, end {found.closed + 1}; records: {changes}")
 
 
 def words() -> Words:

@@ -23,9 +23,11 @@ COMMANDS: dict[str, str] = {
     "POST": "CYCLE VERSION",
     "PROPOSE": "CYCLE MODE",
     "PLAN": "CYCLE",
+    "PROOF": "CYCLE",
     "ACCEPT": "CYCLE VERSION",
     "DECLINE": "CYCLE VERSION",
     "CANCEL": "CYCLE",
+    "NEXT": "POSITION",
     "BYE": "",
 }
 """The words of each command."""

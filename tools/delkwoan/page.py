@@ -6,6 +6,8 @@ from typing import NamedTuple
 from . import charts
 from .figures import Compression, Group, Product
 from .markup import Markup, joined, tag
+from .moments import moment_text
+from .replayed import Execution
 from .tables import amount, between_row, card, fall, member_row, product_row, soft, table
 
 
@@ -111,14 +113,19 @@ def origin(source: Source) -> Markup:
     )
 
 
+def date_of(execution: Execution) -> str:
+    """When it was asked for, where that is known."""
+    return f", {moment_text(execution.moment)}" if execution.moment else ""
+
+
 def mode_and_cycles(compression: Compression, source: Source) -> list[Markup]:
     order = list(MODES)
     parts = [f"Mode: {source.mode}. " if source.mode else "", f"Of the amounts, {MODES[compression.mode]}."]
     if source.mode and order.index(compression.mode) > order.index(source.mode):
         parts.append(" That is more than the mode allows.")
     told = [
-        f"Cycle {it.cycle}, version {it.version}, executed at position {it.position}: {it.ended:,} trades ended, {it.cut:,} "
-        f"were cut, {it.made:,} were made."
+        f"Cycle {it.cycle}, version {it.version}, executed at position {it.position}{date_of(it)}: {it.ended:,} trades ended, "
+        f"{it.cut:,} were cut, {it.made:,} were made."
         for it in compression.executions
     ]
     if source.is_replay and not told:

@@ -1,16 +1,42 @@
 """Records of a journal: the change that bytes spell, as a value, or the first field that breaks the rules.
 
-Written from docs/FORMATS.md, "Records".
+The records of a body are without moments up to its turn, if it has one, and have them behind it, or from the first on behind a
+base that says so. Written from docs/FORMATS.md, "Records".
 """
 
 import datetime
 import re
-from typing import Callable, NamedTuple
+from enum import Enum
+from typing import Callable, Iterable, Iterator, NamedTuple
 
 from .changes import Accept, Affirm, Begin, Cancel, Change, Decline, End, Free, Freeze, Hold, Post, Row, Solution, Tolerance, Trade
+from .moments import MOST_MOMENT
 from .quick import DAYS, MOST_NUMBER, NAMES, quick_change
 
 MOST_POTENTIAL = 1_000_000
+TURN = b"MOMENTS2"
+"""The record behind which the others have moments."""
+DATED_MARK = b"\2"
+"""How a base begins behind which all records have moments."""
+
+
+class Kind(Enum):
+    """What a record is: a change without its moment or with it, or the turn."""
+
+    UNDATED = 1
+    DATED = 2
+    TURN = 3
+
+
+def body_of(base: bytes, frames: Iterable[tuple[int, bytes]]) -> Iterator[tuple[int, bytes, Kind]]:
+    """The records behind a base with the places of their gates, and what each is."""
+    kind = Kind.DATED if base.startswith(DATED_MARK) else Kind.UNDATED
+    for at, bytes in frames:
+        if kind is Kind.UNDATED and bytes == TURN:
+            kind = Kind.DATED
+            yield at, bytes, Kind.TURN
+        else:
+            yield at, bytes, kind
 
 
 class BadField(Exception):
@@ -23,11 +49,12 @@ class BadField(Exception):
 
 
 class Record(NamedTuple):
-    """Who asked for a change, from which seat, and the change."""
+    """Who asked for a change, from which seat, the change, and when it was asked, which is 0 where that is not told."""
 
     seat: int
     party: str
     change: Change
+    moment: int = 0
 
 
 class Fields:
@@ -146,20 +173,24 @@ KINDS: list[Callable[[Fields], Change]] = [
 """How the fields behind each kind of change are read, by its tag from 1."""
 
 
-def record_by_fields(bytes: bytes) -> Record:
+def record_by_fields(bytes: bytes, kind: Kind) -> Record:
     """As `record_of`, field by field."""
     fields = Fields(bytes)
-    record = Record(fields.number(4, "the seat"), fields.name("the party"), fields.change())
+    moment = fields.number(8, "the moment", 0, MOST_MOMENT) if kind is Kind.DATED else 0
+    record = Record(fields.number(4, "the seat"), fields.name("the party"), fields.change(), moment)
     if fields.at < len(bytes):
         raise BadField(fields.at, "something behind the last field")
     return record
 
 
-def record_of(bytes: bytes) -> Record:
-    """The record that the bytes spell; raises BadField at the first field that breaks the rules."""
-    at = 5 + bytes[4] if len(bytes) > 4 else 0
-    party = NAMES.get(bytes[4:at])
-    change = None if party is None or at >= len(bytes) else quick_change(bytes, at)
+def record_of(bytes: bytes, kind: Kind) -> Record:
+    """The record that the bytes spell as this kind; raises BadField at the first field that breaks the rules."""
+    seat = 8 if kind is Kind.DATED else 0
+    name = seat + 4
+    at = name + 1 + bytes[name] if len(bytes) > name else 0
+    moment = int.from_bytes(bytes[:seat], "little")
+    party = NAMES.get(bytes[name:at])
+    change = None if party is None or at >= len(bytes) or moment > MOST_MOMENT else quick_change(bytes, at)
     if party is None or change is None:
-        return record_by_fields(bytes)
-    return Record(int.from_bytes(bytes[:4], "little"), party, change)
+        return record_by_fields(bytes, kind)
+    return Record(int.from_bytes(bytes[seat:name], "little"), party, change, moment)

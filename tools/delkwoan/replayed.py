@@ -2,7 +2,8 @@
 
     member NAME COUNT                                           for each member, in the roster's order, and behind it
     trade TRADE SELLER BUYER PRODUCT AMOUNT DAY STATE HELD      its trades, in the order of their numbers
-    execution POSITION CYCLE VERSION ENDED CUT MADE             for each execution
+    execution POSITION CYCLE VERSION ENDED CUT MADE             for each execution, and behind it
+    at MOMENT                                                   when it was asked for
     end N                                                       the number of entries, and nothing behind it
 
 A trade stands in the rows of both its parties, word for word. A fault is told as `FILE row ROW: FAULT`, as of the files
@@ -16,12 +17,12 @@ from .checker import Network, Roster
 
 MOST_REPLAY_BYTES = 1 << 30
 STATES = (b"alleged", b"live", b"ended")
-NUMBERS = {b"member": 1, b"execution": 6, b"end": 1}  # how many of the last words of a row are numbers
-WIDTHS = {b"member": 3, b"trade": 9, b"execution": 7, b"end": 2}
+NUMBERS = {b"member": 1, b"execution": 6, b"at": 1, b"end": 1}  # how many of the last words of a row are numbers
+WIDTHS = {b"member": 3, b"trade": 9, b"execution": 7, b"at": 2, b"end": 2}
 
 
 class Execution(NamedTuple):
-    """A plan that was executed: at which position, of which cycle and version, and how many trades it ended, cut and made."""
+    """A plan that was executed: at which position, of which cycle and version, how many trades it ended, cut and made, and when."""
 
     position: int
     cycle: int
@@ -29,6 +30,7 @@ class Execution(NamedTuple):
     ended: int
     cut: int
     made: int
+    moment: int
 
 
 class Replay(NamedTuple):
@@ -73,12 +75,13 @@ class Reader:
         self.once: dict[bytes, list[bytes]] = {}  # the trades that one party's rows told
         self.both: list[list[bytes]] = []  # those that both told
         self.executions: list[Execution] = []
+        self.executed: list[bytes] = []  # the numbers of an execution whose moment comes
         self.is_ended = False
 
     def takes(self, words: list[bytes]) -> bool:
         """Whether a row without a fault of its own may stand here; it is taken where it may."""
         kind = words[0]
-        if self.is_ended or (kind == b"trade") != (self.left > 0):
+        if self.is_ended or (kind == b"trade") != (self.left > 0) or (kind == b"at") != (self.executed != []):
             return False
         if kind == b"trade":
             return self.takes_trade(words)
@@ -88,7 +91,10 @@ class Reader:
             del self.members[:1]
             return is_next
         if kind == b"execution":
-            self.executions.append(Execution(*map(int, words[1:])))
+            self.executed = words[1:]
+        if kind == b"at":
+            self.executions.append(Execution(*map(int, [*self.executed, words[1]])))
+            self.executed = []
         self.is_ended = kind == b"end"
         return not self.members and not self.once
 

@@ -67,7 +67,29 @@ class NewStep(NamedTuple):
     amount: int
 
 
-Row = TradeRow | LimitRow | EndStep | CutStep | NewStep
+class PotRow(NamedTuple):
+    """A potential of a proof."""
+
+    product: str
+    member: str
+    value: int
+
+
+class PairRow(NamedTuple):
+    """A pair of a proof, with whose its bounds are; `upper` is None without a most."""
+
+    product: str
+    seller: str
+    buyer: str
+    lower: int
+    lower_of: str
+    now: int
+    next: int
+    upper: int | None
+    upper_of: str
+
+
+Row = TradeRow | LimitRow | EndStep | CutStep | NewStep | PotRow | PairRow
 
 
 class Hello(NamedTuple):
@@ -180,6 +202,18 @@ class Plan(NamedTuple):
     rows: list[EndStep | CutStep | NewStep]
 
 
+class Proof(NamedTuple):
+    """What a member needs to test its own part: the freeze's day, the mode, and where the version began."""
+
+    position: int
+    cycle: int
+    version: int
+    day: str
+    mode: str
+    begun: int
+    rows: list[PotRow | PairRow]
+
+
 class Accepted(NamedTuple):
     """How many touched members have not accepted yet."""
 
@@ -211,13 +245,19 @@ class Cancelled(NamedTuple):
     cycle: int
 
 
+class NoEntry(NamedTuple):
+    """There is no change behind the position yet."""
+
+    position: int
+
+
 class Bye(NamedTuple):
     position: int
 
 
 Answer = (
     Hello | Traded | Live | Ending | Ended | Held | Freed | Tolerance | Nets | Market | Statement | Frozen | Begun | Limits
-    | Noted | Proposed | Nothing | Plan | Accepted | Executed | Declined | Cancelled | Bye
+    | Noted | Proposed | Nothing | Plan | Proof | Accepted | Executed | Declined | Cancelled | NoEntry | Bye
 )  # fmt: skip
 
 HEADS: dict[str, Callable[..., Answer]] = {
@@ -239,15 +279,25 @@ HEADS: dict[str, Callable[..., Answer]] = {
     "proposed": Proposed,
     "nothing": Nothing,
     "plan": Plan,
+    "proof": Proof,
     "accepted": Accepted,
     "executed": Executed,
     "declined": Declined,
     "cancelled": Cancelled,
+    "none": NoEntry,
     "bye": Bye,
 }
 """The answer of each head line's word."""
 
-DETAILS: dict[str, Callable[..., Row]] = {"trade": TradeRow, "limit": LimitRow, "end": EndStep, "cut": CutStep, "new": NewStep}
+DETAILS: dict[str, Callable[..., Row]] = {
+    "trade": TradeRow,
+    "limit": LimitRow,
+    "end": EndStep,
+    "cut": CutStep,
+    "new": NewStep,
+    "pot": PotRow,
+    "pair": PairRow,
+}
 """The row of each detail line's word."""
 
 
@@ -292,7 +342,7 @@ def position_of(head: str) -> int | None:
 def count_of(head: str) -> int:
     """How many detail lines follow a head line."""
     words = head.split(" ")
-    if words[0] != "ok" or words[2:3] not in (["statement"], ["limits"], ["plan"]):
+    if words[0] != "ok" or words[2:3] not in (["statement"], ["limits"], ["plan"], ["proof"]):
         return 0
     try:
         return int(words[-1])

@@ -222,6 +222,9 @@ class Session:
     def plan(self, cycle: int) -> replies.Plan:
         return expected(self.command("PLAN", cycle), replies.Plan)
 
+    def proof(self, cycle: int) -> replies.Proof:
+        return expected(self.command("PROOF", cycle), replies.Proof)
+
     def accept(self, cycle: int, version: int) -> replies.Accepted | replies.Executed:
         return expected(self.command("ACCEPT", cycle, version), replies.Accepted, replies.Executed)
 

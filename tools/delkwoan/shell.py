@@ -42,28 +42,32 @@ def step_row(step: replies.EndStep | replies.CutStep | replies.NewStep) -> list[
 PLAN_HEAD = ["STEP", "TRADE", "SELLER", "BUYER", "PRODUCT", "BEFORE", "AFTER"]
 
 
-WITH_ROWS = (replies.Statement, replies.Limits, replies.Plan)
+WITH_ROWS = (replies.Statement, replies.Limits, replies.Plan, replies.Proof)
 
 
-def rows_of(answer: replies.Statement | replies.Limits | replies.Plan) -> list[list[str]]:
-    """The rows of an answer below their names, or nothing where it has none."""
-    if not answer.rows:
-        return []
+def tables_of(answer: replies.Statement | replies.Limits | replies.Plan | replies.Proof) -> Iterable[list[list[str]]]:
+    """The rows of an answer below their names, those of each kind together."""
     if isinstance(answer, replies.Plan):
-        return [PLAN_HEAD, *map(step_row, answer.rows)]
-    return [table(answer.rows[0])[0], *(table(row)[1] for row in answer.rows)]
+        if answer.rows:
+            yield [PLAN_HEAD, *map(step_row, answer.rows)]
+        return
+    kinds: dict[type, list[list[str]]] = {}
+    for row in answer.rows:
+        head, values = table(row)
+        kinds.setdefault(type(row), [head]).append(values)
+    yield from kinds.values()
 
 
 def shown(answer: replies.Answer) -> Iterable[str]:
     """An answer in columns: its name with its fields, and its rows."""
     fields = [(name, value) for name, value in zip(answer._fields, answer) if name not in ("position", "rows")]
     words = [f"{name.upper()} {cell(value)}" for name, value in fields]
-    rows = rows_of(answer) if isinstance(answer, WITH_ROWS) else None
-    if rows is not None:
-        words.append(f"{len(rows[1:])} rows")
+    if isinstance(answer, WITH_ROWS):
+        words.append(f"{len(answer.rows)} rows")
     yield "  ".join([f"[{answer.position}]", type(answer).__name__.lower(), *words])
-    if rows:
-        yield from columns(rows)
+    if isinstance(answer, WITH_ROWS):
+        for rows in tables_of(answer):
+            yield from columns(rows)
 
 
 def help_lines(words: list[str]) -> Iterable[str]:

@@ -1,8 +1,11 @@
-/* Refuses calls of the program that it is preloaded into, and speeds up its sleep.
+/* Refuses calls of the program that it is preloaded into, speeds up its sleep, and sets its clock.
  *
  *     REFUSE_ACCEPT=ERROR:COUNT    the first COUNT calls for a connection fail with this number
  *     REFUSE_THREAD=ERROR:COUNT    so do the first COUNT calls for a thread
  *     REFUSE_MEMORY=N              the request for memory with this number is refused, the first being 1
+ *     REFUSED=FILE                 this file is made when a request for memory, or a call to a file, is refused
+ *     REFUSE_DISK=N                of the calls to the file that was locked last the one with this number fails
+ *     MOMENT=SECONDS               the clock tells these seconds since 1970
  *     SLEPT=FILE                   each sleep takes a hundredth of its time, and its milliseconds go to this file, one line each
  */
 #define _GNU_SOURCE
@@ -13,21 +16,35 @@
 #include <stdatomic.h>
 #include <stdio.h>
 #include <stdlib.h>
+#include <sys/file.h>
 #include <sys/socket.h>
+#include <sys/stat.h>
 #include <time.h>
 #include <unistd.h>
 
-static atomic_long accepts, threads, requests;
+static atomic_long accepts, threads, requests, disk_calls;
+static atomic_int locked = -1;
 
 extern void *__libc_malloc(size_t size);
 extern void *__libc_calloc(size_t count, size_t size);
 extern void *__libc_realloc(void *old, size_t size);
 extern void *__libc_memalign(size_t alignment, size_t size);
 
+/* Whether this call is the one with the number of this setting. Then a file is made, where one is named. */
+static int has_number(const char *name, atomic_long *calls) {
+    const char *setting = getenv(name);
+    if (setting == NULL || atomic_fetch_add(calls, 1) + 1 != atol(setting))
+        return 0;
+    const char *mark = getenv("REFUSED");
+    int file = mark == NULL ? -1 : open(mark, O_WRONLY | O_CREAT | O_CLOEXEC, 0600);
+    if (file >= 0)
+        close(file);
+    return 1;
+}
+
 /* Whether this request for memory is the one that is refused. */
 static int is_refused(void) {
-    const char *setting = getenv("REFUSE_MEMORY");
-    if (setting == NULL || atomic_fetch_add(&requests, 1) + 1 != atol(setting))
+    if (!has_number("REFUSE_MEMORY", &requests))
         return 0;
     errno = ENOMEM;
     return 1;
@@ -104,4 +121,61 @@ int nanosleep(const struct timespec *asked, struct timespec *left) {
     }
     struct timespec hundredth = {nanoseconds / 100 / 1000000000LL, nanoseconds / 100 % 1000000000LL};
     return next(&hundredth, left);
+}
+
+int flock(int file, int operation) {
+    int (*next)(int, int) = (int (*)(int, int))dlsym(RTLD_NEXT, "flock");
+    int done = next(file, operation);
+    if (done == 0 && operation != LOCK_UN)
+        locked = file;
+    return done;
+}
+
+/* Whether this call to a file is the one that is refused. */
+static int is_lost(int file) {
+    if (file != locked || !has_number("REFUSE_DISK", &disk_calls))
+        return 0;
+    errno = EIO;
+    return 1;
+}
+
+int statx(int folder, const char *path, int flags, unsigned int mask, struct statx *found) {
+    if (*path == 0 && is_lost(folder))
+        return -1;
+    int (*next)(int, const char *, int, unsigned int, struct statx *) =
+        (int (*)(int, const char *, int, unsigned int, struct statx *))dlsym(RTLD_NEXT, "statx");
+    return next(folder, path, flags, mask, found);
+}
+
+ssize_t pread(int file, void *bytes, size_t count, off_t place) {
+    if (is_lost(file))
+        return -1;
+    ssize_t (*next)(int, void *, size_t, off_t) = (ssize_t (*)(int, void *, size_t, off_t))dlsym(RTLD_NEXT, "pread");
+    return next(file, bytes, count, place);
+}
+
+ssize_t pwrite(int file, const void *bytes, size_t count, off_t place) {
+    if (is_lost(file))
+        return -1;
+    ssize_t (*next)(int, const void *, size_t, off_t) =
+        (ssize_t (*)(int, const void *, size_t, off_t))dlsym(RTLD_NEXT, "pwrite");
+    return next(file, bytes, count, place);
+}
+
+int fdatasync(int file) {
+    if (is_lost(file))
+        return -1;
+    int (*next)(int) = (int (*)(int))dlsym(RTLD_NEXT, "fdatasync");
+    return next(file);
+}
+
+int clock_gettime(clockid_t clock, struct timespec *told) {
+    const char *setting = getenv("MOMENT");
+    if (setting == NULL || clock != CLOCK_REALTIME) {
+        int (*next)(clockid_t, struct timespec *) = (int (*)(clockid_t, struct timespec *))dlsym(RTLD_NEXT, "clock_gettime");
+        return next(clock, told);
+    }
+    told->tv_sec = atoll(setting);
+    told->tv_nsec = 0;
+    return 0;
 }

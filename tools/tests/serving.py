@@ -55,7 +55,7 @@ class Kept(NamedTuple):
 
 def kept_by(told: bytes) -> list[Kept]:
     """The records that the inspector told."""
-    found = re.findall(r"^\d+ record \d+, \d+ bytes: seat (\d+), (\S+): (.*)$", told.decode(), re.MULTILINE)
+    found = re.findall(r"^\d+ record \d+, \d+ bytes: (?:\S+ \S+ UTC, )?seat (\d+), (\S+): (.*)$", told.decode(), re.MULTILINE)
     return [Kept(int(seat), party, line) for seat, party, line in found]
 
 

@@ -6,6 +6,8 @@ from typing import NamedTuple, Sequence
 PLAIN, SLOTTED = b"OTCJRNL1", b"OTCJRNLC"
 SIDES = {"out": 0, "in": 1}
 MODES = {"conservative": 0, "hybrid": 1, "free": 2}
+TURN = b"MOMENTS2"
+"""The record behind which the others have moments."""
 
 
 def number(value: int) -> bytes:
@@ -53,10 +55,11 @@ def fields(line: str, solutions: Sequence[Solution]) -> bytes:
     return spelled
 
 
-def record(said: str, solutions: Sequence[Solution] = (), seat: int = 0) -> bytes:
-    """The record of a change, said as `A: TRADE A B P 10 2026-03-02`."""
+def record(said: str, solutions: Sequence[Solution] = (), seat: int = 0, moment: int | None = None) -> bytes:
+    """The record of a change, said as `A: TRADE A B P 10 2026-03-02`, without a moment or with this one."""
     party, line = said.split(": ", 1)
-    return struct.pack("<I", seat) + name(party) + fields(line, solutions)
+    dated = b"" if moment is None else number(moment)
+    return dated + struct.pack("<I", seat) + name(party) + fields(line, solutions)
 
 
 def frames(records: Sequence[bytes]) -> bytes:
@@ -85,9 +88,10 @@ class Base(NamedTuple):
     products: Sequence[str]
     settings: Sequence[str] = ()
     trades: Sequence[str] = ()
+    mark: bytes = b"\1"
 
     def spelled(self) -> bytes:
-        text = b"\1" + number(self.position) + number(self.cycle) + number(self.version)
+        text = self.mark + number(self.position) + number(self.cycle) + number(self.version)
         for names in (self.members, self.products):
             text += struct.pack("<H", len(names)) + b"".join(map(name, names))
         text += number(len(self.settings)) + b"".join(map(setting, self.settings))

@@ -54,6 +54,7 @@ member C 2
 trade 2 B C P 7 {DAY} ended -
 trade 3 A C P 7 2026-03-31 live -
 execution 10 1 1 1 1 1
+at 0
 end 10
 """
 RING = [
@@ -165,7 +166,7 @@ MISFITS: list[tuple[Base, str]] = [
 ]
 
 UNSPELLED: list[tuple[bytes, str]] = [
-    (b"\2" + STOOD.spelled()[1:], "byte 0, the mark of the form"),
+    (b"\3" + STOOD.spelled()[1:], "byte 0, the mark of the form"),
     (STOOD.spelled()[:24], "byte 17, the version"),
     (STOOD.spelled() + b"\0", f"byte {len(STOOD.spelled())}, something behind"),
     (STOOD._replace(settings=SETTINGS[::-1]).spelled(), "a setting: it does not rise"),
@@ -246,6 +247,20 @@ class Audited(unittest.TestCase):
         other[8] = 255
         self.assert_told(bytes(other), STOOD_TEXT)
 
+    def test_moments(self) -> None:
+        """The same changes with their moments, behind the turn and behind a base with the second mark."""
+        told = records_of([*CHAIN, POSTED, *VOTES])
+        dated = [spelled.number(moment) + record for moment, record in enumerate(told, 7)]
+        text = CHAIN_TEXT.replace("at 0\n", "at 16\n")
+        for turn in (0, 1, 9):
+            self.assert_told(spelled.plain([*told[:turn], spelled.TURN, *dated[turn:]]), text)
+        self.assert_told(spelled.slotted(b"", [*told, spelled.TURN]), CHAIN_TEXT)
+        self.assert_damaged(spelled.plain([spelled.TURN, spelled.TURN]), 21, "byte 0, the moment")
+        base = STOOD._replace(mark=b"\2").spelled()
+        behind = [spelled.number(0) + record for record in records_of(GOES_ON)]
+        self.assert_told(spelled.slotted(base, behind), STOOD_TEXT)
+        self.assert_damaged(spelled.slotted(base, [spelled.TURN]), 29 + len(base), "byte 0, the moment")
+
     def test_a_base_that_does_not_fit(self) -> None:
         for base, why in MISFITS:
             with self.subTest(why=why, base=base._replace(trades=base.trades[:2])):
@@ -307,11 +322,11 @@ class Executions(unittest.TestCase):
 
     def test_a_net_position_that_moves_is_found(self) -> None:
         with self.assertRaisesRegex(Moved, "execution 5 moves the net position of A in P"):
-            self.history([((0, 1), 3), ((1, 2), 3)]).execute()
+            self.history([((0, 1), 3), ((1, 2), 3)]).execute(0)
 
     def test_a_gross_that_grows_is_found(self) -> None:
         with self.assertRaisesRegex(Moved, "execution 5 raises the gross of P"):
-            self.history([((0, 1), 3), ((1, 2), 3), ((2, 0), 3)]).execute()
+            self.history([((0, 1), 3), ((1, 2), 3), ((2, 0), 3)]).execute(0)
 
 
 if __name__ == "__main__":

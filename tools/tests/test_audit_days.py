@@ -17,7 +17,7 @@ sys.path.insert(0, str(TOOLS))
 from delkwoan.changes import Post, Row
 from delkwoan.changes import Solution as Posted
 from delkwoan.frames import walk
-from delkwoan.records import Record, record_of
+from delkwoan.records import Kind, Record, body_of, record_of
 from delkwoan.replies import Refused
 from delkwoan.session import Session
 
@@ -46,7 +46,7 @@ def told(roster: Path, journal: Path) -> Told:
 def spelling_of(record: Record, solutions: list[Posted]) -> bytes:
     """The record of a POST with other solutions."""
     by_hand = [spelled.Solution(it.rows, it.potentials) for it in solutions]
-    return spelled.record(f"{record.party}: {record.change}", by_hand, record.seat)
+    return spelled.record(f"{record.party}: {record.change}", by_hand, record.seat, record.moment)
 
 
 Spoil = Callable[[random.Random, Posted], Posted]
@@ -123,7 +123,9 @@ class Beside(unittest.TestCase):
                 close(session)
 
     def records(self) -> list[tuple[int, Record]]:
-        return [(at, record_of(bytes)) for at, bytes in walk(self.journal.read_bytes()).frames]
+        found = walk(self.journal.read_bytes())
+        base = found.lead.base if found.lead else b""
+        return [(at, record_of(bytes, kind)) for at, bytes, kind in body_of(base, found.frames) if kind is not Kind.TURN]
 
     def replay(self, journal: Path) -> Ran:
         return run([self.program, "replay", self.roster, journal])

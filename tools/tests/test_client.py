@@ -64,6 +64,14 @@ ANSWERS: list[tuple[str, list[str], Any]] = [
         ["cut 1 10 5", "new A C P 5", "end 2"],
         replies.Plan(4, 1, 2, [replies.CutStep(1, 10, 5), replies.NewStep("A", "C", "P", 5), replies.EndStep(2)]),
     ),
+    (
+        "ok 4 proof 1 2 2026-03-31 free 3 2",
+        ["pot P A -1", "pair P A B 3 hold 10 4 - none"],
+        replies.Proof(
+            4, 1, 2, "2026-03-31", "free", 3, [replies.PotRow("P", "A", -1), replies.PairRow("P", "A", "B", 3, "hold", 10, 4, None, "none")]
+        ),
+    ),
+    ("ok 4 none", [], replies.NoEntry(4)),
     ("ok 4 accepted 1 2 1", [], replies.Accepted(4, 1, 2, 1)),
     ("ok 4 executed 1 2 3 0 1", [], replies.Executed(4, 1, 2, 3, 0, 1)),
     ("ok 4 declined 1 2", [], replies.Declined(4, 1, 2)),
@@ -121,7 +129,8 @@ class Values(unittest.TestCase):
         names = Names(ROSTER.read_bytes())
         cases = [
             ("", "ST", ["STATEMENT "]),
-            ("", "pro", ["PROPOSE "]),
+            ("", "prop", ["PROPOSE "]),
+            ("", "pro", ["PROPOSE ", "PROOF "]),
             ("", "he", ["HELLO ", "help "]),
             ("TRADE ", "", ["A ", "B ", "C "]),
             ("TRADE A B ", "", ["P "]),

@@ -17,6 +17,8 @@ ROSTER = EXAMPLES / "roster.csv"
 PLAIN = b"OTCJRNL1"
 FIRST_GATE = 29
 """Of a file with slots that was begun and not folded."""
+TURN = b"\x01\x08\0\0\0MOMENTS2"
+"""The record behind which changes have their moments, with its gate and its length."""
 THOUSAND = 1000
 """The fewest changes behind a base with which a journal is folded."""
 GOES_ON = b"HELLO A KA\nTRADE A B P 1 2026-03-02\n"
@@ -36,7 +38,7 @@ def holds(number: int) -> bytes:
 
 def body(position: int, trades: int) -> bytes:
     """The base of a market of so many live trades of A and B, with its length and a closed gate."""
-    base = b"\x01" + struct.pack("<QQQ", position, 0, 0)
+    base = b"\x02" + struct.pack("<QQQ", position, 0, 0)
     base += b"\x03\0\x01A\x01B\x01C" + b"\x01\0\x01P" + struct.pack("<QQ", 0, trades)
     base += struct.pack("<HHHQHBBBBBB", 0, 1, 0, 1, 2026, 3, 2, 1, 1, 0, 0) * trades
     return struct.pack("<I", len(base)) + base + b"\0"
@@ -88,12 +90,12 @@ class OfJournals(unittest.TestCase):
 class Folds(OfJournals):
     def test_five_hundred_trades(self) -> None:
         whole = self.written(traded(500, 500))
-        self.assertEqual(len(whole), 25_030)
+        self.assertEqual(len(whole), 33_043)
         told = self.replay()
         self.assertTrue(told.output.endswith(b"\nend 1000\n"))
-        due = with_bytes(with_bytes(whole, 8, b"\x01"), 17, struct.pack("<Q", 25_030)) + body(1000, 500)
+        due = with_bytes(with_bytes(whole, 8, b"\x01"), 17, struct.pack("<Q", 33_043)) + body(1000, 500)
         self.assertEqual(self.folded(), due)
-        self.assertEqual(len(due), 36_088)
+        self.assertEqual(len(due), 44_101)
         self.assertEqual(self.replay(), told)
         self.assertEqual(self.folded(), due)
         self.assertEqual(self.script(GOES_ON), GONE_ON)
@@ -107,17 +109,17 @@ class Folds(OfJournals):
         self.assertEqual((ran.status, ran.errors), (0, b""))
         lines = ran.output.decode().splitlines()
         self.assertEqual(lines[0], "8 selector: slot 1")
-        self.assertEqual(lines[1:3], ["9 slot 0: offset 25", "17 slot 1: offset 25030"])
-        self.assertEqual(lines[3], "25030 base, 11053 bytes: settings: 0, trades: 500")
+        self.assertEqual(lines[1:3], ["9 slot 0: offset 25", "17 slot 1: offset 33043"])
+        self.assertEqual(lines[3], "33043 base, 11053 bytes: settings: 0, trades: 500")
         self.assertEqual(lines[4], "  position 1000, cycle 0, version 0")
         self.assertEqual(lines[-3], "  trade 500 A B P 1 2026-03-02 live, submitted by A")
-        self.assertEqual(lines[-2], "36087 record 1, 25 bytes: seat 0, A: TRADE A B P 1 2026-03-02")
-        self.assertEqual(lines[-1], "36117 closed gate, end 36118; records: 1")
+        self.assertRegex(lines[-2], "^44100 record 1, 33 bytes: 20[0-9 :-]+ UTC, seat 0, A: TRADE A B P 1 2026-03-02$")
+        self.assertEqual(lines[-1], "44138 closed gate, end 44139; records: 1")
 
     def test_what_is_not_folded(self) -> None:
         """One change fewer, an open cycle, and a plain journal of any length."""
         fewer = self.written(traded(500, 499))
-        self.assertEqual(len(fewer), 25_010)
+        self.assertEqual(len(fewer), 33_015)
         self.assertEqual(self.folded(), fewer)
         frozen = self.written(b"HELLO OPS KO\nFREEZE 2026-03-31\n")
         self.assertEqual(self.folded(), frozen)
@@ -139,14 +141,14 @@ class Folds(OfJournals):
     def test_to_the_front_and_to_the_end(self) -> None:
         self.written(traded(500, 500))
         first = self.written(holds(1))
-        self.assertEqual(len(first), 56_088)
+        self.assertEqual(len(first), 72_101)
         second = self.folded()
         due = with_bytes(with_bytes(with_bytes(first, 8, b"\0"), 9, struct.pack("<Q", 25)), 25, body(2000, 500))
         self.assertEqual(second, due)
         third = self.written(holds(1))
-        self.assertEqual(len(third), 56_088)
+        self.assertEqual(len(third), 72_101)
         fourth = self.folded()
-        due = with_bytes(with_bytes(with_bytes(third, 8, b"\x01"), 17, struct.pack("<Q", 31_083)), 31_083, body(3000, 500))
+        due = with_bytes(with_bytes(with_bytes(third, 8, b"\x01"), 17, struct.pack("<Q", 39_083)), 39_083, body(3000, 500))
         self.assertEqual(fourth, due)
         self.assertTrue(self.replay().output.endswith(b"\nend 3000\n"))
 
@@ -158,27 +160,30 @@ OLD = bytes.fromhex(
     "00"
 )
 """What a script wrote of A's TRADE A B P 10 2026-03-02 and B's AFFIRM 1, before journals had slots."""
-OLD_BEHIND = bytes.fromhex("010f00000000000000014104010000000000000000")
-"""A's HOLD 1 behind it, and the closed gate."""
+OLD_BEHIND = bytes.fromhex("00000000014104010000000000000000")
+"""A's HOLD 1 behind its moment, and the closed gate."""
 
 
 class OldJournals(OfJournals):
     def test_it_is_read_and_appended(self) -> None:
         self.journal.write_bytes(OLD)
         self.assertEqual(self.script(), Ran(0, b"", b""))
-        self.assertEqual(self.journal.read_bytes(), OLD)
+        turned = OLD[:-1] + TURN
+        self.assertEqual(self.journal.read_bytes(), turned + b"\0")
         rows = b"trade 1 A B P 10 2026-03-02 live -\n"
         due = b"member A 1\n" + rows + b"member B 1\n" + rows + b"member C 0\nend 2\n"
         self.assertEqual(self.replay(), Ran(0, due, b""))
         ran = self.script(b"HELLO A KA\nHOLD 1\n")
         self.assertEqual(ran, Ran(0, b"ok 2 hello A\nok 3 held 1\n", b""))
-        self.assertEqual(self.journal.read_bytes(), OLD[:-1] + OLD_BEHIND)
+        content = self.journal.read_bytes()
+        self.assertEqual(content[: len(turned) + 5], turned + b"\x01\x17\0\0\0")
+        self.assertEqual(content[len(turned) + 13 :], OLD_BEHIND)
 
     def test_one_without_a_change_gets_slots(self) -> None:
         for size in range(10):
             with self.subTest(size=size):
                 self.journal.write_bytes((PLAIN + b"\0")[:size])
-                self.assertEqual(self.folded(), b"OTCJRNLC\0" + struct.pack("<QQIB", 25, 0, 0, 0))
+                self.assertEqual(self.folded(), b"OTCJRNLC\0" + struct.pack("<QQI", 25, 0, 0) + TURN + b"\0")
 
     def test_each_cut(self) -> None:
         for size in range(len(OLD)):
@@ -229,7 +234,8 @@ def session(chance: random.Random, trades: int, cycle: int) -> Iterator[str]:
 
 
 def without_executions(text: bytes) -> list[bytes]:
-    return [line for line in text.splitlines() if not line.startswith(b"execution ")]
+    """All but the executions and their moments, which the two runs need not share."""
+    return [line for line in text.splitlines() if not line.startswith((b"execution ", b"at "))]
 
 
 def executions(text: bytes) -> list[bytes]:
@@ -298,9 +304,9 @@ class Copies(OfJournals):
         self.written(traded(500, 500))
         more = self.written(holds(1))
         self.folded()
-        late = self.written(holds(1))
+        late = self.written(GOES_ON + holds(1))
         damaged = self.replay(more[:40] + late[40:])
-        self.assertEqual(damaged, Ran(7, b"", b"damaged at 25030\n"))
+        self.assertEqual(damaged, Ran(7, b"", b"damaged at 33043\n"))
         self.assertEqual(run([TOOLS / "journal", self.folder / "replayed"]).status, 7)
 
 

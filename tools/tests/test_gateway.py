@@ -145,6 +145,10 @@ class Calls(InGateway):
         self.assertEqual(stands(), {"cycle": 1, "phase": "proposed", "version": 1})
         steps = [{"step": "end", "trade": 2}, {"step": "end", "trade": 3}]
         self.assertEqual(fields(one.say("PLAN 1")), {"cycle": 1, "version": 1, "rows": steps})
+        proof = one.say("PROOF 1").content["fields"]
+        self.assertEqual((proof["day"], proof["mode"], [row["row"] for row in proof["rows"]]), ("2026-01-01", "conservative", 2 * ["pot"] + 2 * ["pair"]))
+        pair = {"row": "pair", "product": "P", "seller": "A", "buyer": "B", "lower": 0, "lower_of": "none", "now": 10, "next": 0}
+        self.assertEqual(proof["rows"][2], {**pair, "upper": 10, "upper_of": "now"})
         one.say("END 2")
         other.say("END 2")
         self.assertEqual(stands(), {"cycle": 1, "phase": "broken", "trade": 2})
@@ -174,7 +178,7 @@ class Words(unittest.TestCase):
     def test_each_command_of_a_session_is_a_call(self) -> None:
         from delkwoan.names import COMMANDS
 
-        without = {"HELLO", "BYE", "ROW", "POT"}
+        without = {"HELLO", "BYE", "ROW", "POT", "NEXT"}
         self.assertEqual({call_of(verb).verb for verb in COMMANDS if verb not in without}, set(COMMANDS) - without)
         for call in CALLS:
             self.assertEqual(len(call.words), len(COMMANDS[call.verb].split()), call.verb)

@@ -6,6 +6,7 @@ import tempfile
 import unittest
 from pathlib import Path
 
+import spelled
 from running import TOOLS
 from test_journal import AFFIRM, BASED, ONE, SLOTTED, SLOTTED_ONE, frame
 
@@ -89,6 +90,19 @@ class Journals(unittest.TestCase):
             for text, trades in ((none, 0), (one, 1), (two, 2), (two[:-1] + frame(AFFIRM) + b"\0", 2), (one, 1), (ONE, 1), (BASED, 1), (more, 2)):
                 path.write_bytes(text)
                 self.assertEqual(follower.fill(), Fill(len(text), 268_435_456 - len(text), trades, 100_000 - trades))
+
+    def test_how_full_they_are_where_records_have_moments(self) -> None:
+        """Behind a turn, which is written meanwhile, and behind a base whose records all have them."""
+        dated = [spelled.record(f"A: {TERMS}", moment=1_774_958_400), spelled.record("B: AFFIRM 1", moment=1_774_958_401)]
+        base = spelled.Base(3, 0, 0, ("A", "B"), ("P",), (), ("0 1 0 10 2026-03-02 live out - 0",), b"\2").spelled()
+        turned = SLOTTED_ONE[:-1] + spelled.frames([spelled.TURN])
+        with tempfile.TemporaryDirectory() as folder:
+            path = Path(folder) / "journal"
+            follower = Follower(str(path))
+            for text, trades in ((SLOTTED_ONE, 1), (turned, 1), (turned[:-1] + spelled.frames(dated), 2), (spelled.slotted(base, dated, 1), 2)):
+                path.write_bytes(text)
+                told = follower.fill()
+                self.assertEqual((told, Follower(str(path)).fill()), (Fill(len(text), 268_435_456 - len(text), trades, 100_000 - trades), told))
 
 
 class Candidates(unittest.TestCase):

@@ -223,6 +223,11 @@ class Fields(unittest.TestCase):
             ("ok 1 statement 0", "statement", {"rows": []}),
             ("ok 1 limits 1\nlimit A B 1 2 -", "limits", {"rows": [{"seller": "A", "buyer": "B", "lower": 1, "now": 2, "upper": None}]}),
             ("ok 1 plan 1 2 1\ncut 1 10 3", "plan", {"cycle": 1, "version": 2, "rows": [{"step": "cut", "trade": 1, "before": 10, "after": 3}]}),
+            (
+                "ok 1 proof 1 2 2026-03-31 free 3 1\npot P A -1",
+                "proof",
+                {"cycle": 1, "version": 2, "day": "2026-03-31", "mode": "free", "begun": 3, "rows": [{"row": "pot", "product": "P", "member": "A", "value": -1}]},
+            ),
         ]
         for text, kind, due in cases:
             self.assertEqual((kind_of(text), fields_of(text), refusal_of(text)), (kind, due, None), text)

@@ -16,6 +16,14 @@ FIRST = b"8 record 1, 25 bytes: seat 0, A: TRADE A B P 10 2026-03-02\n"
 SHORT = Ran(0, b"no records: fewer than ten bytes; end 30\n", b"")
 WHOLE = Ran(0, FIRST + b"38 closed gate, end 39; records: 1\n", b"")
 
+TURN = b"MOMENTS2".hex()
+NOON = "40b7cb6900000000"
+"""The moment of noon on the last of March 2026."""
+TURNED = ONE[:-1] + bytes.fromhex(f"01 08000000 {TURN} 01 17000000 {NOON} {AFFIRM} 00")
+TURN_TEXT = b"38 turn, 8 bytes: each change behind it has its moment\n"
+DATED_TEXT = b"51 record 2, 23 bytes: 2026-03-31 12:00:00 UTC, seat 0, B: AFFIRM 1\n"
+"""The trade without its moment, the turn, and the affirmation with one."""
+
 SLOTTED = bytes.fromhex("4f54434a524e4c43 00 1900000000000000 0000000000000000 00000000")
 EMPTY = b"8 selector: slot 0\n9 slot 0: offset 25\n17 slot 1: offset 0\n25 no base\n"
 SLOTTED_ONE = SLOTTED + ONE[8:]
@@ -119,7 +127,7 @@ BASED_TEXT = BASED_SLOTS + (
 """A base at 33, which slot 1 has, and what is told of it."""
 
 BAD_BASES: list[tuple[int, int, int]] = [
-    (37, 2, 37),
+    (37, 3, 37),
     (65, 0x61, 64),
     (70, 2, 74),
     (88, 2, 88),
@@ -202,6 +210,30 @@ class Inspected(unittest.TestCase):
                 told = f"33 base, 99 bytes: spells no state at offset {at}, ".encode()
                 self.assertTrue(ran.output.startswith(BASED_SLOTS + told), ran.output)
 
+    def test_moments(self) -> None:
+        self.assertEqual(self.inspect(TURNED), Ran(0, FIRST + TURN_TEXT + DATED_TEXT + b"79 closed gate, end 80; records: 2\n", b""))
+        for moment, date in ((0, b"1970-01-01 00:00:00"), (253_402_300_799, b"9999-12-31 23:59:59")):
+            dated = TURNED.replace(bytes.fromhex(NOON), bytes.fromhex(number(moment)))
+            self.assertIn(b" bytes: %s UTC, seat 0, B: AFFIRM 1\n" % date, self.inspect(dated).output)
+        for moment in (253_402_300_800, 2**64 - 1):
+            self.assert_bad_second(TURNED.replace(bytes.fromhex(NOON), bytes.fromhex(number(moment))), 23, b"the moment: ")
+
+    def test_turns(self) -> None:
+        """One turns the body; a second one spells no change, and neither does one behind a base with the second mark."""
+        self.assert_bad_second(TURNED[:51] + frame(TURN) + b"\0", 8, b"the moment: ")
+        based = BASED[:37] + b"\2" + BASED[38:-1]
+        dated = b"136 record 1, 23 bytes: 2026-03-31 12:00:00 UTC, seat 0, B: AFFIRM 1\n164 closed gate, end 165; records: 1\n"
+        self.assertEqual(self.inspect(based + frame(NOON + AFFIRM) + b"\0"), Ran(0, BASED_TEXT + dated, b""))
+        ran = self.inspect(based + frame(TURN) + b"\0")
+        self.assertEqual((ran.status, ran.errors), (7, b"damaged at 136: its record spells no change\n"))
+
+    def assert_bad_second(self, content: bytes, size: int, what: bytes) -> None:
+        """Behind the turn there is a record of so many bytes whose first field breaks the rules."""
+        ran = self.inspect(content)
+        self.assertEqual((ran.status, ran.errors), (7, b"damaged at 51: its record spells no change\n"))
+        told = b"51 record 2, %d bytes: spells no change at offset 56, %s" % (size, what)
+        self.assertTrue(ran.output.startswith(FIRST + TURN_TEXT + told), ran.output)
+
     def test_other_bytes(self) -> None:
         for at in range(8):
             with self.subTest(at=at):
@@ -233,6 +265,12 @@ class Inspected(unittest.TestCase):
             at += 5 + size
         due += f"{at} closed gate, end {at + 1}; records: {len(WORDS)}\n"
         self.assertEqual(self.inspect(content), Ran(0, due.encode(), b""))
+
+    def test_each_kind_of_change_with_its_moment(self) -> None:
+        content = bytes.fromhex(HEADER) + frame(TURN) + b"".join(frame(NOON + record) for record, _ in WORDS) + b"\0"
+        words = [line.split(": ", 2)[1:] for line in self.inspect(content).output.decode().splitlines() if " record " in line]
+        asked = [words.split("\n")[0].split(": ", 1) for _, words in WORDS]
+        self.assertEqual(words, [[f"2026-03-31 12:00:00 UTC, {who}", change] for who, change in asked])
 
     def test_records_that_spell_no_change(self) -> None:
         for record, at in BAD:
@@ -313,7 +351,7 @@ class OfTheProgram(unittest.TestCase):
         """Where the inspector tells damage of a journal, the program tells it at the same place, and leaves the file."""
         far = {33 + (255 << 8 * byte) for byte in range(1, 8)}
         self.assertEqual(self.places(PLAIN_TWO), {0, 8, 38, 58})
-        self.assertEqual(self.places((self.folder / "two").read_bytes()), {0, 25, 29, 59, 79, 230} | {at - 8 for at in far})
+        self.assertEqual(self.places((self.folder / "two").read_bytes()), {0, 25, 29, 42, 80, 108, 230} | {at - 8 for at in far})
         self.assertEqual(self.places(BASED), {0, 25, 33, 136, 222} | far)
 
     def places(self, whole: bytes) -> set[int]:

@@ -21,8 +21,9 @@ from delkwoan import __version__
 
 PACKAGING = ROOT / "packaging"
 HUB = [str(EXAMPLES / "hub-roster.csv"), str(EXAMPLES / "hub-trades.csv"), "hybrid", str(EXAMPLES / "hub-proposal.txt")]
-COMMANDS = ["compress-audit", "compress-check-proposal", "compress-client", "compress-gateway", "compress-journal", "compress-many"]
-COMMANDS += ["compress-report", "compress-wait-ready", "compress_cli"]
+TOOL_FILES = ["audit", "check_mine", "check_proposal", "client", "compress_many", "gateway", "journal", "public_roster", "report", "wait-ready"]
+COMMANDS = ["compress-audit", "compress-check-mine", "compress-check-proposal", "compress-client", "compress-gateway"]
+COMMANDS += ["compress-journal", "compress-many", "compress-public-roster", "compress-report", "compress-wait-ready", "compress_cli"]
 
 TYPED: list[tuple[list[str], list[str]]] = [
     (["compress_cli", ""], ["check", "gen", "replay", "script", "serve", "solve"]),
@@ -61,6 +62,11 @@ TYPED: list[tuple[list[str], list[str]]] = [
     (["/usr/bin/compress-journal", "rost"], ["roster.csv"]),
     (["compress-audit", "rost"], ["roster.csv"]),
     (["compress-audit", "a", "b", ""], []),
+    (["compress-check-mine", "rost"], ["roster.csv"]),
+    (["compress-check-mine", "a", "hub-r"], []),
+    (["compress-check-mine", "a", "A", "hub-r"], ["hub-roster.csv"]),
+    (["compress-check-mine", "-"], ["--salt", "--with"]),
+    (["compress-public-roster", "hub-r"], ["hub-roster.csv"]),
 ]
 """The words of a command line up to the cursor, and what can stand there."""
 
@@ -144,13 +150,13 @@ class Pages(Made):
         """By its help, and in the manual page."""
         page = (self.made / "compress-tools.1").read_text()
         told = 0
-        for name in ("audit", "check_proposal", "client", "compress_many", "gateway", "journal", "report", "wait-ready"):
+        for name in TOOL_FILES:
             shown = run([TOOLS / name, "--help"])
             self.assertEqual((shown.status, shown.errors), (0, b""))
             for option in set(re.findall(r"^  --(\w+)", shown.output.decode(), re.MULTILINE)) - {"version"}:
                 self.assertRegex(page, rf"(?m)^\.It Fl -{option}\b")
                 told += 1
-        self.assertEqual(told, 22)
+        self.assertEqual(told, 24)
 
     def test_the_programs_forms_are_those_of_its_page(self) -> None:
         page = (PACKAGING / "man/compress_cli.1").read_text()

@@ -38,7 +38,7 @@ def trade_row(number: int, trade: tuple[str, str, int], state: str = "live") -> 
 def replay_text(rows: dict[str, list[str]], executions: int = 0) -> str:
     """The text of `replay` for the rows of each member."""
     text = "".join(f"member {name} {len(rows[name])}\n" + "".join(rows[name]) for name in rows)
-    return text + "execution 9 1 1 4 0 2\n" * executions + "end 9\n"
+    return text + "execution 9 1 1 4 0 2\nat 1774958400\n" * executions + "end 9\n"
 
 
 def rows_by_member(trades: list[tuple[str, str, int]], first: int, state: str = "live") -> dict[str, list[str]]:
@@ -142,16 +142,16 @@ class Figures(InFolder):
     def test_the_hub_as_two_replays(self) -> None:
         """The same figures, of a market in which the four trades ended and the proposal's two came."""
         told = self.replays(*self.hub_texts())
-        self.assertEqual(told.executions, [Execution(9, 1, 1, ended=4, cut=0, made=2)])
+        self.assertEqual(told.executions, [Execution(9, 1, 1, ended=4, cut=0, made=2, moment=1_774_958_400)])
         self.assertEqual(told._replace(executions=[]), compression_of(*HUB))
 
     def test_a_replay_with_a_fault(self) -> None:
         before, after = self.hub_texts()
         cases = [
             ("", "1: bad-line"),
-            (after[:-1], "19: bad-line"),
-            (after + "end 9\n", "20: bad-line"),
-            (after.replace("end 9\n", ""), "19: bad-line"),
+            (after[:-1], "20: bad-line"),
+            (after + "end 9\n", "21: bad-line"),
+            (after.replace("end 9\n", ""), "20: bad-line"),
             (after.replace("member A 2\n", "member A 3\n"), "4: bad-line"),
             (after.replace("member A", "member B"), "1: bad-line"),
             (after.replace("member E 4\n", "member E 04\n"), "13: bad-line"),
@@ -168,6 +168,10 @@ class Figures(InFolder):
             (after.replace("execution 9 1", "execution 9"), "18: columns"),
             (after.replace("execution 9 1", "execution 9 -1"), "18: bad-line"),
             (after.replace("execution", "posting"), "18: bad-line"),
+            (after.replace("at 1774958400\n", ""), "19: bad-line"),
+            (after.replace("at 1774958400", "at -1"), "19: bad-line"),
+            (after.replace("at 1774958400", "at 1774958400 0"), "19: columns"),
+            (after.replace("end 9", "at 1774958400\nend 9"), "20: bad-line"),
         ]
         for text, told in cases:
             with self.subTest(told=told, text=text):
@@ -275,7 +279,7 @@ class Pages(InFolder):
         (self.folder / "after").write_text(self.executed())
         self.assertEqual(run([REPORT, "--mode", "conservative", *words]).status, 0)
         page = Path(self.output + ".html").read_text()
-        self.assertIn("Cycle 1, version 1, executed at position 9: 4 trades ended, 0 were cut, 2 were made.", page)
+        self.assertIn("Cycle 1, version 1, executed at position 9, 2026-03-31 12:00:00 UTC: 4 trades ended, 0 were cut, 2 were made.", page)
         self.assertIn("That is more than the mode allows.", page)
 
     def executed(self) -> str:

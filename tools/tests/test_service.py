@@ -116,7 +116,8 @@ class Service(InService):
         self.assertEqual(ran, Ran(21, b"", f"no connection to 127.0.0.1 at {self.port}\n".encode()))
 
     def test_crashes_lose_nothing_that_was_acknowledged(self) -> None:
-        """A service is ended in the middle of trades, and goes on with what is there; so is each of its successors."""
+        """A service is ended in the middle of trades, and goes on with what is there; so is each of its successors. All changes are
+        trades, so a trade's number is its position, also where the journal began again from a base meanwhile."""
         acknowledged: dict[int, int] = {}
         amount = 0
         for end in (signal.SIGTERM, signal.SIGKILL, signal.SIGKILL, signal.SIGTERM):
@@ -135,10 +136,10 @@ class Service(InService):
                     acknowledged[session.trade("A", "B", "P", amount, "2026-03-02").position] = amount
             self.assertEqual(self.service.wait(PATIENCE), -end)
             self.kill()
-            records = self.records()
-            self.assertIn(len(records) - max(acknowledged), (0, 1))
-            for position, kept in acknowledged.items():
-                self.assertEqual(records[position - 1].line, f"TRADE A B P {kept} 2026-03-02")
+            told = [line.split(" ") for line in run([TOOLS / "audit", ROSTER, self.journal]).output.decode().splitlines()]
+            self.assertIn(int(told[-1][1]) - max(acknowledged), (0, 1))
+            amounts = {int(words[1]): int(words[5]) for words in told if words[0] == "trade"}
+            self.assertEqual({number: amounts.get(number) for number in acknowledged}, acknowledged)
 
     def test_a_backup_of_a_running_service_is_restored(self) -> None:
         self.start()
