@@ -10,7 +10,7 @@ MOST_SENTENCE = 40
 MOST_PAGE = 500
 MOST_TOGETHER = 20_000
 # How many lines a page shows of a caller.
-CALLER = range(5, 13)
+CALLER = range(5, 14)
 
 HEADINGS = ["The parts", "A caller", "What a contract sees", "Proved", "Tested only", "Limits"]
 # A program or a crate of tests may be short.
