@@ -30,13 +30,9 @@ fn behind_a_base_of_the_second_mark_changes_have_moments(rt: HostRuntime) -> Res
     let mut file = based_with(AT, &[2]);
     assert!(rt; answer_to(&rt, alloc, &file)? == damaged(150));
     file[150] = 0;
-    let mut disk = large_disk_of(alloc, &file)?;
-    let before = content_of(alloc, &mut disk)?;
-    let mut house = house_on(&rt, alloc, disk)?;
+    let mut house = house_on(&rt, alloc, large_disk_of(alloc, &file)?)?;
     assert!(rt; house.length() == 3 && has_gross(&mut house, 3, 7));
-    assert!(rt;
-        content_of(alloc, &mut crashed(disk_below(house)))?.as_slice() == before.as_slice()
-    );
+    assert!(rt; content_of(alloc, &mut crashed(disk_below(house)))?.as_slice() == file.as_slice());
     Ok(())
 }
 
