@@ -4,6 +4,7 @@ mod answers;
 mod applying;
 mod ballot;
 mod base;
+mod boxed_settings;
 mod conditions;
 mod cycle;
 mod cycle_refusals;

@@ -91,7 +91,7 @@ pub(super) fn apply(
             mode,
             settings,
             problems,
-        } => cycle.begin(mode, settings, problems.into_rows()),
+        } => cycle.begin(mode, settings.into_settings(), problems.into_rows()),
         Effect::Propose { solutions, plan } => {
             cycle.propose(solutions.into_rows(), plan.into_rows())
         }

@@ -1,8 +1,8 @@
 //! What an accepted change does.
 
+use super::boxed_settings::BoxedSettings;
 use command_types::{Listed, Mode, PlanRow, Side, ToleranceRow};
 use network_laws::{Problem, Solution};
-use tolerance_sets::TakenSettings;
 use units_core::{Amount, Day, MemberNo, ProductNo};
 
 /// What an accepted change does, with all that it takes in hand, so that it is done without memory.
@@ -45,7 +45,7 @@ pub(super) enum Effect {
     /// The next version begins in this mode, with all that members have set and these problems.
     Begin {
         mode: Mode,
-        settings: TakenSettings,
+        settings: BoxedSettings,
         problems: Listed<Problem>,
     },
     /// These solutions are proposed, and what they change.

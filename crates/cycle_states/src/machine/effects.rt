@@ -6,6 +6,7 @@ ghost use Rattle.command_types.specs.Trades.{trade_numbered};
 ghost use Rattle.cycle_states.specs.Effects.{decides, effect_by, is_of_trade, MayApply};
 
 use super::Machine;
+use super::boxed_settings::BoxedSettings;
 use super::effect::Effect;
 use super::parties::{place_of_member, place_of_product};
 use super::problems::problems_now;
@@ -91,7 +92,7 @@ impl Machine {
                 let problems = problems_now(alloc, roster, book, tolerances, *mode)?;
                 Ok(Effect::Begin {
                     mode: *mode,
-                    settings: tolerances.taken()?,
+                    settings: BoxedSettings::of(alloc, tolerances.taken()?)?,
                     problems: Listed::new(problems),
                 })
             }
