@@ -44,15 +44,16 @@ pub const PLAIN_ONE: &[u8] =
 const PLAIN_TURNED: &[u8] =
     b"OTCJRNL1\x01\x19\0\0\0\0\0\0\0\x01A\x01\x01A\x01B\x01P\x0a\0\0\0\0\0\0\0\xea\x07\x03\x02\x01\x08\0\0\0MOMENTS2\0";
 
-// And with B's command.
-const PLAIN_TWO: &[u8] =
+/// And with B's command of that noon.
+pub const PLAIN_TWO: &[u8] =
     b"OTCJRNL1\x01\x19\0\0\0\0\0\0\0\x01A\x01\x01A\x01B\x01P\x0a\0\0\0\0\0\0\0\xea\x07\x03\x02\x01\x08\0\0\0MOMENTS2\x01\x17\0\0\0\x40\xb7\xcb\x69\0\0\0\0\0\0\0\0\x01B\x02\x01\0\0\0\0\0\0\0\0";
 
 const TRADE: &str = "HELLO A KA\nTRADE A B P 10 2026-03-02\n";
 
 const TRADE_REPLIES: &str = "ok 0 hello A\nok 1 trade 1\n";
 
-const AFFIRM: &str = "HELLO B KB\nAFFIRM 1\nNETS P\n";
+/// B affirms it.
+pub const AFFIRM: &str = "HELLO B KB\nAFFIRM 1\nNETS P\n";
 
 /// A disk that holds these bytes, all of them synced.
 pub fn disk_of(alloc: Global, bytes: &[u8]) -> Result<MemoryDisk, Fail>

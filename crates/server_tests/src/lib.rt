@@ -36,6 +36,8 @@ mod market_files;
 #[cfg(test)]
 mod meetings;
 #[cfg(test)]
+mod openings;
+#[cfg(test)]
 mod paced;
 #[cfg(test)]
 mod phase_lines;

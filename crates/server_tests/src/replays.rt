@@ -31,7 +31,8 @@ const BASED: &[u8] =
 const BASED_TEXT: &str =
     "member A 1\ntrade 1 A B P 10 2026-03-02 live held\nmember B 1\ntrade 1 A B P 10 2026-03-02 live held\nmember C 0\nend 7\n";
 
-const ONE_TEXT: &str =
+/// What is told of the one change without a moment.
+pub const ONE_TEXT: &str =
     "member A 1\ntrade 1 A B P 10 2026-03-02 alleged -\nmember B 1\ntrade 1 A B P 10 2026-03-02 alleged -\nmember C 0\nend 1\n";
 
 const NONE_TEXT: &str = "member A 0\nmember B 0\nmember C 0\nend 0\n";
