@@ -61,6 +61,45 @@ fn a_header_alone_has_no_trades(rt: HostRuntime) -> Result<(), Fail> {
     Ok(())
 }
 
+/// Whether each of these files has the trades of A to B in P and of C to A in Q, of 10 and of 7.
+fn have_both_trades(alloc: Global, files: &[&[u8]]) -> Result<bool, AllocError> {
+    for &file in files {
+        let Ok(trades) = read(alloc, file)? else {
+            return Ok(false);
+        };
+        let both = trades.len() == 2
+            && trades[0].seller.0 == 0
+            && trades[0].buyer.0 == 1
+            && trades[0].product.0 == 0
+            && trades[0].amount.get() == 10
+            && trades[1].seller.0 == 2
+            && trades[1].buyer.0 == 0
+            && trades[1].product.0 == 1
+            && trades[1].amount.get() == 7;
+        if !both {
+            return Ok(false);
+        }
+    }
+    Ok(true)
+}
+
+#[test]
+fn line_ends_marks_and_quotes_change_no_trade(rt: HostRuntime) -> Result<(), Fail> {
+    let files: [&[u8]; 9] = [
+        b"seller,buyer,product,amount\nA,B,P,10\nC,A,Q,7\n",
+        b"seller,buyer,product,amount\nA,B,P,10\nC,A,Q,7",
+        b"seller,buyer,product,amount\r\nA,B,P,10\r\nC,A,Q,7\r\n",
+        b"seller,buyer,product,amount\rA,B,P,10\rC,A,Q,7",
+        b"\n\r\nseller,buyer,product,amount\n\nA,B,P,10\n\n\nC,A,Q,7\n\n",
+        b"\xef\xbb\xbfseller,buyer,product,amount\nA,B,P,10\nC,A,Q,7\n",
+        b"seller,buyer,product,amount\n\"A\",\"B\",\"P\",\"10\"\nC,A,Q,7\n",
+        b"seller,buyer,product,amount\nA,B,P,10\nC,A,Q,\"7\"",
+        b"\"seller\",buyer,product,\"amount\"\r\nA,B,P,10\r\nC,A,Q,7\r\n",
+    ];
+    assert!(rt; have_both_trades(rt.alloc(), &files)?);
+    Ok(())
+}
+
 /// Whether each file of this header and these records has its first fault, or none.
 fn has_faults(
     alloc: Global,
@@ -98,6 +137,12 @@ fn the_first_fault_of_a_record_is_told(rt: HostRuntime) -> Result<(), Fail> {
         ("A,B,P,1000000000000001\n", bad),
         ("A,B,P,0\n", bad),
         ("A,B,P, 1\n", bad),
+        ("A,B,P,01\n", bad),
+        ("A,B,P,1 \n", bad),
+        ("A,B,P,\n", bad),
+        ("A,B,P,1,\n", Some(FileFault::Columns { row: 2 })),
+        ("A\nB,P,1\n", Some(FileFault::Columns { row: 2 })),
+        ("A,B,P,1\n\"A\n\",B,P,1\n", Some(FileFault::UnknownName { row: 3 })),
     ];
     assert!(rt; has_faults(rt.alloc(), HEADER, &cases)?);
     Ok(())

@@ -8,4 +8,7 @@ pub mod GivenFacts
 pub mod TableFacts
 pub mod PileFacts
 pub mod NameFacts
+pub mod PlainFacts
+pub mod PlainTradeFacts
+pub mod PlainReadFacts
 mod GeneratedFacts

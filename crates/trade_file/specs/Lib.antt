@@ -3,6 +3,7 @@ pub mod RosterFile
 pub mod Draft
 pub mod TradeFile
 pub mod TradeDraft
+pub mod PlainRow
 pub mod Networks
 pub mod Laws
 pub mod Piles

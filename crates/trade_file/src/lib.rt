@@ -9,6 +9,8 @@ mod generated;
 mod laws;
 mod names;
 mod piles;
+mod plain_row;
+mod plain_trades;
 mod roster;
 mod roster_row;
 mod trade_draft;

@@ -35,6 +35,7 @@ impl TradeDraft {
     }
 
     /// Puts the trade of the record with this number last.
+    #[inline(always)]
     pub(crate) fn add(&mut self, number: u64, trade: FileTrade) -> Result<(), FileFault>
         requires draft { IsTradeDraft self.old }
         requires product { trade.product < MOST_PRODUCTS }

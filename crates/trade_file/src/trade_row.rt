@@ -34,7 +34,9 @@ fn read_amount(
     })
 }
 
-fn read_fields(
+/// The trade that these fields of the record with this number write, or what is wrong with them.
+#[inline(always)]
+pub(crate) fn read_fields(
     roster: &Roster,
     row: u64,
     seller: &[u8],
@@ -83,7 +85,8 @@ fn four_fields(record: &ByteRecord) -> Option<(&[u8], &[u8], &[u8], &[u8])>
     Some((first, second, third, fourth))
 }
 
-fn are_header(first: &[u8], second: &[u8], third: &[u8], fourth: &[u8]) -> bool
+/// Whether these are the fields of a trade file's first record.
+pub(crate) fn are_header(first: &[u8], second: &[u8], third: &[u8], fourth: &[u8]) -> bool
     ensures { result ≡ is_trade_header (first.now ∷ second.now ∷ third.now ∷ fourth.now ∷ []) }
 {
     first == b"seller".as_slice()

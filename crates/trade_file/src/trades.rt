@@ -8,6 +8,7 @@ ghost use Rattle.trade_file.specs.TradeDraft.{IsTradeDraft, trades_of_draft, Tra
 ghost use Rattle.units_core.specs.declared.limits.TheConstants.{MOST_FILE};
 
 use crate::file_trade::FileTrade;
+use crate::plain_trades::read_plain;
 use crate::trade_draft::TradeDraft;
 use crate::trade_row::{read_row, reads_header};
 use command_types::{FileFault, Roster};
@@ -78,6 +79,19 @@ fn read_records(alloc: Global, bytes: &[u8], roster: &Roster) -> Result<TradeDra
     unreachable!()
 }
 
+// The draft of a file: of its plain rows, or of all its records where these may not be plain.
+fn read_draft(alloc: Global, bytes: &[u8], roster: &Roster) -> Result<TradeDraft, FileFault>
+    requires { length bytes.now ≤ MOST_FILE }
+    ensures trades { IfOk result (λ draft. trades_of roster.now (records_of bytes.now) ≡ Ok (trades_of_draft draft)) }
+    ensures fault { IfErr result (λ fault. (fault ≡ Memory) ⊎ (trades_of roster.now (records_of bytes.now) ≡ Err fault)) }
+{
+    match read_plain(alloc, bytes, roster) {
+        Ok(Some(draft)) => Ok(draft),
+        Ok(None) => read_records(alloc, bytes, roster),
+        Err(_) => Err(FileFault::Memory),
+    }
+}
+
 /// The trades that a file's bytes say, in the order of their records, or the file's first fault, with the number of
 /// its record, counted from 1. The records are those of comma-separated text with double quotes; the first is
 /// `seller,buyer,product,amount`, and each other one a trade of the roster's members and products. Amounts are in the
@@ -94,7 +108,7 @@ pub fn read_trades(
     if bytes.len() > MOST_FILE {
         return Err(FileFault::TooLong);
     }
-    match read_records(alloc, bytes, roster) {
+    match read_draft(alloc, bytes, roster) {
         Ok(draft) => Ok(draft.into_trades()),
         Err(fault) => Err(fault),
     }
