@@ -15,3 +15,5 @@ pub mod BallotFacts
 pub mod DecisionFacts
 pub mod Sends
 pub mod OfferFacts
+pub mod PlaceFacts
+pub mod HeldPairs

@@ -2,6 +2,7 @@ pub mod Effects
 pub mod Machine
 pub mod MemberProofs
 pub mod Offers
+pub mod PairPlaces
 pub mod Replayed
 pub mod BaseOf
 pub mod PlainDesk

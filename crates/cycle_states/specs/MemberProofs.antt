@@ -1,10 +1,11 @@
 -- What a member is told of a proposal, as the walk over products and pairs has it.
-use Rattle.std.specs.Prelude.{ℕ, List, slice_get}
+use Rattle.std.specs.Prelude.{ℕ, List, length, slice_get}
 use Rattle.command_types.specs.declared.figures.State.{State}
 use Rattle.command_types.specs.declared.proof.ProofRow.{ProofRow}
+use Rattle.command_types.specs.Books.{held_network}
 use Rattle.command_types.specs.MemberProofs.{Part, product_rows}
 use Rattle.cycle_states.specs.declared.machine.member_proofs.MemberProof.{MemberProof}
-use Rattle.cycle_states.specs.declared.machine.proof_rows.Part.{Part as PartInHand}
+use Rattle.cycle_states.specs.declared.machine.part.Part.{Part as PartInHand}
 use Rattle.cycle_states.specs.Machine.{state_in}
 
 -- a product of a proposal
@@ -14,7 +15,7 @@ part_in p = record {
   mode = p.mode;
   members = p.members.now;
   settings = p.settings.now;
-  held = p.held.now;
+  held = held_network (length p.members.now) p.product p.book.now.rows;
   problem = p.problem.now;
   solution = p.solution.now;
 }

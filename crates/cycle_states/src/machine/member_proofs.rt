@@ -1,16 +1,15 @@
 //! What a member is told of a proposal, so that it can test its own part.
 
 ghost use Rattle.std.specs.Prelude.{◌≡◌, ◌++◌, IfOk, OnOk};
-ghost use Rattle.command_types.specs.Books.{held_network};
 ghost use Rattle.command_types.specs.MemberProofs.{proof_rows};
-ghost use Rattle.cycle_states.specs.Machine.{FrozenAreLive, IsBookOf};
+ghost use Rattle.cycle_states.specs.Machine.{FrozenAreLive};
 ghost use Rattle.cycle_states.specs.MemberProofs.{asked_rows, asked_state};
 
 use super::cycle::Cycle;
-use super::proof_rows::{Part, add_part};
+use super::part::Part;
+use super::proof_rows::add_part;
 use command_types::{Mode, ProofRow, Roster};
-use network_laws::Network;
-use product_book::{Book, Which};
+use product_book::Book;
 use std::alloc::AllocError;
 use units_core::{MemberNo, ProductNo};
 
@@ -25,22 +24,13 @@ pub(super) struct MemberProof<'a> {
     pub member: MemberNo,
 }
 
-// What is held of a product's frozen trades.
-fn held_now(book: &Book, product: ProductNo) -> Result<Network, AllocError>
-    requires live { FrozenAreLive book.now.rows }
-    ensures { IfOk result (λ held. held ≡ held_network book.now.members product book.now.rows) }
-{
-    book.network(product, Which::FrozenHeld)
-}
-
 // Adds what the member is told of a product; where it has no problem or no solution, nothing.
 fn add_product(
     rows: &mut Vec<ProofRow>,
     proof: &MemberProof,
     product: ProductNo,
 ) -> Result<(), AllocError>
-    requires book { IsBookOf proof.now.roster.now proof.now.book.now.members proof.now.book.now.products }
-    requires live { FrozenAreLive proof.now.book.now.rows }
+    requires { FrozenAreLive proof.now.book.now.rows }
     ensures { OnOk result (rows.new.items ≡ rows.old.items ++ asked_rows proof.now product) }
 {
     let Some(problem) = proof.cycle.begun().get(product.index()) else {
@@ -49,13 +39,12 @@ fn add_product(
     let Some(solution) = proof.cycle.solutions().get(product.index()) else {
         return Ok(());
     };
-    let held = held_now(proof.book, product)?;
     let part = Part {
         product,
         mode: proof.mode,
         members: proof.roster.members(),
         settings: proof.cycle.settings(),
-        held: &held,
+        book: proof.book,
         problem,
         solution,
     };
@@ -65,8 +54,7 @@ fn add_product(
 
 /// What the member is told of all products, in their order. The only error is want of memory.
 pub(super) fn proof_rows(proof: &MemberProof) -> Result<Vec<ProofRow>, AllocError>
-    requires book { IsBookOf proof.now.roster.now proof.now.book.now.members proof.now.book.now.products }
-    requires live { FrozenAreLive proof.now.book.now.rows }
+    requires { FrozenAreLive proof.now.book.now.rows }
     ensures { IfOk result (λ rows. rows.items ≡ proof_rows (asked_state proof.now) proof.now.mode proof.now.member) }
 {
     let mut rows = Vec::new(proof.cycle.allocator());

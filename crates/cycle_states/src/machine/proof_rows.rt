@@ -1,109 +1,67 @@
 //! What a member is told of a product of a proposal, so that it can test its own part: potentials, and its own pairs.
 
-ghost use Rattle.std.specs.Prelude.{◌≡◌, ◌≢◌, ◌++◌, OnOk};
+ghost use Rattle.std.specs.Prelude.{◌≡◌, ◌≢◌, ◌+◌, ◌++◌, IfOk, OnOk};
 ghost use Rattle.std.specs.Option.{option_to_list};
+ghost use Rattle.network_laws.specs.Networks.{at};
 ghost use Rattle.command_types.specs.Books.{listed_below, listed_pairs};
-ghost use Rattle.command_types.specs.MemberProofs.{is_near, is_told, may_owe, pair_line, pair_row, part_rows, potential_row};
+ghost use Rattle.command_types.specs.MemberProofs.{pair_line, pair_row, part_rows};
+ghost use Rattle.command_types.specs.Tolerances.{may_grow};
+ghost use Rattle.cycle_states.specs.Machine.{FrozenAreLive};
 ghost use Rattle.cycle_states.specs.MemberProofs.{part_in};
+ghost use Rattle.cycle_states.specs.PairPlaces.{ArePast, IsAtPair, pair_place};
 
-use super::whose::{whose_lower, whose_upper};
-use command_types::{MemberRow, Mode, PairLine, ProofRow, Side};
-use network_laws::{Network, Problem, Solution};
+use super::near_members::add_potentials;
+use super::pair_places::PairPlaces;
+use super::part::{Part, amount_next, amount_now, bounds_of};
+use super::whose::{lower_of, upper_of};
+use command_types::{PairLine, ProofRow};
 use std::alloc::AllocError;
-use tolerance_sets::{TakenSettings, may_grow};
-use units_core::{MemberNo, ProductNo};
-
-/// A product of a proposal, with all that its bounds come from.
-#[derive(Clone, Copy)]
-pub(super) struct Part<'a> {
-    pub product: ProductNo,
-    pub mode: Mode,
-    pub members: &'a [MemberRow],
-    pub settings: &'a TakenSettings,
-    pub held: &'a Network,
-    pub problem: &'a Problem,
-    pub solution: &'a Solution,
-}
-
-// Whether a pair may come to more than 0.
-fn may_owe(problem: &Problem, seller: u16, buyer: u16) -> bool
-    ensures { result ≡ may_owe problem.now seller buyer }
-{
-    problem.limits().bounds(seller, buyer).upper != Some(0)
-}
-
-// Whether the other member is the member itself, or one of their two pairs may come to more than 0.
-fn is_near(problem: &Problem, member: u16, other: u16) -> bool
-    ensures { result ≡ is_near problem.now member other }
-{
-    other == member || may_owe(problem, member, other) || may_owe(problem, other, member)
-}
-
-// The potential of a member that is near.
-fn potential_row(part: &Part, member: u16, other: u16) -> Option<ProofRow>
-    ensures { option_to_list result ≡ potential_row (part_in part.now) member other }
-{
-    if !is_near(part.problem, member, other) {
-        return None;
-    }
-    let value = match part.solution.potentials().get(usize::from(other)) {
-        Some(value) => *value,
-        None => 0,
-    };
-    Some(ProofRow::Potential {
-        product: part.product.0,
-        member: other,
-        value,
-    })
-}
+use tolerance_sets::may_grow;
 
 // A pair with its bounds, whose they are, what it is now and what the proposal makes of it.
-fn pair_line(part: &Part, seller: u16, buyer: u16) -> PairLine
-    ensures { result ≡ pair_line (part_in part.now) seller buyer }
+fn pair_line(part: &Part, pair: PairPlaces, now: u64, grows: bool) -> Result<PairLine, AllocError>
+    requires live { FrozenAreLive part.now.book.now.rows }
+    requires pair { IsAtPair part.now pair }
+    requires now { now ≡ at part.now.problem.now.network pair.seller pair.buyer }
+    requires grows { grows ≡ may_grow part.now.mode part.now.members.now pair.seller pair.buyer }
+    ensures { IfOk result (λ line. line ≡ pair_line (part_in part.now) pair.seller pair.buyer) }
 {
-    let (product, out, into) = (part.product, MemberNo(seller), MemberNo(buyer));
-    let bounds = part.problem.limits().bounds(seller, buyer);
-    let held = part.held.amount(seller, buyer);
-    let floor = part.settings.floor(out, product, into, Side::Out);
-    let sold = part.settings.ceiling(out, product, into, Side::Out);
-    let bought = part.settings.ceiling(into, product, out, Side::In);
-    let grows = may_grow(part.mode, part.members, seller, buyer);
-    PairLine {
-        product: product.0,
+    let (seller, buyer) = (pair.seller, pair.buyer);
+    let bounds = bounds_of(part, pair.limit, seller, buyer);
+    Ok(PairLine {
+        product: part.product.0,
         seller,
         buyer,
         lower: bounds.lower,
-        lower_of: whose_lower(bounds.lower, held, floor),
-        now: part.problem.network().amount(seller, buyer),
-        next: part.solution.network().amount(seller, buyer),
+        lower_of: lower_of(part, seller, buyer, bounds.lower)?,
+        now,
+        next: amount_next(part, pair.next, seller, buyer),
         upper: bounds.upper,
-        upper_of: whose_upper(grows, sold, bought),
-    }
+        upper_of: upper_of(part, seller, buyer, grows),
+    })
 }
 
-// Whether the pair has a frozen amount, or mode and roles let it grow.
-fn is_told(part: &Part, seller: u16, buyer: u16) -> bool
-    ensures { result ≡ is_told (part_in part.now) seller buyer }
+// Such a pair, where the member has a side in it, and it has a frozen amount, or mode and roles let it grow.
+fn pair_row(part: &Part, pair: PairPlaces, member: u16) -> Result<Option<ProofRow>, AllocError>
+    requires live { FrozenAreLive part.now.book.now.rows }
+    requires pair { IsAtPair part.now pair }
+    ensures { IfOk result (λ row. option_to_list row ≡ pair_row (part_in part.now) member pair.seller pair.buyer) }
 {
-    part.problem.network().amount(seller, buyer) > 0
-        || may_grow(part.mode, part.members, seller, buyer)
+    if pair.seller != member && pair.buyer != member {
+        return Ok(None);
+    }
+    let now = amount_now(part, pair.now, pair.seller, pair.buyer);
+    let grows = may_grow(part.mode, part.members, pair.seller, pair.buyer);
+    let is_told = now > 0 || grows;
+    if !is_told {
+        return Ok(None);
+    }
+    let line = pair_line(part, pair, now, grows)?;
+    Ok(Some(ProofRow::Pair(line)))
 }
 
-// Such a pair, where the member has a side in it.
-fn pair_row(part: &Part, member: u16, seller: u16, buyer: u16) -> Option<ProofRow>
-    ensures { option_to_list result ≡ pair_row (part_in part.now) member seller buyer }
-{
-    if seller != member && buyer != member {
-        return None;
-    }
-    if !is_told(part, seller, buyer) {
-        return None;
-    }
-    Some(ProofRow::Pair(pair_line(part, seller, buyer)))
-}
-
-// Adds a row, if there is one.
-fn add_row(rows: &mut Vec<ProofRow>, row: Option<ProofRow>) -> Result<(), AllocError>
+/// Adds a row, if there is one.
+pub(super) fn add_row(rows: &mut Vec<ProofRow>, row: Option<ProofRow>) -> Result<(), AllocError>
     ensures { OnOk result (rows.new.items ≡ rows.old.items ++ option_to_list row) }
 {
     match row {
@@ -115,66 +73,78 @@ fn add_row(rows: &mut Vec<ProofRow>, row: Option<ProofRow>) -> Result<(), AllocE
     }
 }
 
-// Adds the potentials of those that are near.
-fn add_potentials(rows: &mut Vec<ProofRow>, part: &Part, member: u16) -> Result<(), AllocError>
-    ensures { OnOk result (rows.new.items ≡ rows.old.items ++ listed_below part.now.problem.now.network.members (potential_row (part_in part.now) member)) }
-{
-    for other in 0..part.problem.network().members() {
-        add_row(rows, potential_row(part, member, other))?;
-    }
-    Ok(())
-}
-
 // Adds the pairs in which the member sells.
 fn add_sold(rows: &mut Vec<ProofRow>, part: &Part, member: u16) -> Result<(), AllocError>
+    requires live { FrozenAreLive part.now.book.now.rows }
     ensures { OnOk result (rows.new.items ≡ rows.old.items ++ listed_below part.now.problem.now.network.members (pair_row (part_in part.now) member member)) }
 {
+    let mut pair = PairPlaces::of_seller(part, member);
     for buyer in 0..part.problem.network().members() {
-        add_row(rows, pair_row(part, member, member, buyer))?;
+        pair = pair.to(part, member, buyer);
+        let row = pair_row(part, pair, member)?;
+        add_row(rows, row)?;
     }
     Ok(())
 }
 
-// The pair in which it buys of another seller: of that seller's pairs, there is none but this.
-fn bought(part: &Part, member: u16, seller: u16) -> Option<ProofRow>
-    requires { seller ≢ member }
-    ensures { option_to_list result ≡ listed_below part.now.problem.now.network.members (pair_row (part_in part.now) member seller) }
+// Adds the pair in which it buys of another seller: of that seller's pairs, there is none but this.
+fn add_bought(
+    rows: &mut Vec<ProofRow>,
+    part: &Part,
+    pair: PairPlaces,
+    member: u16,
+) -> Result<(), AllocError>
+    requires live { FrozenAreLive part.now.book.now.rows }
+    requires pair { IsAtPair part.now pair }
+    requires other { pair.seller ≢ member }
+    requires buyer { pair.buyer ≡ member }
+    ensures { OnOk result (rows.new.items ≡ rows.old.items ++ listed_below part.now.problem.now.network.members (pair_row (part_in part.now) member pair.seller)) }
 {
-    let members = part.problem.network().members();
-    if member < members {
-        pair_row(part, member, seller, member)
-    } else {
-        None
+    if member >= part.problem.network().members() {
+        return Ok(());
     }
+    let row = pair_row(part, pair, member)?;
+    add_row(rows, row)?;
+    Ok(())
 }
 
-// Adds its pairs with this seller.
+// Adds its pairs with this seller, and gives a place before its pair with the next one.
 fn add_pairs_of(
     rows: &mut Vec<ProofRow>,
     part: &Part,
+    before: PairPlaces,
     member: u16,
     seller: u16,
-) -> Result<(), AllocError>
-    ensures { OnOk result (rows.new.items ≡ rows.old.items ++ listed_below part.now.problem.now.network.members (pair_row (part_in part.now) member seller)) }
+) -> Result<PairPlaces, AllocError>
+    requires live { FrozenAreLive part.now.book.now.rows }
+    requires before { ArePast part.now before (pair_place seller member) }
+    ensures rows { OnOk result (rows.new.items ≡ rows.old.items ++ listed_below part.now.problem.now.network.members (pair_row (part_in part.now) member seller)) }
+    ensures before { IfOk result (λ after. ArePast part.now after (pair_place (seller + 1) member)) }
 {
     if seller == member {
-        return add_sold(rows, part, member);
+        add_sold(rows, part, member)?;
+        return Ok(before);
     }
-    add_row(rows, bought(part, member, seller))
+    let pair = before.to(part, seller, member);
+    add_bought(rows, part, pair, member)?;
+    Ok(pair)
 }
 
 // Adds all its pairs.
 fn add_pairs(rows: &mut Vec<ProofRow>, part: &Part, member: u16) -> Result<(), AllocError>
+    requires { FrozenAreLive part.now.book.now.rows }
     ensures { OnOk result (rows.new.items ≡ rows.old.items ++ listed_pairs part.now.problem.now.network.members (pair_row (part_in part.now) member)) }
 {
+    let mut before = PairPlaces::first();
     for seller in 0..part.problem.network().members() {
-        add_pairs_of(rows, part, member, seller)?;
+        before = add_pairs_of(rows, part, before, member, seller)?;
     }
     Ok(())
 }
 
 /// Adds what the member is told of a product. The only error is want of memory.
 pub(super) fn add_part(rows: &mut Vec<ProofRow>, part: &Part, member: u16) -> Result<(), AllocError>
+    requires { FrozenAreLive part.now.book.now.rows }
     ensures { OnOk result (rows.new.items ≡ rows.old.items ++ part_rows (part_in part.now) member) }
 {
     add_potentials(rows, part, member)?;

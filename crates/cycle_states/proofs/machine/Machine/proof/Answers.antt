@@ -11,8 +11,8 @@ use Rattle.cycle_states.specs.Machine.{state_with, MachineView}
 use Rattle.cycle_states.proofs.CycleFacts.{limits_break, proposed_limits}
 use Rattle.cycle_states.proofs.machine.Machine.proof.Goals as goal
 
-pub proof_rows-requires-clause-live : goal.proof_rows-requires-clause-live
-proof_rows-requires-clause-live c =
+pub proof_rows-requires : goal.proof_rows-requires
+proof_rows-requires c =
     let m = c.self.inside in
     c.self.invariant.0.unbroken (limits_break m.cycle.phase (proposed_limits m.cycle.phase (rw (← c.self.view_is) at c.requires)))
 

@@ -3,12 +3,12 @@ use Rattle.std.specs.Prelude.{slice_get, Option, Some, None}
 use Rattle.std.proofs.lemmas.Bool.Decides.{nat_tests}
 use Rattle.std.proofs.lemmas.List.{append-nil}
 use Rattle.std.proofs.lemmas.Option.{slice_get_past, slice_get_read}
-use Rattle.network_laws.specs.Networks.{NetworkData}
 use Rattle.network_laws.specs.Solutions.{ProblemData, SolutionData}
 use Rattle.command_types.specs.declared.cycle.Mode.{Mode}
 use Rattle.command_types.specs.declared.proof.ProofRow.{ProofRow}
 use Rattle.command_types.specs.declared.roster.MemberRow.{MemberRow}
 use Rattle.command_types.specs.declared.tolerance.ToleranceRow.{ToleranceRow}
+use Rattle.command_types.specs.declared.trade.TradeRow.{TradeRow}
 use Rattle.command_types.specs.Books.{held_network}
 use Rattle.command_types.specs.MemberProofs.{part_rows, product_rows}
 use Rattle.cycle_states.specs.MemberProofs.{asked_rows, asked_state}
@@ -36,14 +36,13 @@ unchanged : (rows told : List ProofRow) → told ≡ [] → rows ≡ rows ++ tol
 unchanged rows told none = sym (append-nil rows) ∙ ap (λ (more : List ProofRow). rows ++ more) (sym none)
 
 -- and with both, the rows of the product
-both : (proof : MemberProof) (product count : ℕ) (members : List MemberRow) (settings : List ToleranceRow) (held : NetworkData) (problem : ProblemData) (solution : SolutionData) (mode : Mode) (member : ℕ) →
-    mode ≡ proof.mode → member ≡ proof.member → members ≡ proof.roster.now.members → settings ≡ proof.cycle.now.settings → held ≡ held_network count product proof.book.now.rows → count ≡ length proof.roster.now.members →
+both : (proof : MemberProof) (product : ℕ) (members : List MemberRow) (settings : List ToleranceRow) (rows : List TradeRow) (problem : ProblemData) (solution : SolutionData) (mode : Mode) (member : ℕ) →
+    mode ≡ proof.mode → member ≡ proof.member → members ≡ proof.roster.now.members → settings ≡ proof.cycle.now.settings → rows ≡ proof.book.now.rows →
     slice_get proof.cycle.now.begun product ≡ Some problem → slice_get proof.cycle.now.solutions product ≡ Some solution →
-    part_rows (record { product = product; mode = mode; members = members; settings = settings; held = held; problem = problem; solution = solution }) member ≡ asked_rows proof product
-both proof product count members settings held problem solution mode member begins asks are set holds all begun posted =
+    part_rows (record { product = product; mode = mode; members = members; settings = settings; held = held_network (length members) product rows; problem = problem; solution = solution }) member ≡ asked_rows proof product
+both proof product members settings rows problem solution mode member begins asks are set trades begun posted =
     let s = asked_state proof in
-    let held_all : held ≡ held_network (length proof.roster.now.members) product proof.book.now.rows = holds ∙ ap (λ (n : ℕ). held_network n product proof.book.now.rows) all in
-    (λ i. part_rows (record { product = product; mode = begins i; members = are i; settings = set i; held = held_all i; problem = problem; solution = solution }) (asks i))
+    (λ i. part_rows (record { product = product; mode = begins i; members = are i; settings = set i; held = held_network (length (are i)) product (trades i); problem = problem; solution = solution }) (asks i))
     ∙ sym (ap (λ (o : Option ProblemData). product_rows s proof.mode proof.member product o (slice_get proof.cycle.now.solutions product)) begun
     ∙ ap (λ (o : Option SolutionData). product_rows s proof.mode proof.member product (Some problem) o) posted)
 
@@ -71,9 +70,8 @@ returns c =
     let posted : slice_get c.solutions.result.now c.index-2.result ≡ Some c.in-Some-get.solution.now =
     slice_get_read c.solutions.result.now (length c.solutions.result.now) c.index-2.result c.in-Some-get.solution.now refl c.in-Some-get.ensures.lookup.3.0 c.in-Some-get.ensures.lookup.1 in
     c.in_ok-add_part.ensures ∙ ap (λ (told : List ProofRow). c.args.rows.now.items ++ told)
-    (both proof c.args.product proof.book.now.members c.members.result.now c.settings.result.now c.in_ok-held.held c.in-Some.problem.now c.in-Some-get.solution.now _ _
+    (both proof c.args.product c.members.result.now c.settings.result.now _ c.in-Some.problem.now c.in-Some-get.solution.now _ _
     (ap (λ (p : MemberProof). p.mode) c.proof.view_is) (ap (λ (p : MemberProof). p.member) c.proof.view_is)
-    (c.members.ensures.rows ∙ ap (λ (p : MemberProof). p.roster.now.members) c.proof.view_is) (c.settings.ensures ∙ ap (λ (p : MemberProof). p.cycle.now.settings) c.proof.view_is)
-    (c.in_ok-held.ensures ∙ ap (λ (p : MemberProof). held_network p.book.now.members c.args.product p.book.now.rows) c.proof.view_is) c.requires.book.members_all
+    (c.members.ensures.rows ∙ ap (λ (p : MemberProof). p.roster.now.members) c.proof.view_is) (c.settings.ensures ∙ ap (λ (p : MemberProof). p.cycle.now.settings) c.proof.view_is) (ap (λ (p : MemberProof). p.book.now.rows) c.proof.view_is)
     (entry_at c.begun.result.now proof.cycle.now.begun c.index.result c.args.product (Some c.in-Some.problem.now) (c.begun.ensures ∙ ap (λ (p : MemberProof). p.cycle.now.begun) c.proof.view_is) c.index.ensures here)
     (entry_at c.solutions.result.now proof.cycle.now.solutions c.index-2.result c.args.product (Some c.in-Some-get.solution.now) (c.solutions.ensures ∙ ap (λ (p : MemberProof). p.cycle.now.solutions) c.proof.view_is) c.index-2.ensures posted))
