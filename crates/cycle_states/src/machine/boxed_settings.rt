@@ -4,7 +4,7 @@ ghost use Rattle.std.specs.Prelude.{◌≡◌, IfOk};
 
 use std::alloc::{AllocError, Global};
 use std::marker::Model;
-use tolerance_sets::TakenSettings;
+use tolerance_sets::{TakenSettings, Tolerances};
 
 /// Settings that were taken, in a box. Contracts see them as their list.
 #[derive(Drop)]
@@ -22,16 +22,18 @@ impl Model for BoxedSettings {
 }
 
 impl BoxedSettings {
-    /// These settings. The only error is want of memory.
-    pub(super) fn of(alloc: Global, settings: TakenSettings) -> Result<BoxedSettings, AllocError>
-        ensures { IfOk result (λ boxed. boxed ≡ settings) }
+    /// All settings as they are now. The only error is want of memory.
+    #[inline(never)]
+    pub(super) fn taken(alloc: Global, tolerances: &Tolerances) -> Result<BoxedSettings, AllocError>
+        ensures { IfOk result (λ boxed. boxed ≡ tolerances.now.settings) }
     {
         Ok(BoxedSettings {
-            settings: Box::new(alloc, settings)?,
+            settings: Box::new(alloc, tolerances.taken()?)?,
         })
     }
 
     /// The settings again. It takes no memory.
+    #[inline(never)]
     pub(super) fn into_settings(self) -> TakenSettings
         ensures { result ≡ self }
     {

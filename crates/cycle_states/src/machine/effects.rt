@@ -92,7 +92,7 @@ impl Machine {
                 let problems = problems_now(alloc, roster, book, tolerances, *mode)?;
                 Ok(Effect::Begin {
                     mode: *mode,
-                    settings: BoxedSettings::of(alloc, tolerances.taken()?)?,
+                    settings: BoxedSettings::taken(alloc, tolerances)?,
                     problems: Listed::new(problems),
                 })
             }
