@@ -35,6 +35,7 @@ fn comma_place(text: &[u8]) -> Option<usize>
 }
 
 // What stands before a comma, and behind it.
+#[inline(always)]
 fn cut_field(text: &[u8]) -> Option<(&[u8], &[u8])>
     ensures { IfSome result (λ cut. text.now ≡ cut.0.now ++ comma ∷ cut.1.now) }
 {
@@ -45,6 +46,7 @@ fn cut_field(text: &[u8]) -> Option<(&[u8], &[u8])>
 }
 
 // What stands before the first line end, and behind it.
+#[inline(always)]
 fn cut_line(text: &[u8]) -> (&[u8], &[u8])
     ensures { IsLine text.now result.0.now result.1.now }
 {
@@ -57,6 +59,7 @@ fn cut_line(text: &[u8]) -> (&[u8], &[u8])
 }
 
 /// The row that a text starts with, where its line has the commas.
+#[inline(always)]
 pub(crate) fn cut_row(text: &[u8]) -> Option<PlainRow<'_>>
     ensures { IfSome result (λ row. IsCut text.now row.seller.now row.buyer.now row.product.now row.amount.now row.rest.now) }
 {

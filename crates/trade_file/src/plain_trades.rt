@@ -1,4 +1,4 @@
-//! Reading a trade file without quotes and faults where it stands, which takes a third of the steps of reading its records.
+//! Reading a trade file without quotes and faults where it stands, with no record in between.
 ghost use Rattle.std.specs.Prelude.{◌≡◌, ◌≢◌, ◌<◌, Ok, IfOk, IfSome, IfNone};
 ghost use Rattle.trade_file.specs.RosterFile.{records_of};
 ghost use Rattle.trade_file.specs.TradeFile.{trades_of};

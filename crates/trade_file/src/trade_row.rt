@@ -10,6 +10,7 @@ use command_types::{FileFault, Roster};
 use csv::ByteRecord;
 use units_core::{Amount, MOST_TRADE_AMOUNT, MemberNo, ProductNo};
 
+#[inline(always)]
 fn read_amount(
     row: u64,
     seller: MemberNo,
