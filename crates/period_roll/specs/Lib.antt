@@ -1,0 +1,5 @@
+pub mod Places
+pub mod Trades
+pub mod Settings
+pub mod Rolls
+pub mod Laws
