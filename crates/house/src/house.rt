@@ -88,6 +88,7 @@ impl<D: Disk> House<D> {
     }
 }
 
+// Here alone a disk must move to another thread: no method of a trait is proved that calls a function whose bounds bring `Send` along.
 impl<D: Disk + Send> Desk for House<D> {
     ghost use Rattle.house.specs.House.{figures_of, is_stopped};
 
