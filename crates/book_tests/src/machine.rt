@@ -2,11 +2,15 @@
 //! its reply and its answer. What lines of a session show stands in transcripts.
 
 pub mod answers;
+mod bases;
 pub mod commands;
+mod matching;
 mod member_proofs;
 mod misfits;
+mod open_cycles;
 mod rests;
 mod sheets;
+mod standing;
 mod starts;
 mod unsaid;
 pub mod words;
