@@ -142,7 +142,10 @@ fn the_first_fault_of_a_record_is_told(rt: HostRuntime) -> Result<(), Fail> {
         ("A,B,P,\n", bad),
         ("A,B,P,1,\n", Some(FileFault::Columns { row: 2 })),
         ("A\nB,P,1\n", Some(FileFault::Columns { row: 2 })),
-        ("A,B,P,1\n\"A\n\",B,P,1\n", Some(FileFault::UnknownName { row: 3 })),
+        (
+            "A,B,P,1\n\"A\n\",B,P,1\n",
+            Some(FileFault::UnknownName { row: 3 }),
+        ),
     ];
     assert!(rt; has_faults(rt.alloc(), HEADER, &cases)?);
     Ok(())
