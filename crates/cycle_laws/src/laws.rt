@@ -57,7 +57,7 @@ pub fn fitting_is_writable()
     ensures { FittingIsWritable }
 {}
 
-/// What is written of a state that can be written as a base meets the condition of `record_codec::encode_base`.
+/// What is written of a state that can be written as a base meets the condition of `base_codec::encode_base`.
 pub fn writable_can_be_written()
     ensures { WritableCanBeWritten }
 {}

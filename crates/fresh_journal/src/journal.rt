@@ -8,8 +8,8 @@ ghost use Rattle.journal_core.specs.Holds.{limit};
 ghost use Rattle.recovery.specs.StandsFor.{StandsFor};
 ghost use Rattle.fresh_journal.specs.Journals.{begun_history, journal_of};
 
+use base_codec::encode_base;
 use command_types::Base;
-use record_codec::encode_base;
 use std::alloc::{AllocError, Global};
 use units_core::MOST_JOURNAL;
 

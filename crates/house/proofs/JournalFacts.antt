@@ -19,7 +19,7 @@ use Rattle.journal_core.specs.Journal.{HoldsWithOrWithout, HoldsEither, IsReady}
 use Rattle.journal_core.proofs.MomentFacts.{leaves_more, yet_more}
 use Rattle.journal_core.proofs.PartFacts.{journal_holds}
 use Rattle.journal_core.proofs.OneReading.{one_reading}
-use Rattle.record_codec.proofs.BaseReading.{bases_unique}
+use Rattle.base_codec.proofs.BaseReading.{bases_unique}
 use Rattle.recovery.specs.Bodies.{Written, turns, changes_in, spelling_after}
 use Rattle.recovery.specs.StandsFor.{SpellAll, SpellsAs, StandsForBase, StandsFor}
 use Rattle.recovery.proofs.EntryFacts.{AllZip-more, read_stand, stands_read, read_one_way as read_the_same, one_list_of_entries}

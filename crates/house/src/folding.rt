@@ -10,11 +10,11 @@ ghost use Rattle.cycle_states.specs.Replayed.{IsReplayed};
 ghost use Rattle.house.specs.Due.{IsDueBase, IsDue, IsFoldOf, FoldsOnly, StoresFold};
 
 use crate::past::Past;
+use base_codec::encode_base;
 use command_types::Base;
 use cycle_states::Machine;
 use journal_core::{Form, Frame, Journal};
 use outside::{Disk, Failed};
-use record_codec::encode_base;
 use std::alloc::{AllocError, Global};
 use units_core::{MOST_JOURNAL, MOST_NUMBER};
 

@@ -4,8 +4,9 @@ ghost use Rattle.command_types.specs.Bases.{CanBeWritten};
 
 use crate::disks::{BEGUN, TWO, damaged, disk_of, is_read};
 use crate::records::named;
+use base_codec::{decode_base, encode_base};
 use command_types::{Base, Listed, Side, ToleranceRow, TradeRow, TradeState};
-use record_codec::{DecodeFault, decode_base, encode_base};
+use record_codec::DecodeFault;
 use recovery::{BaseAt, Contents, RecoverFault, read_entries};
 use std::alloc::Global;
 use std::test::Fail;

@@ -18,7 +18,7 @@ pub fn settings_stay()
     ensures { SettingsStay }
 {}
 
-/// What is written over the new roster meets the condition of `record_codec::encode_base`, where the base before does.
+/// What is written over the new roster meets the condition of `base_codec::encode_base`, where the base before does.
 pub fn rolled_can_be_written()
     ensures { RolledCanBeWritten }
 {}

@@ -7,9 +7,3 @@ pub mod RecordReading
 pub mod SizeFacts
 pub mod LoopFacts
 pub mod ShortFacts
-pub mod FromReading
-pub mod BaseKinds
-pub mod SettingReading
-pub mod TradeReading
-pub mod BaseReading
-pub mod BaseForms

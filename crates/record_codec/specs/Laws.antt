@@ -1,9 +1,7 @@
--- What calls answer of a record or a base, and the laws on spellings.
+-- What calls answer of the bytes of a record or a base, and the laws on records' spellings.
 use Rattle.std.specs.Prelude.{◌≡◌, ℕ, List, Result, Ok, Err}
 use Rattle.command_types.specs.declared.ask.Entry.{Entry}
-use Rattle.command_types.specs.declared.base.Base.{Base}
 use Rattle.command_types.specs.declared.spelling.Spelling.{Spelling}
-use Rattle.command_types.specs.Bases.{SpellsBase}
 use Rattle.command_types.specs.Spelling.{Spells, turn}
 use Rattle.record_codec.specs.declared.fault.ReadFault.{ReadFault}
 use Rattle.record_codec.specs.declared.fault.ReadFault.TheVariants as reads
@@ -35,7 +33,3 @@ SpellingsAreUnique = (form : Spelling) (bytes : List ℕ) (a b : Entry) → Spel
 -- No bytes are spellings of changes and the turn between the spellings, too.
 abbrev pub TurnIsNoChange : Type 0
 TurnIsNoChange = (form : Spelling) (entry : Entry) → Spells form turn entry → ⊥
-
--- No bytes spell two bases, whichever mark they begin with.
-abbrev pub BasesAreUnique : Type 0
-BasesAreUnique = (bytes : List ℕ) (a b : Base) → SpellsBase bytes a → SpellsBase bytes b → a ≡ b

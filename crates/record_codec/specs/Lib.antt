@@ -1,5 +1,3 @@
 pub mod Reading
-pub mod BaseReading
-pub mod BaseWriting
 pub mod Laws
 pub mod Votes

@@ -18,8 +18,10 @@ pub enum DecodeFault {
 
 /// The same while a record is read: a field is told by how many bytes are left from its first on.
 #[derive(Clone, Copy, Debug, PartialEq, Eq)]
-pub(crate) enum ReadFault {
+pub enum ReadFault {
+    /// The field that has so many bytes left from its first on breaks the grammar.
     Bad { left: usize },
+    /// There was no memory.
     Memory,
 }
 

@@ -8,15 +8,15 @@ use crate::fault::ReadFault;
 use command_types::{Level, MOST_MOMENT, Mode, Moment, Side, Spelling};
 use units_core::{Amount, Day, Name};
 
-/// The bytes of a record that are still to be read.
+/// The bytes of a record or a base that are still to be read.
 #[derive(Drop)]
-pub(crate) struct Unread<'a> {
-    pub(crate) rest: &'a [u8],
+pub struct Unread<'a> {
+    pub rest: &'a [u8],
 }
 
 impl<'a> Unread<'a> {
-    // The fault of a field that begins here.
-    pub(crate) fn bad(&self) -> ReadFault
+    /// The fault of a field that begins here.
+    pub fn bad(&self) -> ReadFault
         ensures { result ≡ Bad (length self.now.rest.now) }
     {
         ReadFault::Bad {
@@ -24,8 +24,9 @@ impl<'a> Unread<'a> {
         }
     }
 
+    /// A number of eight bytes.
     #[tactic(auto, unfolding(crate::specs::Reading::field))]
-    pub(crate) fn number(&mut self) -> Result<u64, ReadFault>
+    pub fn number(&mut self) -> Result<u64, ReadFault>
         ensures { Gives (λ n. (n, self.new.rest.now)) result (number_at self.old.rest.now) }
     {
         let Some((text, rest)) = self.rest.split_first_chunk() else {
@@ -100,8 +101,9 @@ impl<'a> Unread<'a> {
         Ok(count)
     }
 
+    /// A name, behind the byte with its length.
     #[tactic(auto, unfolding(crate::specs::Reading::field))]
-    pub(crate) fn name(&mut self) -> Result<Name, ReadFault>
+    pub fn name(&mut self) -> Result<Name, ReadFault>
         ensures { Gives (λ n. (n, self.new.rest.now)) result (name_at self.old.rest.now) }
     {
         let [size, rest @ ..] = self.rest else {
@@ -119,8 +121,9 @@ impl<'a> Unread<'a> {
         Ok(name)
     }
 
+    /// The amount of a trade.
     #[tactic(auto, unfolding(crate::specs::Reading::field))]
-    pub(crate) fn amount(&mut self) -> Result<Amount, ReadFault>
+    pub fn amount(&mut self) -> Result<Amount, ReadFault>
         ensures { Gives (λ n. (n, self.new.rest.now)) result (amount_at self.old.rest.now) }
     {
         let Some((text, rest)) = self.rest.split_first_chunk() else {
@@ -133,8 +136,9 @@ impl<'a> Unread<'a> {
         Ok(amount)
     }
 
+    /// A floor or a ceiling.
     #[tactic(auto, unfolding(crate::specs::Reading::field))]
-    pub(crate) fn level(&mut self) -> Result<Level, ReadFault>
+    pub fn level(&mut self) -> Result<Level, ReadFault>
         ensures { Gives (λ n. (n, self.new.rest.now)) result (level_at self.old.rest.now) }
     {
         let Some((text, rest)) = self.rest.split_first_chunk() else {
@@ -147,8 +151,9 @@ impl<'a> Unread<'a> {
         Ok(level)
     }
 
+    /// A year of two bytes, a month and a day.
     #[tactic(auto, unfolding(crate::specs::Reading::field))]
-    pub(crate) fn day(&mut self) -> Result<Day, ReadFault>
+    pub fn day(&mut self) -> Result<Day, ReadFault>
         ensures { Gives (λ d. (d, self.new.rest.now)) result (day_at self.old.rest.now) }
     {
         let Some((text, rest)) = self.rest.split_first_chunk::<4>() else {
@@ -162,8 +167,9 @@ impl<'a> Unread<'a> {
         Ok(day)
     }
 
+    /// The side of a member that a setting is for.
     #[tactic(auto, unfolding(crate::specs::Reading::field))]
-    pub(crate) fn side(&mut self) -> Result<Side, ReadFault>
+    pub fn side(&mut self) -> Result<Side, ReadFault>
         ensures { Gives (λ s. (s, self.new.rest.now)) result (side_at self.old.rest.now) }
     {
         let (side, rest) = match self.rest {
@@ -203,8 +209,9 @@ impl<'a> Unread<'a> {
         Ok(given)
     }
 
+    /// A ceiling, behind the byte that says whether one is given.
     #[tactic(auto, unfolding(crate::specs::Reading::ceiling_at))]
-    pub(crate) fn ceiling(&mut self) -> Result<Option<Level>, ReadFault>
+    pub fn ceiling(&mut self) -> Result<Option<Level>, ReadFault>
         ensures { Gives (λ c. (c, self.new.rest.now)) result (ceiling_at self.old.rest.now) }
     {
         let given = self.given()?;

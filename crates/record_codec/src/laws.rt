@@ -1,5 +1,5 @@
 //! The laws on spellings, each the contract of a function that does nothing.
-ghost use Rattle.record_codec.specs.Laws.{SpellingsAreUnique, TurnIsNoChange, BasesAreUnique};
+ghost use Rattle.record_codec.specs.Laws.{SpellingsAreUnique, TurnIsNoChange};
 
 /// In each of the two spellings no bytes spell two different changes.
 pub fn spellings_are_unique()
@@ -9,9 +9,4 @@ pub fn spellings_are_unique()
 /// The turn spells no change, in neither spelling.
 pub fn turn_is_no_change()
     ensures { TurnIsNoChange }
-{}
-
-/// No bytes spell two different bases.
-pub fn base_spellings_are_unique()
-    ensures { BasesAreUnique }
 {}

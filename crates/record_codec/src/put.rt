@@ -11,7 +11,8 @@ use command_types::{Level, Mode, Side, What};
 use std::alloc::AllocError;
 use units_core::{Amount, Day, Name};
 
-pub(crate) fn put_name(out: &mut Vec<u8>, name: &Name) -> Result<(), AllocError>
+/// A name, behind a byte with its length.
+pub fn put_name(out: &mut Vec<u8>, name: &Name) -> Result<(), AllocError>
     ensures appends { OnOk result (out.new.items ≡ out.old.items ++ name_spelling name.now) }
     ensures form { OnOk result (IsTrue (is_name name.now)) }
 {
@@ -21,21 +22,24 @@ pub(crate) fn put_name(out: &mut Vec<u8>, name: &Name) -> Result<(), AllocError>
     Ok(())
 }
 
-pub(crate) fn put_number(out: &mut Vec<u8>, number: u64) -> Result<(), AllocError>
+/// A number, in eight bytes.
+pub fn put_number(out: &mut Vec<u8>, number: u64) -> Result<(), AllocError>
     ensures { OnOk result (out.new.items ≡ out.old.items ++ number_spelling number) }
 {
     out.extend_from_slice(&number.to_le_bytes())?;
     Ok(())
 }
 
-pub(crate) fn put_short(out: &mut Vec<u8>, number: u16) -> Result<(), AllocError>
+/// A number, in two bytes.
+pub fn put_short(out: &mut Vec<u8>, number: u16) -> Result<(), AllocError>
     ensures { OnOk result (out.new.items ≡ out.old.items ++ to_le_bytes w16 number) }
 {
     out.extend_from_slice(&number.to_le_bytes())?;
     Ok(())
 }
 
-pub(crate) fn put_day(out: &mut Vec<u8>, day: Day) -> Result<(), AllocError>
+/// A year in two bytes, the month and the day.
+pub fn put_day(out: &mut Vec<u8>, day: Day) -> Result<(), AllocError>
     ensures appends { OnOk result (out.new.items ≡ out.old.items ++ day_spelling day) }
     ensures form { OnOk result (IsDay day) }
 {
@@ -45,14 +49,16 @@ pub(crate) fn put_day(out: &mut Vec<u8>, day: Day) -> Result<(), AllocError>
     Ok(())
 }
 
-pub(crate) fn put_level(out: &mut Vec<u8>, level: Level) -> Result<(), AllocError>
+/// A floor or a ceiling that is given.
+pub fn put_level(out: &mut Vec<u8>, level: Level) -> Result<(), AllocError>
     ensures appends { OnOk result (out.new.items ≡ out.old.items ++ number_spelling level) }
     ensures form { OnOk result (IsLevel level) }
 {
     put_number(out, level.get())
 }
 
-pub(crate) fn put_ceiling(out: &mut Vec<u8>, ceiling: Option<Level>) -> Result<(), AllocError>
+/// A ceiling, behind a byte that says whether one is given.
+pub fn put_ceiling(out: &mut Vec<u8>, ceiling: Option<Level>) -> Result<(), AllocError>
     ensures appends { OnOk result (out.new.items ≡ out.old.items ++ ceiling_spelling ceiling) }
     ensures form { OnOk result (IfSome ceiling IsLevel) }
 {
@@ -66,7 +72,8 @@ pub(crate) fn put_ceiling(out: &mut Vec<u8>, ceiling: Option<Level>) -> Result<(
     Ok(())
 }
 
-pub(crate) fn byte_of_side(side: Side) -> u8
+/// The byte that stands for a side.
+pub fn byte_of_side(side: Side) -> u8
     ensures { result ≡ side_byte side }
 {
     match side {

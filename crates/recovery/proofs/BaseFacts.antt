@@ -10,7 +10,7 @@ use Rattle.journal_core.specs.Holds.{IsJournal, Holds}
 use Rattle.journal_core.specs.declared.form.Form.TheVariants.{Slots}
 use Rattle.journal_core.proofs.PartFacts.{journal_holds}
 use Rattle.journal_core.proofs.OneReading.{one_lead, one_reading}
-use Rattle.record_codec.proofs.BaseReading.{bases_unique}
+use Rattle.base_codec.proofs.BaseReading.{bases_unique}
 use Rattle.recovery.specs.StandsFor.{first_start, StandsForBase, SpellsSomeBase, IsBadBase}
 use Rattle.recovery.specs.Reading.{HasBase, FitsIn, start_of}
 use Rattle.recovery.specs.declared.contents.BaseAt.{BaseAt}

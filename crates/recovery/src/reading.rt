@@ -12,10 +12,11 @@ ghost use Rattle.recovery.specs.Reading.{FindsEntries, FindsSpelling, FindsBase,
 use crate::body::{Body, spelling_behind};
 use crate::reader::read_entry;
 use crate::{BaseAt, Contents, Entries, RecoverFault};
+use base_codec::decode_base;
 use command_types::Spelling;
 use journal_core::{Form, Walked, walk};
 use outside::Disk;
-use record_codec::{DecodeFault, decode_base};
+use record_codec::DecodeFault;
 use std::alloc::Global;
 
 // The base of a file, if it has one.

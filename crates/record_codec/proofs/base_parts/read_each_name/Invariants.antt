@@ -1,7 +1,0 @@
-use Rattle.std.proofs.Common.{◌≡◌, ◌-◌}
-use Rattle.record_codec.specs.BaseReading.{names_each}
-use Rattle.record_codec.proofs.LoopFacts.{with_front}
-use Rattle.record_codec.proofs.base_parts.read_each_name.Given as goal
-
-abbrev pub invariant-loop : goal.invariant-loop
-invariant-loop l = with_front l.names.items (names_each (l.count - l.counter) l.unread.rest.now) ≡ names_each l.count l.fn.unread.rest.now

@@ -1,5 +1,0 @@
-use Rattle.record_codec.proofs.BaseReading.{bases_unique}
-use Rattle.record_codec.proofs.laws.base_spellings_are_unique.Goals as goal
-
-pub returns : goal.returns
-returns c = bases_unique
