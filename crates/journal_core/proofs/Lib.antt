@@ -4,6 +4,7 @@ pub mod JournalFacts
 pub mod FoldFacts
 pub mod StartFacts
 pub mod OneReading
+pub mod EndFacts
 pub mod WalkFacts
 pub mod LeadFacts
 pub mod RecordFacts

@@ -4,8 +4,9 @@ use Rattle.std.proofs.lemmas.List.{take_at, take_all, take-append-le, drop-appen
 use Rattle.std.specs.List.{flat_map}
 use Rattle.outside.specs.Disk.{History, HasLength, Reads}
 use Rattle.journal_core.specs.Holds.{limit, frame, slot_place, HasSlots, IsJournal, IsShort, Holds}
-use Rattle.journal_core.specs.Journal.{EndsAs, EndsAt}
+use Rattle.journal_core.specs.Journal.{EndsAs, EndsAt, IsFormOf, HasForm}
 use Rattle.journal_core.specs.Walk.{NamesOffset, IsDamaged, IsFault, IsWalked, FindsFault, bytes_of, base_of}
+use Rattle.journal_core.specs.Lead.{IsLed}
 use Rattle.journal_core.specs.declared.form.Form.{Form}
 use Rattle.journal_core.specs.declared.form.Form.TheVariants.{Short, Plain, SlotsShort, Slots}
 use Rattle.journal_core.specs.declared.walked.Walked.{Walked}
@@ -149,6 +150,28 @@ pub ends_of : (o : Option History) (w : Walked) → IsPiece o (bytes_of w) → I
 ends_of None w is walked = tt
 ends_of (Some h) w is walked =
     (base_of w, walked.1.0, ends_all w.form h.content w.end (base_of w) walked.1.0 (subst (λ (l : List ℕ). EndsAs w.form l w.end (base_of w) walked.1.0) is walked.1.1))
+
+front_form : (form : Form) (file : List ℕ) → limit ≤ length file → IsFormOf form (take limit file) → IsFormOf form file
+front_form Short file long is = absurd (front_not_short file long is)
+front_form SlotsShort file long is = absurd (front_not_short file long is)
+front_form Plain file long is = not_short file long
+front_form (Slots which offset) file long is = not_short file long
+
+form_all : (form : Form) (file : List ℕ) → IsFormOf form (take (min (length file) limit) file) → IsFormOf form file
+form_all form file is = ⊎_elim
+    (λ all. subst (λ (f : List ℕ). IsFormOf form f) all is)
+    (λ part. front_form form file part.0 (subst (λ (f : List ℕ). IsFormOf form f) part.1 is))
+    (all_or_front file)
+
+form_led : (form : Form) (file : List ℕ) (start gate : ℕ) → IsLed file form start gate → IsFormOf form file
+form_led Short file start gate led = inl led.0
+form_led SlotsShort file start gate led = inr (led.0, led.1)
+form_led Plain file start gate led = led.long
+form_led (Slots which offset) file start gate led = led.long
+
+pub form_of : (o : Option History) (w : Walked) → IsPiece o (bytes_of w) → IsWalked w → HasForm o w.form
+form_of None w is walked = tt
+form_of (Some h) w is walked = form_all w.form h.content (subst (λ (l : List ℕ). IsFormOf w.form l) is (form_led w.form (bytes_of w) w.base w.gate walked.0))
 
 damaged_all : (file : List ℕ) (place : ℕ) → IsDamaged (take (min (length file) limit) file) place → IsDamaged file place
 damaged_all file place damaged = ⊎_elim

@@ -1,7 +1,7 @@
 -- Journals on a disk.
 use Rattle.std.specs.Prelude.{◌≡◌, ◌⊎◌, ◌<◌, ℕ, Bool, List, [], ◌∷◌, ◌++◌, length, take, Option, Some, None}
 use Rattle.outside.specs.Disk.{History, IsSettled, overwritten}
-use Rattle.journal_core.specs.Holds.{slots_header, IsJournal, end_in, Holds, Selects}
+use Rattle.journal_core.specs.Holds.{slots_header, IsJournal, end_in, IsShort, Holds, Selects}
 use Rattle.journal_core.specs.Form.{IsSlots, other_slot}
 use Rattle.journal_core.specs.declared.form.Form.{Form}
 use Rattle.journal_core.specs.declared.form.Form.TheVariants.{Short, Plain, SlotsShort, Slots}
@@ -38,6 +38,13 @@ EndsAs SlotsShort file end base records = (length file < 31) × (take 8 file ≡
 EndsAs Plain file end base records = (j : IsJournal Plain file base records) × (end ≡ end_in j)
 EndsAs (Slots which offset) file end base records = (j : IsJournal (Slots which offset) file base records) × (end ≡ end_in j)
 
+-- the form tells a file as short exactly where it is too short to hold anything
+abbrev pub IsFormOf : Form → List ℕ → Type 0
+IsFormOf Short file = IsShort file
+IsFormOf SlotsShort file = IsShort file
+IsFormOf Plain file = IsShort file → ⊥
+IsFormOf (Slots which offset) file = IsShort file → ⊥
+
 -- Each fact below says nothing where the disk tells nothing.
 
 -- the content has fewer than ten bytes
@@ -66,6 +73,11 @@ DiskHolds (Some h) base records = Holds h.content base records
 abbrev pub EndsAt : Option History → Form → ℕ → Type 0
 EndsAt None form end = Unit {0}
 EndsAt (Some h) form end = (base : List ℕ) × (records : List (List ℕ)) × EndsAs form h.content end base records
+
+-- and is short exactly where this form says so
+abbrev pub HasForm : Option History → Form → Type 0
+HasForm None form = Unit {0}
+HasForm (Some h) form = IsFormOf form h.content
 
 -- the disk is settled, and its content is a journal of this form with this base and these records, which ends at this place
 abbrev pub IsAtRest : Option History → Form → ℕ → List ℕ → List (List ℕ) → Type 0

@@ -17,7 +17,7 @@ mod walking;
 pub use form::Form;
 pub use frame::Frame;
 pub use journal::Journal;
-pub use laws::files_hold_one_list;
+pub use laws::{files_end_at_one_place, files_hold_one_list};
 pub use record_bytes::RecordBytes;
 pub use records::{RecordAt, Records};
 pub use walked::{WalkFault, Walked};

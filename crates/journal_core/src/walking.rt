@@ -3,7 +3,7 @@ ghost use Rattle.std.specs.Prelude.{◌≡◌, ◌≢◌, ◌≤◌, ◌<◌, Li
 ghost use Rattle.std.specs.Int.{w64, to_le_bytes};
 ghost use Rattle.outside.specs.Faults.{Rose};
 ghost use Rattle.journal_core.specs.Holds.{slots_header, limit, Selects};
-ghost use Rattle.journal_core.specs.Journal.{EndsAt};
+ghost use Rattle.journal_core.specs.Journal.{EndsAt, HasForm};
 ghost use Rattle.journal_core.specs.Lead.{IsLed, EndsLed, EndsBehind};
 ghost use Rattle.journal_core.specs.Walk.{IsBadLead, IsBreak, IsWalked, FindsRecords, FindsFault, bytes_of};
 
@@ -174,6 +174,7 @@ pub fn walk<D: Disk>(alloc: Global, disk: &mut D) -> Result<Walked, WalkFault>
     ensures walked { IfOk result IsWalked }
     ensures found { IfOk result (FindsRecords (D.history disk.old)) }
     ensures ends { IfOk result (λ w. EndsAt (D.history disk.old) w.form w.end) }
+    ensures form { IfOk result (λ w. HasForm (D.history disk.old) w.form) }
     ensures fault { IfErr result (FindsFault (D.history disk.old)) }
     ensures same { D.history disk.new ≡ D.history disk.old }
     ensures never_falls { D.fault_count disk.old ≤ D.fault_count disk.new }

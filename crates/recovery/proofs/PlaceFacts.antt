@@ -1,7 +1,6 @@
 -- Files by their forms: what one holds, where its first gate stands and where it ends, each in one way.
 use Rattle.std.proofs.Common.{◌≡◌, inl, inr, ℕ, ◌+◌, ◌-◌, List, [], ◌∷◌, length, take, drop, get_or, refl, sym, ◌∙◌, subst, ap, arith}
-use Rattle.std.specs.List.{flat_map}
-use Rattle.journal_core.specs.Holds.{frame, Selects, IsJournal, Holds}
+use Rattle.journal_core.specs.Holds.{Selects, IsJournal, Holds}
 use Rattle.journal_core.specs.Journal.{EndsAs}
 use Rattle.journal_core.specs.Lead.{IsLed}
 use Rattle.journal_core.specs.Walk.{placed, bytes_of, gate_of, IsWalked}
@@ -10,6 +9,7 @@ use Rattle.journal_core.specs.declared.form.Form.TheVariants.{Short, Plain, Slot
 use Rattle.journal_core.specs.declared.walked.Walked.{Walked}
 use Rattle.journal_core.proofs.PartFacts.{journal_holds, other_header}
 use Rattle.journal_core.proofs.OneReading.{one_lead, one_reading}
+use Rattle.journal_core.proofs.EndFacts.{same_end}
 use Rattle.recovery.specs.StandsFor.{HoldsAt}
 
 -- ---- what is held
@@ -136,10 +136,4 @@ one_form (Slots m o) (Slots n p) file b c rs ss j k =
 
 -- and one with slots ends at one place
 pub one_end : (m o n p : ℕ) (file b c : List ℕ) (rs ss : List (List ℕ)) (end last : ℕ) → EndsAs (Slots m o) file end b rs → EndsAs (Slots n p) file last c ss → end ≡ last
-one_end m o n p file b c rs ss end last ends others =
-    let j = ends.0 in
-    let k = others.0 in
-    let one = one_reading file b c rs ss (journal_holds (Slots m o) file b rs j) (journal_holds (Slots n p) file c ss k) in
-    let lead = one_lead (Slots m o) (Slots n p) file b c j.place k.place (omega (arith, j.within)) (omega (arith, k.within)) j.leads k.leads in
-    let sizes : length (flat_map frame rs) ≡ length (flat_map frame ss) = ap (λ (l : List (List ℕ)). length (flat_map frame l)) one.1 in
-    omega (arith, ends.1, others.1, lead.1, sizes)
+one_end m o n p file b c rs ss end last ends others = ends.1 ∙ same_end (Slots m o) (Slots n p) file b c rs ss ends.0 others.0 ∙ sym others.1

@@ -3,7 +3,7 @@ ghost use Rattle.std.specs.Prelude.{◌≡◌, ◌≤◌, List, ℕ, Err, IfOk, 
 ghost use Rattle.command_types.specs.Bases.{CanBeWritten};
 ghost use Rattle.outside.specs.Faults.{Rose};
 ghost use Rattle.journal_core.specs.Holds.{Holds};
-ghost use Rattle.journal_core.specs.Journal.{EndsAt};
+ghost use Rattle.journal_core.specs.Journal.{EndsAt, HasForm};
 ghost use Rattle.journal_core.specs.Walk.{bytes_of, gate_of, placed, IsWalked};
 ghost use Rattle.recovery.specs.Bodies.{changes_of, spelling_after};
 ghost use Rattle.recovery.specs.Reading.{form_read, ends_at, last_spelling, AreSpelled, HasRead, IsFaultAmong, IsBaseOf, IsBaseFault};
@@ -69,6 +69,7 @@ pub fn read_entries<D: Disk>(alloc: Global, disk: &mut D) -> Result<Contents, Re
     // So a machine can be made of it.
     ensures written { IfOk result (λ c. IfSome c.base (λ x. CanBeWritten x.base)) }
     ensures ends { IfOk result (λ c. EndsAt (D.history disk.old) (form_read c.entries) (ends_at c.entries)) }
+    ensures form { IfOk result (λ c. HasForm (D.history disk.old) (form_read c.entries)) }
     ensures spelling { IfOk result (λ c. FindsSpelling (D.history disk.old) (last_spelling c.entries)) }
     ensures only { GivesOnly (D.history disk.old) result }
     ensures fault { IfErr result (FindsFault (D.history disk.old)) }
