@@ -14,7 +14,8 @@ use Rattle.journal_core.specs.Journal.{IsAtRest, IsReady, IsStaged, HoldsEither}
 use Rattle.journal_core.specs.Calls.{IsStaging, IsStagedBeside, IsSwitching, IsSwitched}
 use Rattle.journal_core.proofs.MomentFacts.{leaves_more, torn_done}
 use Rattle.journal_core.proofs.PartFacts.{drop_sum, drop_behind, take_before, bytes_before, bytes_behind, slot_ends, slot_starts, journal_holds}
-use Rattle.journal_core.proofs.JournalFacts.{end_torn, length-staged}
+use Rattle.journal_core.proofs.FrameFacts.{length-staged}
+use Rattle.journal_core.proofs.JournalFacts.{end_torn}
 use Rattle.journal_core.specs.declared.form.Form.{Form}
 use Rattle.journal_core.specs.declared.form.Form.TheVariants.{Short, Plain, SlotsShort, Slots}
 use Rattle.journal_core.specs.declared.staged.Staged.{Staged}

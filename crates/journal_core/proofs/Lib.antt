@@ -1,5 +1,6 @@
 pub mod MomentFacts
 pub mod PartFacts
+pub mod FrameFacts
 pub mod JournalFacts
 pub mod FoldFacts
 pub mod StartFacts

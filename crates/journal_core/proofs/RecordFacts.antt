@@ -13,7 +13,7 @@ use Rattle.journal_core.specs.declared.form.Form.TheVariants.{Short, Plain, Slot
 use Rattle.journal_core.specs.declared.walked.Walked.{Walked}
 use Rattle.journal_core.proofs.PartFacts.{journal_holds}
 use Rattle.journal_core.proofs.OneReading.{one_lead, one_reading}
-use Rattle.journal_core.proofs.LeadFacts.{ends_hold, ahead}
+use Rattle.journal_core.proofs.LeadFacts.{ahead}
 
 abbrev frames : List (List ℕ) → List ℕ
 frames records = flat_map frame records

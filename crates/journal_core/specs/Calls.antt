@@ -3,15 +3,16 @@ use Rattle.std.specs.Prelude.{ℕ, List, [], ◌∷◌, ◌++◌, Option, Some, 
 use Rattle.outside.specs.Disk.{History}
 use Rattle.journal_core.specs.Holds.{Holds}
 use Rattle.journal_core.specs.Form.{begun_form}
-use Rattle.journal_core.specs.Journal.{DiskHolds, EndsAs, IsAtRest, IsStaged, HoldsWithOrWithout, HoldsEither}
+use Rattle.journal_core.specs.Journal.{DiskHolds, EndsAs, IsAtRest, IsStaged, HoldsAllOrNone, HoldsEither}
 use Rattle.journal_core.specs.Moments.{LeavesOnly, MayLeaveYet}
 use Rattle.journal_core.specs.declared.form.Form.{Form}
 use Rattle.journal_core.specs.declared.staged.Staged.{Staged}
 
--- from old to new, bytes were appended to a journal of this form at this place, or in part
-abbrev pub IsAppending : Option History → Option History → Form → ℕ → List ℕ → Type 0
-IsAppending old new form end bytes =
-    (base : List ℕ) (records : List (List ℕ)) → IsAtRest old form end base records → LeavesOnly old new (HoldsWithOrWithout base records bytes)
+-- from old to new, records were appended to a journal of this form at this place, all at once, or in part: each moment leaves none of
+-- them or all
+abbrev pub AreAppending : Option History → Option History → Form → ℕ → List (List ℕ) → Type 0
+AreAppending old new form end more =
+    (base : List ℕ) (records : List (List ℕ)) → IsAtRest old form end base records → LeavesOnly old new (HoldsAllOrNone base records more)
 
 -- until the last moment of it, a crash may leave the records from before
 abbrev pub IsAppendedLast : Option History → Option History → Form → ℕ → Type 0
@@ -19,9 +20,16 @@ IsAppendedLast old new form end =
     (base : List ℕ) (records : List (List ℕ)) → IsAtRest old form end base records → MayLeaveYet old new (λ image. Holds image base records)
 
 -- they were, and the journal ends at the next place
+abbrev pub AreAppended : Option History → Option History → Form → ℕ → ℕ → List (List ℕ) → Type 0
+AreAppended old new form end next more =
+    (base : List ℕ) (records : List (List ℕ)) → IsAtRest old form end base records → IsAtRest new form next base (records ++ more)
+
+-- the same of the bytes of one
+abbrev pub IsAppending : Option History → Option History → Form → ℕ → List ℕ → Type 0
+IsAppending old new form end bytes = AreAppending old new form end (bytes ∷ [])
+
 abbrev pub IsAppended : Option History → Option History → Form → ℕ → ℕ → List ℕ → Type 0
-IsAppended old new form end next bytes =
-    (base : List ℕ) (records : List (List ℕ)) → IsAtRest old form end base records → IsAtRest new form next base (records ++ bytes ∷ [])
+IsAppended old new form end next bytes = AreAppended old new form end next (bytes ∷ [])
 
 -- from old to new, the journal was started, or in part
 abbrev pub IsStarting : Option History → Option History → Type 0

@@ -102,9 +102,13 @@ abbrev pub IsReadyToSwitch : Option History → Form → Option Staged → Type 
 IsReadyToSwitch disk form None = ⊥
 IsReadyToSwitch disk form (Some staged) = IsSlots form × (staged.selected ≡ other_slot form) × ((base : List ℕ) × IsStaged disk staged base)
 
--- the file holds the records from before, or these and one more
+-- the file holds the records from before, or these and all of some more
+abbrev pub HoldsAllOrNone : List ℕ → List (List ℕ) → List (List ℕ) → List ℕ → Type 0
+HoldsAllOrNone base records more file = Holds file base records ⊎ Holds file base (records ++ more)
+
+-- the same of one more
 abbrev pub HoldsWithOrWithout : List ℕ → List (List ℕ) → List ℕ → List ℕ → Type 0
-HoldsWithOrWithout base records bytes file = Holds file base records ⊎ Holds file base (records ++ bytes ∷ [])
+HoldsWithOrWithout base records bytes = HoldsAllOrNone base records (bytes ∷ [])
 
 -- the file holds what it held, or the staged base without records
 abbrev pub HoldsEither : List ℕ → List (List ℕ) → List ℕ → List ℕ → Type 0

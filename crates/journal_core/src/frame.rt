@@ -26,7 +26,7 @@ impl Model for Frame {
 }
 
 // Puts a piece behind the bytes, for which there is room.
-fn push_all(bytes: &mut Vec<u8>, piece: &[u8])
+pub(crate) fn push_all(bytes: &mut Vec<u8>, piece: &[u8])
     requires { vec_len bytes.old + length piece.now ≤ vec_capacity bytes.old }
     ensures items { bytes.new.items ≡ bytes.old.items ++ piece.now }
     ensures len { vec_len bytes.new ≡ vec_len bytes.old + length piece.now }

@@ -1,8 +1,8 @@
 //! A journal on a disk. What each call writes, and what a crash meanwhile leaves (`form.rt` draws the file):
 //!
 //! ```text
-//! append    put(end, record and 00)         old records              the record stands behind the closed gate
-//!           put(end - 1, 01)                old, or old and new      the gate opens
+//! append    put(end, records and 00)        old records              they stand behind the closed gate, with open ones between them
+//!           put(end - 1, 01)                old, or old and new      the gate opens, before all of them at once
 //!           done                            old and new
 //!
 //! stage     put(body's place, body)         old base and records     where nothing is held
@@ -12,15 +12,14 @@
 //!           done                            the new base
 //! ```
 //!
-//! Each `put` is a write and a sync, so the second write of an append finds the record on the disk.
+//! Each `put` is a write and a sync, so the second write of an append finds the records on the disk.
 ghost use Rattle.std.specs.Prelude.{◌≡◌, ◌≤◌, ◌<◌, ◌↔◌, ◌+◌, [], List, ℕ, length, true, false, Some, None, IsTrue, OnOk, OnErr, IfOk, IfErr, IfSome};
 ghost use Rattle.outside.specs.Disk.{IsSettled};
 ghost use Rattle.outside.specs.Faults.{Rose};
 ghost use Rattle.journal_core.specs.Holds.{limit};
 ghost use Rattle.journal_core.specs.Form.{IsSlots, begun_form, fold_end};
 ghost use Rattle.journal_core.specs.Journal.{disk_of, form_of, size_of, staged_of, form_staged, end_staged, is_sound, EndsAt, IsReady, IsStaged, IsReadyToSwitch};
-ghost use Rattle.journal_core.specs.Calls.{IsAppended, IsAppendedLast, IsAppending, IsStarted, IsStarting};
-ghost use Rattle.journal_core.specs.Calls.{IsStaging, IsStagedBeside, IsSwitching, IsSwitched};
+ghost use Rattle.journal_core.specs.Calls.{IsStarted, IsStarting, IsStaging, IsStagedBeside, IsSwitching, IsSwitched};
 
 use crate::form::place_of;
 use crate::put::put;
@@ -29,6 +28,8 @@ use crate::starting::begin;
 use crate::{Form, Frame};
 use outside::{Disk, Failed};
 use units_core::MOST_JOURNAL;
+
+mod appending;
 
 /// The most bytes that a journal has.
 pub(crate) const LIMIT: u64 = MOST_JOURNAL;
@@ -90,51 +91,12 @@ impl<D: Disk> Journal<D> {
         }
     }
 
-    /// Whether a record of this length fits below the limit.
-    pub fn fits(&self, length: u64) -> bool
-        ensures { IsTrue result ↔ (size_of self.now + 4 + length + 1 ≤ limit) }
-    {
-        self.end.saturating_add(length).saturating_add(5) <= LIMIT
-    }
-
     /// Whether the body of a base of this length fits below the limit.
     pub fn fold_fits(&self, length: u64) -> bool
         ensures { IsTrue result ↔ (fold_end (form_of self.now) (size_of self.now) length ≤ limit) }
     {
         let size = length.saturating_add(5);
         self.form.body_place(self.end, size).saturating_add(size) <= LIMIT
-    }
-
-    /// Puts a record behind the others, in four calls of the disk and without memory. When it is done, each crash leaves
-    /// a file that holds it too. A crash at any moment before leaves one that holds the records from before, with the
-    /// new one or without, and until the last moment it may be without. After a fault the journal is to be opened again.
-    pub fn append(&mut self, frame: &Frame) -> Result<(), Failed>
-        requires ready { IsReady (D.history (disk_of self.old)) (form_of self.old) (size_of self.old) }
-        requires fits { size_of self.old + 4 + length frame.now + 1 ≤ limit }
-        requires sound { is_sound self.old ≡ true }
-        ensures done { OnOk result (IsAppended (D.history (disk_of self.old)) (D.history (disk_of self.new)) (form_of self.old) (size_of self.old) (size_of self.new) frame.now) }
-        ensures ready { OnOk result (IsReady (D.history (disk_of self.new)) (form_of self.new) (size_of self.new)) }
-        ensures sound { OnOk result (is_sound self.new ≡ true) }
-        ensures poisoned { OnErr result (is_sound self.new ≡ false) }
-        ensures unstaged { staged_of self.new ≡ None }
-        ensures form { form_of self.new ≡ form_of self.old }
-        ensures size { OnOk result (size_of self.new ≡ size_of self.old + (5 + length frame.now)) }
-        ensures same_size { OnErr result (size_of self.new ≡ size_of self.old) }
-        ensures any_moment { IsAppending (D.history (disk_of self.old)) (D.history (disk_of self.new)) (form_of self.old) (size_of self.old) frame.now }
-        ensures last { IsAppendedLast (D.history (disk_of self.old)) (D.history (disk_of self.new)) (form_of self.old) (size_of self.old) }
-        ensures never_falls { D.fault_count (disk_of self.old) ≤ D.fault_count (disk_of self.new) }
-        ensures failed { OnErr result (Rose (D.fault_count (disk_of self.old)) (D.fault_count (disk_of self.new))) }
-    {
-        self.staged = None;
-        self.sound = false;
-        let behind = frame.behind_gate();
-        let gate = self.end.saturating_sub(1);
-        put(&mut self.disk, self.end, behind)?;
-        // The record has to be on the disk first: behind a gate that is torn open, what stands there counts.
-        put(&mut self.disk, gate, &[1])?;
-        self.end += behind.len() as u64;
-        self.sound = true;
-        Ok(())
     }
 
     /// Puts a base's body where nothing is held, and its offset into the slot that is not selected, in four calls of the disk

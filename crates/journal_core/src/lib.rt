@@ -3,8 +3,10 @@
 
 pub mod form;
 pub mod frame;
+pub mod frames;
 pub mod journal;
 mod laws;
+mod log;
 mod parts;
 mod put;
 pub mod record_bytes;
@@ -16,6 +18,7 @@ mod walking;
 
 pub use form::Form;
 pub use frame::Frame;
+pub use frames::Frames;
 pub use journal::Journal;
 pub use laws::{files_end_at_one_place, files_hold_one_list};
 pub use record_bytes::RecordBytes;

@@ -3,7 +3,7 @@ use Rattle.journal_core.specs.Holds.{limit, slot_place, Holds}
 use Rattle.journal_core.specs.Moments.{LeavesOnly, TornOf, Puts}
 use Rattle.journal_core.specs.Form.{fold_place}
 use Rattle.journal_core.proofs.MomentFacts.{leaves_both}
-use Rattle.journal_core.proofs.JournalFacts.{length-staged}
+use Rattle.journal_core.proofs.FrameFacts.{length-staged}
 use Rattle.journal_core.proofs.FoldFacts.{body_place_is, slot_place_is, first_staging, second_staging, staged_beside, staged_new, beside_ready}
 use Rattle.journal_core.proofs.journal.Journal.stage.Goals as goal
 
