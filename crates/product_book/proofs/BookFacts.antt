@@ -13,7 +13,7 @@ use Rattle.command_types.specs.declared.trade.TradeState.TheVariants.{Alleged, L
 use Rattle.command_types.specs.declared.trade.Side.{Side}
 use Rattle.command_types.specs.declared.trade.Side.TheVariants.{Out, In}
 use Rattle.command_types.specs.Trades.{counts, is_live, is_alleged, gross_of, submitted_count, sold_by, bought_by, pair_sum_of, trade_numbered, with_row, live_row, row_ended_by, row_with_hold}
-use Rattle.product_book.specs.Book.{IsTrade, AreTrades, IsBook, gross_limit, may_affirm}
+use Rattle.product_book.specs.Book.{IsTrade, AreTrades, IsBook, IsEarlier, gross_limit, may_affirm}
 use Rattle.product_book.proofs.PlaceFacts.{there_by, within_by, positive, written_back}
 
 -- what a row adds to a product's gross
@@ -106,7 +106,7 @@ submitted_le rows =
     let most = count_by-le-length (λ row. is_some row.submitter) rows in
     omega arith
 
-submitted_push : (rows : List TradeRow) (row : TradeRow) → IsTrue (is_some row.submitter) → submitted_count (rows ++ row ∷ []) ≡ submitted_count rows + 1
+pub submitted_push : (rows : List TradeRow) (row : TradeRow) → IsTrue (is_some row.submitter) → submitted_count (rows ++ row ∷ []) ≡ submitted_count rows + 1
 submitted_push rows row is =
     let one : submitted_part row ≡ 1 = ap (λ (t : Bool). if t then 1 else 0) is in
     let before = length-filter (λ row. is_some row.submitter) rows in
@@ -255,6 +255,9 @@ alleged_counts Ended h = cc
 
 pub live_keeps : (row : TradeRow) → IsTrue (may_affirm (Some row)) → KeepsTerms row (live_row row)
 live_keeps row alleged = record { number = refl; product = refl; seller = refl; buyer = refl; amount = refl; submitter = refl; state = λ _. alleged_counts row.state alleged }
+
+pub back_keeps : (now was : TradeRow) → IsEarlier now was → KeepsTerms now was
+back_keeps now was e = record { number = e.number; product = e.product; seller = e.seller; buyer = e.buyer; amount = e.amount; submitter = e.submitter; state = λ h. sym e.counts ∙ h }
 
 ended_keeps_by : (t : Bool) (side : Side) (row : TradeRow) → KeepsTerms row (if t then record row { state = Ended } else record row { mark = Some side })
 ended_keeps_by true side row = record { number = refl; product = refl; seller = refl; buyer = refl; amount = refl; submitter = refl; state = λ h. absurd (false≢true h) }

@@ -1,7 +1,7 @@
 -- Lists of numbers at their nodes: where one comes, and where one goes.
-use Rattle.std.proofs.Common.{◌≡◌, ◌≢◌, ℕ, zero, suc, ◌+◌, ◌-◌, ◌≤◌, ◌<◌, ◌==◌, not, cond, Bool, true, false, List, [], ◌∷◌, ◌++◌, length, filter, set, replicate, Option, Some, None, if◌then◌else◌, arith, refl, ap, sym, ◌∙◌, ⊎_elim, length-set}
+use Rattle.std.proofs.Common.{◌≡◌, ◌≢◌, subst, get_or, take, drop, take-append-drop, ℕ, zero, suc, ◌+◌, ◌-◌, ◌≤◌, ◌<◌, ◌==◌, not, cond, Bool, true, false, List, [], ◌∷◌, ◌++◌, length, filter, set, replicate, Option, Some, None, if◌then◌else◌, arith, refl, ap, sym, ◌∙◌, ⊎_elim, length-set}
 use Rattle.std.proofs.lemmas.Bool.{cases_eq, cases_lt, eq-eqb, ne_eqb}
-use Rattle.std.proofs.lemmas.List.{map_push, get_or_past, get_or_push, get_or_append_left, get_or-set_same, get_or-set_other, length_push, length-map, length-replicate}
+use Rattle.std.proofs.lemmas.List.{drop_more, drop_all, length-take-le, map_push, get_or_past, get_or_push, get_or_append_left, get_or-set_same, get_or-set_other, length_push, length-map, length-replicate}
 use Rattle.linked_rows.specs.declared.node.Node.{Node}
 use Rattle.linked_rows.specs.Rows.{value_in, value_of, either, with_last, without}
 use Rattle.product_book.specs.OpenLists.{numbers_in, numbers_of, with_number, without_number, Entries, EachEntry, node_of, IsNoted, AreNoted}
@@ -217,3 +217,80 @@ module _ (lists : List (List (ℕ × ℕ))) (nodes : List (Option Node)) (size s
   pub none_numbers : (number : ℕ) → node_of nodes number ≡ None → numbers_of lists ≡ without_number (numbers_of lists) number
   none_numbers number none =
       numbers_none lists number (each_weaker (IsNoted nodes) (λ e. e.1 ≢ number) lists (λ e h same. let bad : Some (at_place e.0) ≡ None = sym h.node ∙ ap (node_of nodes) same ∙ none in cc) all.noted)
+
+-- nodes with none behind them are those without it
+node_past : (front : List (Option Node)) (i : ℕ) → get_or (front ++ None ∷ []) i None ≡ get_or front i None
+node_past [] zero = refl
+node_past [] (suc i) = refl
+node_past (o ∷ front) zero = refl
+node_past (o ∷ front) (suc i) = node_past front i
+
+set_last : (front : List (Option Node)) (o : Option Node) → set (front ++ o ∷ []) (length front) None ≡ front ++ None ∷ []
+set_last [] o = refl
+set_last (x ∷ front) o = ap (λ (l : List (Option Node)). x ∷ l) (set_last front o)
+
+-- the last trade is forgotten
+pub shorter : (lists : List (List (ℕ × ℕ))) (front : List (Option Node)) (size spare rows_spare room more : ℕ) → AreNoted lists (front ++ None ∷ []) size spare rows_spare room → room ≤ more → AreNoted lists front size spare rows_spare more
+shorter lists front size spare rows_spare room more all wide = record {
+  size_is = all.size_is;
+  noted = each_weaker (IsNoted (front ++ None ∷ [])) (IsNoted front) lists (λ e h. record { some = h.some; node = sym (node_past front (e.1 - 1)) ∙ h.node }) all.noted;
+  held = λ number node some is. all.held number node some (node_past front (number - 1) ∙ is);
+  in_rows = all.in_rows;
+  in_nodes = omega (arith, all.in_nodes, wide);
+}
+
+pub last_taken : (lists : List (List (ℕ × ℕ))) (front : List (Option Node)) (node : Node) (size spare rows_spare room left more : ℕ) → AreNoted lists (front ++ Some node ∷ []) size spare rows_spare room → left ≡ rows_spare + 1 → room ≤ more
+    → AreNoted (without lists node.place) front size spare left more
+last_taken lists front node size spare rows_spare room left more all e wide =
+    let nodes = front ++ Some node ∷ [] in
+    let here : node_of nodes (length front + 1) ≡ Some node = get_or_push front (Some node) None (length front + 1 - 1) (omega arith) in
+    let at : length front + 1 - 1 ≡ length front = omega arith in
+    let gone : set nodes (length front + 1 - 1) None ≡ front ++ None ∷ [] = ap (λ (k : ℕ). set nodes k None) at ∙ set_last front (Some node) in
+    shorter (without lists node.place) front size spare left room more
+    (subst (λ (ns : List (Option Node)). AreNoted (without lists node.place) ns size spare left room) gone
+    (taken lists nodes size spare rows_spare room all (length front + 1) node (omega arith) here left room e refl)) wide
+
+pub last_numbers : (lists : List (List (ℕ × ℕ))) (front : List (Option Node)) (node : Node) (size spare rows_spare room : ℕ) → AreNoted lists (front ++ Some node ∷ []) size spare rows_spare room
+    → numbers_of (without lists node.place) ≡ without_number (numbers_of lists) (length front + 1)
+last_numbers lists front node size spare rows_spare room all =
+    taken_numbers lists (front ++ Some node ∷ []) size spare rows_spare room all (length front + 1) node (omega arith) (get_or_push front (Some node) None (length front + 1 - 1) (omega arith))
+
+pub no_last_numbers : (lists : List (List (ℕ × ℕ))) (front : List (Option Node)) (size spare rows_spare room : ℕ) → AreNoted lists (front ++ None ∷ []) size spare rows_spare room
+    → numbers_of lists ≡ without_number (numbers_of lists) (length front + 1)
+no_last_numbers lists front size spare rows_spare room all =
+    none_numbers lists (front ++ None ∷ []) size spare rows_spare room all (length front + 1) (get_or_push front None None (length front + 1 - 1) (omega arith))
+
+last_split : (nodes : List (Option Node)) (o : Option Node) → 1 ≤ length nodes → get_or nodes (length nodes - 1) None ≡ o → nodes ≡ take (length nodes - 1) nodes ++ o ∷ []
+last_split nodes o some is =
+    let at = length nodes - 1 in
+    let none : drop (at + 1) nodes ≡ [] = drop_all (at + 1) nodes (omega (arith, some)) in
+    sym (take-append-drop at nodes)
+    ∙ ap (λ (l : List (Option Node)). take at nodes ++ l) (drop_more nodes at None (omega (arith, some)) ∙ ap (λ (l : List (Option Node)). get_or nodes at None ∷ l) none)
+    ∙ ap (λ (x : Option Node). take at nodes ++ x ∷ []) is
+
+module _ (lists : List (List (ℕ × ℕ))) (nodes : List (Option Node)) (size spare rows_spare room more : ℕ) (all : AreNoted lists nodes size spare rows_spare room) (some : 1 ≤ length nodes) (wide : room ≤ more) where
+  abbrev front : List (Option Node)
+  front = take (length nodes - 1) nodes
+
+  long : length front + 1 ≡ length nodes
+  long = omega (arith, some, length-take-le (length nodes - 1) nodes (omega arith))
+
+  module _ (node : Node) (is : get_or nodes (length nodes - 1) None ≡ Some node) where
+    split : AreNoted lists (front ++ Some node ∷ []) size spare rows_spare room
+    split = subst (λ (ns : List (Option Node)). AreNoted lists ns size spare rows_spare room) (last_split nodes (Some node) some is) all
+
+    pub forgotten : (left : ℕ) → left ≡ rows_spare + 1 → AreNoted (without lists node.place) front size spare left more
+    forgotten left e = last_taken lists front node size spare rows_spare room left more split e wide
+
+    pub forgotten_numbers : numbers_of (without lists node.place) ≡ without_number (numbers_of lists) (length nodes)
+    forgotten_numbers = last_numbers lists front node size spare rows_spare room split ∙ ap (λ (k : ℕ). without_number (numbers_of lists) k) long
+
+  module _ (is : get_or nodes (length nodes - 1) None ≡ None) where
+    bare : AreNoted lists (front ++ None ∷ []) size spare rows_spare room
+    bare = subst (λ (ns : List (Option Node)). AreNoted lists ns size spare rows_spare room) (last_split nodes None some is) all
+
+    pub forgotten_none : AreNoted lists front size spare rows_spare more
+    forgotten_none = shorter lists front size spare rows_spare room more bare wide
+
+    pub forgotten_none_numbers : numbers_of lists ≡ without_number (numbers_of lists) (length nodes)
+    forgotten_none_numbers = no_last_numbers lists front size spare rows_spare room bare ∙ ap (λ (k : ℕ). without_number (numbers_of lists) k) long

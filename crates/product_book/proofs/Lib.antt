@@ -13,3 +13,4 @@ pub mod ListedFacts
 pub mod WalkFacts
 pub mod LinkedFacts
 pub mod LoadingFacts
+pub mod ShorterFacts

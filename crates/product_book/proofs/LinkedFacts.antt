@@ -7,17 +7,18 @@ use Rattle.command_types.specs.declared.trade.TradeRow.{TradeRow}
 use Rattle.command_types.specs.declared.trade.TradeState.{TradeState}
 use Rattle.command_types.specs.declared.trade.TradeState.TheVariants.{Alleged, Ended, Live}
 use Rattle.command_types.specs.Trades.{counts, is_live, trade_numbered, with_row}
+use Rattle.command_types.specs.Plans.{ended_row}
 use Rattle.product_book.specs.Book.{IsTrade, AreTrades, live_between}
 use Rattle.command_types.specs.Books.{is_between}
 use Rattle.linked_rows.specs.Rows.{list_of}
 use Rattle.product_book.specs.Walks.{rows_at, live_among, EachThere}
 use Rattle.product_book.specs.Kept.{pair_place, trade_place}
 use Rattle.product_book.specs.OpenLists.{OpenView, numbers_in, numbers_of}
-use Rattle.product_book.specs.Links.{is_open_at, AreListed, IsPushed, IsTakenOut, AreLinked}
+use Rattle.product_book.specs.Links.{is_open_at, AreListed, IsPushed, IsTakenOut, IsForgotten, AreLinked}
 use Rattle.product_book.proofs.BookFacts.{KeepsTerms, rows_written, placed, trades_at, trades_set}
 use Rattle.product_book.proofs.PairFacts.{place_low, same_test}
 use Rattle.product_book.proofs.WalkFacts.{rows_open, list_numbers, none_at}
-use Rattle.product_book.proofs.ListedFacts.{count_pushed, count_taken, listed_pushed, listed_taken, listed_same, listed_mapped}
+use Rattle.product_book.proofs.ListedFacts.{count_pushed, count_taken, listed_pushed, listed_taken, listed_forgotten, count_forgotten, listed_same, listed_mapped}
 
 -- lists of no trades
 none_listed : (key : TradeRow → ℕ) (v : OpenView) (n : ℕ) → v.lists ≡ replicate n [] → v.count ≡ 0 → AreListed key v []
@@ -75,6 +76,17 @@ module _ (members products : ℕ) (p q : OpenView) (spare : ℕ) (rows : List Tr
     pair_count = count_taken q q' number second ∙ all.pair_count;
     of_products = listed_taken (λ r. r.product) p rows all.of_products p' members products number old new first are found gone;
     of_pairs = listed_taken (trade_place members) q rows all.of_pairs q' members products number old new second are found gone;
+    product_room = omega (arith, first.spare, all.product_room, e);
+    pair_room = omega (arith, second.spare, all.pair_room, e);
+  }
+
+  pub linked_forgotten : (p' q' : OpenView) (rest : ℕ) (old : TradeRow) (front : List TradeRow) → IsForgotten p p' → IsForgotten q q' → AreTrades members products 1 rows → trade_numbered rows (length rows) ≡ Some old
+      → with_row rows (length rows) (Some (ended_row old)) ≡ front ++ ended_row old ∷ [] → rest ≡ spare → AreLinked members products p' q' rest front
+  linked_forgotten p' q' rest old front first second are found split e = record {
+    product_count = count_forgotten p p' first ∙ all.product_count;
+    pair_count = count_forgotten q q' second ∙ all.pair_count;
+    of_products = listed_forgotten (λ r. r.product) p rows all.of_products p' members products old front first are found split;
+    of_pairs = listed_forgotten (trade_place members) q rows all.of_pairs q' members products old front second are found split;
     product_room = omega (arith, first.spare, all.product_room, e);
     pair_room = omega (arith, second.spare, all.pair_room, e);
   }

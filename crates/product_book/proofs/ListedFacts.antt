@@ -5,9 +5,10 @@ use Rattle.std.proofs.lemmas.List.{length-map, length_push, map-append, append-n
 use Rattle.std.proofs.lemmas.List.Elements.{filter-append}
 use Rattle.command_types.specs.declared.trade.TradeRow.{TradeRow}
 use Rattle.command_types.specs.Trades.{counts, trade_numbered, with_row}
+use Rattle.command_types.specs.Plans.{ended_row}
 use Rattle.product_book.specs.Book.{AreTrades}
-use Rattle.product_book.specs.OpenLists.{OpenView, numbers_in, numbers_of, with_number}
-use Rattle.product_book.specs.Links.{is_open_at, numbers_at, AreListed, IsPushed, IsTakenOut}
+use Rattle.product_book.specs.OpenLists.{OpenView, numbers_in, numbers_of, with_number, without_number}
+use Rattle.product_book.specs.Links.{is_open_at, numbers_at, AreListed, IsPushed, IsTakenOut, IsForgotten}
 use Rattle.product_book.proofs.BookFacts.{placed}
 
 abbrev number_of : TradeRow → ℕ
@@ -26,6 +27,9 @@ count_pushed v w list is = sym (count_of w.lists) ∙ ap (λ (ls : List (List �
 
 pub count_taken : (v w : OpenView) (number : ℕ) → IsTakenOut v w number → length w.lists ≡ length v.lists
 count_taken v w number is = sym (count_of w.lists) ∙ ap (λ (ls : List (List ℕ)). length ls) is.numbers ∙ length-map (numbers_of v.lists) (λ (ns : List ℕ). filter (λ n. not (n == number)) ns) ∙ count_of v.lists
+
+pub count_forgotten : (v w : OpenView) → IsForgotten v w → length w.lists ≡ length v.lists
+count_forgotten v w is = sym (count_of w.lists) ∙ ap (λ (ls : List (List ℕ)). length ls) is.numbers ∙ length-map (numbers_of v.lists) (λ (ns : List ℕ). filter (λ n. not (n == v.count)) ns) ∙ count_of v.lists
 
 -- the first row of more
 first_same : (b : Bool) (r s : TradeRow) (xs ys : List TradeRow) → r.number ≡ s.number → map number_of xs ≡ map number_of ys → map number_of (cond b (r ∷ xs) xs) ≡ map number_of (cond b (s ∷ ys) ys)
@@ -60,6 +64,12 @@ module _ (key : TradeRow → ℕ) (place : ℕ) where
   more_other rows row ne =
       let gone : test row ≡ false = rw (ne_eqb (key row) place ne) refl in
       both rows row ∙ ap (λ (b : Bool). numbers rows ++ map number_of (cond b (row ∷ []) [])) gone ∙ append-nil (numbers rows)
+
+  -- one that has ended
+  pub more_gone : (rows : List TradeRow) (row : TradeRow) → counts row.state ≡ false → numbers (rows ++ row ∷ []) ≡ numbers rows
+  more_gone rows row gone =
+      let off : test row ≡ false = ap (λ (b : Bool). (key row == place) && b) gone ∙ and_false (key row == place) in
+      both rows row ∙ ap (λ (b : Bool). numbers rows ++ map number_of (cond b (row ∷ []) [])) off ∙ append-nil (numbers rows)
 
   -- one that ends
   none_below : (members products k m : ℕ) (rows : List TradeRow) → AreTrades members products k rows → m < k → numbers rows ≡ filter (λ n. not (n == m)) (numbers rows)
@@ -129,6 +139,17 @@ module _ (key : TradeRow → ℕ) (v : OpenView) (rows : List TradeRow) (all : A
             ∙ get_or-map (λ (ns : List ℕ). filter (λ n. not (n == number)) ns) (numbers_of v.lists) place [] [] (omega (arith, there, count_of v.lists))
             ∙ ap (λ (ns : List ℕ). filter (λ n. not (n == number)) ns) (all.listed place there)
             ∙ sym (subst (λ m. numbers_at key place (set rows (number - 1) new) ≡ filter (λ n. not (n == m)) (numbers_at key place rows)) same (ended_at key place members products 1 (number - 1) rows new are gone at.1));
+      }
+
+  -- the last one is forgotten
+  pub listed_forgotten : (w : OpenView) (members products : ℕ) (old : TradeRow) (front : List TradeRow) → IsForgotten v w → AreTrades members products 1 rows → trade_numbered rows (length rows) ≡ Some old
+      → with_row rows (length rows) (Some (ended_row old)) ≡ front ++ ended_row old ∷ [] → AreListed key w front
+  listed_forgotten w members products old front is are found split =
+      let out : IsTakenOut v (record w { count = v.count }) (length rows) = record { numbers = is.numbers ∙ ap (λ (k : ℕ). without_number (numbers_of v.lists) k) all.count; count = refl; spare = is.spare } in
+      let taken = listed_taken (record w { count = v.count }) members products (length rows) old (ended_row old) out are found refl in
+      record {
+        count = omega (arith, is.count, all.count, ap (λ (rs : List TradeRow). length rs) split, length-set rows (length rows - 1) (ended_row old), length_push front (ended_row old));
+        listed = λ place small. taken.listed place small ∙ ap (λ (rs : List TradeRow). numbers_at key place rs) split ∙ more_gone key place front (ended_row old) refl;
       }
 
   pub listed_same : (number : ℕ) (old new : TradeRow) → trade_numbered rows number ≡ Some old → new.number ≡ old.number → key new ≡ key old → counts new.state ≡ counts old.state → AreListed key v (with_row rows number (Some new))

@@ -1,9 +1,9 @@
 -- What contracts see of a book, what each book keeps, and when a trade may be changed.
-use Rattle.std.specs.Prelude.{◌≡◌, ◌≢◌, ℕ, ◌+◌, ◌≤◌, ◌<◌, Bool, false, not, ◌&&◌, ◌||◌, List, [], ◌∷◌, filter, Option, Some, None}
+use Rattle.std.specs.Prelude.{◌≡◌, ◌≢◌, ℕ, ◌+◌, ◌≤◌, ◌<◌, Bool, false, not, ◌&&◌, ◌||◌, List, [], ◌∷◌, filter, is_some, Option, Some, None}
 use Rattle.command_types.specs.declared.trade.TradeRow.{TradeRow}
 use Rattle.command_types.specs.declared.trade.Side.{Side}
 use Rattle.command_types.specs.Books.{is_between}
-use Rattle.command_types.specs.Trades.{is_alleged, is_live, is_ended, is_marked_by, hold_of, gross_of, submitted_count}
+use Rattle.command_types.specs.Trades.{is_alleged, is_live, is_ended, is_marked_by, hold_of, counts, gross_of, submitted_count}
 use Rattle.units_core.specs.declared.limits.TheConstants.{MOST_GROSS, MOST_MEMBERS, MOST_PRODUCTS}
 
 -- the trades, for how many more there is room without memory, and how many members and products there are
@@ -61,3 +61,22 @@ may_free side (Some row) = is_live row.state && hold_of side row
 -- the live trades of a pair in a product, in the order of their numbers
 abbrev pub live_between : ℕ → ℕ → ℕ → List TradeRow → List TradeRow
 live_between product seller buyer rows = filter (λ row. is_between product seller buyer row && is_live row.state) rows
+
+-- a trade may be put back to an earlier form of it: the terms are the same, and either counts for the gross as the other does
+pub record IsEarlier (now was : TradeRow) : Type 0 where
+  pub number : was.number ≡ now.number
+  pub product : was.product ≡ now.product
+  pub seller : was.seller ≡ now.seller
+  pub buyer : was.buyer ≡ now.buyer
+  pub amount : was.amount ≡ now.amount
+  pub submitter : was.submitter ≡ now.submitter
+  pub counts : counts was.state ≡ counts now.state
+
+abbrev pub MayPutBack : Option TradeRow → TradeRow → Type 0
+MayPutBack None was = ⊥
+MayPutBack (Some now) was = IsEarlier now was
+
+-- the trade is there, and a party submitted it
+abbrev pub may_take_back : Option TradeRow → Bool
+may_take_back None = false
+may_take_back (Some row) = is_some row.submitter

@@ -29,6 +29,12 @@ pub record IsTakenOut (before after : OpenView) (number : ℕ) : Type 0 where
   pub count : after.count ≡ before.count
   pub spare : after.spare ≡ before.spare
 
+-- the last number goes, and the count with it
+pub record IsForgotten (before after : OpenView) : Type 0 where
+  pub numbers : numbers_of after.lists ≡ without_number (numbers_of before.lists) before.count
+  pub count : after.count + 1 ≡ before.count
+  pub spare : after.spare ≡ before.spare
+
 -- a list for each product and for each pair, of these trades, and room for what is promised
 pub record AreLinked (members products : ℕ) (by_product by_pair : OpenView) (spare : ℕ) (rows : List TradeRow) : Type 0 where
   pub product_count : length by_product.lists ≡ products

@@ -22,6 +22,8 @@ use std::alloc::{AllocError, Global};
 use std::marker::Model;
 use units_core::{Amount, Day, MemberNo, ProductNo};
 
+mod taking_back;
+
 // Makes room for so many more rows.
 fn make_room(rows: &mut Vec<TradeRow>, count: usize) -> Result<(), AllocError>
     ensures items { rows.new.items ≡ rows.old.items }

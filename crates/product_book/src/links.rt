@@ -3,7 +3,7 @@
 
 ghost use Rattle.std.specs.Prelude.{ℕ, ◌≡◌, ◌-◌, ◌*◌, ◌<◌, ◌≤◌, [], length, max, replicate, OnOk, OnErr, IfOk};
 ghost use Rattle.product_book.specs.Kept.{trade_place};
-ghost use Rattle.product_book.specs.Links.{IsPushed, IsTakenOut};
+ghost use Rattle.product_book.specs.Links.{IsPushed, IsTakenOut, IsForgotten};
 ghost use Rattle.units_core.specs.declared.limits.TheConstants.{MOST_MEMBERS, MOST_PRODUCTS};
 
 use crate::open_lists::OpenLists;
@@ -94,5 +94,17 @@ impl Links {
     {
         self.by_product.take_out(number);
         self.by_pair.take_out(number);
+    }
+
+    /// Takes the last trade out of its lists, and out of their count. It takes no memory.
+    pub(super) fn forget_last(&mut self)
+        requires product { 1 ≤ self.old.by_product.count }
+        requires pair { 1 ≤ self.old.by_pair.count }
+        ensures products { IsForgotten self.old.by_product self.new.by_product }
+        ensures pairs { IsForgotten self.old.by_pair self.new.by_pair }
+        ensures spare { self.new.spare ≡ self.old.spare }
+    {
+        self.by_product.forget_last();
+        self.by_pair.forget_last();
     }
 }

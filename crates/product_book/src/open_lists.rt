@@ -85,6 +85,22 @@ impl OpenLists {
         }
     }
 
+    /// Takes the last trade that was put in out of the count, and out of its list if it stands in one. It takes no memory.
+    pub(super) fn forget_last(&mut self)
+        requires { 1 ≤ self.old.count }
+        ensures numbers { numbers_of self.new.lists ≡ without_number (numbers_of self.old.lists) self.old.count }
+        ensures count { self.new.count + 1 ≡ self.old.count }
+        ensures spare { self.new.spare ≡ self.old.spare }
+    {
+        let at = self.nodes.len() - 1;
+        let Some(node) = self.nodes[at] else {
+            self.nodes.truncate(at);
+            return;
+        };
+        self.rows.unlink(node);
+        self.nodes.truncate(at);
+    }
+
     /// The node of a list's first trade; none exactly where the list is empty, or where there is no such list.
     pub(super) fn first(&self, list: u32) -> Option<Node>
         ensures low { IfSome result (λ _. list < length self.now.lists) }

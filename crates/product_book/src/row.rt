@@ -1,6 +1,6 @@
 //! A trade of the book: where it stands, and what a party's call or a plan's step makes of it.
 
-ghost use Rattle.std.specs.Prelude.{not, ◌≡◌, ◌+◌, ◌<◌, ◌++◌, [], ◌∷◌, Some, IsTrue, is_some, vec_len, vec_capacity};
+ghost use Rattle.std.specs.Prelude.{not, ◌≡◌, ◌+◌, ◌-◌, ◌≤◌, ◌<◌, take, length, ◌++◌, [], ◌∷◌, Some, IsTrue, is_some, vec_len, vec_capacity};
 ghost use Rattle.command_types.specs.Plans.{ended_row, cut_row, made_row};
 ghost use Rattle.command_types.specs.Trades.{counts, trade_numbered, with_row, live_row, row_ended_by, row_with_hold};
 
@@ -33,6 +33,16 @@ pub(super) fn append(rows: &mut Vec<TradeRow>, row: TradeRow)
     ensures capacity { vec_capacity rows.new ≡ vec_capacity rows.old }
 {
     rows.push_reserved(row);
+}
+
+/// Takes the last row away.
+pub(super) fn drop_last(rows: &mut Vec<TradeRow>)
+    requires { 1 ≤ vec_len rows.old }
+    ensures items { rows.new.items ≡ take (length rows.old.items - 1) rows.old.items }
+    ensures len { vec_len rows.new + 1 ≡ vec_len rows.old }
+    ensures capacity { vec_capacity rows.new ≡ vec_capacity rows.old }
+{
+    rows.truncate(rows.len() - 1);
 }
 
 /// Whether the trade has ended.
