@@ -11,6 +11,8 @@ mod based_houses;
 #[cfg(test)]
 mod bases;
 #[cfg(test)]
+mod batches;
+#[cfg(test)]
 mod changed_bytes;
 #[cfg(test)]
 mod crashes;
