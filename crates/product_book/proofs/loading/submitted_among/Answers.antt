@@ -1,6 +1,6 @@
-use Rattle.std.proofs.Common.{◌≡◌, ◌<◌, length, take, true, false, arith}
+use Rattle.std.proofs.Common.{◌<◌, length, take, arith}
 use Rattle.product_book.proofs.BookFacts.{submitted_le}
-use Rattle.product_book.proofs.LoadingFacts.{length_take, submitted_more}
+use Rattle.product_book.proofs.LoadingFacts.{length_take}
 use Rattle.product_book.proofs.loading.submitted_among.Goals as goal
 
 pub overflow_add-count : goal.overflow_add-count
