@@ -14,10 +14,9 @@ pub fn put(into: &mut [u8], at: usize, bytes: &[u8]) -> usize
     ensures end { result ≡ at + length bytes.now }
     ensures text { take result into.new ≡ take at into.old ++ bytes.now }
 {
-    for (i, byte) in bytes.iter().enumerate() {
-        into[at + i] = *byte;
-    }
-    at + bytes.len()
+    let end = at + bytes.len();
+    into[at..end].copy_from_slice(bytes);
+    end
 }
 
 /// Writes a number, of at most 20 digits.
@@ -26,6 +25,9 @@ pub fn put_number(into: &mut [u8], at: usize, number: u64) -> usize
     ensures end { result ≤ at + 20 }
     ensures text { take result into.new ≡ take at into.old ++ decimal number }
 {
+    if number == 0 {
+        return put(into, at, b"0");
+    }
     let mut buffer = Buffer::new();
     put(into, at, buffer.format(number).as_bytes())
 }
