@@ -16,4 +16,6 @@ pub mod DecisionFacts
 pub mod Sends
 pub mod OfferFacts
 pub mod PlaceFacts
+pub mod NearFacts
+pub mod ToldFacts
 pub mod HeldPairs

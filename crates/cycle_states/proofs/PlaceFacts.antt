@@ -4,10 +4,9 @@ use Rattle.network_laws.specs.declared.rows.LimitRow.{LimitRow}
 use Rattle.network_laws.specs.declared.rows.Row.{Row}
 use Rattle.network_laws.specs.Limits.{IsLimitCursor}
 use Rattle.network_laws.specs.Networks.{IsCursor}
-use Rattle.cycle_states.specs.declared.machine.near_members.BothLimits.{BothLimits}
 use Rattle.cycle_states.specs.declared.machine.pair_places.PairPlaces.{PairPlaces}
 use Rattle.cycle_states.specs.declared.machine.part.Part.{Part}
-use Rattle.cycle_states.specs.PairPlaces.{AreAtBoth, AreBeforeBoth, ArePast, IsAtPair, IsPastLimits, IsPastRows, pair_place}
+use Rattle.cycle_states.specs.PairPlaces.{ArePast, IsAtPair, IsPastLimits, IsPastRows, pair_place}
 
 -- a cursor has passed what stands before its place
 pub limits_before : (rows all : List LimitRow) (m w : ℕ) → rows ≡ all → m ≤ length rows → IsLimitCursor rows m w → IsPastLimits all m w
@@ -40,11 +39,4 @@ nothing_passed part w = record {
   limit = record { end = omega arith; before = λ k d l. absurd (omega (arith, l)) };
   now = record { end = omega arith; before = λ k d l. absurd (omega (arith, l)) };
   next = record { end = omega arith; before = λ k d l. absurd (omega (arith, l)) };
-}
-
--- from one member's pairs on to those of the next
-pub both_passed : (part : Part) (member other : ℕ) (at : BothLimits) → AreAtBoth part member other at → AreBeforeBoth part member (other + 1) at
-both_passed part member other at is = record {
-  sold = limits_later part.problem.now.limits.rows at.sold (pair_place member other) (pair_place member (other + 1)) is.before.sold (omega arith);
-  bought = limits_later part.problem.now.limits.rows at.bought (pair_place other member) (pair_place (other + 1) member) is.before.bought (omega arith);
 }

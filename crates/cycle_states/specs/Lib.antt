@@ -1,6 +1,7 @@
 pub mod Effects
 pub mod Machine
 pub mod MemberProofs
+pub mod NearMembers
 pub mod Offers
 pub mod PairPlaces
 pub mod Replayed

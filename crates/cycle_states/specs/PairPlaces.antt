@@ -4,7 +4,6 @@ use Rattle.network_laws.specs.declared.rows.LimitRow.{LimitRow}
 use Rattle.network_laws.specs.declared.rows.Row.{Row}
 use Rattle.network_laws.specs.Limits.{IsLimitCursor, limit_place}
 use Rattle.network_laws.specs.Networks.{IsCursor, place}
-use Rattle.cycle_states.specs.declared.machine.near_members.BothLimits.{BothLimits}
 use Rattle.cycle_states.specs.declared.machine.pair_places.PairPlaces.{PairPlaces}
 use Rattle.cycle_states.specs.declared.machine.part.Part.{Part}
 
@@ -34,14 +33,3 @@ pub record IsAtPair (part : Part) (at : PairPlaces) : Type 0 where
   pub limit : IsLimitCursor part.problem.now.limits.rows at.limit (pair_place at.seller at.buyer)
   pub now : IsCursor part.problem.now.network.rows at.now (pair_place at.seller at.buyer)
   pub next : IsCursor part.solution.now.network.rows at.next (pair_place at.seller at.buyer)
-
--- all limits that are passed stand before a member's pairs with another
-pub record AreBeforeBoth (part : Part) (member other : ℕ) (at : BothLimits) : Type 0 where
-  pub sold : IsPastLimits part.problem.now.limits.rows at.sold (pair_place member other)
-  pub bought : IsPastLimits part.problem.now.limits.rows at.bought (pair_place other member)
-
--- and they are all those before them
-pub record AreAtBoth (part : Part) (member other : ℕ) (at : BothLimits) : Type 0 where
-  pub before : AreBeforeBoth part member other at
-  pub sold : IsLimitCursor part.problem.now.limits.rows at.sold (pair_place member other)
-  pub bought : IsLimitCursor part.problem.now.limits.rows at.bought (pair_place other member)

@@ -2,11 +2,8 @@ use Rattle.std.proofs.Common.{◌≡◌, ◌++◌}
 use Rattle.command_types.specs.Books.{listed_below}
 use Rattle.command_types.specs.MemberProofs.{potential_row}
 use Rattle.cycle_states.specs.MemberProofs.{part_in}
-use Rattle.cycle_states.specs.PairPlaces.{AreBeforeBoth}
 use Rattle.cycle_states.proofs.machine.near_members.add_potentials.Given as goal
 
 abbrev pub invariant-loop-other : goal.invariant-loop-other
-invariant-loop-other l = record {
-  rows : l.rows.items ≡ l.initial.rows.items ++ listed_below l.other (potential_row (part_in l.part) l.member);
-  before : AreBeforeBoth l.part l.member l.other l.at;
-}
+invariant-loop-other l =
+    l.rows.items ≡ l.initial.rows.items ++ listed_below l.other (potential_row (part_in l.part) l.member)
