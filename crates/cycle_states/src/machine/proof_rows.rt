@@ -65,7 +65,8 @@ fn is_told(part: &Part, now: usize, seller: u16, buyer: u16) -> bool
     amount_now(part, now, seller, buyer) > 0 || may_grow(part.mode, part.members, seller, buyer)
 }
 
-// Adds such a pair, and gives the place at which it was found.
+// Adds such a pair, and gives the place at which it was found. It is kept out of the walk over the pairs.
+#[inline(never)]
 fn add_told(
     rows: &mut Vec<ProofRow>,
     part: &Part,
