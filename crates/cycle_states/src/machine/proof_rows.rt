@@ -86,6 +86,7 @@ fn add_told(
 }
 
 // Adds a pair if it is told, and gives a place that is not past it.
+#[inline(always)]
 fn add_pair(
     rows: &mut Vec<ProofRow>,
     part: &Part,
