@@ -3,8 +3,10 @@
 ghost use Rattle.std.specs.Prelude.{◌≡◌, ◌<◌, ◌≤◌, ◌^◌, length, true, Some, OnOk};
 ghost use Rattle.journal_core.specs.Journal.{disk_of, form_of, size_of, is_sound, IsReady};
 
-use crate::disks::{BEGUN, BEGUN_ONE, ONE, append_to, disk_of, holds, is_walked, started};
-use journal_core::{Frame, Journal, walk};
+use crate::disks::{
+    BEGUN, BEGUN_ONE, ONE, append_to, disk_of, holds, is_walked, started, walked_over,
+};
+use journal_core::{Frame, Journal, Walked};
 use outside::MemoryDisk;
 use std::alloc::Global;
 use std::test::Fail;
@@ -13,7 +15,29 @@ use std::test::Fail;
 const ONE_AND_AB: [u8; 46] =
     *b"OTCJRNL1\x01\x19\0\0\0\0\0\0\0\x01A\x01\x01A\x01B\x01P\x0a\0\0\0\0\0\0\0\xea\x07\x03\x02\0\x02\0\0\0AB\0";
 
-/// Whether a record that is appended to this file is the last that a crash leaves, with its gate there, in this file.
+/// Whether a crash leaves this file once a record was appended to that one.
+fn leaves(alloc: Global, before: &[u8], record_bytes: &[u8], after: &[u8]) -> Result<bool, Fail>
+    requires { length record_bytes.now < 2 ^ 32 }
+{
+    let (disk, answer) = append_to(alloc, disk_of(alloc, before)?, record_bytes)?;
+    let mut disk = disk.crash();
+    Ok(answer.is_ok() && holds(&mut disk, after)?)
+}
+
+/// Whether the last record that a walk found, of at most nine, has these bytes, with its gate there.
+fn ends_with(walked: &Walked, record_bytes: &[u8], at: u64) -> bool {
+    let mut records = walked.records();
+    let mut is_last = false;
+    for _ in 0..9 {
+        let Some(found) = records.next() else {
+            break;
+        };
+        is_last = found.at == at && found.bytes == record_bytes;
+    }
+    is_last
+}
+
+/// Whether a crash leaves this file, of which the record is the last, with its gate there.
 fn is_appended(
     alloc: Global,
     before: &[u8],
@@ -23,18 +47,11 @@ fn is_appended(
 ) -> Result<bool, Fail>
     requires { length record_bytes.now < 2 ^ 32 }
 {
-    let (disk, answer) = append_to(alloc, disk_of(alloc, before)?, record_bytes)?;
-    let mut disk = disk.crash();
-    let walked = walk(alloc, &mut disk)?;
-    let mut records = walked.records();
-    let mut is_last = false;
-    for _ in 0..9 {
-        let Some(found) = records.next() else {
-            break;
-        };
-        is_last = found.at == at && found.bytes == record_bytes;
+    let is_left = leaves(alloc, before, record_bytes, after)?;
+    match walked_over(alloc, after)? {
+        Ok(walked) => Ok(is_left && ends_with(&walked, record_bytes, at)),
+        Err(_) => Ok(false),
     }
-    Ok(answer.is_ok() && is_last && holds(&mut disk, after)?)
 }
 
 #[test]
@@ -79,14 +96,22 @@ fn fill_and_append(
     Ok(())
 }
 
+/// Appends three records, all of them with one frame.
+fn append_three(alloc: Global, journal: &mut Journal<MemoryDisk>) -> Result<(), Fail>
+    requires ready { IsReady (Some (disk_of journal.old).history) (form_of journal.old) (size_of journal.old) }
+    requires sound { is_sound journal.old ≡ true }
+{
+    let mut frame = Frame::short(alloc)?;
+    fill_and_append(journal, &mut frame, b"ABC")?;
+    fill_and_append(journal, &mut frame, b"")?;
+    fill_and_append(journal, &mut frame, b"D")
+}
+
 #[test]
 fn a_frame_is_filled_with_one_record_after_another(rt: HostRuntime) -> Result<(), Fail> {
     let alloc = rt.alloc();
     let mut journal = started(alloc, disk_of(alloc, b"")?)?;
-    let mut frame = Frame::short(alloc)?;
-    fill_and_append(&mut journal, &mut frame, b"ABC")?;
-    fill_and_append(&mut journal, &mut frame, b"")?;
-    fill_and_append(&mut journal, &mut frame, b"D")?;
+    append_three(alloc, &mut journal)?;
     let mut disk = journal.end().crash();
     let file =
         b"OTCJRNLC\0\x19\0\0\0\0\0\0\0\0\0\0\0\0\0\0\0\0\0\0\0\x01\x03\0\0\0ABC\x01\0\0\0\0\x01\x01\0\0\0D\0";
@@ -113,9 +138,9 @@ fn a_crash_leaves_the_record_where_its_gate_is_open(rt: HostRuntime) -> Result<(
     let cases = [
         (&ONE_AND_AB[..40], (1, 39)),
         (&ONE_AND_AB[..44], (1, 39)),
-        (ONE_AND_AB.as_slice(), (1, 39)),
-        (torn.as_slice(), (1, 39)),
-        (whole.as_slice(), (2, 46)),
+        (&ONE_AND_AB, (1, 39)),
+        (&torn, (1, 39)),
+        (&whole, (2, 46)),
     ];
     for (file, found) in cases {
         assert!(rt; is_walked(rt.alloc(), file, Ok(found))?);

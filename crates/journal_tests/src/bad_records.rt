@@ -1,5 +1,6 @@
 //! Records that break the grammar: the first byte of the first field that does, that is cut, or that is too many.
 
+use crate::disks::with;
 use crate::records::{AFFIRM, TRADE};
 use record_codec::{DecodeFault, Spelling, decode};
 use std::alloc::Global;
@@ -18,23 +19,14 @@ fn is_told_as(alloc: Global, bytes: &[u8], form: Spelling, offset: Option<usize>
     }
 }
 
-/// A record with another byte at a place.
-fn with<const N: usize>(record: [u8; N], place: usize, byte: u8) -> [u8; N] {
-    let mut record = record;
-    if let Some(there) = record.get_mut(place) {
-        *there = byte;
-    }
-    record
-}
-
 #[test]
 fn fields_of_a_trade(rt: HostRuntime) -> Result<(), Fail> {
-    let amount = with(TRADE, 13, 0);
-    let buyer = with(amount, 9, 0);
-    let seller = with(buyer, 8, 0x61);
-    let party = with(seller, 4, 17);
-    let february = with(with(TRADE, 24, 30), 23, 2);
-    let april = with(february, 23, 4);
+    let amount = with(TRADE, 13, &[0]);
+    let buyer = with(amount, 9, &[0]);
+    let seller = with(buyer, 8, &[0x61]);
+    let party = with(seller, 4, &[17]);
+    let february = with(with(TRADE, 24, &[30]), 23, &[2]);
+    let april = with(february, 23, &[4]);
     let cases = [
         (amount, Some(13)),
         (buyer, Some(9)),
@@ -53,7 +45,7 @@ fn fields_of_a_trade(rt: HostRuntime) -> Result<(), Fail> {
 fn an_unknown_tag(rt: HostRuntime) -> Result<(), Fail> {
     for tag in [0, 13] {
         assert!(rt;
-            is_told(rt.alloc(), &with(AFFIRM, 6, tag), Some(6)),
+            is_told(rt.alloc(), &with(AFFIRM, 6, &[tag]), Some(6)),
             "{tag}"
         );
     }
@@ -65,14 +57,14 @@ fn fields_of_a_tolerance(rt: HostRuntime) -> Result<(), Fail> {
     let whole = [
         7, 0, 0, 0, 1, 0x41, 6, 1, 0x42, 1, 0x50, 1, 4, 0, 0, 0, 0, 0, 0, 0, 0,
     ];
-    let ceiling = with(whole, 20, 2);
-    let floor = with(ceiling, 19, 0x7f);
+    let ceiling = with(whole, 20, &[2]);
+    let floor = with(ceiling, 19, &[0x7f]);
     let cases = [
         (whole, None),
-        (with(whole, 20, 1), Some(21)),
+        (with(whole, 20, &[1]), Some(21)),
         (ceiling, Some(20)),
         (floor, Some(12)),
-        (with(floor, 11, 2), Some(11)),
+        (with(floor, 11, &[2]), Some(11)),
     ];
     for (record, offset) in cases {
         assert!(rt; is_told(rt.alloc(), &record, offset), "{offset:?}");
@@ -85,8 +77,8 @@ fn the_mode_of_a_beginning(rt: HostRuntime) -> Result<(), Fail> {
     let free = [0, 0, 0, 0, 1, 0x41, 8, 1, 0, 0, 0, 0, 0, 0, 0, 2];
     let cases = [
         (free, None),
-        (with(free, 15, 3), Some(15)),
-        (with(free, 15, 255), Some(15)),
+        (with(free, 15, &[3]), Some(15)),
+        (with(free, 15, &[255]), Some(15)),
     ];
     for (record, offset) in cases {
         assert!(rt; is_told(rt.alloc(), &record, offset), "{offset:?}");
@@ -106,7 +98,7 @@ fn cut_fields_and_a_byte_too_many(rt: HostRuntime) -> Result<(), Fail> {
         (&TRADE[..20], Some(13)),
         (&TRADE[..24], Some(21)),
         (&AFFIRM[..14], Some(7)),
-        (long.as_slice(), Some(15)),
+        (&long, Some(15)),
         (&long[..15], None),
     ];
     for (record, offset) in cases {
@@ -122,12 +114,12 @@ fn a_moment_has_a_most_and_stands_in_the_second_spelling(rt: HostRuntime) -> Res
     last[8..].copy_from_slice(&AFFIRM);
     let cases = [
         (last.as_slice(), Spelling::Second, None),
-        (&with(last, 0, 0x80), Spelling::Second, Some(0)),
+        (&with(last, 0, &[0x80]), Spelling::Second, Some(0)),
         (&last[..7], Spelling::Second, Some(0)),
         (&last[..11], Spelling::Second, Some(8)),
-        (&with(last, 14, 13), Spelling::Second, Some(14)),
+        (&with(last, 14, &[13]), Spelling::Second, Some(14)),
         (&AFFIRM, Spelling::Second, Some(0)),
-        (last.as_slice(), Spelling::First, Some(4)),
+        (&last, Spelling::First, Some(4)),
         (b"MOMENTS2", Spelling::First, Some(4)),
         (b"MOMENTS2", Spelling::Second, Some(0)),
     ];

@@ -1,25 +1,31 @@
 //! Houses on files that hold a base.
 
-use crate::bases::{AT, based, based_with};
-use crate::houses::{
-    content_of, crashed, disk_below, has_gross, house_on, is_found, is_told, large_disk_of,
-};
-use crate::openings::{answer_to, damaged};
-use command_types::What;
+use crate::bases::{AT, based};
+use crate::disks::with;
+use crate::house_lives::{End, Life, Party, Said, Step, Told, is_found, is_lived};
+use crate::houses::{answer_to, content_opened, damaged, large_disk_of};
 use std::test::Fail;
+
+const AFFIRMED_BEHIND_THREE: [Step; 2] = [
+    (Party::Operator, Said::Nets, 3, Told::Gross(7)),
+    (Party::B, Said::Affirm(1), 4, Told::Done),
+];
 
 // The base has position 3 and a live trade of 7; the record behind it makes one of 10 live.
 #[test]
 fn a_house_goes_on_from_a_base(rt: HostRuntime) -> Result<(), Fail> {
     let alloc = rt.alloc();
-    let file = based();
-    assert!(rt; is_found(&rt, alloc, large_disk_of(alloc, &file)?, 4, 17)?);
-    let mut closed = file;
-    closed[150] = 0;
-    let mut house = house_on(&rt, alloc, large_disk_of(alloc, &closed)?)?;
-    assert!(rt; house.length() == 3 && has_gross(&mut house, 3, 7));
-    assert!(rt; is_told(&mut house, b"B", What::Affirm { trade: 1 }, 4, None));
-    assert!(rt; is_found(&rt, alloc, crashed(disk_below(house)), 4, 17)?);
+    let mut file = based();
+    assert!(rt; is_found(&rt, alloc, large_disk_of(alloc, &file)?, (4, 17))?);
+    file[150] = 0;
+    let life = Life {
+        file: &file,
+        failing: 0,
+        first: &[],
+        then: &AFFIRMED_BEHIND_THREE,
+        end: End::Open,
+    };
+    assert!(rt; is_lived(&rt, alloc, &life, (4, 17), (4, 17))?);
     Ok(())
 }
 
@@ -27,12 +33,11 @@ fn a_house_goes_on_from_a_base(rt: HostRuntime) -> Result<(), Fail> {
 #[test]
 fn behind_a_base_of_the_second_mark_changes_have_moments(rt: HostRuntime) -> Result<(), Fail> {
     let alloc = rt.alloc();
-    let mut file = based_with(AT, &[2]);
+    let mut file = with(based(), AT, &[2]);
     assert!(rt; answer_to(&rt, alloc, &file)? == damaged(150));
     file[150] = 0;
-    let mut house = house_on(&rt, alloc, large_disk_of(alloc, &file)?)?;
-    assert!(rt; house.length() == 3 && has_gross(&mut house, 3, 7));
-    assert!(rt; content_of(alloc, &mut crashed(disk_below(house)))?.as_slice() == file.as_slice());
+    assert!(rt; is_found(&rt, alloc, large_disk_of(alloc, &file)?, (3, 7))?);
+    assert!(rt; content_opened(&rt, alloc, &file)?.as_slice() == file.as_slice());
     Ok(())
 }
 
@@ -69,7 +74,7 @@ fn a_base_that_does_not_fit_the_roster_is_damage_at_its_offset(
         (98, &[1]),
     ];
     for (place, bytes) in cases {
-        let file = based_with(AT.saturating_add(place), bytes);
+        let file = with(based(), AT.saturating_add(place), bytes);
         assert!(rt;
             answer_to(&rt, rt.alloc(), &file)? == damaged(25),
             "{bytes:?} at {place}"

@@ -1,13 +1,14 @@
 //! Bases, read from bytes that were written by hand and written again, and files that hold one in front of their records.
 
+ghost use Rattle.std.specs.Prelude.{IfSome};
 ghost use Rattle.command_types.specs.Bases.{CanBeWritten};
 
-use crate::disks::{BEGUN, TWO, damaged, disk_of, is_read};
-use crate::records::named;
+use crate::disks::{BEGUN, TWO, damaged, is_read, read_over, with};
+use crate::houses::named;
 use base_codec::{decode_base, encode_base};
 use command_types::{Base, Listed, Side, ToleranceRow, TradeRow, TradeState};
 use record_codec::DecodeFault;
-use recovery::{BaseAt, Contents, RecoverFault, read_entries};
+use recovery::{BaseAt, Entries, RecoverFault};
 use std::alloc::Global;
 use std::test::Fail;
 use units_core::{MemberNo, ProductNo};
@@ -82,55 +83,81 @@ fn is_the_alleged_trade(row: &TradeRow) -> bool {
 }
 
 /// Whether all that the bytes say stands in the base.
-fn is_the_base(base: &Base) -> Result<bool, Fail> {
+fn is_the_base(base: &Base) -> bool {
     let is_numbered = (base.position, base.cycle, base.version) == (3, 1, 2);
-    let members = [named(b"A")?, named(b"B")?, named(b"C")?];
+    let members = [named(b"A"), named(b"B"), named(b"C")];
     let is_named = base.members.rows() == members.as_slice();
-    let products = [named(b"P")?];
-    let has_products = base.products.rows() == products.as_slice();
+    let has_products = base.products.rows() == [named(b"P")].as_slice();
     let has_rows = match (base.tolerances.rows(), base.trades.rows()) {
         ([setting], [alleged, live]) => {
             is_the_setting(setting) && is_the_alleged_trade(alleged) && is_the_live_trade(live)
         }
         _ => false,
     };
-    Ok(is_numbered && is_named && has_products && has_rows)
+    is_numbered && is_named && has_products && has_rows
 }
 
 #[test]
 fn a_base_is_read(rt: HostRuntime) -> Result<(), Fail> {
     let base = decode_base(rt.alloc(), &BASE)?;
-    assert!(rt; is_the_base(&base)?);
+    assert!(rt; is_the_base(&base));
     Ok(())
+}
+
+/// The place of a file's base, and whether it is that base.
+fn told_of(base: &Option<BaseAt>) -> Option<(u64, bool)> {
+    match base {
+        Some(BaseAt { at, base }) => Some((*at, is_the_base(base))),
+        None => None,
+    }
+}
+
+/// The place of the gate of the first entry.
+fn first_gate(alloc: Global, entries: &Entries) -> Result<Option<u64>, Fail> {
+    match entries.reader().next(alloc)? {
+        Some(found) => Ok(Some(found.at)),
+        None => Ok(None),
+    }
+}
+
+/// What a file has: the place of its base, and whether it is that base; the place of its first entry's gate, and the end.
+fn read_of(alloc: Global, bytes: &[u8]) -> Result<(Option<(u64, bool)>, Option<u64>, u64), Fail> {
+    match read_over(alloc, bytes)? {
+        Ok(read) => {
+            let first = first_gate(alloc, &read.entries)?;
+            Ok((told_of(&read.base), first, read.entries.end()))
+        }
+        Err(_) => Err(Fail::new("it is not read")),
+    }
 }
 
 #[test]
 fn a_base_stands_in_front_of_the_records(rt: HostRuntime) -> Result<(), Fail> {
-    let alloc = rt.alloc();
-    let mut disk = disk_of(alloc, &based())?;
-    let Contents { base, entries } = read_entries(alloc, &mut disk)?;
-    let Some(BaseAt { at, base }) = base else {
-        return Err(Fail::new("there is no base"));
-    };
-    let mut reader = entries.reader();
-    let first = reader.next(alloc)?.map(|found| found.at);
-    assert!(rt; at == 25 && is_the_base(&base)? && first == Some(150) && entries.end() == 171);
+    assert!(rt; read_of(rt.alloc(), &based())? == (Some((25, true)), Some(150), 171));
     Ok(())
+}
+
+/// The base, written.
+fn written(alloc: Global, base: &Option<BaseAt>) -> Result<Vec<u8>, Fail>
+    requires { IfSome base.now (λ found. CanBeWritten found.base) }
+{
+    match base {
+        Some(found) => Ok(encode_base(alloc, &found.base)?),
+        None => Err(Fail::new("there is no base")),
+    }
 }
 
 /// The base that is read of a file, written again.
 fn written_again(alloc: Global, file: &[u8]) -> Result<Vec<u8>, Fail> {
-    let mut disk = disk_of(alloc, file)?;
-    let Contents { base, entries: _ } = read_entries(alloc, &mut disk)?;
-    let Some(BaseAt { at: _, base }) = base else {
-        return Err(Fail::new("there is no base"));
-    };
-    Ok(encode_base(alloc, &base)?)
+    match read_over(alloc, file)? {
+        Ok(read) => written(alloc, &read.base),
+        Err(_) => Err(Fail::new("it is not read")),
+    }
 }
 
 #[test]
 fn a_base_is_written_as_it_was_read_with_the_mark_of_moments(rt: HostRuntime) -> Result<(), Fail> {
-    assert!(rt; written_again(rt.alloc(), &based())?.as_slice() == with(0, &[2]).as_slice());
+    assert!(rt; written_again(rt.alloc(), &based())?.as_slice() == with(BASE, 0, &[2]).as_slice());
     Ok(())
 }
 
@@ -154,22 +181,10 @@ fn an_empty_base_is_written(rt: HostRuntime) -> Result<(), Fail> {
     let alloc = rt.alloc();
     let mut bytes = [0; 45];
     (bytes[0], bytes[1], bytes[9], bytes[17]) = (2, 7, 8, 9);
-    assert!(rt; encode_base(alloc, &empty(alloc))?.as_slice() == bytes.as_slice());
+    let empty = empty(alloc);
+    assert!(rt; encode_base(alloc, &empty)?.as_slice() == bytes.as_slice());
     assert!(rt; decode_base(alloc, &bytes)?.position == 7);
     Ok(())
-}
-
-/// The base with other bytes from a place on.
-fn with(place: usize, bytes: &[u8]) -> [u8; 121] {
-    let mut base = BASE;
-    let mut place = place;
-    for byte in bytes {
-        if let Some(there) = base.get_mut(place) {
-            *there = *byte;
-        }
-        place = place.saturating_add(1);
-    }
-    base
 }
 
 /// Whether these bytes spell a base, or are told as none at this byte.
@@ -217,7 +232,7 @@ fn each_field_of_a_base_has_its_limits(rt: HostRuntime) -> Result<(), Fail> {
     ];
     for (place, bytes, offset) in cases {
         assert!(rt;
-            is_told(rt.alloc(), &with(place, bytes), offset),
+            is_told(rt.alloc(), &with(BASE, place, bytes), offset),
             "{bytes:?} at {place}"
         );
     }
@@ -233,19 +248,6 @@ fn each_cut_of_a_base_spells_none(rt: HostRuntime) -> Result<(), Fail> {
         );
     }
     Ok(())
-}
-
-/// The file with other bytes from a place on.
-pub fn based_with(place: usize, bytes: &[u8]) -> [u8; 171] {
-    let mut file = based();
-    let mut place = place;
-    for byte in bytes {
-        if let Some(there) = file.get_mut(place) {
-            *there = *byte;
-        }
-        place = place.saturating_add(1);
-    }
-    file
 }
 
 #[test]
@@ -270,7 +272,7 @@ fn a_base_that_is_not_spelled_is_damage_at_its_offset(rt: HostRuntime) -> Result
     ];
     for (place, bytes, answer) in cases {
         assert!(rt;
-            is_read(alloc, &based_with(place, bytes), answer)?,
+            is_read(alloc, &with(based(), place, bytes), answer)?,
             "{bytes:?} at {place}"
         );
     }
@@ -291,8 +293,8 @@ fn damage_of_the_journal_then_of_the_base_then_of_a_record_is_told(
     open[170] = 1;
     let cases = [
         (record.as_slice(), damaged(150)),
-        (both.as_slice(), damaged(25)),
-        (open.as_slice(), damaged(170)),
+        (&both, damaged(25)),
+        (&open, damaged(170)),
         (&both[..170], damaged(170)),
         (&both[..160], damaged(150)),
     ];

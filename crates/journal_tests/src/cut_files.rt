@@ -83,8 +83,8 @@ fn damage_of_the_journal_decides_over_a_record_before_it(rt: HostRuntime) -> Res
     let cases = [
         (&bad[..58], 58),
         (&bad[..50], 38),
-        (open.as_slice(), 58),
-        (headless.as_slice(), 0),
+        (&open, 58),
+        (&headless, 0),
     ];
     for (file, place) in cases {
         assert!(rt; is_read(rt.alloc(), file, damaged(place))?, "at {place}");
@@ -100,8 +100,8 @@ fn a_record_of_less_or_more_than_a_change_spells_none(rt: HostRuntime) -> Result
     long[9] = 26;
     let cases = [
         (b"OTCJRNL1\x01\0\0\0\0\0".as_slice(), damaged(8)),
-        (long.as_slice(), damaged(8)),
-        (whole.as_slice(), Ok((1, 39))),
+        (&long, damaged(8)),
+        (&whole, Ok((1, 39))),
     ];
     for (file, answer) in cases {
         assert!(rt; is_read(rt.alloc(), file, answer)?, "{answer:?}");
@@ -118,13 +118,13 @@ fn what_is_short_or_behind_a_closed_gate_is_not_read(rt: HostRuntime) -> Result<
     none[8] = 7;
     let cases = [
         (one.as_slice(), (1, 39)),
-        (none.as_slice(), (0, 9)),
+        (&none, (0, 9)),
         (&none[..30], (0, 9)),
-        (b"".as_slice(), (0, 30)),
-        (b"\x01\x01\x01".as_slice(), (0, 30)),
-        (b"OTCJRNL1\0".as_slice(), (0, 30)),
-        (b"OTCJRNL1\x01".as_slice(), (0, 30)),
-        (b"OTCJRNLC\x01\x01".as_slice(), (0, 30)),
+        (b"", (0, 30)),
+        (b"\x01\x01\x01", (0, 30)),
+        (b"OTCJRNL1\0", (0, 30)),
+        (b"OTCJRNL1\x01", (0, 30)),
+        (b"OTCJRNLC\x01\x01", (0, 30)),
     ];
     for (file, answer) in cases {
         assert!(rt; is_read(rt.alloc(), file, Ok(answer))?, "{answer:?}");

@@ -20,8 +20,11 @@ fn append_leaves(
     let (disk, answer) = append_to(alloc, disk, b"AB")?;
     let counted = disk.faults();
     let mut disk = disk.crash();
-    let walked = walk(alloc, &mut disk)?;
-    Ok(answer.is_ok() == is_done && counted == faults && count_of(&walked) == records)
+    let found = match walk(alloc, &mut disk) {
+        Ok(walked) => Some(count_of(&walked)),
+        Err(_) => None,
+    };
+    Ok(answer.is_ok() == is_done && counted == faults && found == Some(records))
 }
 
 #[test]

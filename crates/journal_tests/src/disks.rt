@@ -1,12 +1,13 @@
 //! Disks in memory that hold small journals, and what is read of them.
 
-ghost use Rattle.std.specs.Prelude.{◌≡◌, ◌<◌, ◌^◌, length, true, Some, IfOk};
+ghost use Rattle.std.specs.Prelude.{◌≡◌, ◌<◌, ◌^◌, length, true, Some, IfOk, IfSome};
+ghost use Rattle.command_types.specs.Bases.{CanBeWritten};
 ghost use Rattle.outside.specs.Disk.{IsSettled};
 ghost use Rattle.journal_core.specs.Journal.{disk_of, form_of, size_of, is_sound, IsReady};
 
 use journal_core::{Frame, Journal, WalkFault, Walked, walk};
 use outside::{Disk, Failed, MemoryDisk};
-use recovery::{Entries, RecoverFault, read_entries};
+use recovery::{Contents, Entries, RecoverFault, read_entries};
 use std::alloc::Global;
 use std::test::Fail;
 
@@ -39,6 +40,19 @@ pub const FIRST_TAG: usize = 19;
 
 /// The place of the second one's.
 pub const SECOND_TAG: usize = 49;
+
+/// These bytes, with others from a place on.
+pub fn with<const N: usize>(bytes: [u8; N], place: usize, others: &[u8]) -> [u8; N] {
+    let mut bytes = bytes;
+    let mut place = place;
+    for byte in others {
+        if let Some(there) = bytes.get_mut(place) {
+            *there = *byte;
+        }
+        place = place.saturating_add(1);
+    }
+    bytes
+}
 
 /// A disk that holds these bytes, all of them synced.
 pub fn disk_of(alloc: Global, bytes: &[u8]) -> Result<MemoryDisk, Fail>
@@ -78,15 +92,21 @@ pub fn count_of(walked: &Walked) -> usize {
     100
 }
 
-/// How many entries were read, up to 100.
-fn entries_in(alloc: Global, entries: &Entries) -> Result<usize, Fail> {
+/// How many entries were read, up to 100, and where they end.
+fn entries_in(alloc: Global, entries: &Entries) -> Result<(usize, u64), Fail> {
     let mut reader = entries.reader();
     for count in 0..100 {
         if reader.next(alloc)?.is_none() {
-            return Ok(count);
+            return Ok((count, entries.end()));
         }
     }
-    Ok(100)
+    Ok((100, entries.end()))
+}
+
+/// What a walk over these bytes answers.
+pub fn walked_over(alloc: Global, bytes: &[u8]) -> Result<Result<Walked, WalkFault>, Fail> {
+    let mut disk = disk_of(alloc, bytes)?;
+    Ok(walk(alloc, &mut disk))
 }
 
 /// Whether a walk over these bytes finds so many records that end there, or this fault.
@@ -95,12 +115,19 @@ pub fn is_walked(
     bytes: &[u8],
     answer: Result<(usize, u64), WalkFault>,
 ) -> Result<bool, Fail> {
-    let mut disk = disk_of(alloc, bytes)?;
-    let given = match walk(alloc, &mut disk) {
+    let given = match walked_over(alloc, bytes)? {
         Ok(walked) => Ok((count_of(&walked), walked.end)),
         Err(fault) => Err(fault),
     };
     Ok(given == answer)
+}
+
+/// What reading these bytes answers.
+pub fn read_over(alloc: Global, bytes: &[u8]) -> Result<Result<Contents, RecoverFault>, Fail>
+    ensures { IfOk result (λ read. IfOk read (λ c. IfSome c.base (λ found. CanBeWritten found.base))) }
+{
+    let mut disk = disk_of(alloc, bytes)?;
+    Ok(read_entries(alloc, &mut disk))
 }
 
 /// Whether so many entries that end there are read of these bytes, or this fault.
@@ -109,15 +136,10 @@ pub fn is_read(
     bytes: &[u8],
     answer: Result<(usize, u64), RecoverFault>,
 ) -> Result<bool, Fail> {
-    let mut disk = disk_of(alloc, bytes)?;
-    let given = match read_entries(alloc, &mut disk) {
-        Ok(contents) => Ok((
-            entries_in(alloc, &contents.entries)?,
-            contents.entries.end(),
-        )),
-        Err(fault) => Err(fault),
-    };
-    Ok(given == answer)
+    match read_over(alloc, bytes)? {
+        Ok(contents) => Ok(answer == Ok(entries_in(alloc, &contents.entries)?)),
+        Err(fault) => Ok(answer == Err(fault)),
+    }
 }
 
 /// The answer that the file is damaged at this place.

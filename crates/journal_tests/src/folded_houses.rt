@@ -1,16 +1,10 @@
 //! Houses that fold at their opening: behind 1,000 changes and behind one fewer, to the end and to the front, and with each
 //! call of the disk that fails.
 
-ghost use Rattle.std.specs.Prelude.{Some, IfOk};
-ghost use Rattle.outside.specs.Disk.{IsSettled};
-
 use crate::disks::BEGUN;
-use crate::houses::{crashed, disk_below, has_gross, house_on, is_found, is_told, opened};
-use command_types::What;
-use house::OpenFault;
-use outside::{Disk, MemoryDisk};
+use crate::house_lives::{End, Life, Party, Said, Step, Told, fails_in_each, is_found, is_lived};
+use crate::houses::{content_opened, large_disk_of, turned};
 use std::alloc::{AllocError, Global};
-use std::process::Abort;
 use std::test::Fail;
 
 /// The frame of A's command TRADE A B P 1 2026-03-02 from seat 0, but for the closed gate behind it.
@@ -44,38 +38,6 @@ fn push_trades(
     Ok(())
 }
 
-/// The file, turned.
-fn turned(alloc: Global, file: &[u8]) -> Result<Vec<u8>, AllocError> {
-    let mut turned = file[..file.len().saturating_sub(1)].to_vec(alloc)?;
-    turned.extend_from_slice(b"\x01\x08\0\0\0MOMENTS2\0")?;
-    Ok(turned)
-}
-
-/// A disk with room for some thousand trades, that holds these bytes, all of them synced.
-fn disk_of(alloc: Global, bytes: &[u8]) -> Result<MemoryDisk, Fail>
-    ensures { IfOk result (λ d. IsSettled (Some d.history)) }
-{
-    let mut disk = MemoryDisk::new(alloc, 131_072, 64)?;
-    disk.write_at(0, bytes)?;
-    disk.sync()?;
-    Ok(disk.crash())
-}
-
-/// What the disk holds.
-fn content_of(alloc: Global, disk: &mut MemoryDisk) -> Result<Vec<u8>, Fail> {
-    let length = disk.length()?;
-    let mut bytes = vec![in alloc; 0u8; length.min(131_072) as usize]?;
-    let _ = disk.read(0, &mut bytes)?;
-    Ok(bytes)
-}
-
-/// What a house's opening leaves of a file.
-fn content_opened(rt: &impl Abort, alloc: Global, file: &[u8]) -> Result<Vec<u8>, Fail> {
-    let house = house_on(rt, alloc, disk_of(alloc, file)?)?;
-    let mut disk = crashed(disk_below(house));
-    content_of(alloc, &mut disk)
-}
-
 /// A file with slots of so many trades, each alleged and affirmed.
 fn file_of(alloc: Global, trades: u64) -> Result<Vec<u8>, AllocError> {
     let mut file = BEGUN.to_vec(alloc)?;
@@ -94,21 +56,30 @@ fn is_selected(file: &[u8], selector: u8, offset: u32, length: u32) -> bool {
     file.get(8) == Some(&selector) && named && sized && file.get(gate) == Some(&0)
 }
 
+const HELD_BEHIND_A_THOUSAND: [Step; 2] = [
+    (Party::Operator, Said::Nets, 1000, Told::Gross(500)),
+    (Party::B, Said::Hold(500), 1001, Told::Done),
+];
+
 #[test]
 fn a_thousand_changes_are_folded(rt: HostRuntime) -> Result<(), Fail> {
     let alloc = rt.alloc();
     let file = file_of(alloc, 500)?;
-    assert!(rt; file.len() == 25_030);
     let folded = content_opened(&rt, alloc, &file)?;
-    assert!(rt; folded.len() == 36_088 && is_selected(&folded, 1, 25_030, 11_053));
+    assert!(rt; file.len() == 25_030 && folded.len() == 36_088);
+    assert!(rt; is_selected(&folded, 1, 25_030, 11_053));
     let slot = folded.get(9..17) == file.get(9..17);
     assert!(rt; slot && folded.get(25..25_030) == file.get(25..));
     // What was folded is not folded again, nor turned.
     assert!(rt; content_opened(&rt, alloc, &folded)?.as_slice() == folded.as_slice());
-    let mut house = house_on(&rt, alloc, disk_of(alloc, &folded)?)?;
-    assert!(rt; house.length() == 1000 && has_gross(&mut house, 1000, 500));
-    assert!(rt; is_told(&mut house, b"B", What::Hold { trade: 500 }, 1001, None));
-    assert!(rt; is_found(&rt, alloc, crashed(disk_below(house)), 1001, 500)?);
+    let life = Life {
+        file: &folded,
+        failing: 0,
+        first: &[],
+        then: &HELD_BEHIND_A_THOUSAND,
+        end: End::Open,
+    };
+    assert!(rt; is_lived(&rt, alloc, &life, (1001, 500), (1001, 500))?);
     Ok(())
 }
 
@@ -140,31 +111,14 @@ fn the_next_thousand_are_folded_to_the_front(rt: HostRuntime) -> Result<(), Fail
     push_trades(&mut file, 501, 500, &DATED_TRADE, &DATED_AFFIRM)?;
     let folded = content_opened(&rt, alloc, &file)?;
     assert!(rt; folded.len() == file.len() && is_selected(&folded, 0, 25, 22_053));
-    assert!(rt; is_found(&rt, alloc, disk_of(alloc, &folded)?, 2000, 1000)?);
+    assert!(rt; is_found(&rt, alloc, large_disk_of(alloc, &folded)?, (2000, 1000))?);
     Ok(())
-}
-
-/// Whether an opening whose call with this number fails gives the disk back with its fault, and both what was synced and
-/// what was written stand for the thousand changes.
-fn survives(rt: &impl Abort, alloc: Global, file: &[u8], call: u64) -> Result<bool, Fail> {
-    let mut disk = disk_of(alloc, file)?;
-    disk.fail_at(call)?;
-    let Err((fault, mut disk)) = opened(rt, alloc, disk)? else {
-        return Ok(false);
-    };
-    let content = content_of(alloc, &mut disk)?;
-    let is_told = fault == OpenFault::DiskFault && disk.faults() == 1;
-    let is_synced = is_found(rt, alloc, crashed(disk), 1000, 500)?;
-    Ok(is_told && is_synced && is_found(rt, alloc, disk_of(alloc, &content)?, 1000, 500)?)
 }
 
 // The length and a read, four calls of the staging and two of the switch.
 #[test]
 fn each_call_of_a_fold_may_fail(rt: HostRuntime) -> Result<(), Fail> {
     let alloc = rt.alloc();
-    let file = file_of(alloc, 500)?;
-    for call in 1..=8 {
-        assert!(rt; survives(&rt, alloc, &file, call)?, "call {call}");
-    }
+    assert!(rt; fails_in_each(&rt, alloc, &file_of(alloc, 500)?, 8, (1000, 500))?);
     Ok(())
 }

@@ -4,9 +4,7 @@ ghost use Rattle.std.specs.Prelude.{◌≡◌, Some, IfOk, IsTrue};
 ghost use Rattle.outside.specs.Disk.{IsSettled};
 ghost use Rattle.units_core.specs.Name.{is_name};
 
-use command_types::{
-    Answer, Ask, MemberRow, Moment, OperatorRow, ProductRow, Refusal, Reply, Role, Roster, What,
-};
+use command_types::{MemberRow, OperatorRow, ProductRow, Role, Roster};
 use house::{House, OpenFault};
 use outside::{Disk, MemoryDisk};
 use std::alloc::{AllocError, Global};
@@ -58,14 +56,23 @@ pub fn three_dealers(alloc: Global, maturity: Day) -> Result<Roster, AllocError>
     Ok(Roster::new(members, products, Some(operator)))
 }
 
-/// A disk with room for a session, that holds these bytes, all of them synced.
+/// A disk with room for some thousand trades, that holds these bytes, all of them synced.
 pub fn large_disk_of(alloc: Global, bytes: &[u8]) -> Result<MemoryDisk, Fail>
     ensures { IfOk result (λ d. IsSettled (Some d.history)) }
 {
-    let mut disk = MemoryDisk::new(alloc, 8192, 96)?;
+    let mut disk = MemoryDisk::new(alloc, 131_072, 96)?;
     disk.write_at(0, bytes)?;
     disk.sync()?;
     Ok(disk.crash())
+}
+
+/// Such a disk, whose call with this number fails; of number 0 none does.
+pub fn large_failing_disk(alloc: Global, bytes: &[u8], call: u64) -> Result<MemoryDisk, Fail>
+    ensures { IfOk result (λ d. IsSettled (Some d.history)) }
+{
+    let mut disk = large_disk_of(alloc, bytes)?;
+    disk.fail_at(call)?;
+    Ok(disk)
 }
 
 /// What opening a house on a disk answers.
@@ -80,21 +87,6 @@ pub fn opened(
     Ok(House::new(alloc, roster, disk))
 }
 
-/// The house that is opened on a disk.
-pub fn house_on(rt: &impl Abort, alloc: Global, disk: MemoryDisk) -> Result<House<MemoryDisk>, Fail>
-    requires { IsSettled (Some disk.history) }
-{
-    match opened(rt, alloc, disk)? {
-        Ok(house) => Ok(house),
-        Err(_) => Err(Fail::new("the house was not opened")),
-    }
-}
-
-/// The disk of a house, given back.
-pub fn disk_below(house: House<MemoryDisk>) -> MemoryDisk {
-    house.end()
-}
-
 /// The disk after a crash that loses what no sync followed.
 pub fn crashed(disk: MemoryDisk) -> MemoryDisk
     ensures { IsSettled (Some result.history) }
@@ -105,59 +97,49 @@ pub fn crashed(disk: MemoryDisk) -> MemoryDisk
 /// What the disk holds.
 pub fn content_of(alloc: Global, disk: &mut MemoryDisk) -> Result<Vec<u8>, Fail> {
     let length = disk.length()?;
-    let mut bytes = vec![in alloc; 0u8; length.min(8192) as usize]?;
+    let mut bytes = vec![in alloc; 0u8; length.min(131_072) as usize]?;
     let _ = disk.read(0, &mut bytes)?;
     Ok(bytes)
 }
 
-/// The reply to a party's command of noon on 2026-03-31.
-pub fn said(house: &mut House<MemoryDisk>, by: &[u8], what: What) -> Reply
-    requires { IsTrue (is_name by.now) }
-{
-    let by = Some(named(by));
-    let moment = Moment::new(1_774_958_400);
-    house.call(0, Ask { by, what, moment })
-}
-
-/// Whether a party's command is refused so, or accepted, at this position.
-pub fn is_told(
-    house: &mut House<MemoryDisk>,
-    by: &[u8],
-    what: What,
-    at: u64,
-    refusal: Option<Refusal>,
-) -> bool
-    requires { IsTrue (is_name by.now) }
-{
-    let reply = said(house, by, what);
-    let told = match &reply.answer {
-        Answer::No(told) => Some(*told),
-        _ => None,
-    };
-    told == refusal && reply.at == at
-}
-
-/// Whether the market has this gross in the product, as the operator is told at this position.
-pub fn has_gross(house: &mut House<MemoryDisk>, at: u64, most: u64) -> bool {
-    let product = named(b"P");
-    let reply = said(house, b"OPS", What::Nets { product });
-    match &reply.answer {
-        Answer::Market { gross, .. } => *gross == most && reply.at == at,
-        _ => false,
+/// How many entries a house on these bytes has, or why it is not opened.
+pub fn answer_to(
+    rt: &impl Abort,
+    alloc: Global,
+    bytes: &[u8],
+) -> Result<Result<u64, OpenFault>, Fail> {
+    match opened(rt, alloc, large_disk_of(alloc, bytes)?)? {
+        Ok(house) => {
+            let length = house.length();
+            let _disk = house.end();
+            Ok(Ok(length))
+        }
+        Err((fault, _)) => Ok(Err(fault)),
     }
 }
 
-/// Whether a house on this disk has so many entries, and this gross.
-pub fn is_found(
-    rt: &impl Abort,
-    alloc: Global,
-    disk: MemoryDisk,
-    length: u64,
-    gross: u64,
-) -> Result<bool, Fail>
-    requires { IsSettled (Some disk.history) }
-{
-    let mut house = house_on(rt, alloc, disk)?;
-    let is_as_long = house.length() == length;
-    Ok(has_gross(&mut house, length, gross) && is_as_long)
+/// The answer that the file is damaged at this place.
+pub fn damaged(offset: u64) -> Result<u64, OpenFault> {
+    Err(OpenFault::Damaged { offset })
+}
+
+/// The disk that a crash leaves of an opening of a file.
+fn left_by_opening(rt: &impl Abort, alloc: Global, file: &[u8]) -> Result<MemoryDisk, Fail> {
+    match opened(rt, alloc, large_disk_of(alloc, file)?)? {
+        Ok(house) => Ok(crashed(house.end())),
+        Err(_) => Err(Fail::new("the house was not opened")),
+    }
+}
+
+/// What an opening leaves of a file.
+pub fn content_opened(rt: &impl Abort, alloc: Global, file: &[u8]) -> Result<Vec<u8>, Fail> {
+    let mut disk = left_by_opening(rt, alloc, file)?;
+    content_of(alloc, &mut disk)
+}
+
+/// The file, turned.
+pub fn turned(alloc: Global, file: &[u8]) -> Result<Vec<u8>, AllocError> {
+    let mut turned = file[..file.len().saturating_sub(1)].to_vec(alloc)?;
+    turned.extend_from_slice(b"\x01\x08\0\0\0MOMENTS2\0")?;
+    Ok(turned)
 }

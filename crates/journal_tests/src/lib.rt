@@ -29,6 +29,8 @@ mod folded_houses;
 #[cfg(test)]
 mod folds;
 #[cfg(test)]
+mod house_lives;
+#[cfg(test)]
 mod houses;
 #[cfg(test)]
 mod lives;
@@ -41,10 +43,10 @@ mod records;
 #[cfg(test)]
 mod sessions;
 #[cfg(test)]
-mod stopped;
-#[cfg(test)]
 mod system_files;
 #[cfg(test)]
 mod traced_disk;
+#[cfg(test)]
+mod traced_journals;
 #[cfg(test)]
 mod walks;

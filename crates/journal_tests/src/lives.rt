@@ -2,11 +2,10 @@
 //! many images, and the journal is opened again on it. Each image has to hold what was held before, or what the last change
 //! makes of it.
 
-ghost use Rattle.std.specs.Prelude.{◌≡◌, ◌<◌, ◌≤◌, ◌^◌, length, true, OnOk, IfOk};
-ghost use Rattle.journal_core.specs.Journal.{is_sound};
+ghost use Rattle.std.specs.Prelude.{◌<◌, ◌≤◌, length, IfOk};
 
-use crate::traced_disk::TracedDisk;
-use journal_core::{Frame, Journal, walk};
+use crate::traced_journals::{Deed, Outcome, images_after, walked_of};
+use journal_core::{Form, Walked};
 use std::alloc::{AllocError, Global};
 use std::test::Fail;
 
@@ -48,139 +47,109 @@ struct Held {
     records: Vec<Vec<u8>>,
 }
 
+fn records_of(alloc: Global, walked: &Walked) -> Result<Vec<Vec<u8>>, AllocError> {
+    let mut records = Vec::new(alloc);
+    let mut left = walked.records();
+    for _ in 0..100 {
+        let Some(found) = left.next() else {
+            break;
+        };
+        records.push(found.bytes.to_vec(alloc)?)?;
+    }
+    Ok(records)
+}
+
 impl Held {
-    fn in_file(alloc: Global, file: &[u8]) -> Result<Held, Fail> {
-        let mut disk = TracedDisk::new(alloc, file, 0)?;
-        let walked = walk(alloc, &mut disk)?;
+    fn of(alloc: Global, walked: &Walked) -> Result<Held, AllocError> {
         let base = walked.base().to_vec(alloc)?;
-        let mut records = Vec::new(alloc);
-        let mut left = walked.records();
-        for _ in 0..100 {
-            let Some(found) = left.next() else {
-                break;
-            };
-            records.push(found.bytes.to_vec(alloc)?)?;
+        let records = records_of(alloc, walked)?;
+        Ok(Held { base, records })
+    }
+
+    // What it makes of this.
+    fn after(&self, alloc: Global, deed: Deed<'_>) -> Result<Held, AllocError> {
+        match deed {
+            Deed::Append(bytes) => {
+                let mut records = self.records.clone()?;
+                records.push(bytes.to_vec(alloc)?)?;
+                let base = self.base.clone()?;
+                Ok(Held { base, records })
+            }
+            Deed::Fold(base) => Ok(Held {
+                base: base.to_vec(alloc)?,
+                records: Vec::new(alloc),
+            }),
         }
-        Ok(Held { base, records })
-    }
-
-    // The same with one record more.
-    fn with(&self, alloc: Global, record_bytes: &[u8]) -> Result<Held, AllocError> {
-        let mut records = self.records.clone()?;
-        records.push(record_bytes.to_vec(alloc)?)?;
-        let base = self.base.clone()?;
-        Ok(Held { base, records })
     }
 }
 
-// What one change left: the disk, what the change makes of what was held, whether it was done, and whether it was a fold.
-#[derive(Drop)]
-struct Outcome {
-    disk: TracedDisk,
-    after: Held,
-    is_done: bool,
-    is_fold: bool,
+fn held_in(alloc: Global, file: &[u8]) -> Result<Held, Fail> {
+    let walked = walked_of(alloc, file)?;
+    Ok(Held::of(alloc, &walked)?)
 }
 
-// Appends a record.
-fn append(
+// Whether each image holds what the deed makes of what was held, if the journal was opened, or, if it was not done, what was held.
+fn are_right(
     alloc: Global,
-    journal: Journal<TracedDisk>,
+    images: &[Vec<u8>],
     before: &Held,
-    bytes: &[u8],
-) -> Result<Outcome, Fail>
-    requires sound { is_sound journal ≡ true }
-    requires small { length bytes.now ≤ 6 }
-{
-    let mut journal = journal;
-    let after = before.with(alloc, bytes)?;
-    let frame = Frame::of(alloc, bytes)?;
-    if !journal.fits(bytes.len() as u64) {
-        return Err(Fail::new("the record does not fit"));
-    }
-    let is_done = journal.append(&frame).is_ok();
-    Ok(Outcome {
-        disk: journal.end(),
-        after,
-        is_done,
-        is_fold: false,
-    })
-}
-
-// Folds to a base.
-fn fold(alloc: Global, journal: Journal<TracedDisk>, bytes: &[u8]) -> Result<Outcome, Fail>
-    requires sound { is_sound journal ≡ true }
-    requires small { length bytes.now ≤ 6 }
-{
-    let mut journal = journal;
-    let after = Held {
-        base: bytes.to_vec(alloc)?,
-        records: Vec::new(alloc),
-    };
-    let frame = Frame::of(alloc, bytes)?;
-    if !journal.has_slots() || !journal.fold_fits(bytes.len() as u64) {
-        return Err(Fail::new("the base does not fit"));
-    }
-    let is_done = match journal.stage(&frame) {
-        Ok(()) => journal.switch().is_ok(),
-        Err(_) => false,
-    };
-    Ok(Outcome {
-        disk: journal.end(),
-        after,
-        is_done,
-        is_fold: true,
-    })
-}
-
-// Opens a journal on a disk and makes a change, up to the call that fails.
-fn change(alloc: Global, dice: &mut Dice, disk: TracedDisk, before: Held) -> Result<Outcome, Fail> {
-    let mut disk = disk;
-    let Ok(walked) = walk(alloc, &mut disk) else {
-        return Ok(Outcome {
-            disk,
-            after: before,
-            is_done: false,
-            is_fold: false,
-        });
-    };
-    let journal = match Journal::start(disk, walked.form, walked.end) {
-        Ok(journal) => journal,
-        Err((_, disk)) => {
-            return Ok(Outcome {
-                disk,
-                after: before,
-                is_done: false,
-                is_fold: false,
-            });
+    after: &Held,
+    outcome: Outcome,
+) -> Result<bool, Fail> {
+    for image in images {
+        let held = held_in(alloc, image)?;
+        let is_before = held == *before && outcome != Outcome::Done;
+        let is_after = held == *after && outcome != Outcome::Unopened;
+        if !is_before && !is_after {
+            return Ok(false);
         }
-    };
-    let bytes = dice.bytes(alloc)?;
-    if journal.has_slots() && dice.below(2) == 0 {
-        fold(alloc, journal, &bytes)
-    } else {
-        append(alloc, journal, &before, &bytes)
+    }
+    Ok(true)
+}
+
+// Whether that holds of a deed on a file.
+fn is_survived(
+    alloc: Global,
+    file: &[u8],
+    deed: Deed<'_>,
+    images: &[Vec<u8>],
+    outcome: Outcome,
+) -> Result<bool, Fail> {
+    let before = held_in(alloc, file)?;
+    let after = before.after(alloc, deed)?;
+    are_right(alloc, images, &before, &after, outcome)
+}
+
+fn has_slots(alloc: Global, file: &[u8]) -> Result<bool, Fail> {
+    let walked = walked_of(alloc, file)?;
+    Ok(walked.form != Form::Plain)
+}
+
+// One of the images, by the dice.
+fn chosen(alloc: Global, dice: &mut Dice, images: &[Vec<u8>]) -> Result<Vec<u8>, Fail> {
+    let place = dice.below(images.len().max(1) as u64) as usize;
+    match images.get(place) {
+        Some(image) => Ok(image.to_vec(alloc)?),
+        None => Err(Fail::new("no image")),
     }
 }
 
-// The file that one opening, a change and a crash leave of a file, and whether the change was a fold that was done.
+// The file that one opening, a deed and a crash leave of a file, and whether a fold was done.
 fn lived(alloc: Global, dice: &mut Dice, file: &[u8]) -> Result<(Vec<u8>, bool), Fail> {
-    let disk = TracedDisk::new(alloc, file, dice.below(14))?;
-    let outcome = change(alloc, dice, disk, Held::in_file(alloc, file)?)?;
-    let before = Held::in_file(alloc, file)?;
-    let images = outcome.disk.images()?;
-    for image in &images {
-        let held = Held::in_file(alloc, image)?;
-        let is_before = held == before && !outcome.is_done;
-        if held != outcome.after && !is_before {
-            return Err(Fail::new("an image holds neither"));
-        }
-    }
-    let chosen = dice.below(images.len().max(1) as u64) as usize;
-    let Some(image) = images.get(chosen) else {
-        return Err(Fail::new("no image"));
+    let call = dice.below(14);
+    let is_fold = dice.below(2) == 0 && has_slots(alloc, file)?;
+    let bytes = dice.bytes(alloc)?;
+    let deed = if is_fold {
+        Deed::Fold(&bytes)
+    } else {
+        Deed::Append(&bytes)
     };
-    Ok((image.to_vec(alloc)?, outcome.is_done && outcome.is_fold))
+    let (images, outcome) = images_after(alloc, file, deed, call)?;
+    if !is_survived(alloc, file, deed, &images, outcome)? {
+        return Err(Fail::new("an image holds neither"));
+    }
+    let next = chosen(alloc, dice, &images)?;
+    Ok((next, is_fold && outcome == Outcome::Done))
 }
 
 // Files that hold nothing, or are plain.
@@ -192,20 +161,26 @@ const BEGINNINGS: [&[u8]; 5] = [
     b"OTCJRNL1\0\x01\x01\x01\x01",
 ];
 
+// How many folds a life of twelve deeds has.
+fn folds_in(alloc: Global, seed: u64) -> Result<u64, Fail> {
+    let mut dice = Dice { state: seed };
+    let mut file = BEGINNINGS[(seed % 5) as usize].to_vec(alloc)?;
+    let mut folds = 0u64;
+    for _ in 0..12 {
+        let (next, is_folded) = lived(alloc, &mut dice, &file)?;
+        if is_folded {
+            folds = folds.saturating_add(1);
+        }
+        file = next;
+    }
+    Ok(folds)
+}
+
 #[test]
 fn random_lives_hold_what_they_held_or_the_last_change(rt: HostRuntime) -> Result<(), Fail> {
-    let alloc = rt.alloc();
     let mut folds = 0u64;
     for seed in 0..30u64 {
-        let mut dice = Dice { state: seed };
-        let mut file = BEGINNINGS[(seed % 5) as usize].to_vec(alloc)?;
-        for _ in 0..12 {
-            let (next, is_folded) = lived(alloc, &mut dice, &file)?;
-            if is_folded {
-                folds = folds.saturating_add(1);
-            }
-            file = next;
-        }
+        folds = folds.saturating_add(folds_in(rt.alloc(), seed)?);
     }
     assert!(rt; folds > 50);
     Ok(())

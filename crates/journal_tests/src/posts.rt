@@ -1,7 +1,9 @@
 //! Posts of one and of two solutions, both ways and with one fault each.
 
 use crate::bad_records::is_told;
-use command_types::What;
+use crate::disks::with;
+use command_types::{Entry, What};
+use network_laws::Network;
 use record_codec::{Spelling, decode, encode};
 use std::alloc::Global;
 use std::test::Fail;
@@ -26,7 +28,40 @@ const TWO: [u8; 95] = [
 /// One solution of a post: its place, its members, how many rows it has, and its potentials.
 type Posted<'a> = (usize, u16, usize, &'a [i32]);
 
-/// Whether these bytes post so many solutions for this cycle and version, of which one is this, with these rows.
+/// Whether a network has these rows.
+fn has_rows(network: &Network, rows: &[(u16, u16, u64)]) -> bool {
+    for (seller, buyer, amount) in rows {
+        if *seller >= network.members()
+            || *buyer >= network.members()
+            || network.amount(*seller, *buyer) != *amount
+        {
+            return false;
+        }
+    }
+    true
+}
+
+/// Whether so many solutions are posted for this cycle and version, of which one is this, with these rows.
+fn is_posted(what: &What, count: usize, posted: Posted<'_>, rows: &[(u16, u16, u64)]) -> bool {
+    let What::Post {
+        cycle,
+        version,
+        solutions,
+    } = what
+    else {
+        return false;
+    };
+    let Some(solution) = solutions.rows().get(posted.0) else {
+        return false;
+    };
+    let network = solution.network();
+    let is_numbered = (*cycle, *version) == (1, 2) && solutions.rows().len() == count;
+    let is_sized = network.members() == posted.1 && network.rows().len() == posted.2;
+    let has_potentials = solution.potentials() == posted.3;
+    is_numbered && is_sized && has_potentials && has_rows(network, rows)
+}
+
+/// Whether these bytes do so.
 fn posts(
     alloc: Global,
     bytes: &[u8],
@@ -35,31 +70,7 @@ fn posts(
     rows: &[(u16, u16, u64)],
 ) -> Result<bool, Fail> {
     let entry = decode(alloc, bytes, Spelling::First)?;
-    let What::Post {
-        cycle,
-        version,
-        solutions,
-    } = &entry.ask.what
-    else {
-        return Ok(false);
-    };
-    if (*cycle, *version) != (1, 2) || solutions.rows().len() != count {
-        return Ok(false);
-    }
-    let Some(solution) = solutions.rows().get(posted.0) else {
-        return Ok(false);
-    };
-    let network = solution.network();
-    for (seller, buyer, amount) in rows {
-        if *seller >= network.members()
-            || *buyer >= network.members()
-            || network.amount(*seller, *buyer) != *amount
-        {
-            return Ok(false);
-        }
-    }
-    let has_rows = network.rows().len() == posted.2;
-    Ok(network.members() == posted.1 && has_rows && solution.potentials() == posted.3)
+    Ok(is_posted(&entry.ask.what, count, posted, rows))
 }
 
 #[test]
@@ -71,18 +82,8 @@ fn solutions_are_read(rt: HostRuntime) -> Result<(), Fail> {
             (0, 3, 2, [1, 0, -1].as_slice()),
             [(0, 1, 5), (1, 2, 7)].as_slice(),
         ),
-        (
-            TWO.as_slice(),
-            2,
-            (0, 2, 1, [1, 0].as_slice()),
-            [(0, 1, 5)].as_slice(),
-        ),
-        (
-            TWO.as_slice(),
-            2,
-            (1, 3, 2, [0, 0, 0].as_slice()),
-            [(0, 1, 3), (2, 0, 4)].as_slice(),
-        ),
+        (&TWO, 2, (0, 2, 1, &[1, 0]), &[(0, 1, 5)]),
+        (&TWO, 2, (1, 3, 2, &[0, 0, 0]), &[(0, 1, 3), (2, 0, 4)]),
     ];
     for (bytes, count, posted, rows) in cases {
         assert!(rt; posts(rt.alloc(), bytes, count, posted, rows)?, "{rows:?}");
@@ -90,36 +91,29 @@ fn solutions_are_read(rt: HostRuntime) -> Result<(), Fail> {
     Ok(())
 }
 
-/// Whether a post of one solution is written again as it was read, behind its moment.
-fn is_written_again(alloc: Global, bytes: &[u8]) -> Result<bool, Fail> {
-    let entry = decode(alloc, bytes, Spelling::First)?;
+/// A post of one solution, written.
+fn written(alloc: Global, entry: &Entry) -> Result<Option<Vec<u8>>, Fail> {
     let is_post = match &entry.ask.what {
         What::Post { solutions, .. } => solutions.rows().len() == 1,
         _ => false,
     };
     if is_post && entry.ask.by.is_some() {
-        return Ok(encode(alloc, &entry)?.get(8..) == Some(bytes));
+        return Ok(Some(encode(alloc, entry)?));
     }
-    Ok(false)
+    Ok(None)
+}
+
+/// That of these bytes, written again.
+fn written_again(alloc: Global, bytes: &[u8]) -> Result<Option<Vec<u8>>, Fail> {
+    let entry = decode(alloc, bytes, Spelling::First)?;
+    written(alloc, &entry)
 }
 
 #[test]
 fn a_post_is_written_again(rt: HostRuntime) -> Result<(), Fail> {
-    assert!(rt; is_written_again(rt.alloc(), &POST)?);
+    let again = written_again(rt.alloc(), &POST)?.ok_or("a post")?;
+    assert!(rt; again.get(8..) == Some(POST.as_slice()));
     Ok(())
-}
-
-/// A post with other bytes from a place on.
-fn with<const N: usize>(post: [u8; N], place: usize, bytes: &[u8]) -> [u8; N] {
-    let mut post = post;
-    let mut place = place;
-    for byte in bytes {
-        if let Some(there) = post.get_mut(place) {
-            *there = *byte;
-        }
-        place = place.saturating_add(1);
-    }
-    post
 }
 
 #[test]

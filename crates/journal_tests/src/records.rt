@@ -1,9 +1,10 @@
 //! Each kind of change, written and read.
 
-ghost use Rattle.std.specs.Prelude.{◌≤◌, IsTrue};
+ghost use Rattle.std.specs.Prelude.{◌≤◌, is_some, IsTrue};
 ghost use Rattle.command_types.specs.Machine.{changes};
 ghost use Rattle.command_types.specs.Spelling.{posted, most_solutions};
 
+use crate::houses::named;
 use command_types::{Ask, Entry, Level, Mode, Moment, Side, What};
 use record_codec::{Spelling, decode, encode, encode_short, length};
 use std::alloc::{AllocError, Global};
@@ -38,36 +39,47 @@ pub fn timed(alloc: Global, bytes: &[u8]) -> Result<Vec<u8>, AllocError> {
 }
 
 /// The name of this text.
-pub fn named(text: &[u8]) -> Result<Name, AllocError> {
+fn name_of(text: &[u8]) -> Result<Name, AllocError> {
     Name::read(text).ok_or(AllocError)
 }
 
-/// Whether this party's change from that seat is written as the moment and these bytes, and is as long.
-fn is_written(alloc: Global, seat: u32, by: &[u8], what: What, bytes: &[u8]) -> Result<bool, Fail>
+/// Whether this is written as the moment and these bytes, and is as long.
+fn is_entry_written(alloc: Global, entry: &Entry, bytes: &[u8]) -> Result<bool, AllocError>
+    requires party { IsTrue (is_some entry.now.ask.by) }
+    requires change { IsTrue (changes entry.now.ask.what) }
+    requires few { posted entry.now.ask.what ≤ most_solutions }
+{
+    let whole = timed(alloc, bytes)?;
+    let is_as_long = length(entry) == whole.len() as u64;
+    Ok(is_as_long && encode(alloc, entry)?.as_slice() == whole.as_slice())
+}
+
+/// Whether that holds of this party's change from that seat.
+fn is_written(alloc: Global, seat: u32, by: Name, what: What, bytes: &[u8]) -> Result<bool, Fail>
     requires change { IsTrue (changes what) }
     requires few { posted what ≤ most_solutions }
 {
-    let by = Some(named(by)?);
-    let moment = Moment::new(NOON_SECONDS);
     let entry = Entry {
         seat,
-        ask: Ask { by, what, moment },
+        ask: Ask {
+            by: Some(by),
+            what,
+            moment: Moment::new(NOON_SECONDS),
+        },
     };
-    let whole = timed(alloc, bytes)?;
-    let is_as_long = length(&entry) == whole.len() as u64;
-    Ok(is_as_long && encode(alloc, &entry)?.as_slice() == whole.as_slice())
+    Ok(is_entry_written(alloc, &entry, bytes)?)
 }
 
 #[test]
 fn a_trade_is_written(rt: HostRuntime) -> Result<(), Fail> {
     let what = What::Trade {
-        seller: named(b"A")?,
-        buyer: named(b"B")?,
-        product: named(b"P")?,
+        seller: named(b"A"),
+        buyer: named(b"B"),
+        product: named(b"P"),
         amount: Amount::new(10).ok_or("an amount")?,
         day: Day::new(2026, 3, 2).ok_or("a day")?,
     };
-    assert!(rt; is_written(rt.alloc(), 0, b"A", what, &TRADE)?);
+    assert!(rt; is_written(rt.alloc(), 0, named(b"A"), what, &TRADE)?);
     Ok(())
 }
 
@@ -80,18 +92,37 @@ fn of_one_number(tag: u8) -> [u8; 15] {
 
 #[test]
 fn changes_of_numbers_are_written(rt: HostRuntime) -> Result<(), Fail> {
-    let alloc = rt.alloc();
+    let (alloc, b) = (rt.alloc(), named(b"B"));
     let mut declined = ACCEPT;
     declined[6] = 11;
     let (cycle, version) = (1, 2);
-    assert!(rt; is_written(alloc, 0, b"B", What::Affirm { trade: 1 }, &AFFIRM)?);
-    assert!(rt; is_written(alloc, 0, b"B", What::End { trade: 1 }, &of_one_number(3))?);
-    assert!(rt; is_written(alloc, 0, b"B", What::Hold { trade: 1 }, &of_one_number(4))?);
-    assert!(rt; is_written(alloc, 0, b"B", What::Decline { cycle, version }, &declined)?);
+    assert!(rt; is_written(alloc, 0, b, What::Affirm { trade: 1 }, &AFFIRM)?);
+    assert!(rt; is_written(alloc, 0, b, What::End { trade: 1 }, &of_one_number(3))?);
+    assert!(rt; is_written(alloc, 0, b, What::Hold { trade: 1 }, &of_one_number(4))?);
+    assert!(rt; is_written(alloc, 0, b, What::Decline { cycle, version }, &declined)?);
     Ok(())
 }
 
-/// Whether this party's ACCEPT from that seat has the same record without memory as with it, of this length.
+/// The record of this party's ACCEPT from that seat.
+fn accepted(
+    alloc: Global,
+    seat: u32,
+    by: Name,
+    cycle: u64,
+    version: u64,
+) -> Result<Vec<u8>, AllocError> {
+    let entry = Entry {
+        seat,
+        ask: Ask {
+            by: Some(by),
+            what: What::Accept { cycle, version },
+            moment: Moment::new(NOON_SECONDS),
+        },
+    };
+    encode(alloc, &entry)
+}
+
+/// Whether it is the same without memory as with it, of this length.
 fn is_written_alike(
     alloc: Global,
     seat: u32,
@@ -99,20 +130,12 @@ fn is_written_alike(
     numbers: (u64, u64),
     size: usize,
 ) -> Result<bool, Fail> {
-    let by = named(by)?;
+    let by = name_of(by)?;
     let (cycle, version) = numbers;
     let moment = Moment::new(NOON_SECONDS);
     let mut into = [0xff; 64];
     let written = encode_short(seat, &by, cycle, version, moment, &mut into);
-    let entry = Entry {
-        seat,
-        ask: Ask {
-            by: Some(by),
-            what: What::Accept { cycle, version },
-            moment,
-        },
-    };
-    let bytes = encode(alloc, &entry)?;
+    let bytes = accepted(alloc, seat, by, cycle, version)?;
     Ok(written == size && into.get(..size) == Some(bytes.as_slice()))
 }
 
@@ -120,13 +143,13 @@ fn is_written_alike(
 fn an_accept_is_written_without_memory(rt: HostRuntime) -> Result<(), Fail> {
     let mut into = [0xff; 64];
     let moment = Moment::new(NOON_SECONDS);
-    let size = encode_short(0, &named(b"B")?, 1, 2, moment, &mut into);
+    let size = encode_short(0, &named(b"B"), 1, 2, moment, &mut into);
     assert!(rt; into.get(..size) == Some(timed(rt.alloc(), &ACCEPT)?.as_slice()));
     let most = (u64::MAX, u64::MAX);
     let cases = [
         (0, b"B".as_slice(), (1, 2), 31),
-        (1_000_000, b"MEMBER-2".as_slice(), (256, 0), 38),
-        (u32::MAX, b"ABCDEFGHIJKLMNOP".as_slice(), most, 46),
+        (1_000_000, b"MEMBER-2", (256, 0), 38),
+        (u32::MAX, b"ABCDEFGHIJKLMNOP", most, 46),
     ];
     for (seat, by, numbers, size) in cases {
         assert!(rt;
@@ -145,13 +168,13 @@ const TOLERANCE: [u8; 29] = [
 #[test]
 fn a_tolerance_is_written(rt: HostRuntime) -> Result<(), Fail> {
     let what = What::Tol {
-        other: named(b"B")?,
-        product: named(b"P")?,
+        other: named(b"B"),
+        product: named(b"P"),
         side: Side::In,
         floor: Level::new(4).ok_or("a level")?,
         ceiling: Level::new(9),
     };
-    assert!(rt; is_written(rt.alloc(), 7, b"A", what, &TOLERANCE)?);
+    assert!(rt; is_written(rt.alloc(), 7, named(b"A"), what, &TOLERANCE)?);
     Ok(())
 }
 
@@ -160,13 +183,13 @@ const MODES: [(Mode, u8); 3] = [(Mode::Conservative, 0), (Mode::Hybrid, 1), (Mod
 
 #[test]
 fn a_freeze_and_a_beginning_are_written(rt: HostRuntime) -> Result<(), Fail> {
-    let alloc = rt.alloc();
+    let (alloc, a) = (rt.alloc(), named(b"A"));
     let day = Day::new(2026, 12, 31).ok_or("a day")?;
     let frozen = [0, 0, 0, 0, 1, 0x41, 7, 0xea, 0x07, 12, 31];
-    assert!(rt; is_written(alloc, 0, b"A", What::Freeze { day }, &frozen)?);
+    assert!(rt; is_written(alloc, 0, a, What::Freeze { day }, &frozen)?);
     for (mode, byte) in MODES {
         let begun = [0, 0, 0, 0, 1, 0x41, 8, 1, 0, 0, 0, 0, 0, 0, 0, byte];
-        assert!(rt; is_written(alloc, 0, b"A", What::Begin { cycle: 1, mode }, &begun)?);
+        assert!(rt; is_written(alloc, 0, a, What::Begin { cycle: 1, mode }, &begun)?);
         assert!(rt; is_spelled(alloc, &begun, 0, b"A", (8, [1, u64::from(byte), 0, 0, 0]))?);
     }
     Ok(())
@@ -217,10 +240,13 @@ fn dated(number: u64, day: &Day) -> [u64; 5] {
     ]
 }
 
-/// Whether the entry is this party's change of this moment from that seat, as told.
-fn is_said(entry: &Entry, seat: u32, by: Name, seconds: u64, told: (u8, [u64; 5])) -> bool {
-    let is_from = entry.seat == seat && entry.ask.by == Some(by);
-    is_from && entry.ask.moment.seconds() == seconds && told_of(&entry.ask.what) == told
+/// A change's seat and party, its moment, and what it is.
+type Heard = (u32, Option<Name>, u64, (u8, [u64; 5]));
+
+fn heard(alloc: Global, bytes: &[u8], form: Spelling) -> Result<Heard, Fail> {
+    let entry = decode(alloc, bytes, form)?;
+    let Ask { by, what, moment } = &entry.ask;
+    Ok((entry.seat, *by, moment.seconds(), told_of(what)))
 }
 
 /// Whether these bytes are this party's change from that seat, as told: without a moment, and at noon with it in front.
@@ -231,26 +257,25 @@ fn is_spelled(
     by: &[u8],
     told: (u8, [u64; 5]),
 ) -> Result<bool, Fail> {
-    let by = named(by)?;
-    let untimed = decode(alloc, bytes, Spelling::First)?;
+    let by = Some(name_of(by)?);
+    let is_untimed = heard(alloc, bytes, Spelling::First)? == (seat, by, 0, told);
     let whole = timed(alloc, bytes)?;
-    let at_noon = decode(alloc, &whole, Spelling::Second)?;
-    Ok(is_said(&untimed, seat, by, 0, told) && is_said(&at_noon, seat, by, NOON_SECONDS, told))
+    let is_timed = heard(alloc, &whole, Spelling::Second)? == (seat, by, NOON_SECONDS, told);
+    Ok(is_untimed && is_timed)
 }
 
-/// Whether these bytes name these parties and this product of a trade.
-fn has_names(alloc: Global, bytes: &[u8], names: [&[u8]; 3]) -> Result<bool, Fail> {
+/// The parties and the product of a trade of these bytes.
+fn names_in(alloc: Global, bytes: &[u8]) -> Result<Option<[Name; 3]>, Fail> {
     let entry = decode(alloc, bytes, Spelling::First)?;
-    let What::Trade {
-        seller,
-        buyer,
-        product,
-        ..
-    } = &entry.ask.what
-    else {
-        return Ok(false);
-    };
-    Ok(*seller == named(names[0])? && *buyer == named(names[1])? && *product == named(names[2])?)
+    Ok(match &entry.ask.what {
+        What::Trade {
+            seller,
+            buyer,
+            product,
+            ..
+        } => Some([*seller, *buyer, *product]),
+        _ => None,
+    })
 }
 
 #[test]
@@ -274,40 +299,21 @@ fn changes_are_read(rt: HostRuntime) -> Result<(), Fail> {
             b"A".as_slice(),
             (1, [10, 2026, 3, 2, 0]),
         ),
-        (AFFIRM.as_slice(), 0, b"B".as_slice(), (2, [1, 0, 0, 0, 0])),
-        (ended.as_slice(), 0, b"B".as_slice(), (3, [1, 0, 0, 0, 0])),
-        (held.as_slice(), 0, b"B".as_slice(), (4, [1, 0, 0, 0, 0])),
-        (freed.as_slice(), 0, b"B".as_slice(), (5, [1, 0, 0, 0, 0])),
-        (
-            TOLERANCE.as_slice(),
-            7,
-            b"A".as_slice(),
-            (6, [1, 4, 9, 0, 0]),
-        ),
-        (
-            frozen.as_slice(),
-            0,
-            b"OPS".as_slice(),
-            (7, [0, 2026, 12, 31, 0]),
-        ),
-        (begun.as_slice(), 0, b"OPS".as_slice(), (8, [1, 1, 0, 0, 0])),
-        (ACCEPT.as_slice(), 0, b"B".as_slice(), (10, [1, 2, 0, 0, 0])),
-        (
-            declined.as_slice(),
-            0,
-            b"B".as_slice(),
-            (11, [1, 2, 0, 0, 0]),
-        ),
-        (
-            cancelled.as_slice(),
-            0,
-            b"B".as_slice(),
-            (12, [1, 0, 0, 0, 0]),
-        ),
+        (&AFFIRM, 0, b"B", (2, [1, 0, 0, 0, 0])),
+        (&ended, 0, b"B", (3, [1, 0, 0, 0, 0])),
+        (&held, 0, b"B", (4, [1, 0, 0, 0, 0])),
+        (&freed, 0, b"B", (5, [1, 0, 0, 0, 0])),
+        (&TOLERANCE, 7, b"A", (6, [1, 4, 9, 0, 0])),
+        (&frozen, 0, b"OPS", (7, [0, 2026, 12, 31, 0])),
+        (&begun, 0, b"OPS", (8, [1, 1, 0, 0, 0])),
+        (&ACCEPT, 0, b"B", (10, [1, 2, 0, 0, 0])),
+        (&declined, 0, b"B", (11, [1, 2, 0, 0, 0])),
+        (&cancelled, 0, b"B", (12, [1, 0, 0, 0, 0])),
     ];
     for (bytes, seat, by, told) in cases {
         assert!(rt; is_spelled(rt.alloc(), bytes, seat, by, told)?, "{told:?}");
     }
-    assert!(rt; has_names(rt.alloc(), &TRADE, [b"A", b"B", b"P"])?);
+    let names = [named(b"A"), named(b"B"), named(b"P")];
+    assert!(rt; names_in(rt.alloc(), &TRADE)? == Some(names));
     Ok(())
 }

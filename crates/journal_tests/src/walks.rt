@@ -1,25 +1,33 @@
 //! Walks over whole, cut and damaged files.
 
-use crate::disks::{BEGUN_ONE, ONE, disk_of, is_walked};
-use journal_core::{WalkFault, walk};
+use crate::crashes::ONE_AND_MORE;
+use crate::disks::{BEGUN_ONE, ONE, is_walked, walked_over};
+use journal_core::{WalkFault, Walked};
 use std::alloc::Global;
 use std::test::Fail;
 
-/// Whether a walk over these bytes finds this record alone, with its gate there, and this end.
-fn has_only(alloc: Global, bytes: &[u8], at: u64, record: &[u8], end: u64) -> Result<bool, Fail> {
-    let mut disk = disk_of(alloc, bytes)?;
-    let walked = walk(alloc, &mut disk)?;
+/// Whether a walk found this record alone, with its gate there, and this end.
+fn is_only(walked: &Walked, at: u64, record: &[u8], end: u64) -> bool {
     let mut records = walked.records();
-    let Some(found) = records.next() else {
-        return Ok(false);
+    let is_found = match records.next() {
+        Some(found) => found.at == at && found.bytes == record,
+        None => false,
     };
-    let is_found = found.at == at && found.bytes == record && walked.end == end;
-    Ok(is_found && records.next().is_none())
+    is_found && walked.end == end && records.next().is_none()
+}
+
+/// Whether a walk over these bytes does.
+fn has_only(alloc: Global, bytes: &[u8], at: u64, record: &[u8], end: u64) -> Result<bool, Fail> {
+    match walked_over(alloc, bytes)? {
+        Ok(walked) => Ok(is_only(&walked, at, record, end)),
+        Err(_) => Ok(false),
+    }
 }
 
 #[test]
 fn a_record_is_found_with_its_gate_and_its_bytes(rt: HostRuntime) -> Result<(), Fail> {
     assert!(rt; has_only(rt.alloc(), &ONE, 8, &ONE[13..38], 39)?);
+    assert!(rt; has_only(rt.alloc(), &ONE_AND_MORE, 8, &ONE[13..38], 39)?);
     assert!(rt; has_only(rt.alloc(), &BEGUN_ONE, 29, &ONE[13..38], 60)?);
     Ok(())
 }
