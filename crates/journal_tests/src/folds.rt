@@ -173,14 +173,18 @@ fn a_plain_journal_is_never_folded(rt: HostRuntime) -> Result<(), Fail> {
     Ok(())
 }
 
+/// The record of the file of one, A's command TRADE A B P 10 2026-03-02 from seat 0.
+const ONE_RECORD: [&[u8]; 1] = [
+    b"\0\0\0\0\x01A\x01\x01A\x01B\x01P\x0a\0\0\0\0\0\0\0\xea\x07\x03\x02",
+];
+
 // Opening has the length and a read; a staging four calls, and a switch two.
 #[test]
 fn each_call_that_fails_leaves_what_was_held_or_the_base(rt: HostRuntime) -> Result<(), Fail> {
-    let one = [&BEGUN_ONE[34..59]];
     let change = Change {
         file: &BEGUN_ONE,
         deed: Deed::Fold(b"BASE"),
-        before: held((slots(0, 25), 60), b"", &one),
+        before: held((slots(0, 25), 60), b"", &ONE_RECORD),
         after: held((slots(1, 60), 69), b"BASE", &[]),
     };
     for call in 3..=8 {
