@@ -9,7 +9,7 @@ use Rattle.command_types.specs.History.{History}
 use Rattle.outside.specs.Disk as disks
 use Rattle.journal_core.specs.Form.{IsSlots, fold_end}
 use Rattle.journal_core.specs.Holds.{limit, frame, IsShort, IsJournal, end_in}
-use Rattle.journal_core.specs.Journal.{EndsAs, EndsAt, IsReadyToSwitch, IsStaged}
+use Rattle.journal_core.specs.Journal.{EndsAs, EndsAt, HasForm, IsFormOf, IsReadyToSwitch, IsStaged}
 use Rattle.journal_core.specs.Calls.{IsStaging, IsStagedBeside, IsSwitching, IsSwitched}
 use Rattle.journal_core.specs.Moments.{LeavesOnly}
 use Rattle.journal_core.specs.declared.form.Form.{Form}
@@ -91,20 +91,20 @@ opens_with (Some disk) first h size (inl same) = inl same.1
 opens_with (Some disk) first h size (inr (t, is, place)) = inr (t.may.at_rest, is)
 
 -- a journal that ends there and was in this spelling, and is turned, ends so
-ends_turned : (file : List ℕ) (form : Form) (end size : ℕ) (last : Spelling) (base : List ℕ) (records : List (List ℕ)) → EndsAs form file end base records → GoesOnIn file last → size ≡ end_turned last end → IsEnd file size
-ends_turned file form end size last base records ends on same =
+ends_turned : (file : List ℕ) (form : Form) (end size : ℕ) (last : Spelling) (base : List ℕ) (records : List (List ℕ)) → IsFormOf form file → EndsAs form file end base records → GoesOnIn file last → size ≡ end_turned last end → IsEnd file size
+ends_turned file form end size last base records is ends on same =
     let one = one_reading file on.0 base on.1 records on.2 (ends_hold form file end base records ends) in
     let here : last ≡ spelling_after (spelling_behind base) records = on.3 ∙ ap (λ (b : List ℕ). spelling_after (spelling_behind b) on.1) one.0 ∙ ap (λ (rs : List (List ℕ)). spelling_after (spelling_behind base) rs) one.1 in
-    record { form = form; end = end; base = base; records = records; ends = ends; turned = same ∙ ap (λ (s : Spelling). end_turned s end) here }
+    record { form = form; has_form = is; end = end; base = base; records = records; ends = ends; turned = same ∙ ap (λ (s : Spelling). end_turned s end) here }
 
 -- with its own history, where nothing is to be folded
-pub opens_plainly : (o : Option disks.History) (h : History) (form : Form) (end size : ℕ) (last : Spelling) → EndsAt o form end → FindsSpelling o last → size ≡ end_turned last end
+pub opens_plainly : (o : Option disks.History) (h : History) (form : Form) (end size : ℕ) (last : Spelling) → HasForm o form → EndsAt o form end → FindsSpelling o last → size ≡ end_turned last end
     → (IsSlots form → MayBeFolded h → fold_end form end (length (fold_bytes h)) ≤ limit → ⊥) → OpensOn o h h size
-opens_plainly None h form end size last ends on same none = inl refl
-opens_plainly (Some disk) h form end size last ends on same none = inl (
+opens_plainly None h form end size last is ends on same none = inl refl
+opens_plainly (Some disk) h form end size last is ends on same none = inl (
   (λ (t : IsToFold disk.content h). let so = folds_as disk.content form end ends.0 ends.1 h ends.2 t in none so.0 t.may so.1),
   refl,
-  ends_turned disk.content form end size last ends.0 ends.1 ends.2 on same,
+  ends_turned disk.content form end size last ends.0 ends.1 is ends.2 on same,
 )
 
 -- with the fold

@@ -7,7 +7,7 @@ use Rattle.outside.specs.Disk as disks
 use Rattle.journal_core.specs.Calls.{IsStarting, IsStarted}
 use Rattle.journal_core.specs.Form.{IsSlots, begun_form, fold_end}
 use Rattle.journal_core.specs.Holds.{limit}
-use Rattle.journal_core.specs.Journal.{EndsAt}
+use Rattle.journal_core.specs.Journal.{EndsAt, HasForm}
 use Rattle.journal_core.specs.Moments.{LeavesOnly}
 use Rattle.journal_core.specs.declared.form.Form.{Form}
 use Rattle.journal_core.specs.declared.form.Form.TheVariants.{Short, Plain, SlotsShort, Slots}
@@ -36,9 +36,9 @@ pub small_base : (form : Form) (end size : ℕ) → fold_end form end size ≤ l
 small_base form end size fits = omega (arith, fits)
 
 -- a journal that is not folded is turned
-pub plain_opens : (o : Option disks.History) (h : History) (form : Form) (end : ℕ) (last : Spelling) → EndsAt o form end → FindsSpelling o last → (size : ℕ) → size ≡ end → (next : ℕ) → next ≡ end_turned last size
+pub plain_opens : (o : Option disks.History) (h : History) (form : Form) (end : ℕ) (last : Spelling) → HasForm o form → EndsAt o form end → FindsSpelling o last → (size : ℕ) → size ≡ end → (next : ℕ) → next ≡ end_turned last size
     → (IsSlots form → MayBeFolded h → fold_end form end (length (fold_bytes h)) ≤ limit → ⊥) → OpensOn o h h next
-plain_opens o h form end last ends on size same next is never = opens_plainly o h form end next last ends on (is ∙ ap (end_turned last) same) never
+plain_opens o h form end last has ends on size same next is never = opens_plainly o h form end next last has ends on (is ∙ ap (end_turned last) same) never
 
 -- a form with slots stays as it is
 begun_slots : (form : Form) → IsSlots form → begun_form form ≡ form

@@ -9,7 +9,7 @@ use Rattle.command_types.specs.History.{History, end_of, replayed}
 use Rattle.outside.specs.Disk as disks
 use Rattle.journal_core.specs.Form.{fold_end}
 use Rattle.journal_core.specs.Holds.{limit, IsJournal, IsShort, end_in}
-use Rattle.journal_core.specs.Journal.{EndsAs}
+use Rattle.journal_core.specs.Journal.{EndsAs, IsFormOf}
 use Rattle.journal_core.specs.Moments.{LeavesOnly}
 use Rattle.journal_core.specs.declared.form.Form.{Form}
 use Rattle.journal_core.specs.declared.form.Form.TheVariants.{Slots}
@@ -53,6 +53,7 @@ OpensWith first h = (h ≡ first) ⊎ (IsAtRest first × (h ≡ folded first))
 -- the journal on the file, as it is or when it is begun, ends at this place once it is turned
 pub record IsEnd (file : List ℕ) (size : ℕ) : Type 0 where
   pub form : Form
+  pub has_form : IsFormOf form file
   pub end : ℕ
   pub base : List ℕ
   pub records : List (List ℕ)

@@ -6,7 +6,7 @@ ghost use Rattle.cycle_laws.specs.Bases.{IsWritable};
 ghost use Rattle.cycle_states.specs.Replayed.{IsReplayed};
 ghost use Rattle.outside.specs.Disk.{IsSettled};
 ghost use Rattle.outside.specs.Faults.{Rose};
-ghost use Rattle.journal_core.specs.Journal.{disk_of, form_of, size_of, is_sound, EndsAt, IsReady};
+ghost use Rattle.journal_core.specs.Journal.{disk_of, form_of, size_of, is_sound, EndsAt, HasForm, IsReady};
 ghost use Rattle.journal_core.specs.Moments.{LeavesOnly};
 ghost use Rattle.recovery.specs.Reading.{FindsSpelling};
 ghost use Rattle.house.specs.declared.fault.OpenFault.TheVariants.{DiskFault};
@@ -46,6 +46,7 @@ fn reopen<D: Disk>(alloc: Global, roster: Roster, disk: &mut D) -> Result<Reopen
     ensures base { IfOk result (λ r. IsWritable roster r.past.base.state) }
     ensures few { IfOk result (λ r. length r.past.entries ≤ journal_limit) }
     ensures ends { IfOk result (λ r. EndsAt (D.history disk.old) r.form r.end) }
+    ensures form { IfOk result (λ r. HasForm (D.history disk.old) r.form) }
     ensures spelling { IfOk result (λ r. FindsSpelling (D.history disk.old) r.spelling) }
     ensures due { IfOk result (λ r. IsDue r.form r.past r.folding) }
     ensures turn { IfOk result (λ r. r.turn ≡ spellings.turn) }
@@ -110,6 +111,7 @@ fn start<D: Disk>(disk: D, read: &Reopened) -> Result<(Journal<D>, bool), (Faile
     requires settled { IsSettled (D.history disk) }
     requires stands { ContentStandsFor (D.history disk) read.now.past }
     requires ends { EndsAt (D.history disk) read.now.form read.now.end }
+    requires form { HasForm (D.history disk) read.now.form }
     requires spelling { FindsSpelling (D.history disk) read.now.spelling }
     requires due { IsDue read.now.form read.now.past read.now.folding }
     requires turn { read.now.turn ≡ spellings.turn }

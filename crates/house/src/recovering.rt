@@ -8,7 +8,7 @@ ghost use Rattle.cycle_laws.specs.Bases.{IsWritable};
 ghost use Rattle.cycle_states.specs.Replayed.{base_at, IsReplayed, IsSmall};
 ghost use Rattle.cycle_states.specs.Machine.{IsYoung};
 ghost use Rattle.outside.specs.Faults.{Rose};
-ghost use Rattle.journal_core.specs.Journal.{EndsAt};
+ghost use Rattle.journal_core.specs.Journal.{EndsAt, HasForm};
 ghost use Rattle.recovery.specs.declared.entries.EntryAt.{EntryAt};
 ghost use Rattle.recovery.specs.Reading.{file_of, entries_in, start_of, FitsIn, FindsSpelling, IsRead, HasRead};
 ghost use Rattle.house.specs.declared.fault.OpenFault.TheVariants.{DiskFault};
@@ -121,6 +121,7 @@ pub fn recover_noting<D: Disk>(
     ensures base { IfOk result (λ r. IsWritable roster r.past.base.state) }
     ensures few { IfOk result (λ r. length r.past.entries ≤ journal_limit) }
     ensures ends { IfOk result (λ r. EndsAt (D.history disk.old) r.form r.end) }
+    ensures form { IfOk result (λ r. HasForm (D.history disk.old) r.form) }
     ensures spelling { IfOk result (λ r. FindsSpelling (D.history disk.old) r.spelling) }
     ensures told { IfOk result (λ r. told_of r.executions ≡ option_map (λ replies. replies ++ executions_told r.past.base.state r.past.base.position r.past.entries) (told_of executions)) }
     ensures fault { IfErr result (FindsFault roster (D.history disk.old)) }

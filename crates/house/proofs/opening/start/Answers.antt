@@ -57,7 +57,7 @@ returns-in_default-clause-opens g c =
     let never : IsSlots r.form → MayBeFolded r.past → fold_end r.form r.end (length (fold_bytes r.past)) ≤ limit → ⊥ = λ slots may fits. due slots may (small_base r.form r.end (length (fold_bytes r.past)) fits) in
     ok_with it.result (λ x. x.1 ≡ false) (λ x. size_of x.0 ≡ end_turned r.spelling (size_of j)) (λ x. OpensOn o r.past (opened_with x.1 r.past) (size_of x.0))
     (λ x plain same. subst (λ b. OpensOn o r.past (opened_with b r.past) (size_of x.0)) (sym plain)
-    (plain_opens o r.past r.form r.end r.spelling c.requires.ends c.requires.spelling (size_of j) is.end (size_of x.0) same never))
+    (plain_opens o r.past r.form r.end r.spelling c.requires.form c.requires.ends c.requires.spelling (size_of j) is.end (size_of x.0) same never))
     it.ensures.plain it.ensures.size
 
 pub returns-in_default-clause-may : goal.returns-in_default-clause-may
@@ -159,7 +159,7 @@ returns-then-not-fold_fits-clause-opens g c =
     (λ fits. false≢true (sym c.if-not-fold_fits.true ∙ c.fold_fits.ensures.1 fits)) in
     ok_with it.result (λ x. x.1 ≡ false) (λ x. size_of x.0 ≡ end_turned r.spelling (size_of j)) (λ x. OpensOn o r.past (opened_with x.1 r.past) (size_of x.0))
     (λ x plain same. subst (λ b. OpensOn o r.past (opened_with b r.past) (size_of x.0)) (sym plain)
-    (plain_opens o r.past r.form r.end r.spelling c.requires.ends c.requires.spelling (size_of j) is.end (size_of x.0) same never))
+    (plain_opens o r.past r.form r.end r.spelling c.requires.form c.requires.ends c.requires.spelling (size_of j) is.end (size_of x.0) same never))
     it.ensures.plain it.ensures.size
 
 pub returns-then-not-fold_fits-clause-may : goal.returns-then-not-fold_fits-clause-may
