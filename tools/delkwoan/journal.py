@@ -1,18 +1,20 @@
-"""The command compress-journal: a journal's slots, its base and each of its records in words, and where the records end.
+"""The command compress-journal: a journal's slots, its base and each of its records in words, where the records end, and how much room
+is left behind them.
 
 Where the journal is damaged it stops there, says by which rule, and ends with status 7. It never writes to the file. Written
 from docs/FORMATS.md, "The journal's file", "Bases" and "Records"; whether the base fits a roster, and whether the machine accepts a
 change, is not looked at.
 """
 
-from typing import Iterator, NoReturn
+from typing import Iterator, NamedTuple, NoReturn
 
 from .bases import Base, Kept, Setting, base_of
-from .changes import Tolerance, rows_of
+from .book import MOST_SUBMITTED
+from .changes import Tolerance, Trade, rows_of
 from .ending import Stop, read_file, run
-from .frames import MOST_BYTES, SELECTOR, SLOTS, Form, Lead, Walk, walk
+from .frames import LIMIT, MOST_BYTES, SELECTOR, SLOTS, Form, Lead, Walk, walk
 from .moments import moment_text
-from .records import BadField, Kind, body_of, record_of
+from .records import BadField, Kind, Record, body_of, record_of
 from .words import Words, plain
 
 BEGUN_END = 30
@@ -52,11 +54,23 @@ def lines_of(base: Base) -> Iterator[str]:
         yield f"  trade {number} {trade_text(base, trade)}"
 
 
-def print_base(lead: Lead) -> BadField | None:
-    """A base in words; where its bytes spell none, that."""
+class Counts(NamedTuple):
+    """How many changes there are, and how many trades were submitted."""
+
+    changes: int
+    trades: int
+
+
+def left_text(end: int, trades: int) -> str:
+    """The room behind a journal's end and so many trades that were submitted."""
+    return f"left: trades {MOST_SUBMITTED - trades}, bytes {LIMIT - end}"
+
+
+def print_base(lead: Lead) -> int | BadField:
+    """A base in words, and how many of its trades were submitted; where its bytes spell none, that."""
     if not lead.base:
         print(f"{lead.offset} no base")
-        return None
+        return 0
     try:
         base = base_of(lead.base)
     except BadField as bad:
@@ -66,7 +80,7 @@ def print_base(lead: Lead) -> BadField | None:
     print(f"{lead.offset} base, {len(lead.base)} bytes: settings: {len(base.settings)}, trades: {len(base.trades)}")
     for line in lines_of(base):
         print(line)
-    return None
+    return sum(trade.submitter is not None for trade in base.trades)
 
 
 def print_slots(file: bytes, lead: Lead) -> None:
@@ -76,7 +90,7 @@ def print_slots(file: bytes, lead: Lead) -> None:
         print(f"{place} slot {slot}: offset {offset}")
 
 
-def print_record(at: int, number: int, bytes: bytes, kind: Kind) -> BadField | None:
+def print_record(at: int, number: int, bytes: bytes, kind: Kind) -> Record | BadField:
     """A record in words; where it spells no change, that."""
     try:
         record = record_of(bytes, kind)
@@ -87,20 +101,23 @@ def print_record(at: int, number: int, bytes: bytes, kind: Kind) -> BadField | N
     print(f"{at} record {number}, {len(bytes)} bytes: {asked}seat {record.seat}, {record.party}: {record.change}")
     for line in rows_of(record.change):
         print(line)
-    return None
+    return record
 
 
-def print_body(found: Walk, base: bytes) -> int:
-    """The records in words, and how many are changes; stops at one that spells none, unless the walk found damage."""
-    number = 0
+def print_body(found: Walk, base: bytes) -> Counts:
+    """The records in words, and how many are changes, and TRADEs; stops at one that spells none, unless the walk found damage."""
+    number = trades = 0
     for at, bytes, kind in body_of(base, found.frames):
         if kind is Kind.TURN:
             print(f"{at} turn, {len(bytes)} bytes: each change behind it has its moment")
             continue
         number += 1
-        if print_record(at, number, bytes, kind) is not None and found.damage is None:
+        record = print_record(at, number, bytes, kind)
+        if isinstance(record, Record):
+            trades += isinstance(record.change, Trade)
+        elif found.damage is None:
             raise Stop(7, f"damaged at {at}: its record spells no change")
-    return number
+    return Counts(number, trades)
 
 
 def inspect(file: bytes) -> None:
@@ -108,23 +125,26 @@ def inspect(file: bytes) -> None:
     if found.lead is None:
         raise Stop(7, f"damaged at {found.closed}: {found.damage}")
     if found.lead.form in (Form.SHORT, Form.SHORT_SLOTTED):
-        print(f"no records: {found.lead.form.value}; end {BEGUN_END}")
+        print(f"no records: {found.lead.form.value}; end {BEGUN_END}; {left_text(BEGUN_END, 0)}")
         return
+    trades: int | BadField = 0
     if found.lead.form == Form.SLOTTED:
         print_slots(file, found.lead)
-        if print_base(found.lead) is not None and found.damage is None:
-            raise Stop(7, f"damaged at {found.lead.offset}: its base spells no state")
-    changes = print_body(found, found.lead.base)
-    if found.damage is not None:
+        trades = print_base(found.lead)
+    if isinstance(trades, BadField) and found.damage is None:
+        raise Stop(7, f"damaged at {found.lead.offset}: its base spells no state")
+    counts = print_body(found, found.lead.base)
+    if found.damage is not None or isinstance(trades, BadField):
         raise Stop(7, f"damaged at {found.closed}: {found.damage}")
-    print(f"{found.closed} closed gate, end {found.closed + 1}; records: {changes}")
+    end = found.closed + 1
+    print(f"{found.closed} closed gate, end {end}; records: {counts.changes}; {left_text(end, trades + counts.trades)}")
 
 
 def words() -> Words:
     parser = Words(
         "compress-journal",
-        "Prints the slots, the base and each record of a journal in words, and where and by which rule it is damaged. It never "
-        "writes to the file.",
+        "Prints the slots, the base and each record of a journal in words, how many trades and bytes are left, and where and by which "
+        "rule it is damaged. It never writes to the file.",
     )
     parser.add_argument("file", metavar="FILE", type=plain, help="the journal")
     return parser

@@ -114,7 +114,7 @@ class Folds(OfJournals):
         self.assertEqual(lines[4], "  position 1000, cycle 0, version 0")
         self.assertEqual(lines[-3], "  trade 500 A B P 1 2026-03-02 live, submitted by A")
         self.assertRegex(lines[-2], "^44100 record 1, 33 bytes: 20[0-9 :-]+ UTC, seat 0, A: TRADE A B P 1 2026-03-02$")
-        self.assertEqual(lines[-1], "44138 closed gate, end 44139; records: 1")
+        self.assertEqual(lines[-1], "44138 closed gate, end 44139; records: 1; left: trades 99499, bytes 268391317")
 
     def test_what_is_not_folded(self) -> None:
         """One change fewer, an open cycle, and a plain journal of any length."""

@@ -13,8 +13,8 @@ AFFIRM = "00000000 0142 02 0100000000000000"
 ONE = bytes.fromhex(f"{HEADER} 01 19000000 {TRADE} 00")
 PLAIN_TWO = ONE[:-1] + bytes.fromhex(f"01 0f000000 {AFFIRM} 00")
 FIRST = b"8 record 1, 25 bytes: seat 0, A: TRADE A B P 10 2026-03-02\n"
-SHORT = Ran(0, b"no records: fewer than ten bytes; end 30\n", b"")
-WHOLE = Ran(0, FIRST + b"38 closed gate, end 39; records: 1\n", b"")
+SHORT = Ran(0, b"no records: fewer than ten bytes; end 30; left: trades 100000, bytes 268435426\n", b"")
+WHOLE = Ran(0, FIRST + b"38 closed gate, end 39; records: 1; left: trades 99999, bytes 268435417\n", b"")
 
 TURN = b"MOMENTS2".hex()
 NOON = "40b7cb6900000000"
@@ -28,8 +28,8 @@ SLOTTED = bytes.fromhex("4f54434a524e4c43 00 1900000000000000 0000000000000000 0
 EMPTY = b"8 selector: slot 0\n9 slot 0: offset 25\n17 slot 1: offset 0\n25 no base\n"
 SLOTTED_ONE = SLOTTED + ONE[8:]
 SLOTTED_FIRST = FIRST.replace(b"8 ", b"29 ", 1)
-SHORT_SLOTTED = Ran(0, b"no records: slots, and fewer than 31 bytes; end 30\n", b"")
-SLOTTED_WHOLE = Ran(0, EMPTY + SLOTTED_FIRST + b"59 closed gate, end 60; records: 1\n", b"")
+SHORT_SLOTTED = Ran(0, b"no records: slots, and fewer than 31 bytes; end 30; left: trades 100000, bytes 268435426\n", b"")
+SLOTTED_WHOLE = Ran(0, EMPTY + SLOTTED_FIRST + b"59 closed gate, end 60; records: 1; left: trades 99999, bytes 268435396\n", b"")
 
 
 def frame(record: str) -> bytes:
@@ -190,9 +190,10 @@ class Inspected(unittest.TestCase):
 
     def test_slots_and_bases(self) -> None:
         """A base behind the selected offset, and what is damaged there; the other slot means nothing."""
-        self.assertEqual(self.inspect(BASED), Ran(0, BASED_TEXT + b"136 closed gate, end 137; records: 0\n", b""))
+        closed = b"136 closed gate, end 137; records: 0; left: trades 99999, bytes 268435319\n"
+        self.assertEqual(self.inspect(BASED), Ran(0, BASED_TEXT + closed, b""))
         behind = BASED[:-1] + frame(AFFIRM) + b"\0"
-        second = b"136 record 1, 15 bytes: seat 0, B: AFFIRM 1\n156 closed gate, end 157; records: 1\n"
+        second = b"136 record 1, 15 bytes: seat 0, B: AFFIRM 1\n156 closed gate, end 157; records: 1; left: trades 99999, bytes 268435299\n"
         self.assertEqual(self.inspect(behind), Ran(0, BASED_TEXT + second, b""))
         self.assert_damaged(BASED[:24] + b"\xff" + BASED[25:], 33 + (255 << 56), b"", b"length of its base passes the file's end")
         self.assert_damaged(BASED[:17] + b"\x18" + BASED[18:], 24, b"", b"slot 1 leads below 25")
@@ -201,6 +202,15 @@ class Inspected(unittest.TestCase):
         self.assert_damaged(BASED[:136], 136, BASED_TEXT, b"a gate is due, and the file ends")
         ran = self.inspect(BASED[:9] + b"\xff" + BASED[10:])
         self.assertEqual((ran.status, ran.output), (0, ran.output.replace(b"offset 25\n", b"offset 255\n")))
+
+    def test_trades_that_are_left(self) -> None:
+        """A trade of a base counts where it was submitted, ended or not, and so does each TRADE behind it."""
+        for submitter, state, left in ((1, 1, 99_997), (1, 2, 99_997), (0, 1, 99_998), (0, 2, 99_998)):
+            with self.subTest(submitter=submitter, state=state):
+                based = BASED[:132] + bytes([state, submitter]) + BASED[134:-1]
+                ran = self.inspect(based + frame(TRADE) + frame(AFFIRM) + frame(TRADE) + b"\0")
+                due = b"216 closed gate, end 217; records: 3; left: trades %d, bytes 268435239\n" % left
+                self.assertEqual((ran.status, ran.output.splitlines(True)[-1]), (0, due))
 
     def test_bases_that_spell_no_state(self) -> None:
         for place, other, at in BAD_BASES:
@@ -211,7 +221,8 @@ class Inspected(unittest.TestCase):
                 self.assertTrue(ran.output.startswith(BASED_SLOTS + told), ran.output)
 
     def test_moments(self) -> None:
-        self.assertEqual(self.inspect(TURNED), Ran(0, FIRST + TURN_TEXT + DATED_TEXT + b"79 closed gate, end 80; records: 2\n", b""))
+        closed = b"79 closed gate, end 80; records: 2; left: trades 99999, bytes 268435376\n"
+        self.assertEqual(self.inspect(TURNED), Ran(0, FIRST + TURN_TEXT + DATED_TEXT + closed, b""))
         for moment, date in ((0, b"1970-01-01 00:00:00"), (253_402_300_799, b"9999-12-31 23:59:59")):
             dated = TURNED.replace(bytes.fromhex(NOON), bytes.fromhex(number(moment)))
             self.assertIn(b" bytes: %s UTC, seat 0, B: AFFIRM 1\n" % date, self.inspect(dated).output)
@@ -222,7 +233,8 @@ class Inspected(unittest.TestCase):
         """One turns the body; a second one spells no change, and neither does one behind a base with the second mark."""
         self.assert_bad_second(TURNED[:51] + frame(TURN) + b"\0", 8, b"the moment: ")
         based = BASED[:37] + b"\2" + BASED[38:-1]
-        dated = b"136 record 1, 23 bytes: 2026-03-31 12:00:00 UTC, seat 0, B: AFFIRM 1\n164 closed gate, end 165; records: 1\n"
+        dated = b"136 record 1, 23 bytes: 2026-03-31 12:00:00 UTC, seat 0, B: AFFIRM 1\n"
+        dated += b"164 closed gate, end 165; records: 1; left: trades 99999, bytes 268435291\n"
         self.assertEqual(self.inspect(based + frame(NOON + AFFIRM) + b"\0"), Ran(0, BASED_TEXT + dated, b""))
         ran = self.inspect(based + frame(TURN) + b"\0")
         self.assertEqual((ran.status, ran.errors), (7, b"damaged at 136: its record spells no change\n"))
@@ -240,7 +252,7 @@ class Inspected(unittest.TestCase):
                 self.assert_damaged(ONE[:at] + b"\x00" + ONE[at + 1 :], 0, b"", b"it begins neither with OTCJRNL1 nor")
         for gate in (0, 2, 255):
             changed = ONE[:8] + bytes([gate]) + ONE[9:]
-            self.assertEqual(self.inspect(changed), Ran(0, b"8 closed gate, end 9; records: 0\n", b""))
+            self.assertEqual(self.inspect(changed), Ran(0, b"8 closed gate, end 9; records: 0; left: trades 100000, bytes 268435447\n", b""))
             self.assertEqual(self.inspect(ONE[:38] + bytes([gate])), WHOLE)
         self.assert_damaged(ONE[:38] + b"\x01", 38, FIRST, b"length")
         self.assert_damaged(ONE[:9] + b"\x1b" + ONE[10:], 8, b"", b"record of 27 bytes passes")
@@ -263,7 +275,7 @@ class Inspected(unittest.TestCase):
             size = len(bytes.fromhex(record))
             due += f"{at} record {count}, {size} bytes: {words}\n"
             at += 5 + size
-        due += f"{at} closed gate, end {at + 1}; records: {len(WORDS)}\n"
+        due += f"{at} closed gate, end {at + 1}; records: {len(WORDS)}; left: trades 99999, bytes {268_435_455 - at}\n"
         self.assertEqual(self.inspect(content), Ran(0, due.encode(), b""))
 
     def test_each_kind_of_change_with_its_moment(self) -> None:
