@@ -6,8 +6,6 @@ mod behind_bases;
 #[cfg(test)]
 mod checks;
 #[cfg(test)]
-mod exchanges;
-#[cfg(test)]
 mod failing_streams;
 #[cfg(test)]
 mod file_faults;
@@ -39,10 +37,6 @@ mod meetings;
 mod openings;
 #[cfg(test)]
 mod paced;
-#[cfg(test)]
-mod phase_lines;
-#[cfg(test)]
-mod phases;
 #[cfg(test)]
 mod premises;
 #[cfg(test)]

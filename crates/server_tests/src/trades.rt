@@ -1,9 +1,5 @@
 //! Rosters, and the trades that sessions begin with.
 
-/// Dealers A, B and C, customer D, an operator and a product.
-pub const FIVE: &str =
-    "name,role,key\nA,dealer,KA\nB,dealer,KB\nC,dealer,KC\nD,customer,KD\nOPS,operator,KO\nP,product,2031-06-30\n";
-
 /// Dealers A and B, customer C, an operator and a product.
 pub const CUSTOMER: &str =
     "name,role,key\nA,dealer,KA\nB,dealer,KB\nC,customer,KC\nOPS,operator,KO\nP,product,2031-06-30\n";
