@@ -11,12 +11,9 @@ mod lock;
 mod machine;
 #[cfg(test)]
 mod market;
-mod noted_desk;
-#[cfg(test)]
-mod postings;
 #[cfg(test)]
 mod row_lists;
 #[cfg(test)]
 mod trade_book;
-
-pub use noted_desk::NotedDesk;
+#[cfg(test)]
+mod votes;

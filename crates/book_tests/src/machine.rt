@@ -3,9 +3,8 @@
 
 pub mod answers;
 mod bases;
-pub mod commands;
+mod commands;
 mod matching;
-mod member_proofs;
 mod misfits;
 mod open_cycles;
 mod rests;
@@ -13,7 +12,7 @@ mod sheets;
 mod standing;
 mod starts;
 mod unsaid;
-pub mod words;
+mod words;
 mod writable;
 
 ghost use Rattle.std.specs.Prelude.{◌≡◌, IfOk};
@@ -39,20 +38,22 @@ pub fn empty_desk(alloc: Global) -> Result<PlainDesk, AllocError>
     Ok(PlainDesk::new(alloc, machine))
 }
 
+fn ask_of(alloc: Global, by: Word, said: Said) -> Result<Ask, Fail> {
+    Ok(Ask {
+        what: command_of(alloc, said)?,
+        by: Some(by.name()),
+        moment: Moment::new(0),
+    })
+}
+
 fn is_answered(desk: &mut PlainDesk, ask: Ask, at: u64, told: Told) -> bool {
     let reply = desk.ask(7, ask);
     reply.at == at && desk.length() == at && is_told(&reply.answer, told)
 }
 
-/// Whether the command of each row is answered so, one after the other.
-pub fn goes(alloc: Global, desk: &mut PlainDesk, rows: &[Row]) -> Result<bool, Fail> {
+fn goes(alloc: Global, desk: &mut PlainDesk, rows: &[Row]) -> Result<bool, Fail> {
     for (by, said, at, told) in rows {
-        let Some(what) = command_of(alloc, *said)? else {
-            return Ok(false);
-        };
-        let by = Some(by.name());
-        let moment = Moment::new(0);
-        if !is_answered(desk, Ask { by, what, moment }, *at, *told) {
+        if !is_answered(desk, ask_of(alloc, *by, *said)?, *at, *told) {
             return Ok(false);
         }
     }

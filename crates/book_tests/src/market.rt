@@ -4,11 +4,11 @@ ghost use Rattle.std.specs.Prelude.{◌≡◌, [], ◌∷◌, IfOk, IsTrue, All,
 ghost use Rattle.units_core.specs.Name.{is_name};
 ghost use Rattle.network_laws.specs.Solutions.{IsPotential};
 
-use command_types::{MemberRow, OperatorRow, PlanRow, ProductRow, Role, Roster};
+use command_types::{MemberRow, OperatorRow, ProductRow, Role, Roster};
 use network_laws::{Network, Row, Solution};
 use std::alloc::{AllocError, Global};
 use std::test::Fail;
-use units_core::{Day, MemberNo, Name, ProductNo};
+use units_core::{Day, MemberNo, Name};
 
 pub const A: MemberNo = MemberNo(0);
 
@@ -77,14 +77,10 @@ pub fn two_products(alloc: Global) -> Result<Roster, AllocError>
     Ok(Roster::new(members, products, Some(operator())))
 }
 
-/// A row: seller, buyer and amount.
-pub type Owed = (MemberNo, MemberNo, u64);
+// A row: seller, buyer and amount.
+type Owed = (MemberNo, MemberNo, u64);
 
-/// The network of these rows between the dealers.
-pub fn network(alloc: Global, rows: &[Owed]) -> Result<Network, Fail>
-    ensures { IfOk result (λ network. network.members ≡ 3) }
-{
-    let mut list = Vec::new(alloc);
+fn put_rows(list: &mut Vec<Row>, rows: &[Owed]) -> Result<(), AllocError> {
     for (seller, buyer, amount) in rows {
         list.push(Row {
             seller: seller.0,
@@ -92,6 +88,15 @@ pub fn network(alloc: Global, rows: &[Owed]) -> Result<Network, Fail>
             amount: *amount,
         })?;
     }
+    Ok(())
+}
+
+// The network of these rows between the dealers.
+fn network(alloc: Global, rows: &[Owed]) -> Result<Network, Fail>
+    ensures { IfOk result (λ network. network.members ≡ 3) }
+{
+    let mut list = Vec::new(alloc);
+    put_rows(&mut list, rows)?;
     Ok(Network::from_rows(3, list)?)
 }
 
@@ -115,77 +120,35 @@ pub enum Posted {
     Empty,
     /// No amounts between two members.
     OfTwo,
-    /// The chain as it is: what A owes B and B owes C, with potentials that don't certify it.
-    SlackChain,
-    /// The chain's least network, with a potential of 1 for A.
+    /// The least network of the chain in which A owes B 10 and B owes C 7, with a potential of 1 for A.
     ShortChain,
-    /// Less than what A owes in the chain, with a potential of 1 for A.
+    /// A part of what A owes there, with a potential of 1 for A.
     Less,
-    /// What is left of amounts both ways between A and B, with a potential of 1 for A.
-    Difference,
 }
 
-pub fn solution_of(alloc: Global, posted: Posted) -> Result<Solution, Fail> {
+fn solution_of(alloc: Global, posted: Posted) -> Result<Solution, Fail> {
     match posted {
         Posted::Empty => solution(alloc, [0, 0, 0], &[]),
         Posted::OfTwo => of_two(alloc),
-        Posted::SlackChain => solution(alloc, [0, 0, 0], &[(A, B, 10), (B, C, 7)]),
         Posted::ShortChain => solution(alloc, [1, 0, 0], &[(A, B, 3), (A, C, 7)]),
         Posted::Less => solution(alloc, [1, 0, 0], &[(A, B, 3)]),
-        Posted::Difference => solution(alloc, [1, 0, 0], &[(A, B, 6)]),
     }
+}
+
+fn put_solutions(
+    alloc: Global,
+    solutions: &mut Vec<Solution>,
+    posted: &[Posted],
+) -> Result<(), Fail> {
+    for one in posted {
+        solutions.push(solution_of(alloc, *one)?)?;
+    }
+    Ok(())
 }
 
 /// The solutions, in this order.
 pub fn solutions_of(alloc: Global, posted: &[Posted]) -> Result<Vec<Solution>, Fail> {
     let mut solutions = Vec::new(alloc);
-    for one in posted {
-        solutions.push(solution_of(alloc, *one)?)?;
-    }
+    put_solutions(alloc, &mut solutions, posted)?;
     Ok(solutions)
-}
-
-/// A step of a plan.
-#[derive(Clone, Copy)]
-pub enum Step {
-    /// The trade of this number ends.
-    End(u64),
-    /// The trade of this number falls from the first amount to the second.
-    Cut(u64, u64, u64),
-    /// A new trade of the first product, dated 2026-03-31: the places of seller and buyer, and the amount.
-    New(u16, u16, u64),
-}
-
-/// Whether a row of a plan is this step.
-pub fn is_step(row: &PlanRow, step: Step) -> bool {
-    match (row, step) {
-        (PlanRow::End { trade }, Step::End(want)) => *trade == want,
-        (PlanRow::Cut { trade, from, to }, Step::Cut(want, more, less)) => {
-            *trade == want && *from == more && *to == less
-        }
-        (
-            PlanRow::New {
-                product,
-                seller,
-                buyer,
-                amount,
-                day,
-            },
-            Step::New(owing, owed, size),
-        ) => {
-            let is_dated = Day::new(2026, 3, 31).is_some_and(|want| *day == want);
-            let is_between = seller.0 == owing && buyer.0 == owed;
-            *product == ProductNo(0) && is_between && amount.get() == size && is_dated
-        }
-        _ => false,
-    }
-}
-
-/// Whether these are the rows of a plan, in this order.
-pub fn are_steps(rows: &[PlanRow], steps: &[Step]) -> bool {
-    rows.len() == steps.len()
-        && rows
-            .iter()
-            .zip(steps)
-            .all(|(row, step)| is_step(row, *step))
 }

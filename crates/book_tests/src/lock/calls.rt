@@ -1,12 +1,13 @@
-//! Calls under a pass, and the trades that they made.
+//! Calls under passes.
 
+ghost use Rattle.std.specs.Prelude.{◌≡◌};
 ghost use Rattle.cycle_lock.specs.Passes.{IsPassOf};
 
-use crate::NotedDesk;
 use crate::machine::answers::{Told, is_told};
 use crate::market::named;
 use command_types::{Ask, Moment, What};
 use cycle_lock::{Pass, Turns};
+use cycle_states::PlainDesk;
 use std::sync::Wait;
 use units_core::{Amount, Day};
 
@@ -18,6 +19,16 @@ pub enum Call {
     /// A line that can't be read from this offset on.
     Unreadable(u32),
 }
+
+/// Which pass asks.
+#[derive(Clone, Copy)]
+pub enum Whose {
+    First,
+    Other,
+}
+
+/// Which pass asks, what it asks, the position of the reply, and the answer.
+pub type Turn = (Whose, Call, u64, Told);
 
 /// A trade of 10,000 and the number, asked for by its seller.
 pub fn trade(number: u64) -> Option<Ask> {
@@ -46,37 +57,39 @@ fn ask_of(call: Call) -> Option<Ask> {
     }
 }
 
-/// Whether each call is answered so at this position, one after the other.
-pub fn calls<R: Wait>(
-    rt: &R,
-    turns: &Turns<NotedDesk>,
-    pass: &mut Pass,
-    rows: &[(Call, u64, Told)],
-) -> bool
+fn is_answered<R: Wait>(rt: &R, turns: &Turns<PlainDesk>, pass: &mut Pass, turn: Turn) -> bool
     requires { IsPassOf turns.now pass.old }
     ensures { IsPassOf turns.now pass.new }
 {
-    let mut holds = true;
-    for (call, at, told) in rows {
-        let Some(ask) = ask_of(*call) else {
-            return false;
-        };
-        let reply = turns.call(rt, pass, ask);
-        holds = holds && reply.at == *at && is_told(&reply.answer, *told);
-    }
-    holds
+    let (_, call, at, told) = turn;
+    let Some(ask) = ask_of(call) else {
+        return false;
+    };
+    let reply = turns.call(rt, pass, ask);
+    reply.at == at && is_told(&reply.answer, told)
 }
 
-/// Whether the notes of this seat are its trades of the numbers 0, 1, 2 and so on up to before `count`.
-pub fn are_in_turn(notes: &[(u32, u64)], seat: u32, count: u64) -> bool {
-    let mut next = 0u64;
-    for (noted, size) in notes {
-        if *noted == seat {
-            if *size != 10_000u64.wrapping_add(next) {
-                return false;
-            }
-            next = next.wrapping_add(1);
+/// Whether each call is answered so at this position, one after the other.
+pub fn go<R: Wait>(
+    rt: &R,
+    turns: &Turns<PlainDesk>,
+    pass: &mut Pass,
+    other: &mut Pass,
+    rows: &[Turn],
+) -> bool
+    requires pass { IsPassOf turns.now pass.old }
+    requires other { IsPassOf turns.now other.old }
+    ensures pass { IsPassOf turns.now pass.new }
+    ensures other { IsPassOf turns.now other.new }
+{
+    for row in rows {
+        let is_so = match row.0 {
+            Whose::First => is_answered(rt, turns, pass, *row),
+            Whose::Other => is_answered(rt, turns, other, *row),
+        };
+        if !is_so {
+            return false;
         }
     }
-    next == count
+    true
 }

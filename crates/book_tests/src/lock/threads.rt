@@ -4,13 +4,13 @@ ghost use Rattle.std.specs.Prelude.{◌≡◌, ◌≤◌, All, IfOk};
 ghost use Rattle.cycle_lock.specs.Passes.{IsPassOf, seat_of, may_split, Includes};
 
 use super::calls::trade;
-use crate::NotedDesk;
 use command_types::{Answer, Desk};
 use cycle_lock::{Pass, Turns};
+use cycle_states::PlainDesk;
 use std::alloc::{AllocError, Global};
 use std::sync::Wait;
 use std::thread;
-use std::thread::{Threads, join};
+use std::thread::Threads;
 
 /// Makes this many trades, and counts those that are answered after all before.
 pub fn many<R: Wait, D: Desk>(rt: &R, turns: &Turns<D>, pass: &mut Pass, count: u64) -> u64
@@ -42,7 +42,7 @@ pub struct Job {
 /// So many passes, split off from one.
 pub fn split_off(
     alloc: Global,
-    turns: &Turns<NotedDesk>,
+    turns: &Turns<PlainDesk>,
     pass: &mut Pass,
     count: u64,
 ) -> Result<Vec<Job>, AllocError>
@@ -80,40 +80,8 @@ pub fn work<R: Threads + Wait + Sync, D: Desk>(
     );
 }
 
-/// Two passes make so many trades each beside one another, in two threads, and count them as `many` does.
-pub fn both<R: Threads + Wait + Sync, D: Desk>(
-    rt: &R,
-    turns: &Turns<D>,
-    mut pass: Pass,
-    mut other: Pass,
-    count: u64,
-) -> ((Pass, u64), (Pass, u64))
-    requires pass { IsPassOf turns.now pass }
-    requires other { IsPassOf turns.now other }
-    ensures pass { IsPassOf turns.now result.0.0 }
-    ensures other { IsPassOf turns.now result.1.0 }
-{
-    join(
-        rt,
-        || -> (Pass, u64)
-            requires { IsPassOf turns.now pass }
-            ensures { IsPassOf turns.entry.now result.0 }
-        {
-            let done = many(rt, turns, &mut pass, count);
-            (pass, done)
-        },
-        || -> (Pass, u64)
-            requires { IsPassOf turns.now other }
-            ensures { IsPassOf turns.entry.now result.0 }
-        {
-            let done = many(rt, turns, &mut other, count);
-            (other, done)
-        },
-    )
-}
-
 /// The pass takes in all others, and their trades are counted.
-pub fn gather(turns: &Turns<NotedDesk>, pass: &mut Pass, mut jobs: Vec<Job>) -> u64
+pub fn gather(turns: &Turns<PlainDesk>, pass: &mut Pass, mut jobs: Vec<Job>) -> u64
     requires own { IsPassOf turns.now pass.old × All (λ job. IsPassOf turns.now job.pass) jobs.items }
     ensures own { IsPassOf turns.now pass.new × (seat_of pass.new ≡ seat_of pass.old) }
     ensures mine { Includes pass.new pass.old }
@@ -125,4 +93,22 @@ pub fn gather(turns: &Turns<NotedDesk>, pass: &mut Pass, mut jobs: Vec<Job>) -> 
         turns.join(pass, job.pass);
     }
     done
+}
+
+/// Has so many passes make so many trades each, and counts those that are answered after all before; the pass takes them in.
+pub fn run<R: Threads + Wait + Sync>(
+    rt: &R,
+    alloc: Global,
+    turns: &Turns<PlainDesk>,
+    pass: &mut Pass,
+    load: (u64, u64),
+) -> Result<u64, AllocError>
+    requires own { IsPassOf turns.now pass.old }
+    requires left { load.0 ≤ may_split pass.old }
+    ensures own { IsPassOf turns.now pass.new }
+{
+    let (passes, trades) = load;
+    let mut jobs = split_off(alloc, turns, pass, passes)?;
+    work(rt, turns, &mut jobs, trades);
+    Ok(gather(turns, pass, jobs))
 }

@@ -4,7 +4,7 @@ use super::sheets::{ALLEGED, Deal, EMPTY, LIVE, Sheet};
 use super::standing::{machine_of, stands_so};
 use super::words::Word::{A, B, C, D, P, Q};
 use crate::market::{three_dealers, two_products};
-use command_types::{Side, TradeState};
+use command_types::{Roster, Side, TradeState};
 use std::alloc::Global;
 use std::test::Fail;
 
@@ -114,35 +114,28 @@ const TWO: Sheet = Sheet {
 
 const SHEETS: [Sheet; 3] = [EMPTY, MIXED, MOST];
 
-// Whether a machine of the three dealers that stands so tells the same base.
-fn comes_back(alloc: Global, sheet: &Sheet) -> Result<bool, Fail> {
-    let machine = machine_of(alloc, three_dealers(alloc)?, sheet)?;
-    stands_so(alloc, &machine, sheet)
-}
-
-// The same over two products.
-fn comes_back_over_two(alloc: Global, sheet: &Sheet) -> Result<bool, Fail> {
-    let machine = machine_of(alloc, two_products(alloc)?, sheet)?;
-    stands_so(alloc, &machine, sheet)
+// Whether a machine over this roster that stands so tells the same base.
+fn comes_back(alloc: Global, roster: Roster, sheet: &Sheet) -> Result<bool, Fail> {
+    let machine = machine_of(alloc, roster, sheet)?;
+    Ok(stands_so(alloc, &machine, sheet)?)
 }
 
 fn come_back(alloc: Global, sheets: &[Sheet]) -> Result<bool, Fail> {
     for sheet in sheets {
-        if !comes_back(alloc, sheet)? {
+        if !comes_back(alloc, three_dealers(alloc)?, sheet)? {
             return Ok(false);
         }
     }
     Ok(true)
 }
 
-#[test]
-fn bases_come_back(rt: HostRuntime) -> Result<(), Fail> {
-    assert!(rt; come_back(rt.alloc(), &SHEETS)?);
-    Ok(())
+fn comes_back_over_two(alloc: Global, sheet: &Sheet) -> Result<bool, Fail> {
+    comes_back(alloc, two_products(alloc)?, sheet)
 }
 
 #[test]
-fn a_base_of_two_products_comes_back(rt: HostRuntime) -> Result<(), Fail> {
+fn bases_come_back(rt: HostRuntime) -> Result<(), Fail> {
+    assert!(rt; come_back(rt.alloc(), &SHEETS)?);
     assert!(rt; comes_back_over_two(rt.alloc(), &TWO)?);
     Ok(())
 }

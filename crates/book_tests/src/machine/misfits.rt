@@ -5,9 +5,9 @@ use super::words::Word;
 use super::words::Word::{A, B, C, D, P, Q};
 use super::writable::can_be_written;
 use crate::market::three_dealers;
+use base_fitting::fits;
 use command_types::{Side, TradeState};
-use cycle_states::{BaseFault, Machine};
-use std::alloc::Global;
+use std::alloc::{AllocError, Global};
 use std::test::Fail;
 
 const MOST: u64 = 1_000_000_000_000_000_000;
@@ -72,16 +72,14 @@ const TRADES: [Deal; 10] = [
     },
 ];
 
-fn is_misfit(alloc: Global, sheet: &Sheet) -> Result<bool, Fail> {
+// Whether it can be written, and does not fit the three dealers.
+fn is_misfit(alloc: Global, sheet: &Sheet) -> Result<bool, AllocError> {
+    let roster = three_dealers(alloc)?;
     let base = base_of(alloc, sheet)?;
-    if !can_be_written(&base) {
-        return Ok(false);
-    }
-    let made = Machine::of_base(alloc, three_dealers(alloc)?, base);
-    Ok(matches!(made, Err(BaseFault::Misfit)))
+    Ok(can_be_written(&base) && !fits(&base, &roster))
 }
 
-fn are_numbers_misfits(alloc: Global, numbers: &[Numbers]) -> Result<bool, Fail> {
+fn are_numbers_misfits(alloc: Global, numbers: &[Numbers]) -> Result<bool, AllocError> {
     for (position, cycle, version) in numbers {
         let sheet = Sheet {
             position: *position,
@@ -96,7 +94,7 @@ fn are_numbers_misfits(alloc: Global, numbers: &[Numbers]) -> Result<bool, Fail>
     Ok(true)
 }
 
-fn are_names_misfits(alloc: Global, names: &[Names]) -> Result<bool, Fail> {
+fn are_names_misfits(alloc: Global, names: &[Names]) -> Result<bool, AllocError> {
     for (members, products) in names {
         let sheet = Sheet {
             members,
@@ -110,7 +108,7 @@ fn are_names_misfits(alloc: Global, names: &[Names]) -> Result<bool, Fail> {
     Ok(true)
 }
 
-fn are_settings_misfits(alloc: Global, limits: &[Limit]) -> Result<bool, Fail> {
+fn are_settings_misfits(alloc: Global, limits: &[Limit]) -> Result<bool, AllocError> {
     for limit in limits {
         let sheet = Sheet {
             settings: &[*limit],
@@ -123,7 +121,7 @@ fn are_settings_misfits(alloc: Global, limits: &[Limit]) -> Result<bool, Fail> {
     Ok(true)
 }
 
-fn are_trades_misfits(alloc: Global, deals: &[Deal]) -> Result<bool, Fail> {
+fn are_trades_misfits(alloc: Global, deals: &[Deal]) -> Result<bool, AllocError> {
     for deal in deals {
         let sheet = Sheet {
             deals: &[*deal, LIVE],
@@ -136,12 +134,17 @@ fn are_trades_misfits(alloc: Global, deals: &[Deal]) -> Result<bool, Fail> {
     Ok(true)
 }
 
-// So many trades of A, and one more that a plan made.
-fn is_misfit_of(alloc: Global, count: u32) -> Result<bool, Fail> {
-    let mut deals = Vec::new(alloc);
+fn put_live(deals: &mut Vec<Deal>, count: u32) -> Result<(), AllocError> {
     for _ in 0..count {
         deals.push(LIVE)?;
     }
+    Ok(())
+}
+
+// So many trades of A, and one more that a plan made.
+fn is_misfit_of(alloc: Global, count: u32) -> Result<bool, AllocError> {
+    let mut deals = Vec::new(alloc);
+    put_live(&mut deals, count)?;
     deals.push(Deal {
         submitter: None,
         ..LIVE

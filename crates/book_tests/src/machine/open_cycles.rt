@@ -5,8 +5,9 @@ ghost use Rattle.book_tests.specs.Changes.{LeadTo};
 ghost use Rattle.cycle_states.specs.Machine.{IsYoung};
 ghost use Rattle.cycle_states.specs.Replayed.{base_at, IsSmall};
 
+use super::ask_of;
+use super::commands::Said;
 use super::commands::Said::{Accept, Begin, Cancel, Decline, End, Freeze, Post};
-use super::commands::{MARCH, Said, command_of};
 use super::sheets::{Deal, EMPTY, LIVE, Sheet};
 use super::standing::{machine_of, stands_so};
 use super::words::Word;
@@ -14,7 +15,7 @@ use super::words::Word::{A, B, C, Ops};
 use crate::market::Posted::ShortChain;
 use crate::market::three_dealers;
 use command_types::Mode::Hybrid;
-use command_types::{Ask, Entry, Moment, Side, TradeState};
+use command_types::{Entry, Side, TradeState};
 use cycle_states::{Decision, Machine};
 use std::alloc::{AllocError, Global};
 use std::test::Fail;
@@ -39,7 +40,7 @@ type Turn = (Word, Said, bool);
 
 // The chain is compressed in the second version.
 const COMPRESSED: [Turn; 9] = [
-    (Ops, Freeze(MARCH), true),
+    (Ops, Freeze, true),
     (Ops, Begin(1, Hybrid), true),
     (Ops, Post(1, ShortChain), true),
     (A, Decline(1, 1), true),
@@ -66,7 +67,7 @@ const AFTER: Sheet = Sheet {
         Deal {
             buyer: 2,
             amount: 7,
-            day: MARCH,
+            day: (2026, 3, 31),
             submitter: None,
             ..LIVE
         },
@@ -76,7 +77,7 @@ const AFTER: Sheet = Sheet {
 
 // A frozen trade ends, and the cycle is cancelled.
 const BROKEN: [Turn; 4] = [
-    (Ops, Freeze(MARCH), true),
+    (Ops, Freeze, true),
     (A, End(1), true),
     (B, End(1), true),
     (Ops, Cancel(1), false),
@@ -103,15 +104,8 @@ const UNCHANGED: Sheet = Sheet {
 };
 
 fn entry_of(alloc: Global, by: Word, said: Said) -> Result<Entry, Fail> {
-    let Some(what) = command_of(alloc, said)? else {
-        return Err(Fail::new("no command"));
-    };
-    let by = Some(by.name());
-    let moment = Moment::new(0);
-    Ok(Entry {
-        seat: 7,
-        ask: Ask { by, what, moment },
-    })
+    let ask = ask_of(alloc, by, said)?;
+    Ok(Entry { seat: 7, ask })
 }
 
 // Has the machine make the change, and says whether it accepted it.
@@ -171,7 +165,7 @@ fn ends_so(
     if !goes(alloc, machine, turns)? {
         return Ok(false);
     }
-    stands_so(alloc, machine, sheet)
+    Ok(stands_so(alloc, machine, sheet)?)
 }
 
 fn chain(alloc: Global) -> Result<Machine, Fail>

@@ -1,11 +1,13 @@
 //! Bases in short, and how they are made.
 
-use super::commands::{Date, TRADED};
 use super::words::Word;
 use super::words::Word::{A, B, C, P};
 use command_types::{Base, Level, Listed, Side, ToleranceRow, TradeRow, TradeState};
 use std::alloc::{AllocError, Global};
 use units_core::{Amount, Day, MemberNo, Name, ProductNo};
+
+/// A year, a month and a day.
+pub type Date = (u16, u8, u8);
 
 /// A setting: the places of its member, of the product and of the other member, its side, the floor and the ceiling.
 pub type Limit = (u16, u16, u16, Side, u64, Option<u64>);
@@ -43,7 +45,7 @@ pub const LIVE: Deal = Deal {
     buyer: 1,
     product: 0,
     amount: 10,
-    day: TRADED,
+    day: (2026, 3, 2),
     state: TradeState::Live,
     submitter: Some(Side::Out),
     mark: None,
@@ -68,11 +70,16 @@ pub const EMPTY: Sheet = Sheet {
     deals: &[],
 };
 
-fn names(alloc: Global, words: &[Word]) -> Result<Listed<Name>, AllocError> {
-    let mut names = Vec::new(alloc);
+fn put_names(names: &mut Vec<Name>, words: &[Word]) -> Result<(), AllocError> {
     for word in words {
         names.push(word.name())?;
     }
+    Ok(())
+}
+
+fn names(alloc: Global, words: &[Word]) -> Result<Listed<Name>, AllocError> {
+    let mut names = Vec::new(alloc);
+    put_names(&mut names, words)?;
     Ok(Listed::new(names))
 }
 
@@ -83,7 +90,27 @@ fn ceiling(most: Option<u64>) -> Result<Option<Level>, AllocError> {
     }
 }
 
-fn trade(number: u64, deal: Deal) -> Option<TradeRow> {
+fn put_settings(rows: &mut Vec<ToleranceRow>, limits: &[Limit]) -> Result<(), AllocError> {
+    for limit in limits {
+        rows.push(ToleranceRow {
+            member: MemberNo(limit.0),
+            product: ProductNo(limit.1),
+            other: MemberNo(limit.2),
+            side: limit.3,
+            floor: Level::new(limit.4).ok_or(AllocError)?,
+            ceiling: ceiling(limit.5)?,
+        })?;
+    }
+    Ok(())
+}
+
+fn settings(alloc: Global, limits: &[Limit]) -> Result<Listed<ToleranceRow>, AllocError> {
+    let mut rows = Vec::new(alloc);
+    put_settings(&mut rows, limits)?;
+    Ok(Listed::new(rows))
+}
+
+fn trade(number: u64, deal: &Deal) -> Option<TradeRow> {
     Some(TradeRow {
         number,
         seller: MemberNo(deal.seller),
@@ -100,28 +127,17 @@ fn trade(number: u64, deal: Deal) -> Option<TradeRow> {
     })
 }
 
-fn settings(alloc: Global, limits: &[Limit]) -> Result<Listed<ToleranceRow>, AllocError> {
-    let mut rows = Vec::new(alloc);
-    for limit in limits {
-        rows.push(ToleranceRow {
-            member: MemberNo(limit.0),
-            product: ProductNo(limit.1),
-            other: MemberNo(limit.2),
-            side: limit.3,
-            floor: Level::new(limit.4).ok_or(AllocError)?,
-            ceiling: ceiling(limit.5)?,
-        })?;
+fn put_trades(rows: &mut Vec<TradeRow>, deals: &[Deal]) -> Result<(), AllocError> {
+    for deal in deals {
+        let number = (rows.len() as u64).saturating_add(1);
+        rows.push(trade(number, deal).ok_or(AllocError)?)?;
     }
-    Ok(Listed::new(rows))
+    Ok(())
 }
 
 fn trades(alloc: Global, deals: &[Deal]) -> Result<Listed<TradeRow>, AllocError> {
     let mut rows = Vec::new(alloc);
-    let mut number = 1u64;
-    for deal in deals {
-        rows.push(trade(number, *deal).ok_or(AllocError)?)?;
-        number = number.saturating_add(1);
-    }
+    put_trades(&mut rows, deals)?;
     Ok(Listed::new(rows))
 }
 

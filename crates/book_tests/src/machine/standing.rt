@@ -8,7 +8,7 @@ use super::sheets::{Sheet, base_of};
 use super::writable::can_be_written;
 use command_types::{Base, Roster};
 use cycle_states::Machine;
-use std::alloc::Global;
+use std::alloc::{AllocError, Global};
 use std::test::Fail;
 
 fn machine_in(alloc: Global, roster: Roster, base: Base) -> Result<Machine, Fail>
@@ -29,11 +29,16 @@ pub fn machine_of(alloc: Global, roster: Roster, sheet: &Sheet) -> Result<Machin
     machine_in(alloc, roster, base)
 }
 
+fn tells(alloc: Global, machine: &Machine, want: &Base) -> Result<bool, AllocError> {
+    let told = machine.base(alloc, want.position)?;
+    Ok(match &told {
+        Some(base) => is_same(base, want),
+        None => false,
+    })
+}
+
 /// Whether the machine tells this base at its position, row by row.
-pub fn stands_so(alloc: Global, machine: &Machine, sheet: &Sheet) -> Result<bool, Fail> {
+pub fn stands_so(alloc: Global, machine: &Machine, sheet: &Sheet) -> Result<bool, AllocError> {
     let base = base_of(alloc, sheet)?;
-    match machine.base(alloc, sheet.position)? {
-        None => Ok(false),
-        Some(told) => Ok(is_same(&told, &base)),
-    }
+    tells(alloc, machine, &base)
 }

@@ -2,7 +2,6 @@
 
 use super::Row;
 use super::answers::Told::{Affirmed, Frozen, Traded};
-use super::commands::MARCH;
 use super::commands::Said::{Affirm, Freeze, Trade};
 use super::words::Word::{A, B, C, Ops};
 
@@ -17,7 +16,7 @@ pub const RING: [Row; 6] = [
 ];
 
 /// The ring is frozen.
-pub const FREEZE: [Row; 1] = [(Ops, Freeze(MARCH), 7, Frozen(1, 3))];
+pub const FREEZE: [Row; 1] = [(Ops, Freeze, 7, Frozen(1, 3))];
 
 /// Trades of 10 from A to B and of 7 from B to C.
 pub const CHAIN: [Row; 4] = [

@@ -2,17 +2,17 @@
 //! limits, and what one asks whom the roster has not.
 
 use super::answers::Told::{Begun, Cancelled, Ended, Frozen, Marked, No, Noted, Problem};
-use super::commands::MARCH;
 use super::commands::Said::{
     Begin, Cancel, End, Fetch, Freeze, Post, PostNone, PostTwo, Pot, Row as Noting, Statement,
 };
 use super::starts::{CHAIN, FREEZE, RING};
 use super::words::Word::{A, B, KeyA, Ops, P};
 use super::{Row, plays};
-use crate::market::Posted::{Empty, OfTwo};
+use crate::market::Posted::{Empty, Less, OfTwo};
 use command_types::Mode::{Conservative, Hybrid};
-use command_types::{BadPost, Phase, Refusal};
+use command_types::{BadPost, Clash, Phase, Refusal};
 use std::test::Fail;
+use units_core::ProductNo;
 
 const CLOSED: Refusal = Refusal::WrongPhase { phase: Phase::None };
 
@@ -24,6 +24,16 @@ const BROKEN: Refusal = Refusal::CycleBroken { trade: 1 };
 
 const OTHER: Refusal = Refusal::WrongCycle { cycle: 1 };
 
+const CLASH: Refusal = Refusal::BadCertificate {
+    post: BadPost::At {
+        product: ProductNo(0),
+        clash: Clash::Above {
+            seller: 0,
+            buyer: 1,
+        },
+    },
+};
+
 const SHAPE: Refusal = Refusal::BadCertificate {
     post: BadPost::Shape,
 };
@@ -34,7 +44,7 @@ const FETCHES: [Row; 17] = [
     (B, Fetch(9, 9), 0, No(Refusal::NotOperator)),
     (Ops, Fetch(7, 1), 0, No(Refusal::WrongCycle { cycle: 0 })),
     (Ops, Fetch(0, 0), 0, No(CLOSED)),
-    (Ops, Freeze(MARCH), 1, Frozen(1, 0)),
+    (Ops, Freeze, 1, Frozen(1, 0)),
     (B, Fetch(9, 9), 1, No(Refusal::NotOperator)),
     (Ops, Fetch(7, 1), 1, No(OTHER)),
     (Ops, Fetch(1, 0), 1, No(FROZEN)),
@@ -55,7 +65,7 @@ const FETCHES: [Row; 17] = [
 ];
 
 const FETCHED: [Row; 3] = [
-    (Ops, Freeze(MARCH), 5, Frozen(1, 2)),
+    (Ops, Freeze, 5, Frozen(1, 2)),
     (Ops, Begin(1, Hybrid), 6, Begun(1, 1)),
     (Ops, Fetch(1, 1), 6, Problem(17)),
 ];
@@ -92,12 +102,15 @@ fn a_broken_cycle_has_no_problems(rt: HostRuntime) -> Result<(), Fail> {
     Ok(())
 }
 
-const SHAPES: [Row; 5] = [
-    (Ops, Freeze(MARCH), 1, Frozen(1, 0)),
+// Nobody owes anything, and no amount may grow: an amount is a clash, which is told only where the shape is right.
+const SHAPES: [Row; 7] = [
+    (Ops, Freeze, 1, Frozen(1, 0)),
     (Ops, Begin(1, Conservative), 2, Begun(1, 1)),
     (Ops, PostNone(1), 2, No(SHAPE)),
+    (Ops, Post(1, Less), 2, No(CLASH)),
     (Ops, Post(1, OfTwo), 2, No(SHAPE)),
     (Ops, PostTwo(1, Empty, Empty), 2, No(SHAPE)),
+    (Ops, PostTwo(1, Less, OfTwo), 2, No(SHAPE)),
 ];
 
 const MOST: u64 = 1_000_000_000_000_000_000;

@@ -3,7 +3,7 @@
 use crate::market::named;
 use units_core::Name;
 
-/// The names of the dealers, of the customer and the operator, of two keys, of the product P, and of none.
+/// The names of the dealers, of the customer and the operator, of a key, and of two products.
 #[derive(Clone, Copy)]
 pub enum Word {
     A,
@@ -12,7 +12,6 @@ pub enum Word {
     D,
     Ops,
     KeyA,
-    KeyOps,
     P,
     Q,
 }
@@ -26,7 +25,6 @@ impl Word {
             Word::D => named(b"D"),
             Word::Ops => named(b"OPS"),
             Word::KeyA => named(b"KA"),
-            Word::KeyOps => named(b"KO"),
             Word::P => named(b"P"),
             Word::Q => named(b"Q"),
         }

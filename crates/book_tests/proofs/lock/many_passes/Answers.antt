@@ -1,26 +1,8 @@
 use denote.Param.Send.{param_send, arg_send}
-use Rattle.std.proofs.Common.{rules, ◌≡◌, ◌∙◌, ◌++◌, List, All, length, take, drop, ap, sym, subst}
-use Rattle.std.proofs.Math.Seq.{take-append_seam}
-use Rattle.cycle_lock.specs.Passes.{IsPassOf}
-use Rattle.book_tests.specs.declared.lock.threads.Job.{Job}
-use Rattle.book_tests.proofs.Sends.{noted_desk_send}
+use Rattle.cycle_states.proofs.Sends.{plain_desk_send}
 use Rattle.book_tests.proofs.lock.many_passes.Goals as goal
 
 -- the desk may go to another thread
 
-pub new-requires-send-T : goal.new-requires-send-T
-new-requires-send-T g c κs = search (param_send, arg_send, noted_desk_send)
-
 pub close-desk-requires-send-T : goal.close-desk-requires-send-T
-close-desk-requires-send-T g c κs = search (param_send, arg_send, noted_desk_send)
-
-pub work-requires-send-D : goal.work-requires-send-D
-work-requires-send-D g c κs within = search (param_send, arg_send, noted_desk_send)
-
-pub gather-done-requires : goal.gather-done-requires
-gather-done-requires g c =
-    let new = c.work.new.jobs in
-    let old = c.in_ok-jobs.jobs.items in
-    let same : length new ≡ c.in_ok-jobs.jobs.len = search rules in
-    let anew : take c.in_ok-jobs.jobs.len (new ++ drop (length new) old) ≡ new = ap (λ n. take n (new ++ drop (length new) old)) (sym same) ∙ take-append_seam new (drop (length new) old) in
-    record { own = (c.split_off.ensures.own, subst (λ (jobs : List Job). All (λ job. IsPassOf c.in-Ok.turns job.pass) jobs) (sym anew) c.work.ensures) }
+close-desk-requires-send-T g c κs = search (param_send, arg_send, plain_desk_send)

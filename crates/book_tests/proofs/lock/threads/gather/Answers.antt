@@ -5,13 +5,13 @@ use Rattle.std.specs.Prelude.{All, slice_index_or}
 use Rattle.book_tests.specs.declared.lock.threads.Job.{Job}
 use Rattle.cycle_lock.specs.Passes.{IsPassOf, Includes}
 use Rattle.book_tests.proofs.Includes.{through, all_front}
-use Rattle.book_tests.proofs.Sends.{noted_desk_send}
+use Rattle.cycle_states.proofs.Sends.{plain_desk_send}
 use Rattle.book_tests.proofs.lock.threads.gather.Goals as goal
 
 -- the desk may go to another thread
 
 pub join-requires-send-T : goal.join-requires-send-T
-join-requires-send-T c κs = search (param_send, arg_send, noted_desk_send)
+join-requires-send-T c κs = search (param_send, arg_send, plain_desk_send)
 
 pub loop-job-preserved : goal.loop-job-preserved
 loop-job-preserved c =

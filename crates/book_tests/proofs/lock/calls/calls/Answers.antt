@@ -1,8 +1,0 @@
-use denote.Param.Send.{param_send, arg_send}
-use Rattle.book_tests.proofs.Sends.{noted_desk_send}
-use Rattle.book_tests.proofs.lock.calls.calls.Goals as goal
-
--- the desk may go to another thread
-
-pub call-reply-requires-send-T : goal.call-reply-requires-send-T
-call-reply-requires-send-T g c κs = search (param_send, arg_send, noted_desk_send)
