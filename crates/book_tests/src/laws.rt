@@ -16,6 +16,7 @@ use cycle_laws::{
     folds_are_writable, folds_begin_markets, nets_stay_at_executions, postings_are_least,
     spellings_stand_for_bases, writable_can_be_written, writable_comes_back, writable_fits,
 };
+use posting::{plan_stays, posting_can_be_executed};
 use std::test::Fail;
 
 fn a_ring_falls_to_nothing()
@@ -95,5 +96,7 @@ fn the_laws_can_be_called(_rt: HostRuntime) -> Result<(), Fail> {
     writable_can_be_written();
     fitting_is_writable();
     spellings_stand_for_bases();
+    posting_can_be_executed();
+    plan_stays();
     Ok(())
 }

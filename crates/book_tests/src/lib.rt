@@ -1,4 +1,4 @@
-//! Tests of the trades' book, of postings, of the machine and the laws of its histories, and of the lock round it.
+//! Tests of the trades' book, of the machine and the laws of its histories, and of the lock round it.
 #![tactic(auto)]
 
 #[cfg(test)]
@@ -12,8 +12,4 @@ mod machine;
 #[cfg(test)]
 mod market;
 #[cfg(test)]
-mod row_lists;
-#[cfg(test)]
 mod trade_book;
-#[cfg(test)]
-mod votes;

@@ -45,19 +45,27 @@ fn is_trade(one: &TradeRow, other: &TradeRow) -> bool {
 }
 
 fn are_settings(some: &[ToleranceRow], others: &[ToleranceRow]) -> bool {
-    some.len() == others.len()
-        && some
-            .iter()
-            .zip(others)
-            .all(|(one, other)| is_setting(one, other))
+    if some.len() != others.len() {
+        return false;
+    }
+    for i in 0..some.len() {
+        if !is_setting(&some[i], &others[i]) {
+            return false;
+        }
+    }
+    true
 }
 
 fn are_trades(some: &[TradeRow], others: &[TradeRow]) -> bool {
-    some.len() == others.len()
-        && some
-            .iter()
-            .zip(others)
-            .all(|(one, other)| is_trade(one, other))
+    if some.len() != others.len() {
+        return false;
+    }
+    for i in 0..some.len() {
+        if !is_trade(&some[i], &others[i]) {
+            return false;
+        }
+    }
+    true
 }
 
 fn has_numbers(one: &Base, other: &Base) -> bool {

@@ -28,24 +28,34 @@ const MARKET: [Deed; 10] = [
     Affirm(5),
 ];
 
-// The products, and which trades a freeze of them takes.
-type Frozen = ([bool; 2], [bool; 5]);
+// The products, how many trades a freeze of them takes, and which.
+type Frozen = ([bool; 2], u64, [bool; 5]);
 
 const FREEZES: [Frozen; 4] = [
-    ([true, false], [true, true, false, false, false]),
-    ([false, true], [false, false, false, false, true]),
-    ([true, true], [true, true, false, false, true]),
-    ([false, false], [false, false, false, false, false]),
+    ([true, false], 2, [true, true, false, false, false]),
+    ([false, true], 1, [false, false, false, false, true]),
+    ([true, true], 3, [true, true, false, false, true]),
+    ([false, false], 0, [false, false, false, false, false]),
 ];
+
+fn are_frozen(rows: &[TradeRow], want: &[bool]) -> bool {
+    if rows.len() != want.len() {
+        return false;
+    }
+    for i in 0..rows.len() {
+        if rows[i].frozen != want[i] {
+            return false;
+        }
+    }
+    true
+}
 
 fn freezes(book: &mut Book, frozen: &Frozen) -> bool
     requires { book.old.products ≡ 2 }
     ensures { book.new.products ≡ 2 }
 {
-    let (products, want) = *frozen;
-    let number = book.freeze(&products);
-    let is_taken = book.rows().iter().map(|row| row.frozen).eq(want);
-    is_taken && number == want.iter().filter(|is| **is).count() as u64
+    let (products, number, want) = *frozen;
+    book.freeze(&products) == number && are_frozen(book.rows(), &want)
 }
 
 fn thaws(book: &mut Book) -> bool
@@ -53,7 +63,7 @@ fn thaws(book: &mut Book) -> bool
 {
     book.freeze(&[true, true]);
     book.thaw();
-    book.rows().iter().all(|row| !row.frozen)
+    are_frozen(book.rows(), &[false, false, false, false, false])
 }
 
 // Whether each freeze, one after the other, takes its trades, and a thaw frees all.
@@ -115,11 +125,15 @@ fn frozen_trades_and_the_held_ones_make_networks(rt: HostRuntime) -> Result<(), 
 }
 
 fn are_numbered(rows: &[TradeRow], numbers: &[u64]) -> bool {
-    rows.len() == numbers.len()
-        && rows
-            .iter()
-            .zip(numbers)
-            .all(|(row, want)| row.number == *want)
+    if rows.len() != numbers.len() {
+        return false;
+    }
+    for i in 0..rows.len() {
+        if rows[i].number != numbers[i] {
+            return false;
+        }
+    }
+    true
 }
 
 // A member, and the numbers of its trades.

@@ -11,11 +11,16 @@ use units_core::ProductNo;
 pub type Sold = (u16, u16, u64);
 
 fn are_rows(rows: &[Row], sold: &[Sold]) -> bool {
-    rows.len() == sold.len()
-        && rows
-            .iter()
-            .zip(sold)
-            .all(|(row, want)| (row.seller, row.buyer, row.amount) == *want)
+    if rows.len() != sold.len() {
+        return false;
+    }
+    for i in 0..rows.len() {
+        let (seller, buyer, amount) = sold[i];
+        if rows[i].seller != seller || rows[i].buyer != buyer || rows[i].amount != amount {
+            return false;
+        }
+    }
+    true
 }
 
 /// Whether the network of the product's trades of this kind, between three members, has these rows.

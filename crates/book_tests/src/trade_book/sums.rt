@@ -44,11 +44,15 @@ fn sums(book: &Book) -> Sums {
 }
 
 fn are_states(rows: &[TradeRow], states: &[TradeState]) -> bool {
-    rows.len() == states.len()
-        && rows
-            .iter()
-            .zip(states)
-            .all(|(row, state)| row.state == *state)
+    if rows.len() != states.len() {
+        return false;
+    }
+    for i in 0..rows.len() {
+        if rows[i].state != states[i] {
+            return false;
+        }
+    }
+    true
 }
 
 fn tells(book: &Book, moment: &Moment) -> Result<bool, AllocError> {
