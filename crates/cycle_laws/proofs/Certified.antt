@@ -17,6 +17,7 @@ use Rattle.posting.proofs.ProblemFacts.{networks_frozen}
 use Rattle.posting.proofs.RenewalFacts.{renewal}
 use Rattle.posting.proofs.Settled.{posting_can_be_executed, begun_size}
 use Rattle.cycle_states.proofs.CycleFacts.{limits_break}
+use Rattle.cycle_states.proofs.SettledFacts.{begun_of}
 use Rattle.cycle_laws.proofs.Market.{IsMarket}
 
 some_day : DayParts
@@ -28,7 +29,7 @@ free_on members products rows old new (Some d) there all = all d
 
 module _ (roster : Rows) (s : State) (solutions : List SolutionData) (market : IsMarket roster s) (stands : IsTrue (has_limits s.cycle.phase)) (certified : bad_post (length s.roster.members) s.cycle.begun solutions ≡ None) (sound : All IsSolution solutions) where
   begun : AreBegun s.roster s.trades s.cycle.begun
-  begun = market.cycle.begun stands
+  begun = begun_of s.roster s.trades s.cycle (market.cycle.begun stands)
 
   -- the solutions are a posting of the problems that the frozen trades have now
   posting : IsPosting s.roster s.trades begun.settings begun.mode solutions

@@ -26,7 +26,7 @@ use Rattle.posting.proofs.Settled.{begun_is_least}
 use Rattle.cycle_states.specs.Machine.{state_with, IsMachine}
 use Rattle.cycle_states.proofs.CycleFacts.{limits_break, solving_limits}
 use Rattle.cycle_states.proofs.KeptFacts.{post_solves, post_certified, accept_proposed}
-use Rattle.cycle_states.proofs.SettledFacts.{market, settled, proposal_settled, done_after, last_after, nobody_touched, nobody_left}
+use Rattle.cycle_states.proofs.SettledFacts.{begun_of, market, settled, proposal_settled, done_after, last_after, nobody_touched, nobody_left}
 use Rattle.cycle_states.proofs.Thawing.{gross_thawed, position_thawed}
 
 some_day : DayParts
@@ -41,7 +41,7 @@ module _ (roster : Rows) (members products : ℕ) (rows : List TradeRow) (settin
   pub least_posted : (by : Option (List ℕ)) (what : What) → first_of (refusals s by what) ≡ None → All IsSolution (solutions_posted what) → AreLeast cycle.begun (solutions_posted what)
   least_posted by (Post number version solutions) none sound =
       let stands = solving_limits cycle.phase (post_solves s by number version solutions none) in
-      begun_is_least roster rows cycle.begun (kept.cycle_kept.begun stands) solutions some_day (market roster members products rows cycle kept (limits_break cycle.phase stands) trades bounded) sound
+      begun_is_least roster rows cycle.begun (begun_of roster rows cycle (kept.cycle_kept.begun stands)) solutions some_day (market roster members products rows cycle kept (limits_break cycle.phase stands) trades bounded) sound
       (post_certified s by number version solutions none)
   least_posted by what none sound = λ product problem solution p q. cc
 

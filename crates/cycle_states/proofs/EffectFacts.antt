@@ -4,7 +4,7 @@ use Rattle.std.proofs.lemmas.Bool.{false≢true}
 use Rattle.std.specs.Str.{bytes_eq}
 use Rattle.std.specs.Prelude.{All}
 use Rattle.std.proofs.lemmas.List.Elements.{All-nil}
-use Rattle.network_laws.specs.Solutions.{SolutionData, IsSolution}
+use Rattle.network_laws.specs.Solutions.{ProblemData, SolutionData, IsSolution}
 use Rattle.command_types.specs.History.{solutions_posted}
 use Rattle.units_core.specs.Day.{DayParts}
 use Rattle.command_types.specs.declared.ask.Ask.{Ask}
@@ -21,6 +21,7 @@ use Rattle.command_types.specs.CycleSteps.{after_vote, left_after, proposed_or_d
 use Rattle.command_types.specs.Machine.{accepted, changes, first_of, member_of, party_answer, product_of, refusals, state_after, state_by}
 use Rattle.command_types.specs.Plans.{count_of, is_new}
 use Rattle.command_types.specs.Roster.{Rows, member_place, product_place}
+use Rattle.cycle_states.specs.Begun.{AreCheckedBy}
 use Rattle.cycle_states.specs.Effects.{applied, decides, effect_by, effect_of, posting_effect, rows_with, vote_effect, MayAllege}
 use Rattle.cycle_states.specs.Machine.{state_with, IsMachine}
 use Rattle.cycle_states.proofs.CycleFacts.{solving_limits}
@@ -85,6 +86,11 @@ party_told s by what no_hello no_bye readable = refl
 pub no_solutions : (what : What) → ((cycle version : ℕ) (solutions : List SolutionData) → what ≡ Post cycle version solutions → ⊥) → All IsSolution (solutions_posted what)
 no_solutions (Post cycle version solutions) other = absurd (other cycle version solutions refl)
 no_solutions what other = All-nil IsSolution
+
+-- no other is checked by problems
+pub unchecked : (s : State) (what : What) (problems : List ProblemData) → ((cycle version : ℕ) (solutions : List SolutionData) → what ≡ Post cycle version solutions → ⊥) → AreCheckedBy s what problems
+unchecked s (Post cycle version solutions) problems other = absurd (other cycle version solutions refl)
+unchecked s what problems other = tt
 
 -- a command that neither posts nor votes does not decide on a plan
 pub undecided : (what : What) → ((cycle version : ℕ) (solutions : List SolutionData) → what ≡ Post cycle version solutions → ⊥) → ((cycle version : ℕ) → what ≡ Accept cycle version → ⊥) → decides what ≡ false

@@ -25,7 +25,7 @@ use Rattle.command_types.specs.Machine.{first_of, refusals, member_of, product_o
 use Rattle.command_types.specs.History.{solutions_posted}
 use Rattle.acceptance.specs.Laws.{frozen_of}
 use Rattle.posting.specs.Laws.{HasSamePosting}
-use Rattle.posting.proofs.FrozenStays.{plan_stays, begun_stays, alleged_stays, affirmed_stays, held_stays, freed_stays, ended_stays}
+use Rattle.posting.proofs.FrozenStays.{plan_stays, alleged_stays, affirmed_stays, held_stays, freed_stays, ended_stays}
 use Rattle.cycle_states.specs.Machine.{IsCycle, IsUnbroken}
 use Rattle.cycle_states.proofs.MachineFacts.{none_holds, not_false}
 use Rattle.cycle_states.proofs.CycleFacts.{found, second_fails, begin_breaks, limits_break, proposed_limits, solving_limits, decline_proposed}
@@ -45,7 +45,11 @@ plan_same (Some day) rows other old new same = sym (same.plan old new day)
 same_frozen : (roster : Rows) (rows other : List TradeRow) (cycle : Cycle) → (IsTrue (has_limits cycle.phase) → frozen_of other ≡ frozen_of rows) → IsCycle roster rows cycle → IsCycle roster other cycle
 same_frozen roster rows other cycle same kept = record {
   day = kept.day;
-  begun = λ stands. begun_stays roster rows other cycle.begun (sym (same stands)) (kept.begun stands);
+  begun = λ stands. let version = kept.begun stands in record {
+    in_which = version.in_which;
+    in_mode = version.in_mode;
+    same = version.same ∙ (plan_stays rows other (sym (same stands))).problems roster cycle.settings version.in_which;
+  };
   proposed = λ on. let q = kept.proposed on in record {
     solutions = q.solutions;
     certified = q.certified;
@@ -182,7 +186,7 @@ kept_by s by (Freeze day) none unbroken sound kept = record {
 }
 kept_by s by (Begin cycle mode) none unbroken sound kept = record {
   day = λ may. kept.day (begin_may s by cycle none);
-  begun = λ stands. record { settings = s.tolerances; mode = mode; same = refl };
+  begun = λ stands. record { in_which = mode; in_mode = refl; same = refl };
   proposed = λ on. absurd (false≢true on);
 }
 kept_by s by (Limits product) none unbroken sound kept = kept

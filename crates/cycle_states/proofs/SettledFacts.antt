@@ -20,21 +20,25 @@ use Rattle.command_types.specs.Execution.{IsExecutable}
 use Rattle.acceptance.specs.Parties.{HasPartiesBelow, IsStepBelow, IsPlanBelow}
 use Rattle.trade_history.specs.Laws.{is_execution}
 use Rattle.product_book.specs.Book.{gross_limit, AreTrades}
-use Rattle.posting.specs.Laws.{IsFrozenMarket, IsSettled}
+use Rattle.posting.specs.Laws.{AreBegun, IsFrozenMarket, IsSettled}
 use Rattle.posting.specs.Posted.{AreOfMembers}
 use Rattle.posting.proofs.CertifiedFacts.{shaped, shape_size}
 use Rattle.posting.proofs.Settled.{begun_size, begun_of_members, begun_is_settled}
-use Rattle.cycle_states.specs.Machine.{state_in, IsMachine}
+use Rattle.cycle_states.specs.Machine.{state_in, IsMachine, IsVersion}
 use Rattle.cycle_states.proofs.PlanSizes.{few_made}
 use Rattle.cycle_states.proofs.CycleFacts.{limits_break, proposed_limits, solving_limits}
+
+-- a version's problems are those of some settings and a mode
+pub begun_of : (roster : Rows) (rows : List TradeRow) (cycle : Cycle) → IsVersion roster rows cycle.mode cycle.settings cycle.begun → AreBegun roster rows cycle.begun
+begun_of roster rows cycle version = record { settings = cycle.settings; mode = version.in_which; same = version.same }
 
 module _ (roster : Rows) (members products : ℕ) (rows : List TradeRow) (cycle : Cycle) (kept : IsMachine roster members products rows cycle) where
   -- while the limits stand there are few problems, each of the roster's members
   pub few_problems : IsTrue (has_limits cycle.phase) → length cycle.begun ≤ 64
-  few_problems stands = omega (arith, begun_size roster rows cycle.begun (kept.cycle_kept.begun stands), kept.few_products)
+  few_problems stands = omega (arith, begun_size roster rows cycle.begun (begun_of roster rows cycle (kept.cycle_kept.begun stands)), kept.few_products)
 
   pub of_members : IsTrue (has_limits cycle.phase) → AreOfMembers (length roster.members) cycle.begun
-  of_members stands = begun_of_members roster rows cycle.begun (kept.cycle_kept.begun stands)
+  of_members stands = begun_of_members roster rows cycle.begun (begun_of roster rows cycle (kept.cycle_kept.begun stands))
 
   -- its day is there
   pub has_day : IsTrue (is_solving cycle.phase) → IsTrue (is_some cycle.day)
@@ -59,7 +63,7 @@ module _ (roster : Rows) (members products : ℕ) (rows : List TradeRow) (cycle 
       IsSettled (length roster.members) (length roster.products) rows (posted_plan cycle rows solutions)
   settled solutions stands certified sound trades bounded =
       let may : IsTrue (may_break cycle.phase) = limits_break cycle.phase stands in
-      by_day cycle.day solutions (kept.cycle_kept.day may) (λ d. begun_is_settled roster rows cycle.begun (kept.cycle_kept.begun stands) solutions d (market may trades bounded) sound certified)
+      by_day cycle.day solutions (kept.cycle_kept.day may) (λ d. begun_is_settled roster rows cycle.begun (begun_of roster rows cycle (kept.cycle_kept.begun stands)) solutions d (market may trades bounded) sound certified)
 
   pub posting_settled : (solutions : List SolutionData) (plan : List PlanRow) → IsTrue (is_solving cycle.phase) → bad_post (length roster.members) cycle.begun solutions ≡ None → All IsSolution solutions → plan ≡ posted_plan cycle rows solutions →
       AreTrades members products 1 rows → ((product : ℕ) → gross_of product rows ≤ gross_limit) → IsSettled (length roster.members) (length roster.products) rows plan

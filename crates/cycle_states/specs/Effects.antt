@@ -28,7 +28,7 @@ applied s (effect.Hold trade side) = record s { trades = held_by side s.trades t
 applied s (effect.Free trade side) = record s { trades = freed_by side s.trades trade }
 applied s (effect.Set setting) = record s { tolerances = with_setting setting s.tolerances }
 applied s (effect.Freeze day) = after_freeze s day
-applied s (effect.Begin mode settings problems) = record s { cycle = begun_with s.cycle mode settings problems }
+applied s (effect.Begin mode settings) = record s { cycle = begun_with s.cycle mode settings (problems_of s.roster s.trades settings mode) }
 applied s (effect.Propose solutions plan) = record s { cycle = proposed_with s.cycle solutions plan }
 applied s (effect.Execute plan) = after_execution s plan
 applied s effect.Complete = after_execution s s.cycle.plan
@@ -66,7 +66,7 @@ effect_by s by (Free trade) = effect.Free trade (side_at s by (trade_numbered s.
 effect_by s by (Tol other product side floor ceiling) =
     effect.Set (record { member = member_of s by; product = product_of s product; other = member_of s other; side = side; floor = floor; ceiling = ceiling })
 effect_by s by (Freeze day) = effect.Freeze day
-effect_by s by (Begin cycle mode) = effect.Begin mode s.tolerances (problems_of s.roster s.trades s.tolerances mode)
+effect_by s by (Begin cycle mode) = effect.Begin mode s.tolerances
 effect_by s by (Post cycle version solutions) = post_effect s solutions
 effect_by s by (Accept cycle version) = accept_effect s (member_of s by)
 effect_by s by (Decline cycle version) = effect.Decline

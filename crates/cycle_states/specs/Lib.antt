@@ -11,3 +11,4 @@ pub mod Refusals
 pub mod Ready
 pub mod Ballot
 pub mod Decision
+pub mod Begun

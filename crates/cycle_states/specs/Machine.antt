@@ -1,14 +1,14 @@
 -- What contracts see of the machine, and what it keeps.
-use Rattle.std.specs.Prelude.{◌≡◌, ℕ, ◌<◌, ◌≤◌, ◌^◌, is_some, List, None, length, All, IsTrue}
+use Rattle.std.specs.Prelude.{◌≡◌, ℕ, ◌<◌, ◌≤◌, ◌^◌, is_some, List, Option, Some, None, length, All, IsTrue}
+use Rattle.command_types.specs.declared.cycle.Mode.{Mode}
 use Rattle.command_types.specs.declared.cycle.Phase.{Phase}
 use Rattle.command_types.specs.declared.figures.Cycle.{Cycle}
 use Rattle.command_types.specs.declared.figures.State.{State}
 use Rattle.command_types.specs.declared.tolerance.ToleranceRow.{ToleranceRow}
 use Rattle.command_types.specs.declared.trade.TradeRow.{TradeRow}
 use Rattle.command_types.specs.Roster.{Rows}
-use Rattle.network_laws.specs.Solutions.{IsSolution}
-use Rattle.command_types.specs.Cycles.{may_break, has_limits, is_proposed, bad_post, posted_plan}
-use Rattle.posting.specs.Laws.{AreBegun}
+use Rattle.network_laws.specs.Solutions.{IsSolution, ProblemData}
+use Rattle.command_types.specs.Cycles.{may_break, has_limits, is_proposed, bad_post, posted_plan, problems_of}
 use Rattle.command_types.specs.Trades.{is_live}
 use Rattle.command_types.specs.Machine.{empty_state}
 use Rattle.units_core.specs.declared.limits.TheConstants.{MOST_MEMBERS, MOST_PRODUCTS}
@@ -50,10 +50,16 @@ pub record IsProposal (members : ℕ) (rows : List TradeRow) (cycle : Cycle) : T
   pub certified : bad_post members cycle.begun cycle.solutions ≡ None
   pub planned : cycle.plan ≡ posted_plan cycle rows cycle.solutions
 
+-- a version has a mode, and its problems are those that its settings make of these trades in it
+pub record IsVersion (roster : Rows) (rows : List TradeRow) (mode : Option Mode) (settings : List ToleranceRow) (begun : List ProblemData) : Type 0 where
+  pub in_which : Mode
+  pub in_mode : mode ≡ Some in_which
+  pub same : begun ≡ problems_of roster rows settings in_which
+
 -- what the cycle keeps: its day while it may break, its problems while the limits stand, and a proposal in its phase
 pub record IsCycle (roster : Rows) (rows : List TradeRow) (cycle : Cycle) : Type 0 where
   pub day : IsTrue (may_break cycle.phase) → IsTrue (is_some cycle.day)
-  pub begun : IsTrue (has_limits cycle.phase) → AreBegun roster rows cycle.begun
+  pub begun : IsTrue (has_limits cycle.phase) → IsVersion roster rows cycle.mode cycle.settings cycle.begun
   pub proposed : IsTrue (is_proposed cycle.phase) → IsProposal (length roster.members) rows cycle
 
 -- what the machine keeps

@@ -4,6 +4,7 @@ mod answers;
 mod applying;
 mod ballot;
 mod base;
+mod begun;
 mod boxed_settings;
 mod conditions;
 mod cycle;
@@ -35,6 +36,7 @@ mod sides;
 mod solutions;
 mod terms;
 mod trade_refusals;
+mod version_problems;
 mod whose;
 
 ghost use Rattle.std.specs.Prelude.{ℕ, ◌≡◌, ◌≤◌, ◌<◌, ◌^◌, length, None, All, IsTrue, IfOk, IsOk, OnOk, is_some};
@@ -155,9 +157,9 @@ impl Machine {
     {
         // What the cycle keeps tells that few solutions are posted.
         let _cycle = &self.cycle;
-        match self.check(ask) {
-            Err(refusal) => Ok(Answer::No(refusal)),
-            Ok(()) => self.accepted(ask),
+        match self.refusal(ask)? {
+            Some(refusal) => Ok(Answer::No(refusal)),
+            None => self.accepted(ask),
         }
     }
 
@@ -201,7 +203,8 @@ impl Machine {
     }
 
     /// Decides a command once: what is refused, and a read, is told its answer; a change is made ready, with all the room that
-    /// it needs. The state stays, whatever the result; the only error is want of memory.
+    /// it needs. What first asks for a version's problems makes them, and they are kept. The state stays, whatever the result; the
+    /// only error is want of memory.
     pub fn decide(&mut self, entry: Entry) -> Result<Decision, AllocError>
         requires { IsYoung self.old.state.cycle }
         ensures state { self.new.state ≡ self.old.state }
@@ -209,9 +212,10 @@ impl Machine {
         ensures keeps_slots { self.old.slots ≤ self.new.slots }
         ensures decides { IfOk result (λ decision. IsDecision self.new entry decision) }
     {
-        match self.check(&entry.ask) {
-            Err(refusal) => Ok(Decision::Told(Answer::No(refusal))),
-            Ok(()) => self.decide_accepted(entry),
+        self.keep_problems(&entry.ask.what)?;
+        match self.refusal(&entry.ask)? {
+            Some(refusal) => Ok(Decision::Told(Answer::No(refusal))),
+            None => self.decide_accepted(entry),
         }
     }
 

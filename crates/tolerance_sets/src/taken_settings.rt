@@ -1,10 +1,12 @@
 //! The settings of all members as they were at one time.
 
-ghost use Rattle.std.specs.Prelude.{◌≡◌, [], IfOk};
-ghost use Rattle.command_types.specs.Tolerances.{floor_in, ceiling_in};
+ghost use Rattle.std.specs.Prelude.{◌≡◌, [], length, IfOk};
+ghost use Rattle.network_laws.specs.Limits.{IsWithinLimits};
+ghost use Rattle.command_types.specs.Tolerances.{floor_in, ceiling_in, limits_of};
 
-use crate::settings::Settings;
-use command_types::{Level, Side};
+use crate::tolerances::Tolerances;
+use command_types::{Level, Mode, Roster, Side};
+use network_laws::{Limits, Network};
 use std::alloc::{AllocError, Global};
 use std::marker::Model;
 use units_core::{MemberNo, ProductNo};
@@ -12,7 +14,7 @@ use units_core::{MemberNo, ProductNo};
 /// All settings as they were when they were taken. Contracts see them as their list, in the order of their places.
 #[derive(Drop)]
 pub struct TakenSettings {
-    settings: Settings,
+    all: Tolerances,
 }
 
 impl Model for TakenSettings {
@@ -21,7 +23,7 @@ impl Model for TakenSettings {
 
     ghost Value = { List ToleranceRow };
 
-    ghost view = { λ t. t.settings.settings };
+    ghost view = { λ t. t.all.settings };
 }
 
 impl TakenSettings {
@@ -30,24 +32,22 @@ impl TakenSettings {
         ensures { result ≡ [] }
     {
         TakenSettings {
-            settings: Settings::new(alloc),
+            all: Tolerances::new(alloc),
         }
     }
 
-    /// These settings. The only error is want of memory.
-    pub(super) fn of(alloc: Global, settings: &Settings) -> Result<TakenSettings, AllocError>
-        ensures { IfOk result (λ taken. taken ≡ settings.now.settings) }
+    /// These settings. It takes no memory.
+    pub(super) fn of(all: Tolerances) -> TakenSettings
+        ensures { result ≡ all.settings }
     {
-        Ok(TakenSettings {
-            settings: settings.copy(alloc)?,
-        })
+        TakenSettings { all }
     }
 
     /// What a member had set as the least for its side of a pair; 0 where it had set nothing.
     pub fn floor(&self, member: MemberNo, product: ProductNo, other: MemberNo, side: Side) -> u64
         ensures { result ≡ floor_in self.now member product other side }
     {
-        self.settings.levels_of(member, product, other, side).floor
+        self.all.levels_of(member, product, other, side).floor
     }
 
     /// What it had set as the most, if it had.
@@ -60,8 +60,22 @@ impl TakenSettings {
     ) -> Option<Level>
         ensures { result ≡ ceiling_in self.now member product other side }
     {
-        self.settings
-            .levels_of(member, product, other, side)
-            .ceiling
+        self.all.levels_of(member, product, other, side).ceiling
+    }
+
+    /// The limits of a product that follow from them, as [`Tolerances::limits`] has them. The only error is want of memory.
+    pub fn limits(
+        &self,
+        mode: Mode,
+        roster: &Roster,
+        product: ProductNo,
+        network: &Network,
+        held: &Network,
+    ) -> Result<Limits, AllocError>
+        requires members { network.now.members ≡ length roster.now.members }
+        ensures limits { IfOk result (λ limits. limits ≡ limits_of mode roster.now.members self.now product network.now held.now) }
+        ensures within { IfOk result (λ limits. IsWithinLimits limits network.now) }
+    {
+        self.all.limits(mode, roster, product, network, held)
     }
 }

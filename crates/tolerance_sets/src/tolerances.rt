@@ -3,11 +3,11 @@
 ghost use Rattle.std.specs.Prelude.{◌≡◌, ◌≢◌, ◌↔◌, ◌+◌, ◌≤◌, [], length, IsTrue, IsErr, IfOk, OnOk, OnErr};
 ghost use Rattle.network_laws.specs.Limits.{IsWithinLimits};
 ghost use Rattle.command_types.specs.Bases.{AreRising};
-ghost use Rattle.command_types.specs.Tolerances.{with_setting, limits_of};
+ghost use Rattle.command_types.specs.Tolerances.{with_setting, floor_in, ceiling_in, limits_of};
 ghost use Rattle.command_types.specs.CycleRefusals.{is_crossed};
 
 use crate::limits::{Market, all_limits, dealers_end};
-use crate::settings::Settings;
+use crate::settings::{Levels, Settings};
 use crate::taken_settings::TakenSettings;
 use command_types::{Level, Mode, Roster, Side, ToleranceRow};
 use network_laws::{Limits, Network};
@@ -81,7 +81,24 @@ impl Tolerances {
     pub fn taken(&self) -> Result<TakenSettings, AllocError>
         ensures { IfOk result (λ taken. taken ≡ self.now.settings) }
     {
-        TakenSettings::of(self.alloc, &self.settings)
+        Ok(TakenSettings::of(Tolerances {
+            settings: self.settings.copy(self.alloc)?,
+            alloc: self.alloc,
+        }))
+    }
+
+    /// What a member allows for its side of a pair.
+    pub(super) fn levels_of(
+        &self,
+        member: MemberNo,
+        product: ProductNo,
+        other: MemberNo,
+        side: Side,
+    ) -> Levels
+        ensures floor { result.floor ≡ floor_in self.now.settings member product other side }
+        ensures ceiling { result.ceiling ≡ ceiling_in self.now.settings member product other side }
+    {
+        self.settings.levels_of(member, product, other, side)
     }
 
     /// Makes room for one more setting. The only error is want of memory, and it changes nothing.

@@ -1,7 +1,7 @@
 //! What the commands that are not refused are answered.
 
 ghost use Rattle.std.specs.Prelude.{◌≡◌, None, Some, IfOk, IsOk, IsTrue, length};
-ghost use Rattle.command_types.specs.Cycles.{bad_post, is_proposed, is_solving};
+ghost use Rattle.command_types.specs.Cycles.{bad_post, has_limits, is_proposed, is_solving};
 ghost use Rattle.command_types.specs.CycleSteps.{freeze_answer, limits_answer, plan_answer, post_answer, proof_answer, rows_of_member};
 ghost use Rattle.command_types.specs.Machine.{accepted, end_answer, first_of, member_of, nets_answer, party_answer, product_of, refusals};
 ghost use Rattle.command_types.specs.Trades.{trade_numbered};
@@ -11,6 +11,7 @@ ghost use Rattle.cycle_states.specs.Effects.{is_accept};
 use super::Machine;
 use super::ballot::ballot_on;
 use super::freezing::taken_count;
+use super::limit_lines::limit_lines;
 use super::member_proofs::{MemberProof, proof_rows};
 use super::parties::{place_of_member, place_of_product};
 use super::positions::{market_of, position_of};
@@ -62,11 +63,15 @@ impl Machine {
 
     // What a LIMITS is answered.
     fn limits(&self, product: &Name) -> Result<Answer, AllocError>
+        requires { IsTrue (has_limits self.now.state.cycle.phase) }
         ensures { IfOk result (λ answer. answer ≡ limits_answer self.now.state (product_of self.now.state product.now)) }
     {
-        let lines = self
-            .cycle
-            .limit_lines(place_of_product(&self.roster, product))?;
+        let problems = self.problems()?;
+        let (alloc, product) = (
+            self.cycle.allocator(),
+            place_of_product(&self.roster, product),
+        );
+        let lines = limit_lines(alloc, problems.as_slice(), product)?;
         let rows = Listed::new(lines);
         Ok(Answer::LimitRows { rows })
     }
@@ -105,10 +110,12 @@ impl Machine {
         let Some(mode) = self.cycle.mode() else {
             return Ok(Answer::No(Refusal::NotGreeted));
         };
+        let problems = self.problems()?;
         let rows = proof_rows(&MemberProof {
             roster: &self.roster,
             book: &self.book,
             cycle: &self.cycle,
+            problems: problems.as_slice(),
             mode,
             member: place_of_member(&self.roster, by),
         })?;
@@ -129,20 +136,23 @@ impl Machine {
         requires certified { bad_post (length self.now.state.roster.members) self.now.state.cycle.begun solutions.now ≡ None }
         ensures { IfOk result (λ answer. answer ≡ post_answer self.now.state solutions.now) }
     {
-        let plan = plan_posted(&self.book, &self.cycle, solutions)?;
+        let problems = self.problems()?;
+        let plan = plan_posted(&self.book, &self.cycle, problems.as_slice(), solutions)?;
         let (_, nobody) = ballot_on(&self.book, &self.roster, &self.cycle, solutions, &plan);
         if nobody {
             return Ok(nothing(&self.cycle));
         }
-        Ok(proposed(&self.cycle, solutions))
+        Ok(proposed(&self.cycle, problems.as_slice(), solutions))
     }
 
     // What a FETCH is answered.
     fn fetched(&self) -> Result<Answer, AllocError>
+        requires { IsTrue (is_solving self.now.state.cycle.phase) }
         ensures { IfOk result (λ answer. answer ≡ Answer.Problems self.now.state.cycle.begun) }
     {
-        let problems = problem_copies(self.cycle.allocator(), self.cycle.begun())?;
-        Ok(Answer::Problems(Listed::new(problems)))
+        let problems = self.problems()?;
+        let copies = problem_copies(self.cycle.allocator(), problems.as_slice())?;
+        Ok(Answer::Problems(Listed::new(copies)))
     }
 
     /// What a party's command is answered that is not refused. The only error is want of memory.

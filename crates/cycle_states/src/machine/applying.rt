@@ -87,11 +87,9 @@ pub(super) fn apply(
             freeze(roster, book, day);
             cycle.open(day);
         }
-        Effect::Begin {
-            mode,
-            settings,
-            problems,
-        } => cycle.begin(mode, settings.into_settings(), problems.into_rows()),
+        Effect::Begin { mode, settings } => {
+            cycle.begin(roster, book, mode, settings.into_settings());
+        }
         Effect::Propose { solutions, plan } => {
             cycle.propose(solutions.into_rows(), plan.into_rows())
         }

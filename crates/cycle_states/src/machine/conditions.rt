@@ -12,7 +12,7 @@ use super::cycle::{is_broken, is_open};
 use super::parties::member_count;
 use super::sides::is_party_of;
 use command_types::{Level, Refusal, TradeRow};
-use network_laws::Solution;
+use network_laws::{Problem, Solution};
 use posting::bad_post;
 use units_core::{Day, MOST_DRAFT, MemberNo, Name, ProductNo};
 
@@ -151,11 +151,16 @@ impl Machine {
     }
 
     /// If the solutions are not certified for the begun problems.
-    pub(super) fn if_bad_post(&self, solutions: &[Solution]) -> Result<(), Refusal>
-        requires { IsTrue (is_solving self.now.state.cycle.phase) }
+    pub(super) fn if_bad_post(
+        &self,
+        problems: &[Problem],
+        solutions: &[Solution],
+    ) -> Result<(), Refusal>
+        requires solving { IsTrue (is_solving self.now.state.cycle.phase) }
+        requires problems { problems.now ≡ self.now.state.cycle.begun }
         ensures { result_err result ≡ first_of (if_bad_post (bad_post (length self.now.state.roster.members) self.now.state.cycle.begun solutions.now) ∷ []) }
     {
-        match bad_post(member_count(&self.roster), self.cycle.begun(), solutions) {
+        match bad_post(member_count(&self.roster), problems, solutions) {
             None => Ok(()),
             Some(post) => Err(Refusal::BadCertificate { post }),
         }

@@ -11,17 +11,18 @@
 //!     solving --close, where the posting touches nobody--> none
 //! ```
 
-ghost use Rattle.std.specs.Prelude.{◌≡◌, ◌<◌, ◌^◌, [], ◌∷◌, ◌++◌, None, IfOk, slice_get};
-ghost use Rattle.command_types.specs.Cycles.{closed, opened, begun_with, proposed_with, declined, is_open, is_broken, is_solving, is_proposed, may_begin, may_break, has_limits, lines_of_problem};
+ghost use Rattle.std.specs.Prelude.{◌≡◌, ◌<◌, ◌^◌, [], ◌∷◌, ◌++◌, None, IfOk, IfSome};
+ghost use Rattle.command_types.specs.Cycles.{closed, opened, begun_with, proposed_with, declined, is_open, is_broken, is_solving, is_proposed, may_begin, may_break, has_limits, problems_of};
 ghost use Rattle.command_types.specs.CycleSteps.{is_frozen_and_marked, cycle_after_end};
 
-use super::limit_lines::limit_lines;
-use command_types::{LimitLine, Mode, Phase, PlanRow, TradeRow};
+use super::begun::Begun;
+use command_types::{Mode, Phase, PlanRow, Roster, TradeRow};
 use network_laws::{Problem, Solution};
+use product_book::Book;
 use std::alloc::{AllocError, Global};
 use std::marker::Model;
 use tolerance_sets::TakenSettings;
-use units_core::{Day, MemberNo, ProductNo};
+use units_core::{Day, MemberNo};
 
 /// Whether a cycle is open in this phase.
 pub(super) fn is_open(phase: Phase) -> bool
@@ -100,7 +101,7 @@ pub(super) struct Cycle {
     day: Option<Day>,
     mode: Option<Mode>,
     settings: TakenSettings,
-    begun: Vec<Problem>,
+    begun: Begun,
     solutions: Vec<Solution>,
     plan: Vec<PlanRow>,
     votes: Vec<MemberNo>,
@@ -112,7 +113,7 @@ impl Model for Cycle {
 
     ghost Value = { CycleFigures };
 
-    ghost view = { λ c. record { number = c.number; version = c.version; phase = c.phase; day = c.day; mode = c.mode; settings = c.settings; begun = c.begun.items; solutions = c.solutions.items; plan = c.plan.items; votes = c.votes.items; broken_by = c.broken_by } };
+    ghost view = { λ c. record { number = c.number; version = c.version; phase = c.phase; day = c.day; mode = c.mode; settings = c.settings; begun = c.begun; solutions = c.solutions.items; plan = c.plan.items; votes = c.votes.items; broken_by = c.broken_by } };
 }
 
 impl Cycle {
@@ -138,7 +139,7 @@ impl Cycle {
             day: None,
             mode: None,
             settings: TakenSettings::none(alloc),
-            begun: Vec::new(alloc),
+            begun: Begun::none(alloc),
             solutions: Vec::new(alloc),
             plan: Vec::new(alloc),
             votes: Vec::new(alloc),
@@ -187,11 +188,19 @@ impl Cycle {
         &self.settings
     }
 
-    /// What the version began with: one problem for each product.
-    pub(super) fn begun(&self) -> &[Problem]
-        ensures { result.now ≡ self.now.begun }
+    /// What the version began with, where it was made: one problem for each product.
+    pub(super) fn problems(&self) -> Option<&[Problem]>
+        ensures { IfSome result (λ problems. problems.now ≡ self.now.begun) }
     {
-        &self.begun
+        self.begun.made()
+    }
+
+    /// Keeps what the version began with, which was made now.
+    pub(super) fn keep_problems(&mut self, problems: Vec<Problem>)
+        requires { problems.items ≡ self.old.begun }
+        ensures { self.new ≡ self.old }
+    {
+        self.begun.keep(problems);
     }
 
     /// The posted solution of each product.
@@ -240,14 +249,7 @@ impl Cycle {
 
     /// Where its memory comes from.
     pub(super) fn allocator(&self) -> Global {
-        *self.begun.allocator()
-    }
-
-    /// The limits of a product, as the version began with them, pair by pair. The only error is want of memory.
-    pub(super) fn limit_lines(&self, product: ProductNo) -> Result<Vec<LimitLine>, AllocError>
-        ensures { IfOk result (λ lines. lines.items ≡ lines_of_problem (slice_get self.now.begun product)) }
-    {
-        limit_lines(*self.begun.allocator(), self.begun.get(product.index()))
+        *self.plan.allocator()
     }
 
     // Drops the mode, the settings and the problems of the version.
@@ -255,8 +257,9 @@ impl Cycle {
         ensures { self.new ≡ record self.old { mode = None; settings = []; begun = [] } }
     {
         self.mode = None;
-        self.settings = TakenSettings::none(*self.begun.allocator());
-        self.begun.clear();
+        let alloc = *self.plan.allocator();
+        self.settings = TakenSettings::none(alloc);
+        self.begun = Begun::none(alloc);
     }
 
     // Drops the solutions, their plan and the votes.
@@ -282,16 +285,23 @@ impl Cycle {
         self.drop_proposal();
     }
 
-    /// Begins the next version in this mode, with these settings and problems. It takes no memory.
-    pub(super) fn begin(&mut self, mode: Mode, settings: TakenSettings, problems: Vec<Problem>)
+    /// Begins the next version in this mode, with these settings and the problems of these trades, which are not made yet. It
+    /// takes no memory.
+    pub(super) fn begin(
+        &mut self,
+        roster: &Roster,
+        book: &Book,
+        mode: Mode,
+        settings: TakenSettings,
+    )
         requires { self.old.version < 2 ^ 63 }
-        ensures { self.new ≡ begun_with self.old mode settings problems.items }
+        ensures { self.new ≡ begun_with self.old mode settings (problems_of roster.now book.now.rows settings mode) }
     {
         self.version = 1 + self.version;
         self.phase = Phase::Solving;
         self.mode = Some(mode);
+        self.begun = Begun::of(roster, book, &settings, mode);
         self.settings = settings;
-        self.begun = problems;
         self.broken_by = None;
         self.drop_proposal();
     }

@@ -1,9 +1,10 @@
 //! Why a party's command about the cycle is refused: one function a command, with the numbers of its refusals in their
 //! order. The first condition is tested by hand in each: the prover has no plan here for a `?` before a function's first branch.
 
-ghost use Rattle.std.specs.Prelude.{◌≡◌};
+ghost use Rattle.std.specs.Prelude.{◌≡◌, IsTrue};
 ghost use Rattle.std.specs.Result.{result_err};
 ghost use Rattle.command_types.specs.CycleRefusals.{freeze_refusals, begin_refusals, fetch_refusals, limits_refusals, row_refusals, pot_refusals, post_refusals, next_refusals, plan_refusals, proof_refusals, accept_refusals, decline_refusals, cancel_refusals};
+ghost use Rattle.command_types.specs.Cycles.{is_solving};
 ghost use Rattle.command_types.specs.Machine.{first_of};
 
 use super::Machine;
@@ -11,7 +12,7 @@ use super::conditions::{if_draft_full, refuse_if};
 use super::cycle::{has_limits, is_open, is_proposed, is_solving, may_begin};
 use super::terms::DraftRow;
 use command_types::Refusal;
-use network_laws::Solution;
+use network_laws::{Problem, Solution};
 use units_core::{MOST_GROSS, Name};
 
 impl Machine {
@@ -98,14 +99,16 @@ impl Machine {
         if_draft_full(size)
     }
 
-    /// POST: 14, 16, 21, 17, 18, 24.
+    /// POST: 14, 16, 21, 17, 18, 24. While the version stands, these are its problems.
     pub(super) fn check_post(
         &self,
         by: &Name,
         cycle: u64,
         version: u64,
+        problems: &[Problem],
         solutions: &[Solution],
     ) -> Result<(), Refusal>
+        requires { IsTrue (is_solving self.now.state.cycle.phase) → problems.now ≡ self.now.state.cycle.begun }
         ensures { result_err result ≡ first_of (post_refusals self.now.state by.now cycle version solutions.now) }
     {
         let phase = self.cycle.phase();
@@ -116,7 +119,7 @@ impl Machine {
         self.if_broken()?;
         self.unless_phase(is_solving(phase))?;
         self.unless_version(version)?;
-        self.if_bad_post(solutions)
+        self.if_bad_post(problems, solutions)
     }
 
     /// NEXT: 14.

@@ -2,7 +2,7 @@
 
 use super::boxed_settings::BoxedSettings;
 use command_types::{Listed, Mode, PlanRow, Side, ToleranceRow};
-use network_laws::{Problem, Solution};
+use network_laws::Solution;
 use units_core::{Amount, Day, MemberNo, ProductNo};
 
 /// What an accepted change does, with all that it takes in hand, so that it is done without memory.
@@ -42,11 +42,10 @@ pub(super) enum Effect {
     Freeze {
         day: Day,
     },
-    /// The next version begins in this mode, with all that members have set and these problems.
+    /// The next version begins in this mode, with all that members have set.
     Begin {
         mode: Mode,
         settings: BoxedSettings,
-        problems: Listed<Problem>,
     },
     /// These solutions are proposed, and what they change.
     Propose {

@@ -9,9 +9,8 @@ use super::Machine;
 use super::boxed_settings::BoxedSettings;
 use super::effect::Effect;
 use super::parties::{place_of_member, place_of_product};
-use super::problems::problems_now;
 use super::sides::{side_at, side_of};
-use command_types::{Listed, Side, ToleranceRow, What};
+use command_types::{Side, ToleranceRow, What};
 use std::alloc::AllocError;
 use units_core::Name;
 
@@ -86,16 +85,10 @@ impl Machine {
                 ceiling: *ceiling,
             })),
             What::Freeze { day } => Ok(Effect::Freeze { day: *day }),
-            What::Begin { mode, .. } => {
-                let (roster, book, tolerances) = (&self.roster, &self.book, &self.tolerances);
-                let alloc = self.cycle.allocator();
-                let problems = problems_now(alloc, roster, book, tolerances, *mode)?;
-                Ok(Effect::Begin {
-                    mode: *mode,
-                    settings: BoxedSettings::taken(alloc, tolerances)?,
-                    problems: Listed::new(problems),
-                })
-            }
+            What::Begin { mode, .. } => Ok(Effect::Begin {
+                mode: *mode,
+                settings: BoxedSettings::taken(self.cycle.allocator(), &self.tolerances)?,
+            }),
             What::Decline { .. } => Ok(Effect::Decline),
             What::Cancel { .. } => Ok(Effect::Cancel),
             _ => Ok(self.trade_effect(by, what)),

@@ -36,7 +36,8 @@ impl Machine {
         ensures ballot { IfOk result (λ made. IsBallotIn (after_post self.now.state solutions.now) made.ballot) }
         ensures solutions { OnOk result (All IsSolution solutions.now) }
     {
-        let plan = plan_posted(&self.book, &self.cycle, solutions)?;
+        let problems = self.problems()?;
+        let plan = plan_posted(&self.book, &self.cycle, problems.as_slice(), solutions)?;
         let (ballot, nobody) = ballot_on(&self.book, &self.roster, &self.cycle, solutions, &plan);
         if nobody {
             let plan = Listed::new(plan);
@@ -46,7 +47,7 @@ impl Machine {
                 ballot,
             });
         }
-        let answer = proposed(&self.cycle, solutions);
+        let answer = proposed(&self.cycle, problems.as_slice(), solutions);
         let copies = copies(self.cycle.allocator(), solutions)?;
         let (solutions, plan) = (Listed::new(copies), Listed::new(plan));
         Ok(Made {

@@ -9,6 +9,7 @@ use super::cycle::Cycle;
 use super::part::Part;
 use super::proof_rows::add_part;
 use command_types::{Mode, ProofRow, Roster};
+use network_laws::Problem;
 use product_book::Book;
 use std::alloc::AllocError;
 use units_core::{MemberNo, ProductNo};
@@ -19,6 +20,8 @@ pub(super) struct MemberProof<'a> {
     pub roster: &'a Roster,
     pub book: &'a Book,
     pub cycle: &'a Cycle,
+    /// Its version's problems.
+    pub problems: &'a [Problem],
     /// The mode in which the version began.
     pub mode: Mode,
     pub member: MemberNo,
@@ -30,10 +33,11 @@ fn add_product(
     proof: &MemberProof,
     product: ProductNo,
 ) -> Result<(), AllocError>
-    requires { FrozenAreLive proof.now.book.now.rows }
+    requires live { FrozenAreLive proof.now.book.now.rows }
+    requires problems { proof.now.problems.now ≡ proof.now.cycle.now.begun }
     ensures { OnOk result (rows.new.items ≡ rows.old.items ++ asked_rows proof.now product) }
 {
-    let Some(problem) = proof.cycle.begun().get(product.index()) else {
+    let Some(problem) = proof.problems.get(product.index()) else {
         return Ok(());
     };
     let Some(solution) = proof.cycle.solutions().get(product.index()) else {
@@ -54,7 +58,8 @@ fn add_product(
 
 /// What the member is told of all products, in their order. The only error is want of memory.
 pub(super) fn proof_rows(proof: &MemberProof) -> Result<Vec<ProofRow>, AllocError>
-    requires { FrozenAreLive proof.now.book.now.rows }
+    requires live { FrozenAreLive proof.now.book.now.rows }
+    requires problems { proof.now.problems.now ≡ proof.now.cycle.now.begun }
     ensures { IfOk result (λ rows. rows.items ≡ proof_rows (asked_state proof.now) proof.now.mode proof.now.member) }
 {
     let mut rows = Vec::new(proof.cycle.allocator());

@@ -9,7 +9,7 @@ ghost use Rattle.cycle_states.specs.Machine.{state_in};
 use super::cycle::Cycle;
 use super::parties::place_of_member;
 use command_types::{Answer, PlanRow, Roster};
-use network_laws::Solution;
+use network_laws::{Problem, Solution};
 use posting::{counts_of, gross_after, gross_before, steps_of};
 use product_book::Book;
 use std::alloc::AllocError;
@@ -25,14 +25,15 @@ pub(super) fn nothing(cycle: &Cycle) -> Answer
     }
 }
 
-/// What any other POST is answered.
-pub(super) fn proposed(cycle: &Cycle, solutions: &[Solution]) -> Answer
+/// What any other POST of solutions of the version's problems is answered.
+pub(super) fn proposed(cycle: &Cycle, problems: &[Problem], solutions: &[Solution]) -> Answer
+    requires { problems.now ≡ cycle.now.begun }
     ensures { result ≡ Answer.Proposed cycle.now.number cycle.now.version (gross_of_all (old_networks cycle.now.begun)) (gross_of_all (new_networks solutions.now)) }
 {
     Answer::Proposed {
         cycle: cycle.number(),
         version: cycle.version(),
-        before: gross_before(cycle.begun()),
+        before: gross_before(problems),
         after: gross_after(solutions),
     }
 }

@@ -1,21 +1,26 @@
 //! Whether a command is refused: a line out of the grammar, then a party that is not known, then the command's own
 //! refusals, each kind in its order.
 
-ghost use Rattle.std.specs.Prelude.{◌≡◌, [], ◌∷◌, not, unwrap_or};
+ghost use Rattle.std.specs.Prelude.{◌≡◌, [], ◌∷◌, not, unwrap_or, IfOk, IsOk, IsTrue};
 ghost use Rattle.std.specs.Result.{result_err};
 ghost use Rattle.command_types.specs.Roster.{is_party};
 ghost use Rattle.command_types.specs.Machine.{first_of, refusals, command_refusals};
+ghost use Rattle.cycle_states.specs.Begun.{AreCheckedBy};
+ghost use Rattle.cycle_states.specs.Effects.{is_accept};
 
 use super::Machine;
 use super::conditions::refuse_if;
 use super::parties::is_party;
 use super::terms::{DraftRow, Setting, Terms};
 use command_types::{Ask, Refusal, What};
+use network_laws::Problem;
+use std::alloc::AllocError;
 use units_core::Name;
 
 impl Machine {
     // The first refusal of a command by a party of the roster.
-    fn check_command(&self, by: &Name, what: &What) -> Result<(), Refusal>
+    fn check_command(&self, by: &Name, what: &What, problems: &[Problem]) -> Result<(), Refusal>
+        requires { AreCheckedBy self.now.state what.now problems.now }
         ensures { result_err result ≡ first_of (command_refusals self.now.state by.now what.now) }
     {
         match what {
@@ -88,7 +93,7 @@ impl Machine {
                 cycle,
                 version,
                 solutions,
-            } => self.check_post(by, *cycle, *version, solutions.rows()),
+            } => self.check_post(by, *cycle, *version, problems, solutions.rows()),
             What::Next { .. } => self.check_next(by),
             What::Plan { cycle } => self.check_plan(*cycle),
             What::Proof { cycle } => self.check_proof(by, *cycle),
@@ -100,20 +105,27 @@ impl Machine {
     }
 
     // The first refusal of a command that wants a party of the roster.
-    fn check_greeted(&self, by: &Option<Name>, what: &What) -> Result<(), Refusal>
+    fn check_greeted(
+        &self,
+        by: &Option<Name>,
+        what: &What,
+        problems: &[Problem],
+    ) -> Result<(), Refusal>
+        requires { AreCheckedBy self.now.state what.now problems.now }
         ensures { result_err result ≡ first_of ((not (is_party self.now.state.roster by.now), Refusal.NotGreeted) ∷ command_refusals self.now.state (unwrap_or by.now []) what.now) }
     {
         match by {
             None => Err(Refusal::NotGreeted),
             Some(name) => {
                 refuse_if(!is_party(&self.roster, name), Refusal::NotGreeted)?;
-                self.check_command(name, what)
+                self.check_command(name, what, problems)
             }
         }
     }
 
-    /// The first refusal of a command whose condition holds, if there is one.
-    pub(super) fn check(&self, ask: &Ask) -> Result<(), Refusal>
+    // The first refusal of a command whose condition holds, if there is one.
+    fn check(&self, ask: &Ask, problems: &[Problem]) -> Result<(), Refusal>
+        requires { AreCheckedBy self.now.state ask.now.what problems.now }
         ensures { result_err result ≡ first_of (refusals self.now.state ask.now.by ask.now.what) }
     {
         match &ask.what {
@@ -122,7 +134,17 @@ impl Machine {
             }
             What::Unreadable { at } => Err(Refusal::BadLine { at: *at }),
             What::Bye => Ok(()),
-            what => self.check_greeted(&ask.by, what),
+            what => self.check_greeted(&ask.by, what, problems),
         }
+    }
+
+    /// The first refusal of a command whose condition holds, if there is one. The only error is want of memory, and it never
+    /// comes for an ACCEPT.
+    pub(super) fn refusal(&self, ask: &Ask) -> Result<Option<Refusal>, AllocError>
+        ensures refused { IfOk result (λ refusal. refusal ≡ first_of (refusals self.now.state ask.now.by ask.now.what)) }
+        ensures vote { IsTrue (is_accept ask.now.what) → IsOk result }
+    {
+        let problems = self.problems_to_check(&ask.what)?;
+        Ok(self.check(ask, problems.as_slice()).err())
     }
 }

@@ -1,6 +1,14 @@
+use Rattle.std.proofs.Common.{◌∙◌, ap, sym}
+use Rattle.cycle_states.specs.Machine.{MachineView}
 use Rattle.cycle_states.proofs.CycleFacts.{solving_limits}
 use Rattle.cycle_states.proofs.SettledFacts.{few_problems}
 use Rattle.cycle_states.proofs.machine.Machine.post_answer.Goals as goal
+
+pub problems-requires : goal.problems-requires
+problems-requires c = solving_limits c.args.self.now.state.cycle.phase c.requires.solving
+
+pub plan_posted-requires-clause-problems : goal.plan_posted-requires-clause-problems
+plan_posted-requires-clause-problems c = c.as_slice.ensures.value ∙ c.in_ok-problems.ensures ∙ ap (λ (view : MachineView). view.state.cycle.begun) (sym c.self.view_is)
 
 pub plan_posted-requires-clause-few : goal.plan_posted-requires-clause-few
 plan_posted-requires-clause-few c =

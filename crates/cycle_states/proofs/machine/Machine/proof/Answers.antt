@@ -11,8 +11,14 @@ use Rattle.cycle_states.specs.Machine.{state_with, MachineView}
 use Rattle.cycle_states.proofs.CycleFacts.{limits_break, proposed_limits}
 use Rattle.cycle_states.proofs.machine.Machine.proof.Goals as goal
 
-pub proof_rows-requires : goal.proof_rows-requires
-proof_rows-requires c =
+pub problems-requires : goal.problems-requires
+problems-requires c = proposed_limits c.args.self.now.state.cycle.phase c.requires
+
+pub proof_rows-requires-clause-problems : goal.proof_rows-requires-clause-problems
+proof_rows-requires-clause-problems c = c.as_slice.ensures.value ∙ c.in_ok-problems.ensures ∙ ap (λ (view : MachineView). view.state.cycle.begun) (sym c.self.view_is)
+
+pub proof_rows-requires-clause-live : goal.proof_rows-requires-clause-live
+proof_rows-requires-clause-live c =
     let m = c.self.inside in
     c.self.invariant.0.unbroken (limits_break m.cycle.phase (proposed_limits m.cycle.phase (rw (← c.self.view_is) at c.requires)))
 

@@ -1,4 +1,4 @@
-use Rattle.std.proofs.Common.{◌≡◌, ◌∙◌, ℕ, ◌≤◌, false, ltb, List, [], ◌++◌, refl, ap, sym, arith, length}
+use Rattle.std.proofs.Common.{◌≡◌, ◌∙◌, ℕ, ◌≤◌, ◌<◌, false, ltb, List, [], ◌++◌, refl, ap, sym, arith, length, get_or}
 use Rattle.std.specs.Prelude.{slice_get, Option, Some, None}
 use Rattle.std.proofs.lemmas.Bool.Decides.{nat_tests}
 use Rattle.std.proofs.lemmas.List.{append-nil}
@@ -20,6 +20,13 @@ past i n off = grind (arith, nat_tests)
 
 entry_at : {X : Type 0} (xs ys : List X) (i j : ℕ) (o : Option X) → xs ≡ ys → i ≡ j → slice_get xs i ≡ o → slice_get ys j ≡ o
 entry_at xs ys i j o same at is = sym (λ k. slice_get (same k) (at k)) ∙ is
+
+-- an entry that is past a list's end, or within it, is so of an equal list
+gone_at : {X : Type 0} {xs ys : List X} {i j : ℕ} → xs ≡ ys → i ≡ j → false ≡ ltb i (length xs) → slice_get ys j ≡ None
+gone_at {X} {xs} {ys} {i} {j} same at off = entry_at xs ys i j None same at (slice_get_past xs i (past i (length xs) off))
+
+here_at : {X : Type 0} {xs ys : List X} {i j : ℕ} (x : X) → xs ≡ ys → i ≡ j → i < length xs → x ≡ get_or xs i x → slice_get ys j ≡ Some x
+here_at {X} {xs} {ys} {i} {j} x same at within is = entry_at xs ys i j (Some x) same at (slice_get_read xs (length xs) i x refl within is)
 
 -- without a problem, nothing is told
 no_problem : (proof : MemberProof) (product : ℕ) → slice_get proof.cycle.now.begun product ≡ None → asked_rows proof product ≡ []
@@ -49,29 +56,28 @@ both proof product members settings rows problem solution mode member begins ask
 pub returns-in_default : goal.returns-in_default
 returns-in_default c =
     let proof = c.args.proof.now in
-    let gone : slice_get c.begun.result.now c.index.result ≡ None = slice_get_past c.begun.result.now c.index.result (past c.index.result (length c.begun.result.now) c.in_default.ensures.lookup.0) in
-    unchanged c.args.rows.now.items (asked_rows proof c.args.product) (no_problem proof c.args.product (entry_at c.begun.result.now proof.cycle.now.begun c.index.result c.args.product None (c.begun.ensures ∙ ap (λ (p : MemberProof). p.cycle.now.begun) c.proof.view_is) c.index.ensures gone))
+    let gone : slice_get proof.cycle.now.begun c.args.product ≡ None =
+    gone_at (ap (λ (p : MemberProof). p.problems.now) c.proof.view_is ∙ c.requires.problems) c.index.ensures c.in_default.ensures.lookup.0 in
+    unchanged c.args.rows.now.items (asked_rows proof c.args.product) (no_problem proof c.args.product gone)
 
 pub returns-in_default-get : goal.returns-in_default-get
 returns-in_default-get c =
     let proof = c.args.proof.now in
-    let here : slice_get c.begun.result.now c.index.result ≡ Some c.in-Some.problem.now =
-    slice_get_read c.begun.result.now (length c.begun.result.now) c.index.result c.in-Some.problem.now refl c.in-Some.ensures.lookup.3.0 c.in-Some.ensures.lookup.1 in
-    let gone : slice_get c.solutions.result.now c.index-2.result ≡ None = slice_get_past c.solutions.result.now c.index-2.result (past c.index-2.result (length c.solutions.result.now) c.in_default-get.ensures.lookup.0) in
-    unchanged c.args.rows.now.items (asked_rows proof c.args.product) (no_solution proof c.args.product c.in-Some.problem.now
-    (entry_at c.begun.result.now proof.cycle.now.begun c.index.result c.args.product (Some c.in-Some.problem.now) (c.begun.ensures ∙ ap (λ (p : MemberProof). p.cycle.now.begun) c.proof.view_is) c.index.ensures here)
-    (entry_at c.solutions.result.now proof.cycle.now.solutions c.index-2.result c.args.product None (c.solutions.ensures ∙ ap (λ (p : MemberProof). p.cycle.now.solutions) c.proof.view_is) c.index-2.ensures gone))
+    let here : slice_get proof.cycle.now.begun c.args.product ≡ Some c.in-Some.problem.now =
+    here_at c.in-Some.problem.now (ap (λ (p : MemberProof). p.problems.now) c.proof.view_is ∙ c.requires.problems) c.index.ensures c.in-Some.ensures.lookup.3.0 c.in-Some.ensures.lookup.1 in
+    let gone : slice_get proof.cycle.now.solutions c.args.product ≡ None =
+    gone_at (c.solutions.ensures ∙ ap (λ (p : MemberProof). p.cycle.now.solutions) c.proof.view_is) c.index-2.ensures c.in_default-get.ensures.lookup.0 in
+    unchanged c.args.rows.now.items (asked_rows proof c.args.product) (no_solution proof c.args.product c.in-Some.problem.now here gone)
 
 pub returns : goal.returns
 returns c =
     let proof = c.args.proof.now in
-    let here : slice_get c.begun.result.now c.index.result ≡ Some c.in-Some.problem.now =
-    slice_get_read c.begun.result.now (length c.begun.result.now) c.index.result c.in-Some.problem.now refl c.in-Some.ensures.lookup.3.0 c.in-Some.ensures.lookup.1 in
-    let posted : slice_get c.solutions.result.now c.index-2.result ≡ Some c.in-Some-get.solution.now =
-    slice_get_read c.solutions.result.now (length c.solutions.result.now) c.index-2.result c.in-Some-get.solution.now refl c.in-Some-get.ensures.lookup.3.0 c.in-Some-get.ensures.lookup.1 in
+    let here : slice_get proof.cycle.now.begun c.args.product ≡ Some c.in-Some.problem.now =
+    here_at c.in-Some.problem.now (ap (λ (p : MemberProof). p.problems.now) c.proof.view_is ∙ c.requires.problems) c.index.ensures c.in-Some.ensures.lookup.3.0 c.in-Some.ensures.lookup.1 in
+    let posted : slice_get proof.cycle.now.solutions c.args.product ≡ Some c.in-Some-get.solution.now =
+    here_at c.in-Some-get.solution.now (c.solutions.ensures ∙ ap (λ (p : MemberProof). p.cycle.now.solutions) c.proof.view_is) c.index-2.ensures c.in-Some-get.ensures.lookup.3.0 c.in-Some-get.ensures.lookup.1 in
     c.in_ok-add_part.ensures ∙ ap (λ (told : List ProofRow). c.args.rows.now.items ++ told)
     (both proof c.args.product c.members.result.now c.settings.result.now _ c.in-Some.problem.now c.in-Some-get.solution.now _ _
     (ap (λ (p : MemberProof). p.mode) c.proof.view_is) (ap (λ (p : MemberProof). p.member) c.proof.view_is)
     (c.members.ensures.rows ∙ ap (λ (p : MemberProof). p.roster.now.members) c.proof.view_is) (c.settings.ensures ∙ ap (λ (p : MemberProof). p.cycle.now.settings) c.proof.view_is) (ap (λ (p : MemberProof). p.book.now.rows) c.proof.view_is)
-    (entry_at c.begun.result.now proof.cycle.now.begun c.index.result c.args.product (Some c.in-Some.problem.now) (c.begun.ensures ∙ ap (λ (p : MemberProof). p.cycle.now.begun) c.proof.view_is) c.index.ensures here)
-    (entry_at c.solutions.result.now proof.cycle.now.solutions c.index-2.result c.args.product (Some c.in-Some-get.solution.now) (c.solutions.ensures ∙ ap (λ (p : MemberProof). p.cycle.now.solutions) c.proof.view_is) c.index-2.ensures posted))
+    here posted)

@@ -9,9 +9,9 @@ returns c =
     let cycle = c.args.cycle.now in
     let rows = c.args.book.now.rows in
     let new = new_networks c.args.solutions.now in
-    let same : plan_of c.rows.result.now (old_networks c.begun.result.now) new c.in-Some.day ≡ posted_plan cycle rows c.args.solutions.now =
-    ap (λ trades. plan_of trades (old_networks c.begun.result.now) new c.in-Some.day) c.rows.ensures.rows
-    ∙ ap (λ problems. plan_of rows (old_networks problems) new c.in-Some.day) c.begun.ensures
+    let same : plan_of c.rows.result.now (old_networks c.args.problems.now) new c.in-Some.day ≡ posted_plan cycle rows c.args.solutions.now =
+    ap (λ trades. plan_of trades (old_networks c.args.problems.now) new c.in-Some.day) c.rows.ensures.rows
+    ∙ ap (λ problems. plan_of rows (old_networks problems) new c.in-Some.day) c.requires.problems
     ∙ ap (λ day. plan_on day rows (old_networks cycle.begun) new) (sym c.in-Some.is ∙ c.day.ensures) in
     let Tells : List PlanRow → Type 0 = λ told. IfOk c.posted_plan.result (λ plan. plan.items ≡ told) in
     subst Tells same c.posted_plan.ensures
