@@ -1,6 +1,6 @@
 //! Fields of bases alone, each read from the front of the bytes that are left.
 ghost use Rattle.std.specs.Prelude.{◌≡◌};
-ghost use Rattle.record_codec.specs.Laws.{Gives};
+ghost use Rattle.record_codec.specs.Laws.{Reads};
 ghost use Rattle.base_codec.specs.Reading.{short_at, state_at, party_at, holds_at};
 
 use command_types::{Side, TradeState};
@@ -9,7 +9,7 @@ use record_codec::fields::Unread;
 
 #[tactic(auto, unfolding(record_codec::specs::Reading::field))]
 pub(crate) fn read_short(unread: &mut Unread) -> Result<u16, ReadFault>
-    ensures { Gives (λ n. (n, unread.new.rest.now)) result (short_at unread.old.rest.now) }
+    ensures { Reads (λ n. (n, unread.new.rest.now)) result (short_at unread.old.rest.now) }
 {
     let Some((text, rest)) = unread.rest.split_first_chunk() else {
         return Err(unread.bad());
@@ -20,7 +20,7 @@ pub(crate) fn read_short(unread: &mut Unread) -> Result<u16, ReadFault>
 
 #[tactic(auto, unfolding(record_codec::specs::Reading::field))]
 pub(crate) fn read_state(unread: &mut Unread) -> Result<TradeState, ReadFault>
-    ensures { Gives (λ s. (s, unread.new.rest.now)) result (state_at unread.old.rest.now) }
+    ensures { Reads (λ s. (s, unread.new.rest.now)) result (state_at unread.old.rest.now) }
 {
     let (state, rest) = match unread.rest {
         [0, rest @ ..] => (TradeState::Alleged, rest),
@@ -35,7 +35,7 @@ pub(crate) fn read_state(unread: &mut Unread) -> Result<TradeState, ReadFault>
 // A submitter or a mark.
 #[tactic(auto, unfolding(record_codec::specs::Reading::field))]
 pub(crate) fn read_party(unread: &mut Unread) -> Result<Option<Side>, ReadFault>
-    ensures { Gives (λ p. (p, unread.new.rest.now)) result (party_at unread.old.rest.now) }
+    ensures { Reads (λ p. (p, unread.new.rest.now)) result (party_at unread.old.rest.now) }
 {
     let (party, rest) = match unread.rest {
         [0, rest @ ..] => (None, rest),
@@ -50,7 +50,7 @@ pub(crate) fn read_party(unread: &mut Unread) -> Result<Option<Side>, ReadFault>
 // Whether the seller holds, and whether the buyer does.
 #[tactic(auto, unfolding(record_codec::specs::Reading::field))]
 pub(crate) fn read_holds(unread: &mut Unread) -> Result<(bool, bool), ReadFault>
-    ensures { Gives (λ h. (h, unread.new.rest.now)) result (holds_at unread.old.rest.now) }
+    ensures { Reads (λ h. (h, unread.new.rest.now)) result (holds_at unread.old.rest.now) }
 {
     let (holds, rest) = match unread.rest {
         [0, rest @ ..] => ((false, false), rest),

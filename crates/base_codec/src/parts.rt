@@ -1,7 +1,7 @@
 //! The lists of a base, read one item after another.
 ghost use Rattle.std.specs.Prelude.{◌≡◌, ◌<◌, ◌+◌, ◌*◌, IfOk};
 ghost use Rattle.command_types.specs.Tolerances.{side_place, setting_place};
-ghost use Rattle.record_codec.specs.Laws.{Gives};
+ghost use Rattle.record_codec.specs.Laws.{Gives, Reads};
 ghost use Rattle.base_codec.specs.Reading.{names_each, names_at, setting_at, settings_each, settings_at, trade_at, trades_each, trades_at};
 
 use crate::fields::{read_holds, read_party, read_short, read_state};
@@ -46,7 +46,7 @@ fn place(member: u16, product: u16, other: u16, side: Side) -> u64
 // A setting, whose place is not before the next one, and its place.
 #[tactic(auto, unfolding(crate::specs::Reading::setting_at))]
 fn read_setting(next: u64, unread: &mut Unread) -> Result<(ToleranceRow, u64), ReadFault>
-    ensures gives { Gives (λ p. (p.0, unread.new.rest.now)) result (setting_at next unread.old.rest.now) }
+    ensures reads { Reads (λ p. (p.0, unread.new.rest.now)) result (setting_at next unread.old.rest.now) }
     ensures place { IfOk result (λ p. p.1 ≡ setting_place p.0) }
     ensures small { IfOk result (λ p. p.1 < 562949953421312) }
 {
@@ -106,7 +106,7 @@ pub(crate) fn read_settings(
 // The trade with this number.
 #[tactic(auto, unfolding(crate::specs::Reading::trade_at))]
 fn read_trade(number: u64, unread: &mut Unread) -> Result<TradeRow, ReadFault>
-    ensures { Gives (λ row. (row, unread.new.rest.now)) result (trade_at number unread.old.rest.now) }
+    ensures { Reads (λ row. (row, unread.new.rest.now)) result (trade_at number unread.old.rest.now) }
 {
     let seller = read_short(unread)?;
     let buyer = read_short(unread)?;

@@ -1,12 +1,17 @@
 -- Reading values one after the other, as a loop does.
-use Rattle.std.proofs.Common.{◌≡◌, ℕ, suc, ◌-◌, ◌+◌, ◌≤◌, ◌<◌, List, [], ◌∷◌, ◌++◌, Ok, Err, refl, sym, ap, ◌∙◌, append_assoc, append-nil, arith}
+use Rattle.std.proofs.Common.{◌≡◌, ℕ, suc, ◌-◌, ◌+◌, ◌≤◌, ◌<◌, List, [], ◌∷◌, ◌++◌, Result, Ok, Err, refl, sym, ap, ◌∙◌, append_assoc, append-nil, arith}
 use Rattle.network_laws.specs.declared.rows.Row.{Row}
 use Rattle.network_laws.specs.Networks.{place}
 use Rattle.record_codec.specs.declared.fault.ReadFault.{ReadFault}
 use Rattle.record_codec.specs.declared.fault.ReadFault.TheVariants as reads
 use Rattle.record_codec.specs.Reading.{Read, ◌>>=◌, row_at, rows_at}
-use Rattle.record_codec.specs.Laws.{Fails}
+use Rattle.record_codec.specs.Laws.{Fails, IsBadField}
 use Rattle.record_codec.proofs.SolutionReading.{ReadsEach}
+
+-- a fault that takes no memory is one of a function that may take some
+pub fails : {B : Type 0} (fault : ReadFault) (read : Result B ℕ) → IsBadField fault read → Fails fault read
+fails reads.Memory read is = tt
+fails (reads.Bad left) read is = is
 
 -- what was read before, and what is still read
 abbrev pub with_front : {A : Type 0} → List A → Read (List A) → Read (List A)

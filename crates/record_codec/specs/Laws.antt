@@ -17,6 +17,16 @@ abbrev pub Gives : {A B : Type 0} → (A → B) → Result A ReadFault → Resul
 Gives view (Ok value) read = read ≡ Ok (view value)
 Gives view (Err fault) read = Fails fault read
 
+-- the fault is that of the field that breaks the grammar, and no want of memory
+abbrev pub IsBadField : {B : Type 0} → ReadFault → Result B ℕ → Type 0
+IsBadField reads.Memory read = ⊥
+IsBadField (reads.Bad left) read = read ≡ Err left
+
+-- The same of a function that takes no memory.
+abbrev pub Reads : {A B : Type 0} → (A → B) → Result A ReadFault → Result B ℕ → Type 0
+Reads view (Ok value) read = read ≡ Ok (view value)
+Reads view (Err fault) read = IsBadField fault read
+
 abbrev pub IsFaultOf : {A : Type 0} → DecodeFault → Result A ℕ → Type 0
 IsFaultOf Memory read = Unit {0}
 IsFaultOf (BadRecord at) read = read ≡ Err at

@@ -1,6 +1,6 @@
 //! The fields of each change, read behind its tag.
 ghost use Rattle.std.specs.Prelude.{◌≡◌};
-ghost use Rattle.record_codec.specs.Laws.{Gives};
+ghost use Rattle.record_codec.specs.Laws.{Gives, Reads};
 ghost use Rattle.record_codec.specs.Reading.{trade_fields, tolerance_fields, freeze_fields, begin_fields, post_fields, fields_at, change_at};
 
 use crate::fault::ReadFault;
@@ -12,7 +12,7 @@ use units_core::MOST_PRODUCTS;
 
 #[tactic(auto, unfolding(crate::specs::Reading::trade_fields))]
 fn read_trade(unread: &mut Unread) -> Result<What, ReadFault>
-    ensures { Gives (λ what. (what, unread.new.rest.now)) result (trade_fields unread.old.rest.now) }
+    ensures { Reads (λ what. (what, unread.new.rest.now)) result (trade_fields unread.old.rest.now) }
 {
     let seller = unread.name()?;
     let buyer = unread.name()?;
@@ -30,7 +30,7 @@ fn read_trade(unread: &mut Unread) -> Result<What, ReadFault>
 
 #[tactic(auto, unfolding(crate::specs::Reading::tolerance_fields))]
 fn read_tolerance(unread: &mut Unread) -> Result<What, ReadFault>
-    ensures { Gives (λ what. (what, unread.new.rest.now)) result (tolerance_fields unread.old.rest.now) }
+    ensures { Reads (λ what. (what, unread.new.rest.now)) result (tolerance_fields unread.old.rest.now) }
 {
     let other = unread.name()?;
     let product = unread.name()?;
@@ -48,7 +48,7 @@ fn read_tolerance(unread: &mut Unread) -> Result<What, ReadFault>
 
 #[tactic(auto, unfolding(crate::specs::Reading::freeze_fields))]
 fn read_freeze(unread: &mut Unread) -> Result<What, ReadFault>
-    ensures { Gives (λ what. (what, unread.new.rest.now)) result (freeze_fields unread.old.rest.now) }
+    ensures { Reads (λ what. (what, unread.new.rest.now)) result (freeze_fields unread.old.rest.now) }
 {
     let day = unread.day()?;
     Ok(What::Freeze { day })
@@ -56,7 +56,7 @@ fn read_freeze(unread: &mut Unread) -> Result<What, ReadFault>
 
 #[tactic(auto, unfolding(crate::specs::Reading::begin_fields))]
 fn read_begin(unread: &mut Unread) -> Result<What, ReadFault>
-    ensures { Gives (λ what. (what, unread.new.rest.now)) result (begin_fields unread.old.rest.now) }
+    ensures { Reads (λ what. (what, unread.new.rest.now)) result (begin_fields unread.old.rest.now) }
 {
     let cycle = unread.number()?;
     let mode = unread.mode()?;

@@ -1,4 +1,4 @@
-//! Fields, written behind what stands.
+//! Fields, written behind what stands. Where memory runs out, nothing is said of the bytes that stand then.
 ghost use Rattle.std.specs.Prelude.{◌≡◌, ◌∷◌, ◌++◌, ◌≤◌, IsTrue, OnOk, IfSome};
 ghost use Rattle.std.specs.Int.{w16, to_le_bytes};
 ghost use Rattle.units_core.specs.Name.{is_name};

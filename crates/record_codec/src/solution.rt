@@ -3,7 +3,7 @@
 ghost use Rattle.std.specs.Prelude.{◌≡◌, ◌≤◌, ◌<◌, length, All, IfOk};
 ghost use Rattle.network_laws.specs.Networks.{AreRows, place};
 ghost use Rattle.network_laws.specs.Solutions.{IsPotential};
-ghost use Rattle.record_codec.specs.Laws.{Gives};
+ghost use Rattle.record_codec.specs.Laws.{Gives, Reads};
 ghost use Rattle.record_codec.specs.Reading.{row_of, is_row, row_at, rows_at, is_potential, potential_at, potentials_at, solution_at, solutions_at};
 ghost use Rattle.units_core.specs.declared.limits.TheConstants.{MOST_GROSS, MOST_MEMBERS};
 
@@ -59,7 +59,7 @@ fn is_row(members: u16, next: u64, room: u64, row: Row) -> bool
 
 #[tactic(auto, unfolding(crate::specs::Reading::field))]
 fn read_row(members: u16, next: u64, room: u64, unread: &mut Unread) -> Result<Row, ReadFault>
-    ensures gives { Gives (λ row. (row, unread.new.rest.now)) result (row_at members next room unread.old.rest.now) }
+    ensures reads { Reads (λ row. (row, unread.new.rest.now)) result (row_at members next room unread.old.rest.now) }
     ensures within { IfOk result (λ row. row.amount ≤ room) }
 {
     let Some((text, rest)) = unread.rest.split_first_chunk() else {
@@ -103,7 +103,7 @@ fn is_potential(p: i32) -> bool
 
 #[tactic(auto, unfolding(crate::specs::Reading::field))]
 fn read_potential(unread: &mut Unread) -> Result<i32, ReadFault>
-    ensures { Gives (λ p. (p, unread.new.rest.now)) result (potential_at unread.old.rest.now) }
+    ensures { Reads (λ p. (p, unread.new.rest.now)) result (potential_at unread.old.rest.now) }
 {
     let Some((text, rest)) = unread.rest.split_first_chunk() else {
         return Err(unread.bad());
