@@ -17,6 +17,9 @@
 ghost use Rattle.std.specs.Prelude.{◌≡◌};
 ghost use Rattle.journal_core.specs.Holds.{slot_place};
 
+// Where the first body stands, behind the slots.
+pub(crate) const FIRST_BODY: u64 = 25;
+
 /// How a journal's file begins.
 #[derive(Clone, Copy, Debug, PartialEq, Eq)]
 pub enum Form {
@@ -40,7 +43,7 @@ impl Form {
         match self {
             Form::Short | Form::SlotsShort => Form::Slots {
                 selected: 0,
-                offset: 25,
+                offset: FIRST_BODY,
             },
             Form::Plain | Form::Slots { .. } => self,
         }
@@ -51,7 +54,9 @@ impl Form {
         ensures { result ≡ fold_place self end size }
     {
         match self {
-            Form::Slots { offset, .. } if offset >= 25 && size <= offset - 25 => 25,
+            Form::Slots { offset, .. } if offset >= FIRST_BODY && size <= offset - FIRST_BODY => {
+                FIRST_BODY
+            }
             _ => end,
         }
     }

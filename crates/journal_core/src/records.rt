@@ -12,18 +12,19 @@ pub struct RecordAt<'a> {
 }
 
 /// The records of a file that are still to be read: the place where the next one has its gate, and the bytes from there on.
-#[derive(Drop)]
+#[derive(Clone, Copy)]
 pub struct Records<'a> {
     pub at: u64,
     pub rest: &'a [u8],
 }
 
 impl<'a> Records<'a> {
-    /// The next record, if there is one. It takes no memory.
+    /// The next record, if there is one; if not, nothing changes. It takes no memory.
     pub fn next(&mut self) -> Option<RecordAt<'a>>
         ensures place { IfSome result (λ r. r.at ≡ self.old.at) }
         ensures some { (records : List (List ℕ)) → AreAhead self.old.at self.old.rest.now records → IfSome result (λ r. IsNext self.old.at records r.bytes.now self.new.at self.new.rest.now) }
         ensures none { (records : List (List ℕ)) → AreAhead self.old.at self.old.rest.now records → IfNone result (records ≡ []) }
+        ensures same { IfNone result (self.new ≡ self.old) }
         ensures shorter { IfSome result (λ _. length self.new.rest.now < length self.old.rest.now) }
     {
         let body = behind_open(self.rest)?;

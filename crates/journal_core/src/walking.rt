@@ -7,7 +7,7 @@ ghost use Rattle.journal_core.specs.Journal.{EndsAt, HasForm};
 ghost use Rattle.journal_core.specs.Lead.{IsLed, EndsLed, EndsBehind};
 ghost use Rattle.journal_core.specs.Walk.{IsBadLead, IsBreak, IsWalked, FindsRecords, FindsFault, bytes_of};
 
-use crate::form::place_of;
+use crate::form::{FIRST_BODY, place_of};
 use crate::journal::LIMIT;
 use crate::parts::{behind_open, record_of};
 use crate::{Form, WalkFault, Walked};
@@ -50,7 +50,7 @@ fn slots_lead(bytes: &[u8]) -> Result<Lead, WalkFault>
     let selected = selected_in(bytes);
     let slot = place_of(selected) as usize;
     let offset = offset_of(&bytes[slot..slot + 8]);
-    if offset < 25 {
+    if offset < FIRST_BODY {
         return Err(WalkFault::Damaged { offset });
     }
     if offset > bytes.len() as u64 {
