@@ -28,7 +28,7 @@ fn turns(spelling: Spelling, bytes: &[u8]) -> bool
 }
 
 /// The records of a body that are still to be read, and the spelling in which they are.
-#[derive(Drop)]
+#[derive(Clone, Copy)]
 pub(crate) struct Body<'a> {
     pub(crate) records: Records<'a>,
     pub(crate) spelling: Spelling,

@@ -1,5 +1,5 @@
 //! A file's entries, read one after another.
-ghost use Rattle.std.specs.Prelude.{◌≡◌, ◌<◌, ◌∷◌, [], List, IfOk, IfErr, IfSome};
+ghost use Rattle.std.specs.Prelude.{◌≡◌, ◌<◌, ◌∷◌, [], List, IfOk, IfErr, IfSome, IfNone, OnErr};
 ghost use Rattle.recovery.specs.declared.entries.EntryAt.{EntryAt};
 ghost use Rattle.recovery.specs.declared.fault.RecoverFault.TheVariants.{Memory};
 ghost use Rattle.recovery.specs.Reading.{SpellsAt, IsFaultAmong};
@@ -39,16 +39,20 @@ pub struct EntryReader<'a> {
 impl<'a> EntryReader<'a> {
     ghost use Rattle.recovery.specs.Reading.{AreLeft, IsNext, bytes_left};
 
-    /// The next entry, if there is one. The only fault is want of memory.
+    /// The next entry, if there is one. The only fault is want of memory. Where none is told, the reader stands where it stood.
     pub fn next(&mut self, alloc: Global) -> Result<Option<EntryAt>, RecoverFault>
         ensures next { (list : List EntryAt) → AreLeft self.old list → IfOk result (IsNext list self.new) }
         ensures fault { (list : List EntryAt) → AreLeft self.old list → IfErr result (λ e. e ≡ Memory) }
+        ensures same { OnErr result (self.new ≡ self.old) }
+        ensures same_at_end { IfOk result (λ o. IfNone o (self.new ≡ self.old)) }
         ensures shorter { IfOk result (λ o. IfSome o (λ _. bytes_left self.new < bytes_left self.old)) }
     {
-        let Some(found) = self.body.next() else {
+        let mut body = self.body;
+        let Some(found) = body.next() else {
             return Ok(None);
         };
-        let item = read_entry(alloc, &found, self.body.spelling)?;
+        let item = read_entry(alloc, &found, body.spelling)?;
+        self.body = body;
         Ok(Some(item))
     }
 }
