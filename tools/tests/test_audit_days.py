@@ -1,21 +1,20 @@
 """The auditor beside the program: random days, whose text is `replay`'s byte for byte, and the same journals spoilt."""
 
 import random
-import struct
 import sys
 import tempfile
 import unittest
 from pathlib import Path
-from typing import Callable, NamedTuple
+from typing import NamedTuple
 
 import spelled
 from days import OPERATOR, Day, market_of
 from running import TOOLS, Ran, program, run
+from spoils import SPOILS, spelling_of, with_one_spoilt, with_record
 
 sys.path.insert(0, str(TOOLS))
 
-from delkwoan.changes import Post, Row
-from delkwoan.changes import Solution as Posted
+from delkwoan.changes import Post
 from delkwoan.frames import walk
 from delkwoan.records import Kind, Record, body_of, record_of
 from delkwoan.replies import Refused
@@ -41,49 +40,6 @@ def told(roster: Path, journal: Path) -> Told:
     lines = ran.output.splitlines(keepends=True)
     postings = [line for line in lines if line.startswith(b"posting ")]
     return Told(postings, b"".join(lines[len(postings) :]), ran.status, ran.errors.split(b":")[0].rstrip(b"\n"))
-
-
-def spelling_of(record: Record, solutions: list[Posted]) -> bytes:
-    """The record of a POST with other solutions."""
-    by_hand = [spelled.Solution(it.rows, it.potentials) for it in solutions]
-    return spelled.record(f"{record.party}: {record.change}", by_hand, record.seat, record.moment)
-
-
-Spoil = Callable[[random.Random, Posted], Posted]
-
-
-def with_row(draw: random.Random, solution: Posted, new: Callable[[Row], list[Row]]) -> Posted:
-    """The solution with others in the place of one row, in their order."""
-    if not solution.rows:
-        return solution
-    at = draw.randrange(len(solution.rows))
-    rows = [*solution.rows[:at], *new(solution.rows[at]), *solution.rows[at + 1 :]]
-    return Posted(sorted(rows), solution.potentials)
-
-
-def with_potential(draw: random.Random, solution: Posted, more: int) -> Posted:
-    at = draw.randrange(len(solution.potentials))
-    potentials = [value + more * (place == at) for place, value in enumerate(solution.potentials)]
-    return Posted(solution.rows, potentials)
-
-
-def with_new_row(draw: random.Random, solution: Posted) -> Posted:
-    seller, buyer = draw.sample(range(len(solution.potentials)), 2)
-    return Posted(sorted([*(row for row in solution.rows if row[:2] != (seller, buyer)), Row(seller, buyer, 3)]), solution.potentials)
-
-
-SPOILS: dict[str, Spoil] = {
-    "an amount is 1 more": lambda draw, it: with_row(draw, it, lambda row: [row._replace(amount=row.amount + 1)]),
-    "an amount is 1 less": lambda draw, it: with_row(draw, it, lambda row: [row._replace(amount=row.amount - 1)] if row.amount > 1 else []),
-    "a row is left out": lambda draw, it: with_row(draw, it, lambda row: []),
-    "a row is new": with_new_row,
-    "a potential is 1 more": lambda draw, it: with_potential(draw, it, 1),
-    "a potential is 1 less": lambda draw, it: with_potential(draw, it, -1),
-    "a potential is 5 more": lambda draw, it: with_potential(draw, it, 5),
-    "no row is left": lambda draw, it: Posted([], it.potentials),
-    "a member is one too many": lambda draw, it: Posted(it.rows, [*it.potentials, 0]),
-}
-"""What is wrong with a solution of a posting; some of it leaves it certified."""
 
 
 def close(session: Session) -> None:
@@ -144,9 +100,8 @@ class Beside(unittest.TestCase):
 
     def spoilt(self, content: bytes, at: int, new: bytes) -> Path:
         """A journal with another record behind the gate at a place."""
-        size = int.from_bytes(content[at + 1 : at + 5], "little")
         path = self.folder / "spoilt"
-        path.write_bytes(content[: at + 1] + struct.pack("<I", len(new)) + new + content[at + 5 + size :])
+        path.write_bytes(with_record(content, at, new))
         return path
 
     def test_days(self) -> None:
@@ -167,8 +122,7 @@ class Beside(unittest.TestCase):
             posts = [(at, record) for at, record in self.records() if isinstance(record.change, Post)]
             for (at, record), (name, spoil) in zip(draw.choices(posts, k=len(SPOILS)) if posts else [], SPOILS.items()):
                 assert isinstance(record.change, Post)
-                place = draw.randrange(len(record.change.solutions))
-                solutions = [spoil(draw, it) if here == place else it for here, it in enumerate(record.change.solutions)]
+                solutions = with_one_spoilt(draw, record.change.solutions, spoil)
                 with self.subTest(number=number, at=at, name=name):
                     audited = self.assert_alike(self.spoilt(content, at, spelling_of(record, solutions)))
                     is_bad = audited.place == b"damaged at %d" % at
