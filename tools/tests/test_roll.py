@@ -183,6 +183,23 @@ class Refusals(OfRolls):
         ran = self.roll(renamed)
         self.assertEqual(ran, Ran(0, b"position 16: trades 1, settings 1; trades left out 3\n", b""))
 
+    def test_a_product_that_matures_on_the_day_of_a_trade(self) -> None:
+        """The day behind it is late enough."""
+        self.written(OLD)
+        early = self.file("early.csv", GROWN.replace(b"2032-06-30", b"2026-03-02"))
+        self.assertEqual(self.roll(early), Ran(15, b"", b"cannot roll: the product of trade 1 matures too early\n"))
+        behind = self.file("behind.csv", GROWN.replace(b"2032-06-30", b"2026-03-03"))
+        self.assertEqual(self.roll(behind), Ran(0, TOLD, b""))
+
+    def test_the_last_position(self) -> None:
+        """A history of 10^18 changes has no position behind it; one that is a change shorter has one."""
+        for position, due in ((10**18, Ran(15, b"", b"cannot roll: no position is left\n")), (10**18 - 1, None)):
+            base = Base(position, 0, 0, "ABC", "P")
+            self.journal.write_bytes(slotted(base.spelled(), []))
+            told = Ran(0, f"position {position + 1}: trades 0, settings 0; trades left out 0\n".encode(), b"")
+            with self.subTest(position=position):
+                self.assertEqual(self.roll(self.grown), due or told)
+
     def test_faults_of_the_files(self) -> None:
         self.written(OLD)
         twice = self.file("twice.csv", GROWN + b"A,dealer,KA\n")
