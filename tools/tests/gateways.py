@@ -10,7 +10,7 @@ from email.message import Message
 from pathlib import Path
 from typing import Any, NamedTuple
 
-from running import TOOLS
+from running import PATIENCE, TOOLS
 from serving import ROSTER, InService, free_port
 from test_packaging import python_with
 
@@ -49,9 +49,9 @@ class Caller:
     """A connection to a gateway, and the token of its session once it has signed in."""
 
     def __init__(self, port: int, context: ssl.SSLContext | None = None) -> None:
-        self.http = http.client.HTTPConnection("127.0.0.1", port, timeout=60)
+        self.http = http.client.HTTPConnection("127.0.0.1", port, timeout=PATIENCE)
         if context is not None:
-            self.http = http.client.HTTPSConnection("127.0.0.1", port, timeout=60, context=context)
+            self.http = http.client.HTTPSConnection("127.0.0.1", port, timeout=PATIENCE, context=context)
         self.token = ""
         self.name = ""
 
@@ -123,7 +123,7 @@ class InGateway(InService):
         self.wait_healthy()
 
     def wait_healthy(self) -> None:
-        end = time.monotonic() + 30
+        end = time.monotonic() + PATIENCE
         while True:
             try:
                 if self.caller().ask("GET", "/healthz").status == 200:

@@ -9,7 +9,7 @@ from typing import NamedTuple, Sequence
 ROOT = Path(__file__).resolve().parents[2]
 TOOLS = ROOT / "tools"
 EXAMPLES = ROOT / "examples"
-PATIENCE = 300
+PATIENCE = 1200
 """Seconds behind which what is waited for counts as lost: more than anything takes, however busy the machine is."""
 
 

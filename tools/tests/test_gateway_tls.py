@@ -10,7 +10,7 @@ import unittest
 from pathlib import Path
 
 from gateways import Caller, InGateway
-from running import ROOT, run
+from running import PATIENCE, ROOT, run
 from serving import free_port
 
 FILE = ROOT / "packaging/haproxy.cfg"
@@ -68,7 +68,7 @@ class Secured(InGateway):
             return False
 
     def wait_listening(self, port: int) -> None:
-        end = time.monotonic() + 30
+        end = time.monotonic() + PATIENCE
         while time.monotonic() < end:
             try:
                 socket.create_connection(("127.0.0.1", port), 5).close()
