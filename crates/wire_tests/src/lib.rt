@@ -1,0 +1,7 @@
+//! What a standby reads and writes.
+#![tactic(auto)]
+
+#[cfg(test)]
+mod names;
+#[cfg(test)]
+mod replies;
