@@ -2,6 +2,7 @@ pub mod MachineFacts
 pub mod LoopFacts
 pub mod CycleFacts
 pub mod KeptFacts
+mod TakenFacts
 pub mod SettledFacts
 pub mod Thawing
 pub mod CommitFacts

@@ -11,7 +11,7 @@ use Rattle.command_types.specs.contracts.ask.Ask as Ask
 use Rattle.command_types.specs.contracts.ask.Entry as Entry
 use Rattle.command_types.specs.contracts.moment.Moment as Moment
 use Rattle.product_book.specs.contracts.book.Book as Book
-use Rattle.tolerance_sets.specs.contracts.taken_settings.TakenSettings as TakenSettings
+use Rattle.tolerance_sets.specs.contracts.settings.Settings as Settings
 use Rattle.tolerance_sets.specs.contracts.tolerances.Tolerances as Tolerances
 use Rattle.cycle_states.specs.contracts.machine.begun.Begun as Begun
 use Rattle.cycle_states.specs.contracts.machine.cycle.Cycle as Cycle
@@ -24,11 +24,11 @@ roster_send = search (sendable, crosses) depth 60
 book_send : IsSend Book.the_row
 book_send = search (sendable, crosses) depth 60
 
-tolerances_send : IsSend Tolerances.the_row
-tolerances_send = search (sendable, crosses) depth 60
+settings_send : IsSend Settings.the_row
+settings_send = search (sendable, crosses) depth 60
 
-taken_send : IsSend TakenSettings.the_row
-taken_send = search (tolerances_send, sendable, crosses) depth 60
+tolerances_send : IsSend Tolerances.the_row
+tolerances_send = search (settings_send, sendable, crosses) depth 60
 
 problem_send : IsSend Problem.the_row
 problem_send = search (sendable, crosses) depth 60
@@ -40,7 +40,7 @@ begun_send : IsSend Begun.the_row
 begun_send = search (problem_send, sendable, crosses) depth 60
 
 cycle_send : IsSend Cycle.the_row
-cycle_send = search (begun_send, solution_send, taken_send, sendable, crosses) depth 60 fits 100000
+cycle_send = search (begun_send, solution_send, sendable, crosses) depth 60 fits 100000
 
 pub machine_send : IsSend Machine.the_row
 machine_send = search (roster_send, book_send, tolerances_send, cycle_send, sendable, crosses) depth 60

@@ -11,7 +11,7 @@ use Rattle.cycle_states.specs.declared.machine.begun.Found.TheVariants as found
 -- those that were made, and else those that follow from what there was when the version began
 abbrev pub problems_in : Found → List ProblemData
 problems_in (found.Made problems) = problems.items
-problems_in (found.Open roster book settings mode) = problems_of roster.value book.value.rows settings.value mode
+problems_in (found.Open roster book tolerances mode) = problems_of roster.value book.value.rows tolerances.value.settings mode
 
 -- these are the problems that a POST's certificates are for; no other command is checked by any
 abbrev pub AreCheckedBy : State → What → List ProblemData → Type 0

@@ -14,6 +14,8 @@ use Rattle.command_types.specs.Machine.{member_of, product_of, side_at, side_of,
 use Rattle.command_types.specs.Plans.{count_of, is_new}
 use Rattle.command_types.specs.Tolerances.{with_setting}
 use Rattle.command_types.specs.Trades.{affirmed, ended_by, freed_by, gross_of, held_by, trade_numbered, with_alleged}
+use Rattle.command_types.specs.declared.tolerance.ToleranceRow.{ToleranceRow}
+use Rattle.tolerance_sets.specs.Settings.{TolerancesView}
 use Rattle.product_book.specs.Book.{gross_limit, may_affirm, may_end, may_free, may_hold}
 use Rattle.cycle_states.specs.declared.machine.effect.Effect.{Effect}
 use Rattle.cycle_states.specs.declared.machine.effect.Effect.TheVariants as effect
@@ -28,7 +30,7 @@ applied s (effect.Hold trade side) = record s { trades = held_by side s.trades t
 applied s (effect.Free trade side) = record s { trades = freed_by side s.trades trade }
 applied s (effect.Set setting) = record s { tolerances = with_setting setting s.tolerances }
 applied s (effect.Freeze day) = after_freeze s day
-applied s (effect.Begin mode settings) = record s { cycle = begun_with s.cycle mode settings (problems_of s.roster s.trades settings mode) }
+applied s (effect.Begin mode) = record s { cycle = begun_with s.cycle mode s.tolerances (problems_of s.roster s.trades s.tolerances mode) }
 applied s (effect.Propose solutions plan) = record s { cycle = proposed_with s.cycle solutions plan }
 applied s (effect.Execute plan) = after_execution s plan
 applied s effect.Complete = after_execution s s.cycle.plan
@@ -66,7 +68,7 @@ effect_by s by (Free trade) = effect.Free trade (side_at s by (trade_numbered s.
 effect_by s by (Tol other product side floor ceiling) =
     effect.Set (record { member = member_of s by; product = product_of s product; other = member_of s other; side = side; floor = floor; ceiling = ceiling })
 effect_by s by (Freeze day) = effect.Freeze day
-effect_by s by (Begin cycle mode) = effect.Begin mode s.tolerances
+effect_by s by (Begin cycle mode) = effect.Begin mode
 effect_by s by (Post cycle version solutions) = post_effect s solutions
 effect_by s by (Accept cycle version) = accept_effect s (member_of s by)
 effect_by s by (Decline cycle version) = effect.Decline
@@ -94,6 +96,11 @@ rows_with other made = 0
 abbrev pub settings_with : Effect → ℕ
 settings_with (effect.Set setting) = 1
 settings_with other = 0
+
+-- which settings are the last that were taken, once this is done: a BEGIN takes all
+abbrev pub taken_with : Effect → TolerancesView → List ToleranceRow
+taken_with (effect.Begin mode) tolerances = tolerances.settings
+taken_with other tolerances = tolerances.taken
 
 -- how many trades and settings a change may add
 abbrev pub rows_added : State → Ask → ℕ

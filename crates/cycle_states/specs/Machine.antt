@@ -62,6 +62,10 @@ pub record IsCycle (roster : Rows) (rows : List TradeRow) (cycle : Cycle) : Type
   pub begun : IsTrue (has_limits cycle.phase) → IsVersion roster rows cycle.mode cycle.settings cycle.begun
   pub proposed : IsTrue (is_proposed cycle.phase) → IsProposal (length roster.members) rows cycle
 
+-- while a version stands, the settings that were last taken are its own
+abbrev pub AreTaken : Cycle → List ToleranceRow → Type 0
+AreTaken cycle taken = IsTrue (is_some cycle.mode) → taken ≡ cycle.settings
+
 -- what the machine keeps
 pub record IsMachine (roster : Rows) (members products : ℕ) (rows : List TradeRow) (cycle : Cycle) : Type 0 where
   pub few_members : length roster.members ≤ MOST_MEMBERS

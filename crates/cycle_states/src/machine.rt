@@ -5,7 +5,6 @@ mod applying;
 mod ballot;
 mod base;
 mod begun;
-mod boxed_settings;
 mod conditions;
 mod cycle;
 mod cycle_refusals;
@@ -82,13 +81,13 @@ pub struct Machine {
 impl Model for Machine {
     ghost use Rattle.std.specs.Prelude.{length};
     ghost use Rattle.cycle_states.specs.Ballot.{IsBallot};
-    ghost use Rattle.cycle_states.specs.Machine.{MachineView, state_with, IsMachine};
+    ghost use Rattle.cycle_states.specs.Machine.{MachineView, state_with, AreTaken, IsMachine};
 
     ghost Value = { MachineView };
 
     ghost view = { λ m. record { state = state_with m.roster m.book.rows m.tolerances.settings m.cycle; spare = m.book.spare; slots = m.tolerances.spare } };
 
-    ghost invariant = { λ m. IsMachine m.roster m.book.members m.book.products m.book.rows m.cycle × IsBallot (length m.roster.members) m.book.rows m.cycle m.ballot };
+    ghost invariant = { λ m. IsMachine m.roster m.book.members m.book.products m.book.rows m.cycle × IsBallot (length m.roster.members) m.book.rows m.cycle m.ballot × AreTaken m.cycle m.tolerances.taken };
 }
 
 impl Machine {

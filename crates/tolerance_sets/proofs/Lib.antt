@@ -3,6 +3,7 @@ pub mod PairRows
 pub mod PairLimits
 pub mod BoundOwners
 pub mod SettingOrder
+mod PutOver
 pub mod NoCeiling
 pub mod Passed
 pub mod OpenPairs

@@ -8,7 +8,8 @@ use Rattle.std.specs.declared.cmp.Ordering.TheVariants.{Less, Equal, Greater}
 use Rattle.std.proofs.lemmas.Bool.{eq-eqb, ne_eqb, lt-ltb, le-ltb}
 use Rattle.command_types.specs.declared.tolerance.ToleranceRow.{ToleranceRow}
 use Rattle.command_types.specs.Tolerances.{setting_place, with_setting}
-use Rattle.tolerance_sets.specs.Settings.{settings_of, IsKeptBy, AreKept}
+use Rattle.tolerance_sets.specs.Settings.{settings_of, put_over, IsKeptBy, AreKept, AtPlaces}
+use Rattle.tolerance_sets.proofs.PutOver.{put_with}
 use Rattle.tolerance_sets.proofs.SettingOrder.{at_same, at_less, at_more, three_ways}
 
 cmp_less : (x y : ℕ) → x < y → nat_cmp x y ≡ Less
@@ -19,11 +20,6 @@ cmp_equal x y e = rw (le-ltb x y (omega (arith, e)), eq-eqb x y e) refl
 
 cmp_more : (x y : ℕ) → y < x → nat_cmp x y ≡ Greater
 cmp_more x y l = rw (le-ltb x y (omega (arith, l)), ne_eqb x y (λ q. omega (arith, q, l))) refl
-
--- each setting is at its place
-abbrev pub AtPlaces : List (ℕ × ToleranceRow) → Type 0
-AtPlaces [] = Unit {0}
-AtPlaces (e ∷ es) = (e.0 ≡ setting_place e.1) × AtPlaces es
 
 abbrev Placed : List (ℕ × ToleranceRow) → ToleranceRow → List (ℕ × ToleranceRow) → Type 0
 Placed after new before = (values_of after ≡ with_setting new (values_of before)) × AtPlaces after
@@ -61,16 +57,22 @@ one_before es count behind e lt is =
     let here : count - (behind + 1) ≡ i = omega (arith, lt) in
     ap (λ (n : ℕ). settings_of (drop n es)) here ∙ ap settings_of (drop_from es i e is) ∙ ap (λ (n : ℕ). with_setting e.1 (settings_of (drop n es))) next
 
--- the settings of the last entries, and of one more
-pub set_before : (es : List (ℕ × ToleranceRow)) (settings after : List ToleranceRow) (count behind : ℕ) (e : ℕ × ToleranceRow) → behind < count → slice_get es (count - 1 - behind) ≡ Some e
-    → settings ≡ settings_of (drop (count - behind) es) → after ≡ with_setting e.1 settings → after ≡ settings_of (drop (count - (behind + 1)) es)
-set_before es settings after count behind e lt is so_far set = set ∙ ap (with_setting e.1) so_far ∙ sym (one_before es count behind e lt is)
+-- so it is with settings below them
+put_next : (below : List ToleranceRow) (es : List (ℕ × ToleranceRow)) (count behind : ℕ) (e : ℕ × ToleranceRow) → behind < count → slice_get es (count - 1 - behind) ≡ Some e →
+    with_setting e.1 (put_over below (settings_of (drop (count - behind) es))) ≡ put_over below (settings_of (drop (count - (behind + 1)) es))
+put_next below es count behind e lt is =
+    sym (put_with below e.1 (settings_of (drop (count - behind) es))) ∙ ap (put_over below) (sym (one_before es count behind e lt is))
+
+-- the settings of the last entries put over others, and one more
+pub set_before : (below : List ToleranceRow) (es : List (ℕ × ToleranceRow)) (settings after : List ToleranceRow) (count behind : ℕ) (e : ℕ × ToleranceRow) → behind < count → slice_get es (count - 1 - behind) ≡ Some e
+    → settings ≡ put_over below (settings_of (drop (count - behind) es)) → after ≡ with_setting e.1 settings → after ≡ put_over below (settings_of (drop (count - (behind + 1)) es))
+set_before below es settings after count behind e lt is so_far set = set ∙ ap (with_setting e.1) so_far ∙ put_next below es count behind e lt is
 
 -- so far the last entries were put
-pub put_before : (es made after : List (ℕ × ToleranceRow)) (count behind : ℕ) (e : ℕ × ToleranceRow) → AreKept es → behind < count → slice_get es (count - 1 - behind) ≡ Some e
-    → (values_of made ≡ settings_of (drop (count - behind) es)) × AtPlaces made → after ≡ insert_entry nat_cmp made e.0 e.1
-    → (values_of after ≡ settings_of (drop (count - (behind + 1)) es)) × AtPlaces after
-put_before es made after count behind e kept lt is so_far put =
+pub put_before : (below : List ToleranceRow) (es made after : List (ℕ × ToleranceRow)) (count behind : ℕ) (e : ℕ × ToleranceRow) → AreKept es → behind < count → slice_get es (count - 1 - behind) ≡ Some e
+    → (values_of made ≡ put_over below (settings_of (drop (count - behind) es))) × AtPlaces made → after ≡ insert_entry nat_cmp made e.0 e.1
+    → (values_of after ≡ put_over below (settings_of (drop (count - (behind + 1)) es))) × AtPlaces after
+put_before below es made after count behind e kept lt is so_far put =
     let i = count - 1 - behind in
     let placed = placed_with made e.0 e.1 (kept_at es i e kept is).place so_far.1 in
-    (ap values_of put ∙ placed.0 ∙ ap (with_setting e.1) so_far.0 ∙ sym (one_before es count behind e lt is), subst AtPlaces (sym put) placed.1)
+    (ap values_of put ∙ placed.0 ∙ ap (with_setting e.1) so_far.0 ∙ put_next below es count behind e lt is, subst AtPlaces (sym put) placed.1)

@@ -55,7 +55,7 @@ three_ways a b less same more =
     ⊎_elim less (λ (le : b ≤ a). ⊎_elim same (λ (ne : a ≢ b). more (omega (arith, le, ne))) (cases_eq a b)) (cases_lt a b)
 
 -- a setting put where another of its place was put
-over : (old new : ToleranceRow) (rows : List ToleranceRow) → setting_place old ≡ setting_place new → with_setting new (with_setting old rows) ≡ with_setting new rows
+pub over : (old new : ToleranceRow) (rows : List ToleranceRow) → setting_place old ≡ setting_place new → with_setting new (with_setting old rows) ≡ with_setting new rows
 over old new [] e = at_same new old [] e
 over old new (row ∷ rows) e =
     let both = λ (xs : List ToleranceRow). with_setting new xs in
@@ -83,7 +83,7 @@ apart_less a b (row ∷ rows) l =
     ∙ sym (ap (λ xs. with_setting b xs) (at_same a row rows q) ∙ at_more b a rows l))
     (λ lr. before_with a b row rows l lr ∙ sym (ap (λ xs. with_setting b xs) (at_less a row rows lr) ∙ at_more b a (row ∷ rows) l))
 
-apart : (a b : ToleranceRow) (rows : List ToleranceRow) → setting_place a ≢ setting_place b → with_setting a (with_setting b rows) ≡ with_setting b (with_setting a rows)
+pub apart : (a b : ToleranceRow) (rows : List ToleranceRow) → setting_place a ≢ setting_place b → with_setting a (with_setting b rows) ≡ with_setting b (with_setting a rows)
 apart a b rows ne =
     three_ways (setting_place a) (setting_place b) (λ l. apart_less a b rows l) (λ q. absurd (ne q)) (λ l. sym (apart_less b a rows l))
 

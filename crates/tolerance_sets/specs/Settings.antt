@@ -5,9 +5,16 @@ use Rattle.command_types.specs.declared.trade.Side.{Side}
 use Rattle.command_types.specs.declared.tolerance.ToleranceRow.{ToleranceRow}
 use Rattle.command_types.specs.Tolerances.{setting_place, with_setting, ceiling_in}
 
--- the settings in their order, and how many more there is room for
+-- settings in their order, how many were kept, and for how many more there is room
 pub record SettingsView : Type 0 where
   pub settings : List ToleranceRow
+  pub count : ℕ
+  pub spare : ℕ
+
+-- all settings, those of the last taking, and for how many more there is room
+pub record TolerancesView : Type 0 where
+  pub settings : List ToleranceRow
+  pub taken : List ToleranceRow
   pub spare : ℕ
 
 -- where the setting of a member stands, for its side of a pair
@@ -18,6 +25,11 @@ place_of member product other side = ((member * 65536 + product) * 65536 + other
 abbrev pub settings_of : List (ℕ × ToleranceRow) → List ToleranceRow
 settings_of [] = []
 settings_of (entry ∷ entries) = with_setting entry.1 (settings_of entries)
+
+-- settings put over others, each at its place
+abbrev pub put_over : List ToleranceRow → List ToleranceRow → List ToleranceRow
+put_over below [] = below
+put_over below (row ∷ rows) = with_setting row (put_over below rows)
 
 -- a setting that is kept by this number: it is its place, and no two different settings have the same
 pub record IsKeptBy (at : ℕ) (row : ToleranceRow) : Type 0 where
@@ -30,6 +42,11 @@ pub record IsKeptBy (at : ℕ) (row : ToleranceRow) : Type 0 where
 abbrev pub AreKept : List (ℕ × ToleranceRow) → Type 0
 AreKept [] = Unit {0}
 AreKept (entry ∷ entries) = IsKeptBy entry.0 entry.1 × AreKept entries
+
+-- each entry is at its setting's place
+abbrev pub AtPlaces : List (ℕ × ToleranceRow) → Type 0
+AtPlaces [] = Unit {0}
+AtPlaces (entry ∷ entries) = (entry.0 ≡ setting_place entry.1) × AtPlaces entries
 
 -- all that is kept, and room in the map for what is promised
 pub record IsStore (entries : List (ℕ × ToleranceRow)) (spare map_spare : ℕ) : Type 0 where

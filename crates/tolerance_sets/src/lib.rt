@@ -7,7 +7,6 @@ mod open_pairs;
 mod open_rows;
 mod pair_cursor;
 mod settings;
-mod taken_settings;
 mod tolerances;
 
 pub use laws::{
@@ -15,5 +14,4 @@ pub use laws::{
     limits_are_good, network_is_within, no_cycle_is_left, nothing_is_kept,
 };
 pub use limits::may_grow;
-pub use taken_settings::TakenSettings;
 pub use tolerances::{FloorOverCeiling, Tolerances};

@@ -1,11 +1,11 @@
 //! The settings of all members, each found by its place: by its member, product, other member and side.
 
-ghost use Rattle.std.specs.Prelude.{◌≡◌, true, ◌+◌, ◌<◌, ◌≤◌, [], IfOk, OnOk, OnErr};
+ghost use Rattle.std.specs.Prelude.{◌≡◌, true, ◌+◌, ◌<◌, ◌≤◌, ◌^◌, [], length, max, IsOk, IfOk, OnOk, OnErr};
 ghost use Rattle.command_types.specs.Tolerances.{side_place, setting_place, is_setting_of, floor_in, ceiling_in, with_setting};
 ghost use Rattle.std.specs.List.{list_any};
 ghost use Rattle.std.specs.BTreeMap.{values as ordered_values};
 ghost use Rattle.indexmap.specs.IndexMap.{spare, values};
-ghost use Rattle.tolerance_sets.specs.Settings.{place_of, settings_of, IsKeptBy, AreKept, sets_ceiling, HaveNoCeiling};
+ghost use Rattle.tolerance_sets.specs.Settings.{place_of, settings_of, put_over, IsKeptBy, AreKept, AtPlaces, sets_ceiling, HaveNoCeiling};
 
 use command_types::{Level, Side, ToleranceRow};
 use indexmap::IndexMap;
@@ -22,21 +22,22 @@ pub(super) struct Levels {
     pub ceiling: Option<Level>,
 }
 
-/// Settings, each kept by its place. Contracts see them in the order of their places, and how many more there is room
-/// for.
+/// Settings, each kept by its place. Contracts see them in the order of their places, how many there are, and for how many more
+/// there is room.
 #[derive(Drop)]
 pub(super) struct Settings {
     rows: IndexMap<u64, ToleranceRow>,
-    spare: u64,
+    spare: usize,
 }
 
 impl Model for Settings {
     ghost use Rattle.indexmap.specs.IndexMap.{spare as map_spare};
+    ghost use Rattle.std.specs.Prelude.{length};
     ghost use Rattle.tolerance_sets.specs.Settings.{SettingsView, IsStore, settings_of};
 
     ghost Value = { SettingsView };
 
-    ghost view = { λ s. record { settings = settings_of s.rows.entries; spare = s.spare } };
+    ghost view = { λ s. record { settings = settings_of s.rows.entries; count = length s.rows.entries; spare = s.spare } };
 
     ghost invariant = { λ s. IsStore s.rows.entries s.spare (map_spare s.rows) };
 }
@@ -74,6 +75,7 @@ fn insert(rows: &mut IndexMap<u64, ToleranceRow>, new: ToleranceRow)
     requires kept { AreKept rows.old.entries }
     ensures settings { settings_of rows.new.entries ≡ with_setting new (settings_of rows.old.entries) }
     ensures kept { AreKept rows.new.entries }
+    ensures count { length rows.new.entries ≤ length rows.old.entries + 1 }
     ensures spare { spare rows.old ≤ spare rows.new + 1 }
 {
     let place = place_of_row(&new);
@@ -88,17 +90,18 @@ fn insert(rows: &mut IndexMap<u64, ToleranceRow>, new: ToleranceRow)
     }
 }
 
-// The settings by their places, in rising order.
-fn ordered(
-    alloc: Global,
+// Puts settings into a map that keeps its places in order.
+fn put_in_order(
+    ordered: &mut BTreeMap<u64, ToleranceRow>,
     rows: &IndexMap<u64, ToleranceRow>,
-) -> Result<BTreeMap<u64, ToleranceRow>, AllocError>
-    requires { AreKept rows.now.entries }
-    ensures { IfOk result (λ map. ordered_values map ≡ settings_of rows.now.entries) }
+) -> Result<(), AllocError>
+    requires kept { AreKept rows.now.entries }
+    requires places { AtPlaces ordered.old.entries }
+    ensures settings { OnOk result (ordered_values ordered.new ≡ put_over (ordered_values ordered.old) (settings_of rows.now.entries)) }
+    ensures places { OnOk result (AtPlaces ordered.new.entries) }
 {
     let entries = rows.as_slice();
     let count = entries.len();
-    let mut ordered = BTreeMap::new(alloc);
     for behind in 0..count {
         let Some((place, kept)) = entries.get_index(count - 1 - behind) else {
             unreachable!()
@@ -107,26 +110,24 @@ fn ordered(
         let row = ToleranceRow { ceiling, ..*kept };
         ordered.insert(*place, row)?;
     }
-    Ok(ordered)
+    Ok(())
 }
 
-// The settings once more, without room for others.
-fn copied(alloc: Global, rows: &IndexMap<u64, ToleranceRow>) -> Result<Settings, AllocError>
-    ensures { IfOk result (λ copy. copy.settings ≡ settings_of rows.now.entries) }
+// Puts settings over others, in the room that there is.
+fn put_rows(settings: &mut Settings, rows: &IndexMap<u64, ToleranceRow>)
+    requires { length rows.now.entries ≤ settings.old.spare }
+    ensures { settings.new.settings ≡ put_over settings.old.settings (settings_of rows.now.entries) }
 {
     let entries = rows.as_slice();
     let count = entries.len();
-    let mut copy = Settings::new(alloc);
     for behind in 0..count {
         let Some((_place, kept)) = entries.get_index(count - 1 - behind) else {
             unreachable!()
         };
         let ceiling: Option<Level> = kept.ceiling;
         let row = ToleranceRow { ceiling, ..*kept };
-        copy.reserve()?;
-        copy.put(row);
+        settings.put(row);
     }
-    Ok(copy)
 }
 
 // Whether one of the settings has a ceiling in a product.
@@ -140,7 +141,9 @@ fn any_ceiling(rows: &IndexMap<u64, ToleranceRow>, product: ProductNo) -> bool
 impl Settings {
     /// No settings. It takes no memory.
     pub(super) fn new(alloc: Global) -> Settings
-        ensures { result.settings ≡ [] }
+        ensures settings { result.settings ≡ [] }
+        ensures count { result.count ≡ 0 }
+        ensures spare { result.spare ≡ 0 }
     {
         Settings {
             rows: IndexMap::new(alloc),
@@ -148,16 +151,24 @@ impl Settings {
         }
     }
 
-    /// Makes room for one more setting. The only error is want of memory, and it changes nothing.
-    pub(super) fn reserve(&mut self) -> Result<(), AllocError>
-        ensures settings { self.new.settings ≡ self.old.settings }
-        ensures keeps { self.old.spare ≤ self.new.spare }
-        ensures room { OnOk result (1 ≤ self.new.spare) }
+    /// How many there are.
+    pub(super) fn count(&self) -> usize
+        ensures count { result ≡ self.now.count }
+        ensures small { result < 2 ^ 63 }
+    {
+        self.rows.len()
+    }
+
+    /// Makes room for so many more. The only error is want of memory, and it changes nothing.
+    pub(super) fn reserve(&mut self, more: usize) -> Result<(), AllocError>
+        ensures settings { self.new ≡ record self.old { spare = self.new.spare } }
+        ensures room { OnOk result (self.new.spare ≡ max self.old.spare more) }
+        ensures enough { more ≤ self.old.spare → IsOk result }
         ensures err { OnErr result (self.new ≡ self.old) }
     {
-        if self.spare == 0 {
-            self.rows.reserve(1)?;
-            self.spare = 1;
+        if self.spare < more {
+            self.rows.reserve(more)?;
+            self.spare = more;
         }
         Ok(())
     }
@@ -166,10 +177,19 @@ impl Settings {
     pub(super) fn put(&mut self, new: ToleranceRow)
         requires room { 1 ≤ self.old.spare }
         ensures settings { self.new.settings ≡ with_setting new self.old.settings }
-        ensures spare { self.old.spare ≤ self.new.spare + 1 }
+        ensures count { self.new.count ≤ self.old.count + 1 }
+        ensures spare { self.new.spare + 1 ≡ self.old.spare }
     {
         insert(&mut self.rows, new);
         self.spare -= 1;
+    }
+
+    /// Puts all of these, in the room that there is.
+    pub(super) fn put_all(&mut self, more: &Settings)
+        requires { more.now.count ≤ self.old.spare }
+        ensures { self.new.settings ≡ put_over self.old.settings more.now.settings }
+    {
+        put_rows(self, &more.rows);
     }
 
     /// What a member allows for its side of a pair.
@@ -201,18 +221,17 @@ impl Settings {
         }
     }
 
-    /// Equal settings in memory of their own, without room for more. The only error is want of memory.
-    pub(super) fn copy(&self, alloc: Global) -> Result<Settings, AllocError>
-        ensures { IfOk result (λ copy. copy.settings ≡ self.now.settings) }
+    /// All of them, once these were put over them, in the order of their places. The only error is want of memory.
+    pub(super) fn in_order(
+        &self,
+        alloc: Global,
+        over: &Settings,
+    ) -> Result<Vec<ToleranceRow>, AllocError>
+        ensures { IfOk result (λ rows. rows.items ≡ put_over self.now.settings over.now.settings) }
     {
-        copied(alloc, &self.rows)
-    }
-
-    /// All of them, in the order of their places. The only error is want of memory.
-    pub(super) fn in_order(&self, alloc: Global) -> Result<Vec<ToleranceRow>, AllocError>
-        ensures { IfOk result (λ rows. rows.items ≡ self.now.settings) }
-    {
-        let ordered = ordered(alloc, &self.rows)?;
+        let mut ordered = BTreeMap::new(alloc);
+        put_in_order(&mut ordered, &self.rows)?;
+        put_in_order(&mut ordered, &over.rows)?;
         ordered.into_values().collect(alloc)
     }
 

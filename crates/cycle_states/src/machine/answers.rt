@@ -114,6 +114,7 @@ impl Machine {
         let rows = proof_rows(&MemberProof {
             roster: &self.roster,
             book: &self.book,
+            tolerances: &self.tolerances,
             cycle: &self.cycle,
             problems: problems.as_slice(),
             mode,

@@ -5,7 +5,7 @@ ghost use Rattle.command_types.specs.Execution.{IsExecutable};
 ghost use Rattle.command_types.specs.Plans.{count_of, executed, is_new, thawed};
 ghost use Rattle.command_types.specs.CycleRefusals.{is_crossed};
 ghost use Rattle.command_types.specs.Tolerances.{with_setting};
-ghost use Rattle.cycle_states.specs.Effects.{applied, rows_with, settings_with, MayApply};
+ghost use Rattle.cycle_states.specs.Effects.{applied, rows_with, settings_with, taken_with, MayApply};
 ghost use Rattle.cycle_states.specs.Machine.{state_with, IsBookOf, IsYoung};
 ghost use Rattle.std.specs.Prelude.{false};
 
@@ -32,7 +32,8 @@ fn execute(book: &mut Book, plan: &[PlanRow])
 fn set(tolerances: &mut Tolerances, row: ToleranceRow)
     requires fits { is_crossed row.floor row.ceiling ≡ false }
     requires room { 1 ≤ tolerances.old.spare }
-    ensures { tolerances.new.settings ≡ with_setting row tolerances.old.settings }
+    ensures settings { tolerances.new.settings ≡ with_setting row tolerances.old.settings }
+    ensures taken { tolerances.new.taken ≡ tolerances.old.taken }
 {
     match tolerances.set(
         row.member,
@@ -63,6 +64,7 @@ pub(super) fn apply(
     ensures state { state_with roster.now book.new.rows tolerances.new.settings cycle.new ≡ applied (state_with roster.now book.old.rows tolerances.old.settings cycle.old) effect }
     ensures members { book.new.members ≡ book.old.members }
     ensures products { book.new.products ≡ book.old.products }
+    ensures taken { tolerances.new.taken ≡ taken_with effect tolerances.old }
 {
     match effect {
         Effect::Allege {
@@ -87,8 +89,9 @@ pub(super) fn apply(
             freeze(roster, book, day);
             cycle.open(day);
         }
-        Effect::Begin { mode, settings } => {
-            cycle.begin(roster, book, mode, settings.into_settings());
+        Effect::Begin { mode } => {
+            cycle.begin(roster, book, tolerances, mode);
+            tolerances.take();
         }
         Effect::Propose { solutions, plan } => {
             cycle.propose(solutions.into_rows(), plan.into_rows())

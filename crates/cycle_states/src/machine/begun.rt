@@ -9,7 +9,7 @@ use product_book::Book;
 use std::alloc::Global;
 use std::marker::Model;
 use std::snapshot::Snapshot;
-use tolerance_sets::TakenSettings;
+use tolerance_sets::Tolerances;
 
 /// What is at hand of a version's problems.
 #[derive(Drop)]
@@ -20,7 +20,7 @@ pub(super) enum Found {
     Open {
         roster: Snapshot<Roster>,
         book: Snapshot<Book>,
-        settings: Snapshot<TakenSettings>,
+        tolerances: Snapshot<Tolerances>,
         mode: Mode,
     },
 }
@@ -53,14 +53,14 @@ impl Begun {
     }
 
     /// Those of these trades and settings in this mode, not made yet. It takes no memory.
-    pub(super) fn of(roster: &Roster, book: &Book, settings: &TakenSettings, mode: Mode) -> Begun
-        ensures { result ≡ problems_of roster.now book.now.rows settings.now mode }
+    pub(super) fn of(roster: &Roster, book: &Book, tolerances: &Tolerances, mode: Mode) -> Begun
+        ensures { result ≡ problems_of roster.now book.now.rows tolerances.now.settings mode }
     {
         Begun {
             found: Found::Open {
                 roster: Snapshot::of(roster),
                 book: Snapshot::of(book),
-                settings: Snapshot::of(settings),
+                tolerances: Snapshot::of(tolerances),
                 mode,
             },
         }

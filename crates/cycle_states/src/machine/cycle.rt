@@ -21,7 +21,8 @@ use network_laws::{Problem, Solution};
 use product_book::Book;
 use std::alloc::{AllocError, Global};
 use std::marker::Model;
-use tolerance_sets::TakenSettings;
+use std::snapshot::Snapshot;
+use tolerance_sets::Tolerances;
 use units_core::{Day, MemberNo};
 
 /// Whether a cycle is open in this phase.
@@ -100,7 +101,8 @@ pub(super) struct Cycle {
     phase: Phase,
     day: Option<Day>,
     mode: Option<Mode>,
-    settings: TakenSettings,
+    /// What members had set when the version began. Contracts alone see it: a machine keeps it as the settings last taken.
+    settings: Snapshot<Tolerances>,
     begun: Begun,
     solutions: Vec<Solution>,
     plan: Vec<PlanRow>,
@@ -113,7 +115,7 @@ impl Model for Cycle {
 
     ghost Value = { CycleFigures };
 
-    ghost view = { λ c. record { number = c.number; version = c.version; phase = c.phase; day = c.day; mode = c.mode; settings = c.settings; begun = c.begun; solutions = c.solutions.items; plan = c.plan.items; votes = c.votes.items; broken_by = c.broken_by } };
+    ghost view = { λ c. record { number = c.number; version = c.version; phase = c.phase; day = c.day; mode = c.mode; settings = c.settings.value.settings; begun = c.begun; solutions = c.solutions.items; plan = c.plan.items; votes = c.votes.items; broken_by = c.broken_by } };
 }
 
 impl Cycle {
@@ -138,7 +140,7 @@ impl Cycle {
             phase: Phase::None,
             day: None,
             mode: None,
-            settings: TakenSettings::none(alloc),
+            settings: Snapshot::of(&Tolerances::new(alloc)),
             begun: Begun::none(alloc),
             solutions: Vec::new(alloc),
             plan: Vec::new(alloc),
@@ -179,13 +181,6 @@ impl Cycle {
         ensures { result ≡ self.now.mode }
     {
         self.mode
-    }
-
-    /// All that members had set when the version began.
-    pub(super) fn settings(&self) -> &TakenSettings
-        ensures { result.now ≡ self.now.settings }
-    {
-        &self.settings
     }
 
     /// What the version began with, where it was made: one problem for each product.
@@ -258,7 +253,7 @@ impl Cycle {
     {
         self.mode = None;
         let alloc = *self.plan.allocator();
-        self.settings = TakenSettings::none(alloc);
+        self.settings = Snapshot::of(&Tolerances::new(alloc));
         self.begun = Begun::none(alloc);
     }
 
@@ -291,17 +286,17 @@ impl Cycle {
         &mut self,
         roster: &Roster,
         book: &Book,
+        tolerances: &Tolerances,
         mode: Mode,
-        settings: TakenSettings,
     )
         requires { self.old.version < 2 ^ 63 }
-        ensures { self.new ≡ begun_with self.old mode settings (problems_of roster.now book.now.rows settings mode) }
+        ensures { self.new ≡ begun_with self.old mode tolerances.now.settings (problems_of roster.now book.now.rows tolerances.now.settings mode) }
     {
         self.version = 1 + self.version;
         self.phase = Phase::Solving;
         self.mode = Some(mode);
-        self.begun = Begun::of(roster, book, &settings, mode);
-        self.settings = settings;
+        self.begun = Begun::of(roster, book, tolerances, mode);
+        self.settings = Snapshot::of(tolerances);
         self.broken_by = None;
         self.drop_proposal();
     }

@@ -1,6 +1,5 @@
 //! What an accepted change does.
 
-use super::boxed_settings::BoxedSettings;
 use command_types::{Listed, Mode, PlanRow, Side, ToleranceRow};
 use network_laws::Solution;
 use units_core::{Amount, Day, MemberNo, ProductNo};
@@ -45,7 +44,6 @@ pub(super) enum Effect {
     /// The next version begins in this mode, with all that members have set.
     Begin {
         mode: Mode,
-        settings: BoxedSettings,
     },
     /// These solutions are proposed, and what they change.
     Propose {

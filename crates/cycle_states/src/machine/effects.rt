@@ -1,17 +1,15 @@
 //! What an accepted change does that neither posts nor votes. Each name is looked up once.
 
-ghost use Rattle.std.specs.Prelude.{◌≡◌, None, Some, IfOk, true, false};
+ghost use Rattle.std.specs.Prelude.{◌≡◌, None, Some, true, false};
 ghost use Rattle.command_types.specs.Machine.{changes, first_of, refusals, side_at};
 ghost use Rattle.command_types.specs.Trades.{trade_numbered};
 ghost use Rattle.cycle_states.specs.Effects.{decides, effect_by, is_of_trade, MayApply};
 
 use super::Machine;
-use super::boxed_settings::BoxedSettings;
 use super::effect::Effect;
 use super::parties::{place_of_member, place_of_product};
 use super::sides::{side_at, side_of};
 use command_types::{Side, ToleranceRow, What};
-use std::alloc::AllocError;
 use units_core::Name;
 
 impl Machine {
@@ -61,13 +59,13 @@ impl Machine {
         }
     }
 
-    /// What a party's accepted change does that neither posts nor votes. The only error is want of memory.
-    pub(super) fn effect(&self, by: &Name, what: &What) -> Result<Effect, AllocError>
+    /// What a party's accepted change does that neither posts nor votes.
+    pub(super) fn effect(&self, by: &Name, what: &What) -> Effect
         requires plain { decides what.now ≡ false }
         requires change { changes what.now ≡ true }
         requires accepted { first_of (refusals self.now.state (Some by.now) what.now) ≡ None }
-        ensures does { IfOk result (λ effect. effect ≡ effect_by self.now.state by.now what.now) }
-        ensures may { IfOk result (λ effect. MayApply self.now.state effect) }
+        ensures does { result ≡ effect_by self.now.state by.now what.now }
+        ensures may { MayApply self.now.state result }
     {
         match what {
             What::Tol {
@@ -76,22 +74,19 @@ impl Machine {
                 side,
                 floor,
                 ceiling,
-            } => Ok(Effect::Set(ToleranceRow {
+            } => Effect::Set(ToleranceRow {
                 member: place_of_member(&self.roster, by),
                 product: place_of_product(&self.roster, product),
                 other: place_of_member(&self.roster, other),
                 side: *side,
                 floor: *floor,
                 ceiling: *ceiling,
-            })),
-            What::Freeze { day } => Ok(Effect::Freeze { day: *day }),
-            What::Begin { mode, .. } => Ok(Effect::Begin {
-                mode: *mode,
-                settings: BoxedSettings::taken(self.cycle.allocator(), &self.tolerances)?,
             }),
-            What::Decline { .. } => Ok(Effect::Decline),
-            What::Cancel { .. } => Ok(Effect::Cancel),
-            _ => Ok(self.trade_effect(by, what)),
+            What::Freeze { day } => Effect::Freeze { day: *day },
+            What::Begin { mode, .. } => Effect::Begin { mode: *mode },
+            What::Decline { .. } => Effect::Decline,
+            What::Cancel { .. } => Effect::Cancel,
+            _ => self.trade_effect(by, what),
         }
     }
 }

@@ -131,7 +131,7 @@ impl Machine {
             What::Accept { .. } => self.vote(place_of_member(&self.roster, by)),
             _ => {
                 let answer = self.party_answer(by, what)?;
-                let effect = self.effect(by, what)?;
+                let effect = self.effect(by, what);
                 let ballot = self.same_ballot(by, what);
                 Ok(Made {
                     answer,

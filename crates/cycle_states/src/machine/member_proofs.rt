@@ -12,6 +12,7 @@ use command_types::{Mode, ProofRow, Roster};
 use network_laws::Problem;
 use product_book::Book;
 use std::alloc::AllocError;
+use tolerance_sets::Tolerances;
 use units_core::{MemberNo, ProductNo};
 
 /// A proposal, and the member that asks about it.
@@ -19,6 +20,8 @@ use units_core::{MemberNo, ProductNo};
 pub(super) struct MemberProof<'a> {
     pub roster: &'a Roster,
     pub book: &'a Book,
+    /// What was taken last is what its version began with.
+    pub tolerances: &'a Tolerances,
     pub cycle: &'a Cycle,
     /// Its version's problems.
     pub problems: &'a [Problem],
@@ -35,6 +38,7 @@ fn add_product(
 ) -> Result<(), AllocError>
     requires live { FrozenAreLive proof.now.book.now.rows }
     requires problems { proof.now.problems.now ≡ proof.now.cycle.now.begun }
+    requires taken { proof.now.tolerances.now.taken ≡ proof.now.cycle.now.settings }
     ensures { OnOk result (rows.new.items ≡ rows.old.items ++ asked_rows proof.now product) }
 {
     let Some(problem) = proof.problems.get(product.index()) else {
@@ -47,7 +51,7 @@ fn add_product(
         product,
         mode: proof.mode,
         members: proof.roster.members(),
-        settings: proof.cycle.settings(),
+        tolerances: proof.tolerances,
         book: proof.book,
         problem,
         solution,
@@ -60,6 +64,7 @@ fn add_product(
 pub(super) fn proof_rows(proof: &MemberProof) -> Result<Vec<ProofRow>, AllocError>
     requires live { FrozenAreLive proof.now.book.now.rows }
     requires problems { proof.now.problems.now ≡ proof.now.cycle.now.begun }
+    requires taken { proof.now.tolerances.now.taken ≡ proof.now.cycle.now.settings }
     ensures { IfOk result (λ rows. rows.items ≡ proof_rows (asked_state proof.now) proof.now.mode proof.now.member) }
 {
     let mut rows = Vec::new(proof.cycle.allocator());

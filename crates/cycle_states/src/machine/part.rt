@@ -8,7 +8,7 @@ ghost use Rattle.cycle_states.specs.PairPlaces.{pair_place};
 use command_types::{MemberRow, Mode};
 use network_laws::{Bounds, LimitRow, Problem, Row, Solution, amount_at, bounds_at};
 use product_book::Book;
-use tolerance_sets::TakenSettings;
+use tolerance_sets::Tolerances;
 use units_core::ProductNo;
 
 /// A product of a proposal.
@@ -17,7 +17,7 @@ pub(super) struct Part<'a> {
     pub product: ProductNo,
     pub mode: Mode,
     pub members: &'a [MemberRow],
-    pub settings: &'a TakenSettings,
+    pub tolerances: &'a Tolerances,
     pub book: &'a Book,
     pub problem: &'a Problem,
     pub solution: &'a Solution,

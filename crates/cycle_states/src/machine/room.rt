@@ -31,7 +31,7 @@ pub(super) fn make_room(
 ) -> Result<(), AllocError>
     requires { rows_with effect.now proposed ≤ 4194304 }
     ensures book { book.new ≡ record book.old { spare = book.new.spare } }
-    ensures settings { tolerances.new.settings ≡ tolerances.old.settings }
+    ensures tolerances { tolerances.new ≡ record tolerances.old { spare = tolerances.new.spare } }
     ensures keeps { book.old.spare ≤ book.new.spare }
     ensures keeps_slots { tolerances.old.spare ≤ tolerances.new.spare }
     ensures room { OnOk result (rows_with effect.now proposed ≤ book.new.spare) }

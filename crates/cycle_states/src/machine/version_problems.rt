@@ -23,7 +23,7 @@ fn asks_problems(what: &What) -> bool {
 }
 
 impl Machine {
-    // The version's problems, made from the frozen trades, its settings and its mode.
+    // The version's problems, made from the frozen trades, the settings that its BEGIN took, and its mode.
     fn made_problems(&self) -> Result<Vec<Problem>, AllocError>
         requires { IsTrue (has_limits self.now.state.cycle.phase) }
         ensures { IfOk result (λ problems. problems.items ≡ self.now.state.cycle.begun) }
@@ -31,8 +31,8 @@ impl Machine {
         let Some(mode) = self.cycle.mode() else {
             unreachable!()
         };
-        let (roster, book, settings) = (&self.roster, &self.book, self.cycle.settings());
-        problems_now(self.cycle.allocator(), roster, book, settings, mode)
+        let alloc = self.cycle.allocator();
+        problems_now(alloc, &self.roster, &self.book, &self.tolerances, mode)
     }
 
     /// The version's problems: those that the cycle keeps, or made for once. The only error is want of memory.

@@ -22,7 +22,7 @@ pub(super) fn lower_of(
     lower: u64,
 ) -> Result<Whose, AllocError>
     requires live { FrozenAreLive part.now.book.now.rows }
-    ensures { IfOk result (λ whose. whose ≡ whose_lower lower (at (part_in part.now).held seller buyer) (floor_in part.now.settings.now seller part.now.product buyer Out)) }
+    ensures { IfOk result (λ whose. whose ≡ whose_lower lower (at (part_in part.now).held seller buyer) (floor_in part.now.tolerances.now.taken seller part.now.product buyer Out)) }
 {
     if lower == 0 {
         return Ok(Whose::Nobody);
@@ -31,7 +31,7 @@ pub(super) fn lower_of(
         return Ok(Whose::Hold);
     }
     let (out, into) = (MemberNo(seller), MemberNo(buyer));
-    let floor = part.settings.floor(out, part.product, into, Side::Out);
+    let floor = part.tolerances.floor(out, part.product, into, Side::Out);
     if lower <= floor {
         Ok(Whose::Seller)
     } else {
@@ -59,13 +59,13 @@ fn whose_ceiling(seller: Option<Level>, buyer: Option<Level>) -> Whose
 
 /// Whose the upper bound of a pair is that may grow or not.
 pub(super) fn upper_of(part: &Part, seller: u16, buyer: u16, grows: bool) -> Whose
-    ensures { result ≡ whose_upper grows (ceiling_in part.now.settings.now seller part.now.product buyer Out) (ceiling_in part.now.settings.now buyer part.now.product seller In) }
+    ensures { result ≡ whose_upper grows (ceiling_in part.now.tolerances.now.taken seller part.now.product buyer Out) (ceiling_in part.now.tolerances.now.taken buyer part.now.product seller In) }
 {
     if !grows {
         return Whose::Now;
     }
     let (out, into) = (MemberNo(seller), MemberNo(buyer));
-    let sold = part.settings.ceiling(out, part.product, into, Side::Out);
-    let bought = part.settings.ceiling(into, part.product, out, Side::In);
+    let sold = part.tolerances.ceiling(out, part.product, into, Side::Out);
+    let bought = part.tolerances.ceiling(into, part.product, out, Side::In);
     whose_ceiling(sold, bought)
 }

@@ -1,10 +1,10 @@
-use Rattle.std.proofs.Common.{◌≡◌, ◌∙◌, ◌≤◌, None, IsTrue, ap, sym, subst}
+use Rattle.std.proofs.Common.{◌≡◌, ◌∙◌, ◌≤◌, None, IsTrue, refl, ap, sym, subst}
 use Rattle.command_types.specs.declared.answer.Answer.{Answer}
 use Rattle.trade_history.specs.Laws.{is_execution}
 use Rattle.command_types.specs.Machine.{accepted, answer_to, first_of, refusals, state_after}
 use Rattle.command_types.specs.History.{solutions_posted}
 use Rattle.cycle_states.specs.declared.machine.effect.Effect.{Effect}
-use Rattle.cycle_states.specs.Effects.{applied, rows_with, settings_with}
+use Rattle.cycle_states.specs.Effects.{applied, rows_with, settings_with, taken_with}
 use Rattle.command_types.specs.Plans.{count_of, is_new}
 use Rattle.cycle_states.specs.declared.machine.ballot.Ballot.{Ballot}
 use Rattle.cycle_states.specs.Ballot.{IsBallotIn}
@@ -13,6 +13,7 @@ use Rattle.cycle_states.proofs.MachineFacts.{recorded_changes, not_refused, acce
 use Rattle.cycle_states.proofs.CycleFacts.{stays_unbroken}
 use Rattle.cycle_states.proofs.KeptFacts.{stays_kept}
 use Rattle.cycle_states.proofs.EffectFacts.{effect_is_next}
+use Rattle.cycle_states.proofs.TakenFacts.{stays_taken}
 use Rattle.posting.specs.Laws.{AreLeast, KeepsNets}
 use Rattle.command_types.specs.declared.figures.State.{State}
 use Rattle.cycle_states.proofs.CommitFacts.{least_posted, nets_kept}
@@ -58,6 +59,7 @@ invariant_of-self c =
         cycle_kept = stays_kept s n ask.by ask.what on none c.self.invariant.0.unbroken c.requires.ready.solutions c.self.invariant.0.cycle_kept;
       },
       subst (λ (b : Ballot). IsBallotIn n b) (sym c.into_parts-entry.ensures.ballot) (subst (λ (after : State). IsBallotIn after c.args.ready.ballot) (sym on) ballot),
+      stays_taken s n ask m.tolerances c.apply.new.tolerances.taken on (c.apply.ensures.taken ∙ ap (λ (e : Effect). taken_with e m.tolerances) (c.into_parts-entry.ensures.effect ∙ does)) refl c.self.invariant.2,
     )
 
 pub returns-clause-state : goal.returns-clause-state

@@ -1,4 +1,4 @@
-use Rattle.std.proofs.Common.{◌≡◌, ◌∙◌, IfOk, IsTrue, List, ap, sym, subst}
+use Rattle.std.proofs.Common.{◌≡◌, ◌∙◌, IfOk, IsTrue, List, is_some, ap, sym, subst}
 use Rattle.std.proofs.lemmas.Option.{none-some, same_Some}
 use Rattle.network_laws.specs.Solutions.{ProblemData}
 use Rattle.command_types.specs.declared.cycle.Mode.{Mode}
@@ -27,8 +27,9 @@ returns c =
     let on : IsTrue (has_limits m.cycle.phase) = rw (← c.self.view_is) at c.requires in
     let version = c.self.invariant.0.cycle_kept.begun on in
     let mode : c.in-Some.mode ≡ version.in_which = same_Some c.in-Some.mode version.in_which (sym c.in-Some.is ∙ c.mode.ensures ∙ version.in_mode) in
-    let same : problems_of m.roster m.book.rows c.settings-settings.result.now c.in-Some.mode ≡ c.args.self.now.state.cycle.begun =
-    ap (λ (settings : List ToleranceRow). problems_of m.roster m.book.rows settings c.in-Some.mode) c.settings-settings.ensures
+    let taken : m.tolerances.taken ≡ m.cycle.settings = c.self.invariant.2 (ap is_some (sym c.mode.ensures ∙ c.in-Some.is)) in
+    let same : problems_of m.roster m.book.rows m.tolerances.taken c.in-Some.mode ≡ c.args.self.now.state.cycle.begun =
+    ap (λ (settings : List ToleranceRow). problems_of m.roster m.book.rows settings c.in-Some.mode) taken
     ∙ ap (λ (in_mode : Mode). problems_of m.roster m.book.rows m.cycle.settings in_mode) mode
     ∙ sym version.same
     ∙ ap (λ (view : MachineView). view.state.cycle.begun) c.self.view_is in

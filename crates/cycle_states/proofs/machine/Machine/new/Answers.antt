@@ -3,7 +3,7 @@ use Rattle.std.proofs.lemmas.Bool.{false≢true}
 use Rattle.command_types.specs.declared.figures.Cycle.{Cycle}
 use Rattle.command_types.specs.Cycles.{closed}
 use Rattle.cycle_states.specs.Ballot.{IsBallot}
-use Rattle.cycle_states.specs.Machine.{IsCycle, IsUnbroken}
+use Rattle.cycle_states.specs.Machine.{AreTaken, IsCycle, IsUnbroken}
 use Rattle.cycle_states.proofs.BallotFacts.{no_ballot}
 use Rattle.cycle_states.proofs.KeptFacts.{closed_kept}
 use Rattle.cycle_states.proofs.machine.Machine.new.Goals as goal
@@ -23,4 +23,5 @@ invariant_of-result c =
         cycle_kept = subst (λ (cycle : Cycle). IsCycle roster rows cycle) (sym c.none.ensures) (closed_kept roster rows 0 0);
       },
       subst (λ (cycle : Cycle). IsBallot (length roster.members) rows cycle c.none-2.result) (sym c.none.ensures) (no_ballot (length roster.members) rows (closed 0 0) c.none-2.result refl),
+      subst (λ (cycle : Cycle). AreTaken cycle c.new-2.result.taken) (sym c.none.ensures) (λ stands. absurd (false≢true stands)),
     )

@@ -1,4 +1,4 @@
-use Rattle.std.proofs.Common.{◌≡◌, ◌∙◌, ℕ, List, Option, Some, ap, sym}
+use Rattle.std.proofs.Common.{◌≡◌, ◌∙◌, ℕ, List, Option, Some, is_some, ap, sym}
 use Rattle.units_core.specs.Day.{DayParts}
 use Rattle.command_types.specs.declared.answer.Answer.TheVariants.{ProofRows}
 use Rattle.command_types.specs.declared.cycle.Mode.{Mode}
@@ -16,6 +16,9 @@ problems-requires c = proposed_limits c.args.self.now.state.cycle.phase c.requir
 
 pub proof_rows-requires-clause-problems : goal.proof_rows-requires-clause-problems
 proof_rows-requires-clause-problems c = c.as_slice.ensures.value ∙ c.in_ok-problems.ensures ∙ ap (λ (view : MachineView). view.state.cycle.begun) (sym c.self.view_is)
+
+pub proof_rows-requires-clause-taken : goal.proof_rows-requires-clause-taken
+proof_rows-requires-clause-taken c = c.self.invariant.2 (ap is_some (sym c.mode.ensures ∙ c.in-Some-mode.is))
 
 pub proof_rows-requires-clause-live : goal.proof_rows-requires-clause-live
 proof_rows-requires-clause-live c =

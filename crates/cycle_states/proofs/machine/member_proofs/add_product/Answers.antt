@@ -77,7 +77,7 @@ returns c =
     let posted : slice_get proof.cycle.now.solutions c.args.product ≡ Some c.in-Some-get.solution.now =
     here_at c.in-Some-get.solution.now (c.solutions.ensures ∙ ap (λ (p : MemberProof). p.cycle.now.solutions) c.proof.view_is) c.index-2.ensures c.in-Some-get.ensures.lookup.3.0 c.in-Some-get.ensures.lookup.1 in
     c.in_ok-add_part.ensures ∙ ap (λ (told : List ProofRow). c.args.rows.now.items ++ told)
-    (both proof c.args.product c.members.result.now c.settings.result.now _ c.in-Some.problem.now c.in-Some-get.solution.now _ _
+    (both proof c.args.product c.members.result.now _ _ c.in-Some.problem.now c.in-Some-get.solution.now _ _
     (ap (λ (p : MemberProof). p.mode) c.proof.view_is) (ap (λ (p : MemberProof). p.member) c.proof.view_is)
-    (c.members.ensures.rows ∙ ap (λ (p : MemberProof). p.roster.now.members) c.proof.view_is) (c.settings.ensures ∙ ap (λ (p : MemberProof). p.cycle.now.settings) c.proof.view_is) (ap (λ (p : MemberProof). p.book.now.rows) c.proof.view_is)
+    (c.members.ensures.rows ∙ ap (λ (p : MemberProof). p.roster.now.members) c.proof.view_is) (ap (λ (p : MemberProof). p.tolerances.now.taken) c.proof.view_is ∙ c.requires.taken) (ap (λ (p : MemberProof). p.book.now.rows) c.proof.view_is)
     here posted)

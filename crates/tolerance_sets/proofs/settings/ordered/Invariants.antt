@@ -1,8 +1,0 @@
-use Rattle.std.proofs.Common.{◌≡◌, ◌-◌, length, drop}
-use Rattle.std.specs.Map.{values_of}
-use Rattle.tolerance_sets.specs.Settings.{settings_of}
-use Rattle.tolerance_sets.proofs.OrderedFacts.{AtPlaces}
-use Rattle.tolerance_sets.proofs.settings.ordered.Given as goal
-
-abbrev pub invariant-loop-behind : goal.invariant-loop-behind
-invariant-loop-behind l = (values_of l.ordered.entries ≡ settings_of (drop (length l.rows.entries - l.behind) l.rows.entries)) × AtPlaces l.ordered.entries
