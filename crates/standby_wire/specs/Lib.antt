@@ -3,3 +3,8 @@ pub mod Words
 pub mod Refusals
 pub mod Replies
 pub mod Gives
+pub mod Lines
+pub mod Taking
+pub mod Replied
+pub mod Noted
+pub mod Laws

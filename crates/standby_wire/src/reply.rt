@@ -4,7 +4,7 @@ use command_types::Entry;
 use units_core::Name;
 
 /// What a standby waits to be told.
-#[derive(Clone, Copy)]
+#[derive(Drop)]
 pub enum Question {
     /// Whether it is greeted under this name.
     Hello { name: Name },

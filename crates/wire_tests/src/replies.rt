@@ -6,7 +6,7 @@ use std::alloc::{AllocError, Global};
 use std::test::Fail;
 
 /// TRADE A B P 10 2026-03-02 by A from seat 0, with its moment 0.
-const TRADE: [u8; 33] = [
+pub const TRADE: [u8; 33] = [
     0, 0, 0, 0, 0, 0, 0, 0, 0, 0, 0, 0, 1, 0x41, 1, 1, 0x41, 1, 0x42, 1, 0x50, 10, 0, 0, 0, 0, 0,
     0, 0, 0xea, 0x07, 3, 2,
 ];

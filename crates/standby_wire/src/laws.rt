@@ -1,0 +1,12 @@
+//! What is read of replies.
+ghost use Rattle.standby_wire.specs.Laws.{ReadingStays, WritingIsRead};
+
+/// What was read, or is bad, stays so, however the input goes on; and what is read is a front of the input.
+pub fn reading_stays()
+    ensures { ReadingStays }
+{}
+
+/// What a primary writes is read, whatever comes behind it.
+pub fn writing_is_read()
+    ensures { WritingIsRead }
+{}
