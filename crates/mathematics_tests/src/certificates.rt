@@ -2,7 +2,7 @@
 
 ghost use Rattle.std.specs.Prelude.{◌≡◌, length};
 
-use crate::networks::{Market, Sale, limits_of, network_of, unbounded};
+use crate::networks::{Market, OPEN_3, OPEN_5, Sale, limits_of, network_of, so};
 use dual_certificate::{bound, check};
 use network_laws::{Clash, Limits, Network, Problem};
 use std::alloc::Global;
@@ -27,20 +27,19 @@ const STAR: [Sale; 4] = [(0, 4, 5), (3, 4, 5), (4, 1, 5), (4, 2, 5)];
 // A new network, its potentials, and the clash that is told of them first, or none.
 type Told<'a> = (&'a [Sale], &'a [i32], Option<Clash>);
 
-/// Whether each of these is told so of a market.
-fn are_told(alloc: Global, market: Market<'_>, cases: &[Told<'_>]) -> Result<bool, Fail> {
+/// That each of these is told so of a market.
+fn are_told(alloc: Global, market: Market<'_>, cases: &[Told<'_>]) -> Result<(), Fail> {
     let limits = limits_of(alloc, market.members, market.bounds)?;
     let old = network_of(alloc, market.members, market.sales)?;
     for &(new, potentials, clash) in cases {
         let new = network_of(alloc, market.members, new)?;
         if potentials.len() != usize::from(market.members) {
-            return Ok(false);
+            return Err(Fail::new("there are other potentials"));
         }
-        if check(&limits, &old, &new, potentials) != clash {
-            return Ok(false);
-        }
+        let found = check(&limits, &old, &new, potentials);
+        so(found == clash, "another clash is told")?;
     }
-    Ok(true)
+    Ok(())
 }
 
 /// Whether potentials give this bound, or none.
@@ -56,16 +55,6 @@ fn has_bound(
         return Ok(false);
     }
     Ok(bound(&limits, &old, potentials) == least)
-}
-
-/// Whether each of these potentials gives its market's bound, or none.
-fn have_bounds(alloc: Global, cases: &[(Market<'_>, &[i32], Option<i128>)]) -> Result<bool, Fail> {
-    for &(market, potentials, least) in cases {
-        if !has_bound(alloc, market, potentials, least)? {
-            return Ok(false);
-        }
-    }
-    Ok(true)
 }
 
 pub const LEAST: &[Sale] = &[(0, 1, 4), (1, 2, 4), (2, 0, 4)];
@@ -102,14 +91,6 @@ const OF_RING: &[Told<'static>] = &[
     (&[(0, 1, 4), (1, 2, 4), (2, 0, 3)], &[9, 2, 1], NET),
 ];
 
-#[test]
-fn a_ring_with_a_floor_has_its_certificate(rt: HostRuntime) -> Result<(), Fail> {
-    let told = are_told(rt.alloc(), RING, OF_RING)?;
-    let bounded = has_bound(rt.alloc(), RING, &[0, 2, 1], Some(12))?;
-    assert!(rt; told && bounded);
-    Ok(())
-}
-
 const KEPT: Market<'static> = Market {
     members: 3,
     sales: &CHAIN,
@@ -126,24 +107,10 @@ const OF_OPEN_CHAIN: &[Told<'static>] = &[
     (&CHAIN, &[2, 1, 0], PASSED),
 ];
 
-#[test]
-fn a_chain_is_least_until_its_pairs_may_grow(rt: HostRuntime) -> Result<(), Fail> {
-    let pairs = unbounded(rt.alloc(), 3)?;
-    let open = Market {
-        bounds: &pairs,
-        ..KEPT
-    };
-    let bounds: [(Market<'_>, &[i32], Option<i128>); 3] = [
-        (KEPT, &[2, 1, 0], Some(17)),
-        (open, &[1, 0, 0], Some(10)),
-        (open, &[2, 1, 0], None),
-    ];
-    let kept = are_told(rt.alloc(), KEPT, &[(&CHAIN, &[2, 1, 0], None)])?;
-    let told = are_told(rt.alloc(), open, OF_OPEN_CHAIN)?;
-    let bounded = have_bounds(rt.alloc(), &bounds)?;
-    assert!(rt; kept && told && bounded);
-    Ok(())
-}
+const OPEN_CHAIN: Market<'static> = Market {
+    bounds: OPEN_3,
+    ..KEPT
+};
 
 const STEPS: &[i32] = &[1, 0, 0, 1, 0];
 
@@ -158,18 +125,86 @@ const OF_STAR: &[Told<'static>] = &[
     (&STAR, STEPS, BACK),
 ];
 
-#[test]
-fn five_dealers_have_two_least_networks(rt: HostRuntime) -> Result<(), Fail> {
-    let pairs = unbounded(rt.alloc(), 5)?;
-    let market = Market {
-        members: 5,
-        sales: &STAR,
-        bounds: &pairs,
-    };
-    let told = are_told(rt.alloc(), market, OF_STAR)?;
-    let bounded = has_bound(rt.alloc(), market, STEPS, Some(10))?;
-    assert!(rt; told && bounded);
+const DEALERS: Market<'static> = Market {
+    members: 5,
+    sales: &STAR,
+    bounds: OPEN_5,
+};
+
+const MARKETS: &[(Market<'static>, &[Told<'static>])] = &[
+    (RING, OF_RING),
+    // A chain is least until its pairs may grow.
+    (KEPT, &[(&CHAIN, &[2, 1, 0], None)]),
+    (OPEN_CHAIN, OF_OPEN_CHAIN),
+    // Five dealers have two least networks.
+    (DEALERS, OF_STAR),
+];
+
+fn all_are_told(alloc: Global) -> Result<(), Fail> {
+    for &(market, cases) in MARKETS {
+        are_told(alloc, market, cases)?;
+    }
     Ok(())
+}
+
+#[test]
+fn the_first_clash_is_told(rt: HostRuntime) -> Result<(), Fail> {
+    all_are_told(rt.alloc())
+}
+
+// A sale of 10^18, which has to be left as it is, may fall, and may grow past all bounds.
+const LARGE: Market<'static> = Market {
+    members: 2,
+    sales: &[(0, 1, MOST)],
+    bounds: &[],
+};
+
+const LARGE_MAY_FALL: Market<'static> = Market {
+    bounds: &[(0, 1, 0, Some(MOST))],
+    ..LARGE
+};
+
+const LARGE_MAY_GROW: Market<'static> = Market {
+    bounds: &[(0, 1, u64::MAX, None), (1, 0, 0, Some(u64::MAX))],
+    ..LARGE
+};
+
+// Potentials that differ by 2^32 - 1.
+const ENDS: &[i32] = &[i32::MAX, i32::MIN];
+
+const TURNED: &[i32] = &[i32::MIN, i32::MAX];
+
+// A market, potentials, and the bound that they give, or none. The last two pass 64 bits: 2^32 - 1 times 10^18, and 2 times
+// 2^64 - 1 less that.
+const BOUNDS: &[(Market<'static>, &[i32], Option<i128>)] = &[
+    (RING, &[0, 2, 1], Some(12)),
+    (KEPT, &[2, 1, 0], Some(17)),
+    (OPEN_CHAIN, &[1, 0, 0], Some(10)),
+    (OPEN_CHAIN, &[2, 1, 0], None),
+    (DEALERS, STEPS, Some(10)),
+    (LARGE_MAY_FALL, ENDS, Some(1_000_000_000_000_000_000)),
+    (LARGE_MAY_GROW, ENDS, None),
+    (LARGE, ENDS, Some(4_294_967_295_000_000_000_000_000_000)),
+    (
+        LARGE_MAY_GROW,
+        TURNED,
+        Some(-4_294_967_258_106_511_852_580_896_770),
+    ),
+];
+
+fn have_bounds(alloc: Global) -> Result<(), Fail> {
+    for &(market, potentials, least) in BOUNDS {
+        so(
+            has_bound(alloc, market, potentials, least)?,
+            "the bound is otherwise",
+        )?;
+    }
+    Ok(())
+}
+
+#[test]
+fn potentials_give_their_bound(rt: HostRuntime) -> Result<(), Fail> {
+    have_bounds(rt.alloc())
 }
 
 /// The problem of a network that potentials show to be least already.
@@ -183,72 +218,40 @@ fn problem_of(limits: Limits, network: Network, potentials: &[i32]) -> Option<Pr
     }
 }
 
-/// Whether a market that potentials show to be least is a problem of so many bounds and rows.
+/// That a market that potentials show to be least is a problem of so many bounds and rows.
 fn is_problem(
     alloc: Global,
     market: Market<'_>,
     potentials: &[i32],
     bounds: usize,
     rows: usize,
-) -> Result<bool, Fail> {
+) -> Result<(), Fail> {
     let limits = limits_of(alloc, market.members, market.bounds)?;
     let network = network_of(alloc, market.members, market.sales)?;
     if potentials.len() != usize::from(market.members) {
-        return Ok(false);
+        return Err(Fail::new("there are other potentials"));
     }
     let Some(problem) = problem_of(limits, network, potentials) else {
-        return Ok(false);
+        return Err(Fail::new("it is not least"));
     };
     let counts = (
         problem.limits().rows().len(),
         problem.network().rows().len(),
     );
     let (limits, network) = problem.into_parts();
-    Ok(
+    so(
         counts == (bounds, rows)
             && limits.members() == market.members
             && network.members() == market.members,
+        "the problem is otherwise",
     )
 }
 
 #[test]
 fn a_least_network_is_a_problem(rt: HostRuntime) -> Result<(), Fail> {
-    let pairs = unbounded(rt.alloc(), 5)?;
     let market = Market {
-        members: 5,
         sales: &[(0, 1, 5), (3, 2, 5)],
-        bounds: &pairs,
+        ..DEALERS
     };
-    assert!(rt; is_problem(rt.alloc(), market, &[1, 0, 0, 1, 0], 20, 2)?);
-    Ok(())
-}
-
-#[test]
-fn a_bound_may_pass_64_bits(rt: HostRuntime) -> Result<(), Fail> {
-    let none = Market {
-        members: 2,
-        sales: &[(0, 1, MOST)],
-        bounds: &[],
-    };
-    let narrow = Market {
-        bounds: &[(0, 1, 0, Some(MOST))],
-        ..none
-    };
-    let widest = Market {
-        bounds: &[(0, 1, u64::MAX, None), (1, 0, 0, Some(u64::MAX))],
-        ..none
-    };
-    let ends = [i32::MAX, i32::MIN];
-    let turned = [i32::MIN, i32::MAX];
-    let spread = 4_294_967_295;
-    let all = u64::MAX as i128;
-    let costs = (spread + 1) * all - (spread - 1) * all;
-    let cases: [(Market<'_>, &[i32], Option<i128>); 4] = [
-        (none, &ends, Some(spread * MOST as i128)),
-        (narrow, &ends, Some(MOST as i128)),
-        (widest, &ends, None),
-        (widest, &turned, Some(costs - spread * MOST as i128)),
-    ];
-    assert!(rt; have_bounds(rt.alloc(), &cases)?);
-    Ok(())
+    is_problem(rt.alloc(), market, STEPS, 20, 2)
 }

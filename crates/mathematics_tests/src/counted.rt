@@ -2,7 +2,7 @@
 
 ghost use Rattle.std.specs.Prelude.{◌≡◌, ◌<◌};
 
-use crate::networks::{Market, unbounded};
+use crate::networks::{Market, OPEN_3, so};
 use crate::problems::problem_of;
 use net_positions::gross;
 use path_solver::PathSolver;
@@ -31,30 +31,40 @@ fn gross_of(alloc: Global, market: Market<'_>) -> Result<u64, Fail> {
     found_counting::<Brand>(alloc, market, blank)
 }
 
-#[test]
-fn a_chain_among_dealers_falls_to_10(rt: HostRuntime) -> Result<(), Fail> {
-    let pairs = unbounded(rt.alloc(), 3)?;
-    let market = Market {
-        members: 3,
-        sales: &[(0, 1, 10), (1, 2, 7)],
-        bounds: &pairs,
-    };
-    assert!(rt; gross_of(rt.alloc(), market)? == 10);
+/// A chain among dealers, a ring of old pairs, and the gross to which each falls.
+const MARKETS: &[(Market<'static>, u64)] = &[
+    (
+        Market {
+            members: 3,
+            sales: &[(0, 1, 10), (1, 2, 7)],
+            bounds: OPEN_3,
+        },
+        10,
+    ),
+    (
+        Market {
+            members: 3,
+            sales: &[(0, 1, 10), (1, 2, 10), (2, 0, 10)],
+            bounds: &[
+                (0, 1, 0, Some(10)),
+                (1, 2, 0, Some(10)),
+                (2, 0, 0, Some(10)),
+            ],
+        },
+        0,
+    ),
+];
+
+fn all_fall(alloc: Global) -> Result<(), Fail> {
+    for &(market, least) in MARKETS {
+        so(gross_of(alloc, market)? == least, "the gross is otherwise")?;
+    }
     Ok(())
 }
 
 #[test]
-fn a_ring_of_old_pairs_falls_to_0(rt: HostRuntime) -> Result<(), Fail> {
-    let ring = [
-        (0, 1, 0, Some(10)),
-        (1, 2, 0, Some(10)),
-        (2, 0, 0, Some(10)),
-    ];
-    let market = Market {
-        members: 3,
-        sales: &[(0, 1, 10), (1, 2, 10), (2, 0, 10)],
-        bounds: &ring,
-    };
-    assert!(rt; gross_of(rt.alloc(), market)? == 0);
-    Ok(())
+fn a_chain_among_dealers_and_a_ring_fall_while_paths_are_counted(
+    rt: HostRuntime,
+) -> Result<(), Fail> {
+    all_fall(rt.alloc())
 }

@@ -2,6 +2,7 @@
 
 ghost use Rattle.std.specs.Prelude.{◌≤◌};
 
+use crate::networks::so;
 use command_types::{Mode, Roster};
 use dual_certificate::read_proposal;
 use file_market::{check, solve, verdict};
@@ -43,20 +44,23 @@ fn trades_text(alloc: Global, lines: &str) -> Result<Vec<u8>, Fail> {
     Ok(text)
 }
 
-/// Whether a check of a proposal says this.
+/// That a check of a proposal says this.
 pub fn is_told(
     alloc: Global,
     market: FileMarket<'_>,
     proposal: &[u8],
     told: &str,
-) -> Result<bool, Fail> {
+) -> Result<(), Fail> {
     let roster = read_roster(alloc, market.parties.as_bytes())?;
     let text = trades_text(alloc, market.trades)?;
     let trades = read_trades(alloc, &text, &roster)?;
     let parts = read_proposal(alloc, proposal, &roster)?;
     let failing = check(alloc, &roster, market.mode, &trades, &parts)?;
     let found = verdict(alloc, &roster, &failing)?;
-    Ok(found.as_slice() == told.as_bytes())
+    so(
+        found.as_slice() == told.as_bytes(),
+        "the check says otherwise",
+    )
 }
 
 /// What so many workers solve for the text of a trade file.

@@ -1,6 +1,6 @@
 //! Generated markets: 44 members, of whom the first 14 are dealers, 8 products and 3,000 trades.
 
-use crate::networks::{Bound, Market, Sale};
+use crate::networks::{Bound, Market, Sale, so};
 use crate::problems::problem_of;
 use crate::solvers::{gross_is_same, paths_certify};
 use network_laws::Problem;
@@ -140,34 +140,41 @@ fn product_of(alloc: Global, sums: &[u64], product: u16) -> Result<Problem, Fail
 
 /// The generator's first number, as it is known from outside.
 #[test]
-fn the_first_number_is_drawn(rt: HostRuntime) -> Result<(), Fail> {
+fn the_first_number_is_drawn() -> Result<(), Fail> {
     let mut draws = Draws { state: 1 };
-    assert_eq!(rt; draws.draw(), 908_834_774);
-    Ok(())
+    so(draws.draw() == 908_834_774, "another number is drawn")
 }
 
-#[test]
-fn paths_find_the_least_gross_of_generated_markets(rt: HostRuntime) -> Result<(), Fail> {
+/// That the solver by paths finds the least gross of a product.
+fn is_least(alloc: Global, sums: &[u64], product: u16, least: u64) -> Result<(), Fail> {
+    paths_certify(alloc, &product_of(alloc, sums, product)?, least)
+}
+
+fn are_least(alloc: Global) -> Result<(), Fail> {
     for (number, market) in (1..9u64).zip(LEAST.iter()) {
-        let sums = sums_of(rt.alloc(), number)?;
+        let sums = sums_of(alloc, number)?;
         for (product, least) in (0..PRODUCTS).zip(market.iter()) {
-            let problem = product_of(rt.alloc(), &sums, product)?;
-            assert!(rt;
-                paths_certify(rt.alloc(), &problem, *least)?,
-                "market {number}, product {product}"
-            );
+            is_least(alloc, &sums, product, *least)?;
         }
     }
     Ok(())
 }
 
-/// A product of two of the markets; the solver by cycles takes long for more.
 #[test]
-fn both_find_the_same_gross_for_generated_markets(rt: HostRuntime) -> Result<(), Fail> {
+fn paths_find_the_least_gross_of_generated_markets(rt: HostRuntime) -> Result<(), Fail> {
+    are_least(rt.alloc())
+}
+
+/// A product of two of the markets; the solver by cycles takes long for more.
+fn are_same(alloc: Global) -> Result<(), Fail> {
     for number in 1..3u64 {
-        let sums = sums_of(rt.alloc(), number)?;
-        let problem = product_of(rt.alloc(), &sums, 0)?;
-        assert!(rt; gross_is_same(rt.alloc(), &problem)?, "market {number}");
+        let sums = sums_of(alloc, number)?;
+        gross_is_same(alloc, &product_of(alloc, &sums, 0)?)?;
     }
     Ok(())
+}
+
+#[test]
+fn both_find_the_same_gross_for_generated_markets(rt: HostRuntime) -> Result<(), Fail> {
+    are_same(rt.alloc())
 }

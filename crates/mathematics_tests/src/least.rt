@@ -1,6 +1,7 @@
 //! What is solved for markets of three members has the least gross of all networks.
 
 use crate::files::solved_text;
+use crate::networks::so;
 use crate::threes::{Amounts, Growing, least_gross, original};
 use command_types::{Mode, Roster};
 use dual_certificate::read_proposal;
@@ -47,22 +48,21 @@ fn solved_gross<R: Threads + Sync + AllocGlobal>(
     }
 }
 
-/// Whether 67 markets are solved to the least gross of all networks in which these pairs may grow.
+/// That 67 markets are solved to the least gross of all networks in which these pairs may grow.
 fn are_least<R: Threads + Sync + AllocGlobal>(
     rt: &R,
     parties: &[u8],
     mode: Mode,
     growing: Growing,
-) -> Result<bool, Fail> {
+) -> Result<(), Fail> {
     let roster = read_roster(rt.alloc(), parties)?;
     for step in 0..67 {
         let old = original(step * 11);
         let found = solved_gross(rt, &roster, mode, &old)?;
-        if found != Some(u64::from(least_gross(&old, growing))) {
-            return Ok(false);
-        }
+        let least = u64::from(least_gross(&old, growing));
+        so(found == Some(least), "the gross is otherwise")?;
     }
-    Ok(true)
+    Ok(())
 }
 
 const DEALERS: &[u8] =
@@ -78,17 +78,14 @@ const CASES: &[(&[u8], Mode, Growing)] = &[
     (WITH_CUSTOMER, Mode::Free, Growing::All),
 ];
 
-fn all_are_least<R: Threads + Sync + AllocGlobal>(rt: &R) -> Result<bool, Fail> {
+fn all_are_least<R: Threads + Sync + AllocGlobal>(rt: &R) -> Result<(), Fail> {
     for &(parties, mode, growing) in CASES {
-        if !are_least(rt, parties, mode, growing)? {
-            return Ok(false);
-        }
+        are_least(rt, parties, mode, growing)?;
     }
-    Ok(true)
+    Ok(())
 }
 
 #[test]
 fn no_network_of_three_members_has_less_gross(rt: HostRuntime) -> Result<(), Fail> {
-    assert!(rt; all_are_least(&rt)?);
-    Ok(())
+    all_are_least(&rt)
 }

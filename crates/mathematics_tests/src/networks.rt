@@ -12,6 +12,47 @@ pub type Sale = (u16, u16, u64);
 /// A seller, a buyer, and the least and the most that the one may sell to the other.
 pub type Bound = (u16, u16, u64, Option<u64>);
 
+/// That something holds; else the test fails, and says what is otherwise.
+pub fn so(holds: bool, what: &str) -> Result<(), Fail> {
+    if holds {
+        return Ok(());
+    }
+    Err(Fail::new(what))
+}
+
+/// Bounds that let each pair of three members have any amount, and each pair of five.
+pub const OPEN_3: &[Bound] = &[
+    (0, 1, 0, None),
+    (0, 2, 0, None),
+    (1, 0, 0, None),
+    (1, 2, 0, None),
+    (2, 0, 0, None),
+    (2, 1, 0, None),
+];
+
+pub const OPEN_5: &[Bound] = &[
+    (0, 1, 0, None),
+    (0, 2, 0, None),
+    (0, 3, 0, None),
+    (0, 4, 0, None),
+    (1, 0, 0, None),
+    (1, 2, 0, None),
+    (1, 3, 0, None),
+    (1, 4, 0, None),
+    (2, 0, 0, None),
+    (2, 1, 0, None),
+    (2, 3, 0, None),
+    (2, 4, 0, None),
+    (3, 0, 0, None),
+    (3, 1, 0, None),
+    (3, 2, 0, None),
+    (3, 4, 0, None),
+    (4, 0, 0, None),
+    (4, 1, 0, None),
+    (4, 2, 0, None),
+    (4, 3, 0, None),
+];
+
 /// Members, what they sold to one another, and the bounds of their pairs.
 #[derive(Clone, Copy)]
 pub struct Market<'a> {

@@ -1,7 +1,7 @@
 //! What members find in their own parts of certificates that were worked out by hand.
 
 use crate::certificates::{LEAST, RING};
-use crate::networks::{Bound, Market, Sale, limits_of, network_of};
+use crate::networks::{Bound, Market, Sale, limits_of, network_of, so};
 use dual_certificate::check_own;
 use network_laws::Clash;
 use std::alloc::{AllocError, Global};
@@ -66,18 +66,21 @@ fn is_found_alone(
     is_found(alloc, own, (&new, potentials, clashes), member)
 }
 
-/// Whether each member of a market of three finds what is told of it, in all rows and in its own.
-fn are_found(alloc: Global, market: Market<'_>, cases: &[Told<'_>]) -> Result<bool, Fail> {
-    for &told in cases {
+/// That a member finds what is told of it, in all rows and in its own.
+fn finds_both(alloc: Global, told: Told<'_>, member: u16) -> Result<(), Fail> {
+    let found = is_found(alloc, RING, told, member)?;
+    let alone = is_found_alone(alloc, RING, told, member)?;
+    so(found && alone, "a member finds another clash")
+}
+
+/// That each member of the ring finds what is told of it.
+fn all_find(alloc: Global) -> Result<(), Fail> {
+    for &told in OF_RING {
         for member in 0..3 {
-            if !is_found(alloc, market, told, member)?
-                || !is_found_alone(alloc, market, told, member)?
-            {
-                return Ok(false);
-            }
+            finds_both(alloc, told, member)?;
         }
     }
-    Ok(true)
+    Ok(())
 }
 
 const SLACK: Option<Clash> = Some(Clash::Slack {
@@ -123,22 +126,15 @@ const OF_RING: &[Told<'static>] = &[
         &[0, 2, 1],
         [NET_0, ABOVE, BACK],
     ),
+    // Two silent members hide what they owe each other.
+    (
+        &[(0, 1, 4), (1, 2, 5), (2, 0, 5)],
+        &[0, 2, 1],
+        [NET_0, NET_1, None],
+    ),
 ];
 
 #[test]
 fn each_member_finds_its_own_clashes(rt: HostRuntime) -> Result<(), Fail> {
-    assert!(rt; are_found(rt.alloc(), RING, OF_RING)?);
-    Ok(())
-}
-
-const HIDDEN: &[Told<'static>] = &[(
-    &[(0, 1, 4), (1, 2, 5), (2, 0, 5)],
-    &[0, 2, 1],
-    [NET_0, NET_1, None],
-)];
-
-#[test]
-fn two_silent_members_hide_what_they_owe_each_other(rt: HostRuntime) -> Result<(), Fail> {
-    assert!(rt; are_found(rt.alloc(), RING, HIDDEN)?);
-    Ok(())
+    all_find(rt.alloc())
 }

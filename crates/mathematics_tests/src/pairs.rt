@@ -1,7 +1,10 @@
 //! Tables of pairs, from outside.
 
-use crate::networks::has_rows;
+ghost use Rattle.std.specs.Prelude.{◌≤◌};
+
+use crate::networks::{has_rows, so};
 use pair_table::PairTable;
+use std::alloc::Global;
 use std::test::Fail;
 use units_core::MemberNo;
 
@@ -15,17 +18,23 @@ fn amounts_of_a_pair_add_up_and_rows_rise(rt: HostRuntime) -> Result<(), Fail> {
     table.add(MemberNo(1), MemberNo(2), 0);
     let network = table.network()?;
     let sums = [(0, 1, 7), (0, 255, 1), (255, 0, 9)];
-    assert!(rt; network.members() == 256 && has_rows(&network, &sums));
-    Ok(())
+    let holds = network.members() == 256 && has_rows(&network, &sums);
+    so(holds, "the network is otherwise")
+}
+
+fn has_no_rows(alloc: Global, members: u16) -> Result<(), Fail>
+    requires { members ≤ 256 }
+{
+    let network = PairTable::new(alloc, members)?.network()?;
+    let holds = network.members() == members && has_rows(&network, &[]);
+    so(holds, "the network is otherwise")
 }
 
 #[test]
 fn a_table_without_amounts_has_no_rows(rt: HostRuntime) -> Result<(), Fail> {
-    for members in [0, 1, 256] {
-        let network = PairTable::new(rt.alloc(), members)?.network()?;
-        assert!(rt; network.members() == members && has_rows(&network, &[]));
-    }
-    Ok(())
+    has_no_rows(rt.alloc(), 0)?;
+    has_no_rows(rt.alloc(), 1)?;
+    has_no_rows(rt.alloc(), 256)
 }
 
 #[test]
@@ -34,8 +43,8 @@ fn the_most_gross_is_taken(rt: HostRuntime) -> Result<(), Fail> {
     table.add(MemberNo(1), MemberNo(0), 999_999_999_999_999_999);
     table.add(MemberNo(0), MemberNo(1), 1);
     let network = table.network()?;
-    assert!(rt; has_rows(&network, &[(0, 1, 1), (1, 0, 999_999_999_999_999_999)]));
-    Ok(())
+    let sums = [(0, 1, 1), (1, 0, 999_999_999_999_999_999)];
+    so(has_rows(&network, &sums), "the network is otherwise")
 }
 
 /// What was added before counts no more, and no member keeps a buyer.
@@ -45,8 +54,8 @@ fn a_cleared_table_starts_anew(rt: HostRuntime) -> Result<(), Fail> {
     table.add(MemberNo(255), MemberNo(0), 4);
     table.add(MemberNo(255), MemberNo(254), 5);
     table.clear();
-    assert!(rt; has_rows(&table.network()?, &[]));
+    let cleared = has_rows(&table.network()?, &[]);
     table.add(MemberNo(255), MemberNo(254), 6);
-    assert!(rt; has_rows(&table.network()?, &[(255, 254, 6)]));
-    Ok(())
+    let begun = has_rows(&table.network()?, &[(255, 254, 6)]);
+    so(cleared && begun, "the network is otherwise")
 }

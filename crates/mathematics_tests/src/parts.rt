@@ -1,6 +1,6 @@
 //! Markets that are cut into parts, solved part by part, and put together again.
 
-use crate::networks::{Bound, Market, Sale, has_rows, unbounded};
+use crate::networks::{Bound, Market, Sale, has_rows, so};
 use crate::problems::problem_of;
 use network_laws::Solution;
 use outside::OpenGate;
@@ -28,6 +28,40 @@ const RING_BOUNDS: [Bound; 6] = [
     (3, 4, 0, Some(4)),
     (4, 5, 0, Some(4)),
     (5, 3, 0, Some(4)),
+];
+
+// Each pair may have any amount.
+const OPEN_6: [Bound; 30] = [
+    (0, 1, 0, None),
+    (0, 2, 0, None),
+    (0, 3, 0, None),
+    (0, 4, 0, None),
+    (0, 5, 0, None),
+    (1, 0, 0, None),
+    (1, 2, 0, None),
+    (1, 3, 0, None),
+    (1, 4, 0, None),
+    (1, 5, 0, None),
+    (2, 0, 0, None),
+    (2, 1, 0, None),
+    (2, 3, 0, None),
+    (2, 4, 0, None),
+    (2, 5, 0, None),
+    (3, 0, 0, None),
+    (3, 1, 0, None),
+    (3, 2, 0, None),
+    (3, 4, 0, None),
+    (3, 5, 0, None),
+    (4, 0, 0, None),
+    (4, 1, 0, None),
+    (4, 2, 0, None),
+    (4, 3, 0, None),
+    (4, 5, 0, None),
+    (5, 0, 0, None),
+    (5, 1, 0, None),
+    (5, 2, 0, None),
+    (5, 3, 0, None),
+    (5, 4, 0, None),
 ];
 
 // Two pairs, one inside the other, and a closed pair between them; member 2 has no open pair.
@@ -103,31 +137,45 @@ fn is_solved<R: Threads + Sync + AllocGlobal>(
     }
 }
 
-#[test]
-fn parts_are_solved_apart(rt: HostRuntime) -> Result<(), Fail> {
-    let free = unbounded(rt.alloc(), 6)?;
-    let cases: [(u16, &[Sale], &[Bound], &[&[u16]], &[Sale]); 6] = [
-        (6, &RINGS, &RING_BOUNDS, &[&[0, 1, 2], &[3, 4, 5]], &[]),
-        (6, &RINGS, &free, &[&[0, 1, 2, 3, 4, 5]], &[]),
-        (
-            5,
-            &PAIRS,
-            &PAIR_BOUNDS,
-            &[&[0, 4], &[1, 3]],
-            &[(0, 4, 5), (1, 3, 5), (4, 0, 1)],
-        ),
-        (5, &LINK, &LINK_BOUNDS, &[&[1, 3]], &LINK),
-        (3, &[], &CHAIN_BOUNDS, &[&[0, 1, 2]], &[]),
-        (3, &[], &[], &[], &[]),
-    ];
-    for (members, sales, bounds, parts, least) in cases {
+/// Members, what they sold to one another, the bounds of their pairs, the parts, and the rows of the solution.
+type Case = (
+    u16,
+    &'static [Sale],
+    &'static [Bound],
+    &'static [&'static [u16]],
+    &'static [Sale],
+);
+
+const CASES: &[Case] = &[
+    (6, &RINGS, &RING_BOUNDS, &[&[0, 1, 2], &[3, 4, 5]], &[]),
+    (6, &RINGS, &OPEN_6, &[&[0, 1, 2, 3, 4, 5]], &[]),
+    (
+        5,
+        &PAIRS,
+        &PAIR_BOUNDS,
+        &[&[0, 4], &[1, 3]],
+        &[(0, 4, 5), (1, 3, 5), (4, 0, 1)],
+    ),
+    (5, &LINK, &LINK_BOUNDS, &[&[1, 3]], &LINK),
+    (3, &[], &CHAIN_BOUNDS, &[&[0, 1, 2]], &[]),
+    (3, &[], &[], &[], &[]),
+];
+
+fn all_are_solved<R: Threads + Sync + AllocGlobal>(rt: &R) -> Result<(), Fail> {
+    for &(members, sales, bounds, parts, least) in CASES {
         let market = Market {
             members,
             sales,
             bounds,
         };
-        let apart = is_solved_apart(&rt, market, parts, least)?;
-        assert!(rt; apart && is_solved(&rt, market, parts, least)?);
+        let apart = is_solved_apart(rt, market, parts, least)?;
+        let whole = is_solved(rt, market, parts, least)?;
+        so(apart && whole, "the parts or the solution are otherwise")?;
     }
     Ok(())
+}
+
+#[test]
+fn parts_are_solved_apart(rt: HostRuntime) -> Result<(), Fail> {
+    all_are_solved(&rt)
 }

@@ -1,6 +1,6 @@
 //! Plans of two and three members, worked out by hand.
 
-use crate::networks::{Sale, network_of};
+use crate::networks::{Sale, network_of, so};
 use acceptance::plan;
 use command_types::{PlanRow, TradeRow, TradeState};
 use std::alloc::{AllocError, Global};
@@ -41,19 +41,19 @@ fn trades_of(alloc: Global, trades: &[Trade]) -> Result<Vec<TradeRow>, AllocErro
     Ok(rows)
 }
 
-/// Whether the plan from a network of one row to another has these steps.
+/// That the plan from a network of one row to another has these steps.
 fn gives(
     alloc: Global,
     trades: &[Trade],
     old: Sale,
     new: Sale,
     steps: &[PlanRow],
-) -> Result<bool, Fail> {
+) -> Result<(), Fail> {
     let trades = trades_of(alloc, trades)?;
     let old = [network_of(alloc, 3, &[old])?];
     let new = [network_of(alloc, 3, &[new])?];
     let plan = plan(alloc, &trades, &old, &new, day()?)?;
-    Ok(plan.as_slice() == steps)
+    so(plan.as_slice() == steps, "the plan is otherwise")
 }
 
 #[test]
@@ -67,16 +67,14 @@ fn a_fall_ends_trades_and_cuts_the_next(rt: HostRuntime) -> Result<(), Fail> {
             to: 1,
         },
     ];
-    assert!(rt; gives(rt.alloc(), &trades, (0, 1, 12), (0, 1, 6), &steps)?);
-    Ok(())
+    gives(rt.alloc(), &trades, (0, 1, 12), (0, 1, 6), &steps)
 }
 
 #[test]
 fn a_held_trade_stays(rt: HostRuntime) -> Result<(), Fail> {
     let trades = [(4, true), (6, false)];
     let steps = [PlanRow::End { trade: 2 }];
-    assert!(rt; gives(rt.alloc(), &trades, (0, 1, 10), (0, 1, 4), &steps)?);
-    Ok(())
+    gives(rt.alloc(), &trades, (0, 1, 10), (0, 1, 4), &steps)
 }
 
 #[test]
@@ -91,6 +89,5 @@ fn a_pair_that_grows_gets_one_trade(rt: HostRuntime) -> Result<(), Fail> {
             day: day()?,
         },
     ];
-    assert!(rt; gives(rt.alloc(), &[(7, false)], (0, 1, 7), (0, 2, 9), &steps)?);
-    Ok(())
+    gives(rt.alloc(), &[(7, false)], (0, 1, 7), (0, 2, 9), &steps)
 }

@@ -3,7 +3,7 @@
 ghost use Rattle.std.specs.Prelude.{◌≡◌, IfOk, length};
 
 use crate::files::FIVE_DEALERS;
-use crate::networks::{Sale, has_rows, network_of};
+use crate::networks::{Sale, has_rows, network_of, so};
 use command_types::{FileFault, Roster};
 use dual_certificate::{ProposalPart, read_proposal, write_proposal};
 use network_laws::{Network, Solution};
@@ -46,22 +46,21 @@ fn written(
     write_proposal(alloc, roster, &olds, &news)
 }
 
-/// Whether the proposal of the least network is this text.
-fn is_written(alloc: Global, text: &str) -> Result<bool, Fail> {
+/// That the proposal of the least network is this text.
+fn is_written(alloc: Global, text: &str) -> Result<(), Fail> {
     let roster = read_roster(alloc, FIVE_DEALERS.as_bytes())?;
     let old = network_of(alloc, 5, &ORIGINAL)?;
     let new = least(alloc)?;
     if roster.products().len() != 1 || roster.members().len() != 5 {
-        return Ok(false);
+        return Err(Fail::new("the roster is otherwise"));
     }
     let found = written(alloc, &roster, old, new)?;
-    Ok(found.as_slice() == text.as_bytes())
+    so(found.as_slice() == text.as_bytes(), "the text is otherwise")
 }
 
 #[test]
 fn a_least_network_of_five_dealers_is_written(rt: HostRuntime) -> Result<(), Fail> {
-    assert!(rt; is_written(rt.alloc(), TEXT)?);
-    Ok(())
+    is_written(rt.alloc(), TEXT)
 }
 
 /// Whether a part has these figures, the least network and its potentials.
@@ -78,49 +77,55 @@ fn is_least(part: &ProposalPart, figures: [u64; 5]) -> bool {
         && part.solution.potentials() == [1, 0, 0, 1, 0].as_slice()
 }
 
-/// Whether a text is read to the least network alone, with these figures.
-fn is_read(alloc: Global, text: &str, figures: [u64; 5]) -> Result<bool, Fail> {
+/// That a text is read to the least network alone, with these figures.
+fn is_read(alloc: Global, text: &str, figures: [u64; 5]) -> Result<(), Fail> {
     let roster = read_roster(alloc, FIVE_DEALERS.as_bytes())?;
     let parts = read_proposal(alloc, text.as_bytes(), &roster)?;
-    Ok(parts.len() == 1 && is_least(&parts[0], figures))
+    let read = parts.len() == 1 && is_least(&parts[0], figures);
+    so(read, "it is read otherwise")
 }
 
 #[test]
 fn it_reads_to_its_network_potentials_and_figures(rt: HostRuntime) -> Result<(), Fail> {
-    assert!(rt; is_read(rt.alloc(), TEXT, [20, 10, 10, 20, 10])?);
-    Ok(())
+    is_read(rt.alloc(), TEXT, [20, 10, 10, 20, 10])
 }
 
-/// Whether this is the first line of a text that cannot stand.
-fn is_bad(alloc: Global, text: &str, row: u64) -> Result<bool, Fail> {
+/// Texts, and the first line of each that cannot stand.
+const BAD: &[(&str, u64)] = &[
+    // Without an end.
+    (
+        "product P 20 10 10 20\nrow A B 5\nrow D C 5\npot A 1\npot B 0\npot C 0\npot D 1\npot E 0\nbound 10\n",
+        10,
+    ),
+    // Rows out of order, and a potential twice.
+    ("product P 20 10 10 20\nrow D C 5\nrow A B 5\npot A 1\n", 3),
+    ("product P 20 10 10 20\nrow A B 5\npot A 1\npot A 1\n", 4),
+    // A line behind the end, and one that is unfinished.
+    (
+        "product P 0 0 0 0\npot A 0\npot B 0\npot C 0\npot D 0\npot E 0\nbound 0\nend 1\n\n",
+        9,
+    ),
+    (
+        "product P 0 0 0 0\npot A 0\npot B 0\npot C 0\npot D 0\npot E 0\nbound 0\nend 1",
+        8,
+    ),
+    // A row behind a potential.
+    ("product P 5 5 5 5\npot A 0\nrow A B 5\n", 3),
+];
+
+fn all_are_bad(alloc: Global) -> Result<(), Fail> {
     let roster = read_roster(alloc, FIVE_DEALERS.as_bytes())?;
-    match read_proposal(alloc, text.as_bytes(), &roster) {
-        Err(FileFault::BadLine { row: at }) => Ok(at == row),
-        _ => Ok(false),
+    for (text, row) in BAD {
+        let told = match read_proposal(alloc, text.as_bytes(), &roster) {
+            Err(FileFault::BadLine { row: at }) => at == *row,
+            _ => false,
+        };
+        so(told, "another line is told")?;
     }
+    Ok(())
 }
 
 #[test]
 fn the_first_line_that_cannot_stand_is_told(rt: HostRuntime) -> Result<(), Fail> {
-    let without_end =
-        "product P 20 10 10 20\nrow A B 5\nrow D C 5\npot A 1\npot B 0\npot C 0\npot D 1\npot E 0\nbound 10\n";
-    let out_of_order = "product P 20 10 10 20\nrow D C 5\nrow A B 5\npot A 1\n";
-    let twice = "product P 20 10 10 20\nrow A B 5\npot A 1\npot A 1\n";
-    let behind =
-        "product P 0 0 0 0\npot A 0\npot B 0\npot C 0\npot D 0\npot E 0\nbound 0\nend 1\n\n";
-    let unfinished =
-        "product P 0 0 0 0\npot A 0\npot B 0\npot C 0\npot D 0\npot E 0\nbound 0\nend 1";
-    let row_behind_pot = "product P 5 5 5 5\npot A 0\nrow A B 5\n";
-    let cases = [
-        (without_end, 10),
-        (out_of_order, 3),
-        (twice, 4),
-        (behind, 9),
-        (unfinished, 8),
-        (row_behind_pot, 3),
-    ];
-    for (text, row) in cases {
-        assert!(rt; is_bad(rt.alloc(), text, row)?);
-    }
-    Ok(())
+    all_are_bad(rt.alloc())
 }

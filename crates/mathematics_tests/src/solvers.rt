@@ -1,6 +1,6 @@
-//! Both solvers on small markets, with the least gross worked out by hand, and on the same markets.
+//! Both solvers: what each finds, and on the same markets of three members.
 
-use crate::networks::{Bound, Market, Sale, has_rows, unbounded};
+use crate::networks::{Bound, Market, Sale, has_rows, so};
 use crate::problems::problem_of;
 use crate::threes::{Amounts, Growing, original};
 use cycle_cancel::CycleCancel;
@@ -29,113 +29,40 @@ fn finds<V: Solver>(solver: &V, problem: &Problem, found: Found<'_>) -> Result<b
     Ok(fits && gross(solution.network()) == found.gross && has_rows(solution.network(), found.rows))
 }
 
-/// Whether both solvers find this.
-pub fn both_find(alloc: Global, market: Market<'_>, found: Found<'_>) -> Result<bool, Fail> {
+/// That both solvers find this.
+pub fn both_find(alloc: Global, market: Market<'_>, found: Found<'_>) -> Result<(), Fail> {
     let problem = problem_of(alloc, market)?;
-    Ok(
-        finds(&CycleCancel::new(alloc), &problem, found)?
-            && finds(&PathSolver::new(alloc), &problem, found)?,
-    )
+    let by_cycles = finds(&CycleCancel::new(alloc), &problem, found)?;
+    let by_paths = finds(&PathSolver::new(alloc), &problem, found)?;
+    so(by_cycles && by_paths, "a solver finds another network")
 }
 
-#[test]
-fn a_ring_falls_to_nothing(rt: HostRuntime) -> Result<(), Fail> {
-    let market = Market {
-        members: 3,
-        sales: &[(0, 1, 10), (1, 2, 10), (2, 0, 10)],
-        bounds: &[
-            (0, 1, 0, Some(10)),
-            (1, 2, 0, Some(10)),
-            (2, 0, 0, Some(10)),
-        ],
-    };
-    let found = Found {
-        gross: 0,
-        rows: &[],
-        potentials: None,
-    };
-    assert!(rt; both_find(rt.alloc(), market, found)?);
-    Ok(())
-}
-
-#[test]
-fn a_chain_of_dealers_is_shortened(rt: HostRuntime) -> Result<(), Fail> {
-    let pairs = unbounded(rt.alloc(), 3)?;
-    let market = Market {
-        members: 3,
-        sales: &[(0, 1, 10), (1, 2, 7)],
-        bounds: &pairs,
-    };
-    let found = Found {
-        gross: 10,
-        rows: &[(0, 1, 3), (0, 2, 7)],
-        potentials: Some(&[1, 0, 0]),
-    };
-    assert!(rt; both_find(rt.alloc(), market, found)?);
-    Ok(())
-}
-
-/// Two dealers sell to a customer that sells on to two others: nothing can fall where only old pairs may
-/// have amounts, and the old network is the answer.
-#[test]
-fn a_star_through_a_customer_stays(rt: HostRuntime) -> Result<(), Fail> {
-    let sales = [(0, 4, 5), (1, 4, 5), (4, 2, 5), (4, 3, 5)];
-    let market = Market {
-        members: 5,
-        sales: &sales,
-        bounds: &[
-            (0, 1, 0, None),
-            (0, 4, 0, Some(5)),
-            (1, 0, 0, None),
-            (1, 4, 0, Some(5)),
-            (4, 2, 0, Some(5)),
-            (4, 3, 0, Some(5)),
-        ],
-    };
-    let found = Found {
-        gross: 20,
-        rows: &sales,
-        potentials: None,
-    };
-    assert!(rt; both_find(rt.alloc(), market, found)?);
-    Ok(())
-}
-
-#[test]
-fn an_empty_market_stays_empty(rt: HostRuntime) -> Result<(), Fail> {
-    let market = Market {
-        members: 2,
-        sales: &[],
-        bounds: &[],
-    };
-    let found = Found {
-        gross: 0,
-        rows: &[],
-        potentials: Some(&[0, 0]),
-    };
-    assert!(rt; both_find(rt.alloc(), market, found)?);
-    Ok(())
-}
-
-/// Whether what the solver by paths finds has this gross, and its potentials certify that it is least.
-pub fn paths_certify(alloc: Global, problem: &Problem, least: u64) -> Result<bool, Fail> {
+/// That what the solver by paths finds has this gross, and its potentials certify that it is least.
+pub fn paths_certify(alloc: Global, problem: &Problem, least: u64) -> Result<(), Fail> {
     let limits = problem.limits();
     let old = problem.network();
     let solution = PathSolver::new(alloc).solve(limits, old)?;
     let new = solution.network();
     let potentials = solution.potentials();
-    Ok(
+    so(
         gross(new) == least
             && check(limits, old, new, potentials).is_none()
             && bound(limits, old, potentials) == Some(i128::from(least)),
+        "the solution has another gross or no certificate",
     )
 }
 
-/// Whether both solvers find the same gross.
-pub fn gross_is_same(alloc: Global, problem: &Problem) -> Result<bool, Fail> {
-    let first = CycleCancel::new(alloc).solve(problem.limits(), problem.network())?;
-    let second = PathSolver::new(alloc).solve(problem.limits(), problem.network())?;
-    Ok(gross(first.network()) == gross(second.network()))
+/// The gross that a solver finds.
+fn gross_by<V: Solver>(solver: &V, problem: &Problem) -> Result<u64, AllocError> {
+    let solution = solver.solve(problem.limits(), problem.network())?;
+    Ok(gross(solution.network()))
+}
+
+/// That both solvers find the same gross.
+pub fn gross_is_same(alloc: Global, problem: &Problem) -> Result<(), Fail> {
+    let by_cycles = gross_by(&CycleCancel::new(alloc), problem)?;
+    let by_paths = gross_by(&PathSolver::new(alloc), problem)?;
+    so(by_cycles == by_paths, "the solvers find different gross")
 }
 
 /// The pairs of three members in their order, with their amounts.
@@ -176,8 +103,8 @@ fn bounds_of(alloc: Global, of: &Amounts, growing: Growing) -> Result<Vec<Bound>
     Ok(bounds)
 }
 
-/// Whether both solvers find the same gross for a market of three members.
-fn agree(alloc: Global, of: &Amounts, growing: Growing) -> Result<bool, Fail> {
+/// That both solvers find the same gross for a market of three members.
+fn agree(alloc: Global, of: &Amounts, growing: Growing) -> Result<(), Fail> {
     let sales = sales_of(alloc, of)?;
     let bounds = bounds_of(alloc, of, growing)?;
     let market = Market {
@@ -185,17 +112,20 @@ fn agree(alloc: Global, of: &Amounts, growing: Growing) -> Result<bool, Fail> {
         sales: &sales,
         bounds: &bounds,
     };
-    let problem = problem_of(alloc, market)?;
-    gross_is_same(alloc, &problem)
+    gross_is_same(alloc, &problem_of(alloc, market)?)
+}
+
+fn all_agree(alloc: Global) -> Result<(), Fail> {
+    for number in 0..729 {
+        let of = original(number);
+        for growing in [Growing::Nobody, Growing::AAndB, Growing::All] {
+            agree(alloc, &of, growing)?;
+        }
+    }
+    Ok(())
 }
 
 #[test]
 fn both_find_the_same_gross(rt: HostRuntime) -> Result<(), Fail> {
-    for number in 0..729 {
-        let of = original(number);
-        for growing in [Growing::Nobody, Growing::AAndB, Growing::All] {
-            assert!(rt; agree(rt.alloc(), &of, growing)?, "market {number}");
-        }
-    }
-    Ok(())
+    all_agree(rt.alloc())
 }

@@ -2,12 +2,13 @@
 
 ghost use Rattle.std.specs.Prelude.{◌≤◌};
 
+use crate::networks::so;
 use command_types::Mode;
 use file_market::summarize;
 use outside::OpenGate;
 use parallel_solver::Workers;
 use path_solver::PathSolver;
-use std::alloc::{AllocError, AllocGlobal};
+use std::alloc::AllocGlobal;
 use std::test::Fail;
 use std::thread::Threads;
 use trade_file::generate;
@@ -41,12 +42,12 @@ const SUMMARIES: &[(u64, &str)] = &[
     ),
 ];
 
-/// Whether so many workers sum each market up like this.
+/// That so many workers sum each market up like this.
 fn are_summed_up<R: Threads + Sync + AllocGlobal>(
     rt: &R,
     workers: u32,
     summaries: &[(u64, &str)],
-) -> Result<bool, AllocError>
+) -> Result<(), Fail>
     requires { (1 ≤ workers) × (workers ≤ 64) }
 {
     let solver = PathSolver::new(rt.alloc());
@@ -54,18 +55,17 @@ fn are_summed_up<R: Threads + Sync + AllocGlobal>(
     for (number, summary) in summaries {
         let (roster, trades) = generate(rt.alloc(), *number)?;
         let text = summarize(rt.alloc(), &roster, Mode::Hybrid, &trades, &workers)?;
-        if text.as_slice() != summary.as_bytes() {
-            return Ok(false);
-        }
+        so(
+            text.as_slice() == summary.as_bytes(),
+            "it sums up otherwise",
+        )?;
     }
-    Ok(true)
+    Ok(())
 }
 
 #[test]
 fn any_number_of_workers_sums_up_generated_markets(rt: HostRuntime) -> Result<(), Fail> {
-    let one = are_summed_up(&rt, 1, SUMMARIES)?;
-    let four = are_summed_up(&rt, 4, SUMMARIES)?;
-    let most = are_summed_up(&rt, 64, SUMMARIES)?;
-    assert!(rt; one && four && most);
-    Ok(())
+    are_summed_up(&rt, 1, SUMMARIES)?;
+    are_summed_up(&rt, 4, SUMMARIES)?;
+    are_summed_up(&rt, 64, SUMMARIES)
 }

@@ -1,6 +1,6 @@
 //! The limits of a ring of two dealers and a customer that owe one another 10 each, worked out by hand.
 
-use crate::networks::{Bound, Sale, network_of};
+use crate::networks::{Bound, Sale, network_of, so};
 use command_types::{Level, Mode, Side};
 use network_laws::Limits;
 use std::alloc::{AllocError, Global};
@@ -11,7 +11,7 @@ use units_core::{MemberNo, ProductNo};
 
 const PARTIES: &str = "name,role,key\nA,dealer,A\nB,dealer,B\nC,customer,C\n";
 
-/// A side of the pair of A and B, with a floor, a ceiling, and whether they are taken.
+/// A side of the pair of A and B, with a floor, a ceiling, and whether they are allowed.
 type Setting = (Side, u64, Option<u64>, bool);
 
 /// What is set, the mode, what is held of each pair, how many pairs have limits, and some of these.
@@ -28,7 +28,7 @@ fn level(n: u64) -> Result<Level, AllocError> {
     Level::new(n).ok_or(AllocError)
 }
 
-/// A setting of A for what it owes B, or of B for what it is owed; whether it was taken.
+/// A setting of A for what it owes B, or of B for what it is owed; whether it was allowed.
 fn set(
     tolerances: &mut Tolerances,
     side: Side,
@@ -44,18 +44,19 @@ fn set(
         Some(most) => Some(level(most)?),
     };
     tolerances.reserve()?;
-    let taken = tolerances.set(member, ProductNo(0), other, side, level(floor)?, ceiling);
-    Ok(taken.is_ok())
+    let put = tolerances.set(member, ProductNo(0), other, side, level(floor)?, ceiling);
+    Ok(put.is_ok())
 }
 
-/// The settings that were taken, or none where another was than it says.
+/// The settings, all taken at the end, or none where another was allowed than it says.
 fn tolerances(alloc: Global, settings: &[Setting]) -> Result<Option<Tolerances>, Fail> {
     let mut tolerances = Tolerances::new(alloc);
-    for &(side, floor, ceiling, taken) in settings {
-        if set(&mut tolerances, side, floor, ceiling)? != taken {
+    for &(side, floor, ceiling, allowed) in settings {
+        if set(&mut tolerances, side, floor, ceiling)? != allowed {
             return Ok(None);
         }
     }
+    tolerances.take();
     Ok(Some(tolerances))
 }
 
@@ -77,7 +78,7 @@ fn limits(alloc: Global, tolerances: &Tolerances, mode: Mode, held: u64) -> Resu
 }
 
 /// Whether the limits of a case are as it says.
-fn gives(alloc: Global, case: Case<'_>) -> Result<bool, Fail> {
+fn gives(alloc: Global, case: &Case<'_>) -> Result<bool, Fail> {
     let Some(tolerances) = tolerances(alloc, case.settings)? else {
         return Ok(false);
     };
@@ -91,9 +92,9 @@ fn gives(alloc: Global, case: Case<'_>) -> Result<bool, Fail> {
     Ok(limits.rows().len() == case.pairs)
 }
 
-#[test]
-fn a_floor_keeps_a_part_of_a_pair(rt: HostRuntime) -> Result<(), Fail> {
-    let case = Case {
+const CASES: &[Case<'static>] = &[
+    // A floor keeps a part of a pair.
+    Case {
         settings: &[(Side::Out, 4, None, true)],
         mode: Mode::Conservative,
         held: 0,
@@ -103,27 +104,17 @@ fn a_floor_keeps_a_part_of_a_pair(rt: HostRuntime) -> Result<(), Fail> {
             (1, 2, 0, Some(10)),
             (2, 0, 0, Some(10)),
         ],
-    };
-    assert!(rt; gives(rt.alloc(), case)?);
-    Ok(())
-}
-
-#[test]
-fn what_is_held_is_kept(rt: HostRuntime) -> Result<(), Fail> {
-    let case = Case {
+    },
+    // What is held is kept.
+    Case {
         settings: &[(Side::Out, 4, None, true)],
         mode: Mode::Conservative,
         held: 6,
         pairs: 3,
         bounds: &[(0, 1, 6, Some(10)), (1, 2, 6, Some(10))],
-    };
-    assert!(rt; gives(rt.alloc(), case)?);
-    Ok(())
-}
-
-#[test]
-fn dealers_grow_in_hybrid_mode_and_customers_do_not(rt: HostRuntime) -> Result<(), Fail> {
-    let case = Case {
+    },
+    // Dealers grow in hybrid mode and customers do not.
+    Case {
         settings: &[],
         mode: Mode::Hybrid,
         held: 0,
@@ -134,14 +125,9 @@ fn dealers_grow_in_hybrid_mode_and_customers_do_not(rt: HostRuntime) -> Result<(
             (1, 2, 0, Some(10)),
             (2, 1, 0, Some(0)),
         ],
-    };
-    assert!(rt; gives(rt.alloc(), case)?);
-    Ok(())
-}
-
-#[test]
-fn every_pair_grows_in_free_mode(rt: HostRuntime) -> Result<(), Fail> {
-    let case = Case {
+    },
+    // Every pair grows in free mode.
+    Case {
         settings: &[],
         mode: Mode::Free,
         held: 4,
@@ -153,27 +139,17 @@ fn every_pair_grows_in_free_mode(rt: HostRuntime) -> Result<(), Fail> {
             (2, 1, 0, None),
             (2, 2, 0, Some(0)),
         ],
-    };
-    assert!(rt; gives(rt.alloc(), case)?);
-    Ok(())
-}
-
-#[test]
-fn a_ceiling_holds_in_free_mode(rt: HostRuntime) -> Result<(), Fail> {
-    let case = Case {
+    },
+    // A ceiling holds in free mode.
+    Case {
         settings: &[(Side::In, 3, Some(20), true)],
         mode: Mode::Free,
         held: 0,
         pairs: 6,
         bounds: &[(0, 1, 3, Some(20)), (1, 2, 0, None)],
-    };
-    assert!(rt; gives(rt.alloc(), case)?);
-    Ok(())
-}
-
-#[test]
-fn the_larger_floor_and_the_smaller_ceiling_count(rt: HostRuntime) -> Result<(), Fail> {
-    let case = Case {
+    },
+    // The larger floor and the smaller ceiling count.
+    Case {
         settings: &[
             (Side::Out, 2, Some(30), true),
             (Side::In, 3, Some(20), true),
@@ -182,27 +158,17 @@ fn the_larger_floor_and_the_smaller_ceiling_count(rt: HostRuntime) -> Result<(),
         held: 0,
         pairs: 4,
         bounds: &[(0, 1, 3, Some(20))],
-    };
-    assert!(rt; gives(rt.alloc(), case)?);
-    Ok(())
-}
-
-#[test]
-fn a_pair_may_always_stay_as_it_is(rt: HostRuntime) -> Result<(), Fail> {
-    let case = Case {
+    },
+    // A pair may always stay as it is.
+    Case {
         settings: &[(Side::Out, 0, Some(7), true), (Side::In, 25, None, true)],
         mode: Mode::Hybrid,
         held: 0,
         pairs: 4,
         bounds: &[(0, 1, 10, Some(10))],
-    };
-    assert!(rt; gives(rt.alloc(), case)?);
-    Ok(())
-}
-
-#[test]
-fn a_later_setting_replaces_an_earlier_one(rt: HostRuntime) -> Result<(), Fail> {
-    let case = Case {
+    },
+    // A later setting replaces an earlier one.
+    Case {
         settings: &[
             (Side::In, 5, None, true),
             (Side::Out, 8, Some(8), true),
@@ -213,7 +179,17 @@ fn a_later_setting_replaces_an_earlier_one(rt: HostRuntime) -> Result<(), Fail> 
         held: 0,
         pairs: 4,
         bounds: &[(0, 1, 5, Some(40))],
-    };
-    assert!(rt; gives(rt.alloc(), case)?);
+    },
+];
+
+fn all_give(alloc: Global) -> Result<(), Fail> {
+    for case in CASES {
+        so(gives(alloc, case)?, "the limits are otherwise")?;
+    }
     Ok(())
+}
+
+#[test]
+fn settings_holds_and_the_mode_give_the_limits(rt: HostRuntime) -> Result<(), Fail> {
+    all_give(rt.alloc())
 }

@@ -11,92 +11,111 @@ const STAR: FileMarket<'static> = FileMarket {
     mode: Mode::Hybrid,
 };
 
-const POTS: &str = "pot A 1\npot B 0\npot C 0\npot D 1\npot E 0\n";
+const CONSERVATIVE_STAR: FileMarket<'static> = FileMarket {
+    mode: Mode::Conservative,
+    ..STAR
+};
 
-/// The figures of a proposal, its rows, its potentials and its bound, and what a check says.
-type Case = (
-    &'static str,
-    &'static str,
-    &'static str,
-    &'static str,
-    &'static str,
-);
+const TWO_PRODUCTS: FileMarket<'static> = FileMarket {
+    parties: ONE_AND_ONE,
+    trades: "A,B,Q,4\nB,A,Q,1\n",
+    mode: Mode::Hybrid,
+};
 
-/// Whether a check of a proposal for the star says what stands beside it.
-fn is_star_told(alloc: Global, case: Case) -> Result<bool, Fail> {
-    let (figures, rows, pots, bound, told) = case;
-    let text = format!(in alloc; "product P {figures}\n{rows}{pots}bound {bound}\nend 1\n")?;
-    is_told(alloc, STAR, text.as_bytes(), told)
-}
+/// A market, a proposal for it, and what a check says.
+const PROPOSALS: &[(FileMarket<'static>, &[u8], &str)] = &[
+    (
+        STAR,
+        b"product P 20 10 10 20\nrow A B 5\nrow D C 5\npot A 1\npot B 0\npot C 0\npot D 1\npot E 0\nbound 10\nend 1\n",
+        "yes\n",
+    ),
+    (
+        STAR,
+        b"product P 20 10 10 20\nrow A C 5\nrow D B 5\npot A 1\npot B 0\npot C 0\npot D 1\npot E 0\nbound 10\nend 1\n",
+        "yes\n",
+    ),
+    (
+        STAR,
+        b"product P 20 10 10 20\nrow A E 5\nrow D E 5\nrow E B 5\nrow E C 5\npot A 1\npot B 0\npot C 0\npot D 1\npot E 0\nbound 10\nend 1\n",
+        "no P slack E B\n",
+    ),
+    (
+        STAR,
+        b"product P 20 20 10 20\nrow A E 5\nrow D E 5\nrow E B 5\nrow E C 5\npot A 1\npot B 0\npot C 0\npot D 1\npot E 0\nbound 20\nend 1\n",
+        "no P slack E B\n",
+    ),
+    (
+        STAR,
+        b"product P 21 10 10 20\nrow A E 5\nrow D E 5\nrow E B 5\nrow E C 5\npot A 1\npot B 0\npot C 0\npot D 1\npot E 0\nbound 10\nend 1\n",
+        "no P slack E B\n",
+    ),
+    (
+        STAR,
+        b"product P 21 10 10 20\nrow A B 5\nrow D C 5\npot A 1\npot B 0\npot C 0\npot D 1\npot E 0\nbound 10\nend 1\n",
+        "no P figures\n",
+    ),
+    (
+        STAR,
+        b"product P 20 11 10 20\nrow A B 5\nrow D C 5\npot A 1\npot B 0\npot C 0\npot D 1\npot E 0\nbound 11\nend 1\n",
+        "no P figures\n",
+    ),
+    (
+        STAR,
+        b"product P 20 10 11 20\nrow A B 5\nrow D C 5\npot A 1\npot B 0\npot C 0\npot D 1\npot E 0\nbound 10\nend 1\n",
+        "no P figures\n",
+    ),
+    (
+        STAR,
+        b"product P 20 10 10 21\nrow A B 5\nrow D C 5\npot A 1\npot B 0\npot C 0\npot D 1\npot E 0\nbound 10\nend 1\n",
+        "no P figures\n",
+    ),
+    (
+        STAR,
+        b"product P 20 10 10 20\nrow A B 5\nrow D C 5\npot A 1\npot B 0\npot C 0\npot D 1\npot E 0\nbound 9\nend 1\n",
+        "no P figures\n",
+    ),
+    (
+        STAR,
+        b"product P 20 10 10 20\nrow A B 5\npot A 1\npot B 0\npot C 0\npot D 1\npot E 0\nbound 10\nend 1\n",
+        "no P net C\n",
+    ),
+    (
+        STAR,
+        b"product P 20 10 10 20\nrow A B 5\nrow D C 5\npot A 2\npot B 0\npot C 0\npot D 1\npot E 0\nbound 10\nend 1\n",
+        "no P open A B\n",
+    ),
+    // A pair of dealers may not grow here.
+    (
+        CONSERVATIVE_STAR,
+        b"product P 20 10 10 20\nrow A B 5\nrow D C 5\npot A 1\npot B 0\npot C 0\npot D 1\npot E 0\nbound 10\nend 1\n",
+        "no P above A B\n",
+    ),
+    // The second product is told where the first is right.
+    (
+        TWO_PRODUCTS,
+        b"product P 0 0 0 0\npot A 0\npot B 0\nbound 0\nproduct Q 5 3 3 3\nrow A B 3\npot A 1\npot B 0\nbound 3\nend 2\n",
+        "yes\n",
+    ),
+    (
+        TWO_PRODUCTS,
+        b"product P 0 0 0 0\npot A 0\npot B 0\nbound 0\nproduct Q 5 3 3 5\nrow A B 3\npot A 1\npot B 0\nbound 3\nend 2\n",
+        "no Q figures\n",
+    ),
+    (
+        TWO_PRODUCTS,
+        b"product P 0 0 0 0\npot A 0\npot B 0\nbound 0\nproduct Q 5 5 3 3\nrow A B 4\nrow B A 1\npot A 1\npot B 0\nbound 5\nend 2\n",
+        "no Q slack B A\n",
+    ),
+];
 
-#[test]
-fn a_proposal_for_five_dealers_is_told_its_first_failure(rt: HostRuntime) -> Result<(), Fail> {
-    let least = "row A B 5\nrow D C 5\n";
-    let original = "row A E 5\nrow D E 5\nrow E B 5\nrow E C 5\n";
-    let other = "row A C 5\nrow D B 5\n";
-    let high = "pot A 2\npot B 0\npot C 0\npot D 1\npot E 0\n";
-    let cases = [
-        ("20 10 10 20", least, POTS, "10", "yes\n"),
-        ("20 10 10 20", other, POTS, "10", "yes\n"),
-        ("20 10 10 20", original, POTS, "10", "no P slack E B\n"),
-        ("20 20 10 20", original, POTS, "20", "no P slack E B\n"),
-        ("21 10 10 20", original, POTS, "10", "no P slack E B\n"),
-        ("21 10 10 20", least, POTS, "10", "no P figures\n"),
-        ("20 11 10 20", least, POTS, "11", "no P figures\n"),
-        ("20 10 11 20", least, POTS, "10", "no P figures\n"),
-        ("20 10 10 21", least, POTS, "10", "no P figures\n"),
-        ("20 10 10 20", least, POTS, "9", "no P figures\n"),
-        ("20 10 10 20", "row A B 5\n", POTS, "10", "no P net C\n"),
-        ("20 10 10 20", least, high, "10", "no P open A B\n"),
-    ];
-    for case in cases {
-        assert!(rt; is_star_told(rt.alloc(), case)?);
+fn all_are_told(alloc: Global) -> Result<(), Fail> {
+    for &(market, proposal, told) in PROPOSALS {
+        is_told(alloc, market, proposal, told)?;
     }
     Ok(())
 }
 
 #[test]
-fn a_pair_of_dealers_may_grow_in_hybrid_mode_alone(rt: HostRuntime) -> Result<(), Fail> {
-    let market = FileMarket {
-        mode: Mode::Conservative,
-        ..STAR
-    };
-    let text =
-        b"product P 20 10 10 20\nrow A B 5\nrow D C 5\npot A 1\npot B 0\npot C 0\npot D 1\npot E 0\nbound 10\nend 1\n";
-    assert!(rt; is_told(rt.alloc(), market, text, "no P above A B\n")?);
-    Ok(())
-}
-
-/// Whether a check says this of the second product, where the first has no trades.
-fn is_second_told(alloc: Global, second: &str, told: &str) -> Result<bool, Fail> {
-    let market = FileMarket {
-        parties: ONE_AND_ONE,
-        trades: "A,B,Q,4\nB,A,Q,1\n",
-        mode: Mode::Hybrid,
-    };
-    let first = "product P 0 0 0 0\npot A 0\npot B 0\nbound 0\n";
-    let text = format!(in alloc; "{first}{second}end 2\n")?;
-    is_told(alloc, market, text.as_bytes(), told)
-}
-
-#[test]
-fn the_second_product_is_told_where_the_first_is_right(rt: HostRuntime) -> Result<(), Fail> {
-    let cases = [
-        (
-            "product Q 5 3 3 3\nrow A B 3\npot A 1\npot B 0\nbound 3\n",
-            "yes\n",
-        ),
-        (
-            "product Q 5 3 3 5\nrow A B 3\npot A 1\npot B 0\nbound 3\n",
-            "no Q figures\n",
-        ),
-        (
-            "product Q 5 5 3 3\nrow A B 4\nrow B A 1\npot A 1\npot B 0\nbound 5\n",
-            "no Q slack B A\n",
-        ),
-    ];
-    for (second, told) in cases {
-        assert!(rt; is_second_told(rt.alloc(), second, told)?);
-    }
-    Ok(())
+fn a_proposal_is_told_its_first_failure(rt: HostRuntime) -> Result<(), Fail> {
+    all_are_told(rt.alloc())
 }

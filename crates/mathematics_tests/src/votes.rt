@@ -1,5 +1,6 @@
 //! Whose votes a plan needs, and how they come in.
 
+use crate::networks::so;
 use acceptance::{
     Votes, gross_follows, nets_stay, plan_is_executable, plan_is_free, plan_is_of_the_frozen,
     plan_realises, touched,
@@ -35,7 +36,7 @@ fn try_accept(votes: &mut Votes, member: MemberNo) -> bool {
 }
 
 #[test]
-fn a_new_trade_needs_both_parties(rt: HostRuntime) -> Result<(), Fail> {
+fn a_new_trade_needs_both_parties() -> Result<(), Fail> {
     let amount = Amount::new(7).ok_or(AllocError)?;
     let day = Day::new(2026, 3, 31).ok_or(AllocError)?;
     let plan = [PlanRow::New {
@@ -56,21 +57,20 @@ fn a_new_trade_needs_both_parties(rt: HostRuntime) -> Result<(), Fail> {
         (OTHER, false, false),
         (LAST, true, true),
     ];
-    assert!(rt;
-        stand(&votes, 2, &before) && try_accept(&mut votes, LAST) && stand(&votes, 1, &after)
-    );
-    Ok(())
+    let holds = stand(&votes, 2, &before)
+        && try_accept(&mut votes, LAST)
+        && stand(&votes, 1, &after);
+    so(holds, "the votes are otherwise")
 }
 
 #[test]
-fn an_empty_plan_needs_nobody(rt: HostRuntime) -> Result<(), Fail> {
+fn an_empty_plan_needs_nobody() -> Result<(), Fail> {
     let votes = touched(&[], &[]);
-    assert!(rt; stand(&votes, 0, &[(FIRST, false, false)]));
-    Ok(())
+    so(stand(&votes, 0, &[(FIRST, false, false)]), "it needs votes")
 }
 
 #[test]
-fn the_laws_are_called(rt: HostRuntime) -> Result<(), Fail> {
+fn the_laws_are_called() -> Result<(), Fail> {
     plan_realises();
     plan_is_free();
     plan_is_executable();

@@ -3,14 +3,15 @@
 ghost use Rattle.std.specs.Prelude.{◌≤◌};
 
 use crate::files::{FileMarket, solved_by, solved_through};
-use crate::networks::{Market, Sale, unbounded};
+use crate::networks::{Market, OPEN_3, Sale, so};
 use crate::problems::problem_of;
 use command_types::Mode;
 use net_positions::gross;
+use network_laws::{Problem, Solution};
 use outside::{Gate, OpenGate};
 use parallel_solver::solve_all;
 use path_solver::PathSolver;
-use std::alloc::AllocGlobal;
+use std::alloc::{AllocGlobal, Global};
 use std::hint::spin_loop;
 use std::sync::atomic::{AtomicU64, Ordering};
 use std::test::Fail;
@@ -60,52 +61,65 @@ const CHAINS: [([Sale; 2], u64); 3] = [
     ([(0, 1, 30), (1, 2, 40)], 40),
 ];
 
-/// Whether so many workers solve the first chains, each in its place.
+/// That so many workers solve the first chains, each in its place.
 fn are_solved<R: Threads + Sync + AllocGlobal, G: Gate>(
     rt: &R,
     workers: u32,
     count: usize,
     gate: &G,
-) -> Result<bool, Fail>
+) -> Result<(), Fail>
     requires { (1 ≤ workers) × (workers ≤ 64) }
 {
-    let bounds = unbounded(rt.alloc(), 3)?;
-    let mut problems = Vec::new(rt.alloc());
+    let problems = first_chains(rt.alloc(), count)?;
+    let solver = PathSolver::new(rt.alloc());
+    let solutions = solve_all(rt, rt.alloc(), workers, &problems, &solver, gate)?;
+    let solved = solutions.len() == count && have_least_gross(&solutions);
+    so(solved, "the solutions are otherwise")
+}
+
+/// The problems of the first chains, so many of them.
+fn first_chains(alloc: Global, count: usize) -> Result<Vec<Problem>, Fail> {
+    let mut problems = Vec::new(alloc);
     for (sales, _) in CHAINS.iter().take(count) {
         let market = Market {
             members: 3,
             sales,
-            bounds: &bounds,
+            bounds: OPEN_3,
         };
-        problems.push(problem_of(rt.alloc(), market)?)?;
+        problems.push(problem_of(alloc, market)?)?;
     }
-    let solver = PathSolver::new(rt.alloc());
-    let solutions = solve_all(rt, rt.alloc(), workers, &problems, &solver, gate)?;
+    Ok(problems)
+}
+
+fn have_least_gross(solutions: &[Solution]) -> bool {
     for (solution, (_, least)) in solutions.iter().zip(&CHAINS) {
         if gross(solution.network()) != *least {
-            return Ok(false);
+            return false;
         }
     }
-    Ok(solutions.len() == count)
+    true
+}
+
+fn all_are_solved<R: Threads + Sync + AllocGlobal>(rt: &R) -> Result<(), Fail> {
+    for count in [0, 1, 3] {
+        are_solved(rt, 1, count, &OpenGate)?;
+        are_solved(rt, 2, count, &OpenGate)?;
+        are_solved(rt, 64, count, &OpenGate)?;
+    }
+    Ok(())
 }
 
 #[test]
 fn each_problem_is_solved_in_its_place(rt: HostRuntime) -> Result<(), Fail> {
-    for count in [0, 1, 3] {
-        let one = are_solved(&rt, 1, count, &OpenGate)?;
-        let two = are_solved(&rt, 2, count, &OpenGate)?;
-        let many = are_solved(&rt, 64, count, &OpenGate)?;
-        assert!(rt; one && two && many);
-    }
-    Ok(())
+    all_are_solved(&rt)
 }
 
 #[test]
 fn two_workers_meet(rt: HostRuntime) -> Result<(), Fail> {
     let (two, many) = (Meeting::new(), Meeting::new());
-    assert!(rt; are_solved(&rt, 2, 2, &two)? && two.was(2));
-    assert!(rt; are_solved(&rt, 64, 2, &many)? && many.was(2));
-    Ok(())
+    are_solved(&rt, 2, 2, &two)?;
+    are_solved(&rt, 64, 2, &many)?;
+    so(two.was(2) && many.was(2), "no two workers met")
 }
 
 const THREE_PRODUCTS: FileMarket<'static> = FileMarket {
@@ -119,12 +133,12 @@ fn any_number_of_workers_writes_the_same_bytes(rt: HostRuntime) -> Result<(), Fa
     let one = solved_by(&rt, 1, THREE_PRODUCTS)?;
     let two = solved_by(&rt, 2, THREE_PRODUCTS)?;
     let many = solved_by(&rt, 64, THREE_PRODUCTS)?;
-    assert!(rt;
-        one.starts_with(b"product P 17 10 10 17\nrow A B 3\nrow A C 7\n")
-            && one.ends_with(b"\nbound 40\nend 3\n")
-    );
-    assert!(rt; one == two && one == many);
-    Ok(())
+    let begun = one.starts_with(b"product P 17 10 10 17\nrow A B 3\nrow A C 7\n");
+    let ended = one.ends_with(b"\nbound 40\nend 3\n");
+    so(
+        begun && ended && one == two && one == many,
+        "the bytes are otherwise",
+    )
 }
 
 // Counts the pieces that come: each first one for 1, each second one for 100, and any other for 10,000.
@@ -155,14 +169,14 @@ const RINGS_SOLVED: &str =
 const NOTHING_SOLVED: &str =
     "product P 0 0 0 0\npot A 0\npot B 0\npot C 0\npot D 0\npot E 0\npot F 0\nbound 0\nend 1\n";
 
-/// Whether the trades of six dealers are solved so, with these pieces.
+/// That the trades of six dealers are solved so, with these pieces.
 fn has_pieces<R: Threads + Sync + AllocGlobal>(
     rt: &R,
     trades: &str,
     mode: Mode,
     proposal: &str,
     pieces: u64,
-) -> Result<bool, Fail> {
+) -> Result<(), Fail> {
     let gate = PieceCount {
         seen: AtomicU64::new(0),
     };
@@ -172,18 +186,25 @@ fn has_pieces<R: Threads + Sync + AllocGlobal>(
         mode,
     };
     let found = solved_through(rt, market, &gate)?;
-    Ok(found.as_slice() == proposal.as_bytes() && gate.seen.load(Ordering::SeqCst) == pieces)
+    let solved = found.as_slice() == proposal.as_bytes()
+        && gate.seen.load(Ordering::SeqCst) == pieces;
+    so(solved, "the proposal or its pieces are otherwise")
+}
+
+const PIECES: &[(&str, Mode, &str, u64)] = &[
+    (TWO_RINGS, Mode::Conservative, RINGS_SOLVED, 101),
+    (TWO_RINGS, Mode::Hybrid, RINGS_SOLVED, 1),
+    ("", Mode::Conservative, NOTHING_SOLVED, 0),
+];
+
+fn all_have_pieces<R: Threads + Sync + AllocGlobal>(rt: &R) -> Result<(), Fail> {
+    for &(trades, mode, proposal, pieces) in PIECES {
+        has_pieces(rt, trades, mode, proposal, pieces)?;
+    }
+    Ok(())
 }
 
 #[test]
 fn each_part_is_a_piece(rt: HostRuntime) -> Result<(), Fail> {
-    let cases = [
-        (TWO_RINGS, Mode::Conservative, RINGS_SOLVED, 101),
-        (TWO_RINGS, Mode::Hybrid, RINGS_SOLVED, 1),
-        ("", Mode::Conservative, NOTHING_SOLVED, 0),
-    ];
-    for (trades, mode, proposal, pieces) in cases {
-        assert!(rt; has_pieces(&rt, trades, mode, proposal, pieces)?);
-    }
-    Ok(())
+    all_have_pieces(&rt)
 }
