@@ -1,7 +1,7 @@
 """Journals whose records have no moments, as the program wrote them before it knew any: each is opened with its own bytes, and turned.
 
-`journals/chain.hex` is what `script` wrote of `examples/chain-cycle.session`. `journals/folded.hex` was folded twice, and ends at its
-closed gate. A plain journal has the same records behind the header of a file without slots, which older programs wrote.
+`journals/chain.hex` is what `script` wrote of `examples/chain-cycle.session`, and `journals/plain.hex` what it wrote of the same session
+before files had slots. `journals/folded.hex` was folded twice, and ends at its closed gate.
 """
 
 import tempfile
@@ -26,7 +26,7 @@ def old_journals() -> dict[str, bytes]:
     return {
         "slots": chain,
         "slots without records": chain[:CHAIN_GATE] + b"\0",
-        "plain": spelled.PLAIN + chain[CHAIN_GATE:],
+        "plain": kept("plain"),
         "plain without records": spelled.PLAIN + b"\0\0",
         "folded": kept("folded"),
     }
@@ -54,6 +54,16 @@ class Opened(unittest.TestCase):
                 self.assertEqual((self.replay(), self.journal.read_bytes()), (before, turned))
                 self.assertEqual(run([self.program, "script", ROSTER, self.journal]), Ran(0, b"", b""))
                 self.assertEqual(self.journal.read_bytes(), turned)
+
+    def test_a_plain_file_of_no_changes_is_begun_anew(self) -> None:
+        self.journal.write_bytes(spelled.PLAIN + b"\0")
+        before = self.replay()
+        self.assertEqual((before.status, len(self.journal.read_bytes())), (0, 9))
+        self.assertEqual(run([self.program, "script", ROSTER, self.journal]), Ran(0, b"", b""))
+        self.assertEqual((self.replay(), self.journal.read_bytes()), (before, kept("chain")[:CHAIN_GATE] + TURN))
+
+    def test_both_files_of_one_session_have_the_same_records(self) -> None:
+        self.assertEqual(kept("plain"), spelled.PLAIN + kept("chain")[CHAIN_GATE:])
 
     def test_changes_behind_the_turn_have_moments(self) -> None:
         for name, old in old_journals().items():
