@@ -130,7 +130,7 @@ class InBrowser(InGateway):
 
     def serve(self, *options: str | Path) -> None:
         self.start("--seats", "5")
-        self.open("--roster", ROSTER, *options)
+        self.open("--roster", ROSTER, "--journal", self.journal, *options)
 
     def page(self, name: str = "", size: tuple[int, int] = WIDE, is_dark: bool = False, before: str = "") -> Page:
         driver = driver_of(size, is_dark)

@@ -114,9 +114,10 @@ class InGateway(InService):
         return self.address
 
     def open(self, *options: str | Path) -> None:
-        """Starts a gateway, and waits until a call gets a seat."""
-        seats = [] if "--seats" in options else ["--seats", "4"]
-        words: list[str | Path] = [self.python, TOOLS / "gateway", *seats, *options, self.service_address, f"127.0.0.1:{self.gate}", self.folder / "calls"]
+        """Starts a gateway, which ends no silent peer on a slow machine unless it is told, and waits until a call gets a seat."""
+        given = {"--seats": "4", "--patience": str(PATIENCE)}
+        absent = [word for option in given if option not in options for word in (option, given[option])]
+        words: list[str | Path] = [self.python, TOOLS / "gateway", *absent, *options, self.service_address, f"127.0.0.1:{self.gate}", self.folder / "calls"]
         self.errors = open(self.folder / "errors", "ab")
         self.addCleanup(self.errors.close)
         self.gateway = subprocess.Popen(words, stdin=subprocess.DEVNULL, stdout=subprocess.DEVNULL, stderr=self.errors)
@@ -130,7 +131,8 @@ class InGateway(InService):
                     return
             except OSError:
                 pass
-            self.assertLess(time.monotonic(), end, self.logged())
+            assert self.gateway is not None
+            self.assertTrue(self.gateway.poll() is None and time.monotonic() < end, self.logged())
             time.sleep(0.05)
 
     def shut(self) -> None:

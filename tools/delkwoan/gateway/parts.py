@@ -5,6 +5,7 @@ from typing import NamedTuple
 from .desk import Desk
 from .metrics import Figures
 from .sessions import Sessions, Slowing
+from .stage import Stage
 from .votes import Votes
 from .watch import Watch
 
@@ -22,3 +23,5 @@ class Parts(NamedTuple):
     votes: Votes
     roster: str | None
     """The roster's text without keys, where there is one."""
+    stage: Stage | None
+    """Where proposals are rehearsed, where there is a program, a roster and a journal for it."""

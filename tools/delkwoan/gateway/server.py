@@ -22,6 +22,7 @@ from .fields import kind_of
 from .kept import Faulty
 from .own import cycle, health, metrics, sign_in, sign_out, who
 from .parts import Parts
+from .rehearsal import rehearse
 from .requests import MOST_DRAFT, given_by, key_of, session_of
 from .watch import follow
 
@@ -100,6 +101,7 @@ def routes_of(parts: Parts) -> list[BaseRoute]:
         ("/api/session", "GET", "who", partial(who, parts)),
         ("/api/session", "DELETE", "sign-out", partial(sign_out, parts)),
         ("/api/cycle", "GET", "cycle", partial(cycle, parts)),
+        ("/api/rehearsal", "POST", "rehearsal", partial(rehearse, parts, asyncio.Lock())),
         ("/api/votes", "GET", "votes", partial(verdict.votes, parts)),
         ("/api/roster", "GET", "roster", partial(verdict.roster, parts)),
         ("/api/check", "POST", "check", partial(verdict.check, parts, asyncio.Lock())),

@@ -10,6 +10,7 @@ import uvicorn
 
 from .. import own_part
 from ..checker import MOST_BYTES, Fault
+from ..client import found_program
 from ..ending import Stop, read_file
 from .desk import Desk
 from .follower import Follower
@@ -20,6 +21,7 @@ from .seats import Seats
 from .server import application
 from .sessions import Sessions, Slowing
 from .silence import SLACK, Silence
+from .stage import Stage
 from .votes import Votes
 from .watch import Watch
 
@@ -44,6 +46,14 @@ def roster_of(file: str | None) -> str | None:
         raise Stop(3, str(fault)) from None
 
 
+def stage_of(given: Namespace) -> Stage | None:
+    """What a rehearsal needs, where all of it is there."""
+    try:
+        return Stage(found_program(), given.roster, given.journal) if given.roster and given.journal else None
+    except Stop:
+        return None
+
+
 def parts_of(given: Namespace) -> Parts:
     roster = roster_of(given.roster)
     try:
@@ -54,7 +64,7 @@ def parts_of(given: Namespace) -> Parts:
     sessions = Sessions(or_else(given.idle, IDLE))
     figures = Figures(seats, sessions, None if given.journal is None else Follower(given.journal))
     desk, watch = Desk(seats, sessions, kept), Watch(seats)
-    return Parts(desk, sessions, Slowing(), figures, or_else(given.patience, PATIENCE), watch, Votes(), roster)
+    return Parts(desk, sessions, Slowing(), figures, or_else(given.patience, PATIENCE), watch, Votes(), roster, stage_of(given))
 
 
 def secured(given: Namespace) -> dict[str, Any]:

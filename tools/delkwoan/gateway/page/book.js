@@ -19,8 +19,9 @@ export class Book {
     this.alleged = new Table({ ...common, columns: terms, label: "Trades to affirm", empty: "No trade waits for your word.", filters: false });
     this.trades = new Table({ ...common, label: "My trades", empty: "No trades yet.", choice: ["state", "State", ["live", "alleged", "ended"]] });
     this.nets = make("dl", { class: "cards" });
+    this.none = make("p", { class: "soft" }, "No positions yet.");
     this.element = make("div", {}, make("h2", {}, "To affirm"), this.alleged.element, make("h2", {}, "A new trade"), this.entry(),
-      make("h2", {}, "My positions"), this.nets, make("h2", {}, "My trades"), this.trades.element);
+      make("h2", {}, "My positions"), this.none, this.nets, make("h2", {}, "My trades"), this.trades.element);
   }
 
   entry() {
@@ -84,6 +85,7 @@ export class Book {
       const value = state === "live" ? BigInt(amount) : 0n;
       nets.set(product, seller === this.name ? [out + value, into] : [out, into + value]);
     }
+    this.none.hidden = nets.size > 0;
     this.nets.replaceChildren(...[...nets].sort().map(([product, [out, into]]) => make("div", { class: "card" }, make("dt", {}, product),
       make("dd", {}, make("b", {}, grouped(out - into)), `owes ${grouped(out)}, is owed ${grouped(into)}`))));
   }

@@ -23,6 +23,8 @@ function words(status, content) {
     case "no-seat": return "The service has no seat free, or does not answer. Nothing was sent: try again.";
     case "bad-key": return "This name and key are not known.";
     case "slowed": return "Too soon behind a wrong key: wait a while.";
+    case "no-stage": return "This gateway can not rehearse: it was given no --journal, no --roster, or finds no program.";
+    case "no-rehearsal": return "Not rehearsed: the journal or the roster can not be read, or its keys are others.";
     case "fault": return content.told;
     default: return content.error ? `Not done: ${content.error}` : `Not done: status ${status}`;
   }

@@ -8,12 +8,20 @@ import { Table } from "/page/table.js";
 const MODES = ["conservative", "hybrid", "free"];
 const MARKET = [["product", "Product"], ["gross", "Gross", true], ["floor", "Least by nets", true], ["excess", "Excess", true], ["bilateral", "Bilateral", true]];
 const STEPS = [["place", "Step", true], ["what", "What"], ["trade", "Trade", true], ["seller", "Seller"], ["buyer", "Buyer"], ["product", "Product"], ["before", "Before", true], ["after", "After", true]];
+const PLAYED = [["mode", "Mode"], ["before", "Gross before", true], ["after", "Gross after", true], ["less", "Less", true], ["what", "What it comes to"]];
 const LIMITS = [["seller", "Seller"], ["buyer", "Buyer"], ["lower", "At least", true], ["now", "Now", true], ["upper", "At most", true], ["place", "Row", true]];
 
 function stepOf(words, at) {
   const none = { place: String(at + 1), what: words[0], trade: "", seller: "", buyer: "", product: "", before: "", after: "" };
   if (words[0] === "new") return { ...none, seller: words[1], buyer: words[2], product: words[3], before: "0", after: words[4] };
   return words[0] === "cut" ? { ...none, trade: words[1], before: words[2], after: words[3] } : { ...none, trade: words[1], after: "0" };
+}
+
+/** A mode's rehearsed reply as a row. */
+function playedOf({ mode, reply, kind }) {
+  const [, , before, after] = read(reply).words;
+  if (kind === "proposed") return { mode, before, after, less: String(BigInt(before) - BigInt(after)), what: "a proposal" };
+  return { mode, before: "", after: "", less: "", what: kind === "nothing" ? "it touches nobody, and ends the cycle" : `refused: ${kind}` };
 }
 
 export class Market {
@@ -56,10 +64,14 @@ export class Operation {
     this.limits = new Table({ label: "Limits", columns: LIMITS.slice(0, -1), key: "place", empty: "Name a product." });
     this.plan = new Table({ label: "The plan", columns: STEPS, key: "place", empty: "Nothing is proposed." });
     this.propose = make("div", { class: "line" }, MODES.map((mode) => make("p", {}, button(`Propose ${mode}`, () => this.does(`/api/cycles/${this.cycle}/proposal`, { mode })))));
+    this.played = new Table({ label: "All modes", columns: PLAYED, key: "mode", empty: "Nothing is rehearsed yet.", filters: false });
+    this.rehearsal = make("div", {}, make("h2", {}, "All modes beside each other"),
+      make("p", {}, "What each would come to now, over a copy of the journal. Members see nothing of it."),
+      make("p", {}, button("Rehearse", () => this.rehearse())), this.played.element);
     this.begin = make("div", { class: "line" }, MODES.map((mode) => make("p", {}, button(`Begin ${mode}`, () => this.does(`/api/cycles/${this.cycle}/versions`, { mode })))));
     this.cancel = make("p", {}, button("Cancel the cycle", () => this.drop()));
     this.bounds = make("div", {}, make("h2", {}, "Limits of the version"), form("Limits", [product], "Show", () => this.ask(product.input.value)), this.limits.element);
-    this.element = make("div", {}, this.freeze, this.propose, make("details", {}, make("summary", {}, "Begin a version without solving it"), this.begin),
+    this.element = make("div", {}, this.freeze, this.propose, make("details", {}, make("summary", {}, "Begin a version without solving it"), this.begin), this.rehearsal,
       make("h2", {}, "What came of it"), this.told, make("h2", {}, "Votes"), this.votes, make("h2", {}, "The plan"), this.plan.element, this.bounds, this.cancel);
   }
 
@@ -80,6 +92,15 @@ export class Operation {
     });
   }
 
+  rehearse() {
+    return this.act(async () => {
+      tell("It is being rehearsed …");
+      const { modes } = await call("POST", "/api/rehearsal", { cycle: this.cycle });
+      this.played.update(modes.map(playedOf));
+      tell("All modes are rehearsed.");
+    });
+  }
+
   async drop() {
     if (await isSure("Cancel the cycle?", "Its proposal and votes are dropped; nothing is frozen any more.", "Cancel it")) await this.does(`/api/cycles/${this.cycle}/cancel`, {});
   }
@@ -94,7 +115,8 @@ export class Operation {
   async update({ cycle, phase, version }) {
     this.cycle = cycle;
     this.freeze.hidden = phase !== "none";
-    this.propose.hidden = this.begin.parentElement.hidden = phase !== "frozen" && phase !== "solving";
+    this.propose.hidden = this.rehearsal.hidden = this.begin.parentElement.hidden = phase !== "frozen" && phase !== "solving";
+    if (phase === "none") this.played.update([]);
     this.bounds.hidden = phase !== "solving" && phase !== "proposed";
     this.cancel.hidden = phase === "none";
     const wanted = phase === "proposed" ? `${cycle} ${version}` : "";
@@ -110,6 +132,6 @@ export class Operation {
 function votesText({ version, cycle, accepted, declined, left }) {
   if (!cycle) return "No vote has come through this gateway. The service tells the operator of no vote.";
   const names = accepted.length ? accepted.join(", ") : "nobody";
-  const rest = left === null ? "" : ` By the last reply ${left} had not accepted.`;
+  const rest = left === null ? "" : left === 0 ? " It is carried out." : ` By the last reply ${left} had not accepted.`;
   return `Cycle ${cycle}, version ${version}, through this gateway: accepted by ${names}.${rest}${declined ? ` Declined by ${declined}.` : ""}`;
 }

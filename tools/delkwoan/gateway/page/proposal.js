@@ -111,7 +111,7 @@ export class Proposal {
       const left = read(told.reply).words[2];
       if (verb === "accept") this.voted = this.version;
       this.shows();
-      tell({ accepted: `Accepted. ${left} more to accept.`, executed: "Accepted by all: it is carried out.", declined: "Declined." }[told.kind]);
+      tell({ accepted: `Version ${this.number} is accepted: ${left} more to accept.`, executed: "Accepted by all: it is carried out.", declined: "Declined." }[told.kind]);
     });
   }
 }
