@@ -7,9 +7,9 @@ use mathlib.Core.Logic.{dite}
 use native.Mathlib.Decide.{ℕ_discrete}
 use lib.ListN.{get_elem?}
 use Rattle.atomic_table.proofs.Lists.{at_set, at_snoc}
-use Rattle.atomic_table.specs.Table.{State, Me, Allows, Splits, Joins, opening, keeps, stepped}
+use Rattle.atomic_table.specs.Table.{State, Me, Allows, Splits, Joins, keeps, stepped}
 use Rattle.claim_counter.specs.declared.rule.Claims.{Claims}
-use Rattle.claim_counter.specs.Claims.{one_if, times, total, room_of, parts_of, claims, count_of, Kept, newcomer, nobody, room_after, with_claim, rest_of, worker, both, claimed, known}
+use Rattle.claim_counter.specs.Claims.{one_if, times, total, room_of, parts_of, claims, count_of, Kept, nobody, room_after, with_claim, rest_of, worker, both, claimed, known}
 
 pub times-append : (x : ℕ) (xs ys : List ℕ) → times x (xs ++ ys) ≡ times x xs + times x ys
 times-append x [] ys = omega arith
@@ -62,23 +62,6 @@ record Rooms (n pieces : ℕ) (t : Bool) (room rooms rooms' : ℕ) : Type 0 wher
 rooms_after : (n pieces : ℕ) (t : Bool) (room rooms rooms' : ℕ) → nat_lt n pieces ≡ t → 0 < room → rooms ≤ 64 → n + rooms ≤ pieces + 64 → rooms' + room ≡ rooms + room_after t room → Rooms n pieces t room rooms rooms'
 rooms_after n pieces true room rooms rooms' is some_room most few e = let lt : n < pieces = grind (arith, nat_tests) in record { most = omega arith; few = omega arith }
 rooms_after n pieces false room rooms rooms' is some_room most few e = record { most = omega arith; few = omega arith }
-
-pub opens : (pieces : ℕ) → Kept pieces (opening (0 ∷ []) [] (newcomer pieces))
-opens pieces = record {
-  word = 0;
-  words = refl;
-  count = refl;
-  once = λ n. let never : nat_lt n 0 ≡ false = grind (arith, nat_tests) in ap one_if (sym never);
-  rooms = omega arith;
-  few = omega arith;
-  parts = refl;
-  idle = λ j v at none. only (λ (u : Claims). u.taken ≡ []) j v at refl;
-  same = λ j v at some_parts. only (λ (u : Claims). u.pieces ≡ pieces) j v at refl;
-}
-  where
-    only : (P : Claims → Type 0) (j : ℕ) (v : Claims) → get_elem? (newcomer pieces ∷ []) j ≡ some v → P (newcomer pieces) → P v
-    only P zero v at mine = subst P (some-injective (newcomer pieces) v at) mine
-    only P (suc j) v at mine = absurd (some-ne-none v (sym at))
 
 pub may_claim : (pieces slots id : ℕ) (me : Me ℕ Claims) → 0 < me.0.room → 0 < me.0.parts → pieces + 64 < 2 ^ 64 → Allows (Kept pieces) slots id me 0 (λ n. (n + 1) % 2 ^ 64) (λ n w. claimed me n w)
 may_claim pieces slots id me some_room some_parts short s k long at small =

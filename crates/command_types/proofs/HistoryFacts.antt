@@ -1,16 +1,14 @@
 -- Histories that grow.
-use Rattle.std.proofs.Common.{◌≡◌, ℕ, ◌==◌, Bool, true, false, List, [], ◌∷◌, ◌++◌, filter, arith, sym, ap, inl, inr, ◌∙◌, append_assoc, cond}
+use Rattle.std.proofs.Common.{◌≡◌, ℕ, Bool, List, [], ◌∷◌, ◌++◌, sym, ap, inl, inr, ◌∙◌, append_assoc}
 use Rattle.std.proofs.lemmas.List.{append-nil}
 use Rattle.std.proofs.lemmas.List.Sums.{fold-append}
-use Rattle.std.proofs.lemmas.Bool.Decides.{nat_tests}
 use Rattle.command_types.specs.declared.ask.Ask.{Ask}
 use Rattle.command_types.specs.declared.ask.Entry.{Entry}
-use Rattle.command_types.specs.declared.answer.Answer.{Answer}
 use Rattle.command_types.specs.declared.answer.Reply.{Reply}
 use Rattle.command_types.specs.declared.figures.Figures.{Figures}
 use Rattle.command_types.specs.declared.figures.State.{State}
 use Rattle.command_types.specs.Machine.{state_after}
-use Rattle.command_types.specs.History.{History, IsAcceptedIn, IsLegalFrom, end_of, longer, replayed_from, recorded, is_recorded}
+use Rattle.command_types.specs.History.{History, IsAcceptedIn, IsLegalFrom, end_of, longer, replayed_from}
 use Rattle.command_types.specs.Told.{IsTold, IsNotRecorded, IsMemory}
 
 -- the state after one more change
@@ -44,18 +42,3 @@ pub told_memory : (figures : Figures) (before after : Bool) (h : History) (seat 
     IsMemory figures ask.what reply.answer → IsTold figures before after h seat ask reply
 told_memory figures before after h seat ask reply place is =
     record { front = h.entries; back = []; split = sym (append-nil h.entries); place = place; one = inr (inr (inr is)) }
-
-own_on : (t : Bool) (seat : ℕ) (ask : Ask) (others : List Entry) → (seat == seat) ≡ true → filter (λ entry. entry.seat == seat) others ≡ others →
-    filter (λ entry. entry.seat == seat) (cond {A = List Entry} t (record { seat = seat; ask = ask } ∷ []) [] ++ others) ≡ cond {A = List Entry} t (record { seat = seat; ask = ask } ∷ []) [] ++ others
-own_on true seat ask others same own =
-    ap (λ b. cond {A = List Entry} b (record { seat = seat; ask = ask } ∷ filter (λ entry. entry.seat == seat) others) (filter (λ entry. entry.seat == seat) others)) same
-    ∙ ap (λ es. record { seat = seat; ask = ask } ∷ es) own
-own_on false seat ask others same own = own
-
-same_seat : (seat : ℕ) → (seat == seat) ≡ true
-same_seat seat = grind (arith, nat_tests)
-
--- what is recorded carries its seat
-pub recorded_own : (seat : ℕ) (ask : Ask) (answer : Answer) (others : List Entry) → filter (λ entry. entry.seat == seat) others ≡ others →
-    filter (λ entry. entry.seat == seat) (recorded seat ask answer ++ others) ≡ recorded seat ask answer ++ others
-recorded_own seat ask answer others own = own_on (is_recorded ask.what answer) seat ask others (same_seat seat) own

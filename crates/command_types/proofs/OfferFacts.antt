@@ -1,21 +1,14 @@
 -- Answers that are the machine's, and where the last version began.
-use Rattle.std.proofs.Common.{◌≡◌, ℕ, ◌+◌, Bool, true, false, List, [], ◌∷◌, ◌++◌, length, refl, sym, ap, ◌∙◌, arith}
+use Rattle.std.proofs.Common.{◌≡◌, ℕ, ◌+◌, Bool, true, List, [], ◌∷◌, ◌++◌, length, refl, ap, ◌∙◌, arith}
 use Rattle.std.specs.Prelude.{if◌then◌else◌}
 use Rattle.std.proofs.lemmas.Bool.{false≢true}
 use Rattle.command_types.specs.declared.ask.Entry.{Entry}
 use Rattle.command_types.specs.declared.ask.What.{What}
 use Rattle.command_types.specs.declared.ask.What.TheVariants.{Next, Proof}
 use Rattle.command_types.specs.declared.answer.Answer.{Answer}
-use Rattle.command_types.specs.declared.answer.Answer.TheVariants.{NoNext, ProofRows}
 use Rattle.command_types.specs.declared.figures.Start.{Start}
 use Rattle.command_types.specs.Machine.{changes}
-use Rattle.command_types.specs.Offers.{is_open_answer, is_begin, begin_from, last_begin, with_entries}
-
--- but for one that leaves something open, the machine's answer is the desk's
-pub others_stay : (base : Start) (entries : List Entry) (what : What) (answer : Answer) → is_open_answer answer ≡ false → with_entries base entries what answer ≡ answer
-others_stay base entries (Next position) NoNext other = absurd (false≢true (sym other))
-others_stay base entries (Proof cycle) (ProofRows head rows) other = absurd (false≢true (sym other))
-others_stay base entries what answer other = refl
+use Rattle.command_types.specs.Offers.{is_begin, begin_from, last_begin, with_entries}
 
 -- what is answered to a change is the machine's
 pub changes_stay : (base : Start) (entries : List Entry) (what : What) (answer : Answer) → changes what ≡ true → with_entries base entries what answer ≡ answer

@@ -1,7 +1,6 @@
 -- Sessions that go on by one more line.
-use Rattle.std.proofs.Common.{◌≡◌, ℕ, Bool, ◌==◌, List, [], ◌∷◌, ◌++◌, filter, Option, Result, Ok, refl, sym, subst, ap, ◌∙◌, append_assoc, inl, inr}
+use Rattle.std.proofs.Common.{ℕ, Bool, List, [], ◌∷◌, ◌++◌, Option, Result, Ok, refl, sym, ap, ◌∙◌, append_assoc, inl, inr}
 use Rattle.std.proofs.lemmas.List.{append-nil}
-use Rattle.std.proofs.lemmas.List.Elements.{filter-append}
 use Rattle.command_types.specs.declared.ask.Ask.{Ask}
 use Rattle.command_types.specs.declared.ask.Entry.{Entry}
 use Rattle.command_types.specs.declared.answer.Answer.{Answer}
@@ -14,7 +13,7 @@ use Rattle.command_types.specs.Roster.{Rows}
 use Rattle.command_types.specs.History.{History, longer}
 use Rattle.command_types.specs.Grammar.{line_within}
 use Rattle.command_types.specs.Session.{Speaker, Standing, Mark, mark_of, IsAsked, GoesOnFetched, GoesOnBegun, IsReplied, IsAnswered, IsTalk, ask_begin, ask_fetch, ask_post}
-use Rattle.command_types.proofs.HistoryFacts.{told_longer, recorded_own}
+use Rattle.command_types.proofs.HistoryFacts.{told_longer}
 
 -- what is asked in a history is asked in a longer one
 pub asked_longer : (clock : ℕ → Bool) (figures : Figures) (h : History) (more : List Entry) (seat : ℕ) (from : Mark) (ask : Ask) (reply : Reply) (made : List Entry) (to : Mark) →
@@ -115,51 +114,3 @@ talk_on clock figures h seat from (l ∷ lines) text made mid line head first to
   ap (λ v. v ++ first) is_made ∙ append_assoc one others first,
   talk_on clock figures h seat next lines rest others mid line head first to talk a,
 )
-
--- all of these are the seat's
-abbrev AreOwn : ℕ → List Entry → Type 0
-AreOwn seat entries = filter (λ entry. entry.seat == seat) entries ≡ entries
-
-own_both : (seat : ℕ) (made first others : List Entry) → made ≡ first ++ others → AreOwn seat first → AreOwn seat others → AreOwn seat made
-own_both seat made first others order a b =
-    let P : List Entry → Type 0 = λ es. AreOwn seat es in
-    subst P (sym order) (filter-append (λ (entry : Entry). entry.seat == seat) first others ∙ (ap (λ es. es ++ filter (λ entry. entry.seat == seat) others) a ∙ ap (λ es. first ++ es) b))
-
-own_none : (seat : ℕ) (made : List Entry) → made ≡ [] → AreOwn seat made
-own_none seat made none = let P : List Entry → Type 0 = λ es. AreOwn seat es in subst P (sym none) refl
-
--- what is recorded of a command is the seat's
-pub asked_own : (clock : ℕ → Bool) (figures : Figures) (h : History) (seat : ℕ) (from : Mark) (ask : Ask) (reply : Reply) (made : List Entry) (to : Mark) →
-    IsAsked clock figures h seat from ask reply made to → filter (λ entry. entry.seat == seat) made ≡ made
-asked_own clock figures h seat from ask reply made to a =
-    let P : List Entry → Type 0 = λ es. AreOwn seat es in
-    subst P (append-nil _ ∙ sym a.keeps) (recorded_own seat ask reply.answer [] refl)
-
-fetched_on_own : (answer : Answer) (clock : ℕ → Bool) (figures : Figures) (h : History) (seat : ℕ) (mid : Mark) (by : Option (List ℕ)) (cycle version begun_at : ℕ) (fetched reply : Reply) (made : List Entry) (to : Mark) →
-    GoesOnFetched answer clock figures h seat mid by cycle version begun_at fetched reply made to → AreOwn seat made
-fetched_on_own (Problems problems) clock figures h seat mid by cycle version begun_at fetched reply made to (inl unsolved) = own_none seat made unsolved.1
-fetched_on_own (Problems problems) clock figures h seat mid by cycle version begun_at fetched reply made to (inr p) = asked_own clock figures h seat mid (ask_post by cycle version p.solutions p.moment) reply made to p.asked
-fetched_on_own answer clock figures h seat mid by cycle version begun_at fetched reply made to last = own_none seat made last.1
-
-begun_on_own : (answer : Answer) (clock : ℕ → Bool) (figures : Figures) (h : History) (seat : ℕ) (mid : Mark) (by : Option (List ℕ)) (cycle : ℕ) (begun reply : Reply) (made : List Entry) (to : Mark) →
-    GoesOnBegun answer clock figures h seat mid by cycle begun reply made to → AreOwn seat made
-begun_on_own (Begun number version) clock figures h seat mid by cycle begun reply made to f =
-    own_both seat made f.first f.others f.order (asked_own clock figures h seat mid (ask_fetch by cycle version f.moment) f.fetched f.first f.mid f.asked)
-    (fetched_on_own f.fetched.answer clock figures h seat f.mid by cycle version begun.at f.fetched reply f.others to f.goes_on)
-begun_on_own answer clock figures h seat mid by cycle begun reply made to last = own_none seat made last.1
-
-replied_own : (clock : ℕ → Bool) (figures : Figures) (h : History) (seat : ℕ) (from : Mark) (rows : Rows) (speaker : Speaker) (read : Result Line ℕ) (reply : Reply) (made : List Entry) (to : Mark) →
-    IsReplied clock figures h seat from rows speaker read reply made to → AreOwn seat made
-replied_own clock figures h seat from rows speaker (Ok (Propose cycle mode)) reply made to p =
-    own_both seat made p.first p.others p.order (asked_own clock figures h seat from (ask_begin speaker.party cycle mode p.moment) p.begun p.first p.mid p.asked)
-    (begun_on_own p.begun.answer clock figures h seat p.mid speaker.party cycle p.begun reply p.others to p.goes_on)
-replied_own clock figures h seat from rows speaker read reply made to a = asked_own clock figures h seat from _ reply made to a.1
-
--- what is made in a session is made by its seat
-pub talk_own : (clock : ℕ → Bool) (figures : Figures) (h : History) (seat : ℕ) (from : Standing) (lines : List (List ℕ)) (text : List ℕ) (made : List Entry) (to : Standing) →
-    IsTalk clock figures h seat from lines text made to → filter (λ entry. entry.seat == seat) made ≡ made
-talk_own clock figures h seat from [] text made to (no_text, no_made, same) = rw no_made refl
-talk_own clock figures h seat from (line ∷ lines) text made to (next, head, rest, first, others, answered, is_text, is_made, talk) =
-    own_both seat made first others is_made
-    (replied_own clock figures h seat (mark_of from) h.base.state.roster from.speaker (line_within line) answered.reply first (mark_of next) answered.replied)
-    (talk_own clock figures h seat next lines rest others to talk)

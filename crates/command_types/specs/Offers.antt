@@ -48,9 +48,3 @@ with_entries base entries what answer = answer
 -- what a command is answered after these changes
 abbrev pub answer_at : Start → List Entry → Ask → Answer
 answer_at base entries ask = with_entries base entries ask.what (answer_to (replayed_from base.state entries) ask)
-
--- the answer in whose place a desk puts another one
-abbrev pub is_open_answer : Answer → Bool
-is_open_answer NoNext = true
-is_open_answer (ProofRows head rows) = true
-is_open_answer answer = false

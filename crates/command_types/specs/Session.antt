@@ -179,10 +179,6 @@ abbrev pub what_or_fault : Rows → Draft → Result Line ℕ → What
 what_or_fault rows draft (Ok line) = what_by rows draft line
 what_or_fault rows draft (Err at) = Unreadable at
 
--- the command of a line, asked at this moment
-abbrev pub ask_of : Rows → Speaker → List ℕ → ℕ → Ask
-ask_of rows speaker line moment = record { by = speaker.party; what = what_or_fault rows speaker.draft (line_within line); moment = moment }
-
 -- the draft after a line that was noted
 abbrev pub draft_after : Draft → Result Line ℕ → Draft
 draft_after draft (Ok (Row product seller buyer amount)) = noted_row draft product seller buyer amount

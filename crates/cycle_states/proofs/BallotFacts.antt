@@ -17,7 +17,7 @@ use Rattle.command_types.specs.declared.trade.TradeRow.{TradeRow}
 use Rattle.command_types.specs.declared.trade.TradeState.TheVariants.{Ended}
 use Rattle.command_types.specs.CycleRefusals.{has_voted}
 use Rattle.command_types.specs.Cycles.{is_proposed, may_break, broken_at, posted_plan}
-use Rattle.command_types.specs.CycleSteps.{after_vote, is_frozen_and_marked, left_after, proposed_or_done, touched_in}
+use Rattle.command_types.specs.CycleSteps.{after_vote, is_frozen_and_marked, left_after, touched_in}
 use Rattle.command_types.specs.Machine.{first_of, member_of, product_of, refusals, side_at, side_of, state_by_party}
 use Rattle.command_types.specs.Plans.{count_of, is_in_step, is_new, is_party_row, is_touched, touched_by}
 use Rattle.command_types.specs.Trades.{affirmed, alleged_row, changed_row, ended_by, freed_by, held_by, is_alleged, live_row, row_ended_by, row_with_hold, trade_numbered, with_changed, with_row}
@@ -162,16 +162,6 @@ ballot_stays s by (Decline cycle version) ballot plain below kept = no_ballot _ 
 ballot_stays s by (Cancel cycle) ballot plain below kept = no_ballot _ _ _ ballot refl
 ballot_stays s by Bye ballot plain below kept = kept
 ballot_stays s by (Unreadable at) ballot plain below kept = kept
-
--- the ballot of a posting
-pub posted_ballot : (s : State) (solutions : List SolutionData) (plan : List PlanRow) (touched : List ℕ) (ballot : Ballot) → ballot.votes.needed ≡ touched_in s plan → ballot.votes.accepted ≡ [] → ballot.made ≡ count_of is_new plan →
-    IsBallotIn (proposed_or_done s solutions plan touched) ballot
-posted_ballot s solutions plan [] ballot needed voted made = no_ballot _ _ _ ballot refl
-posted_ballot s solutions plan (member ∷ members) ballot needed voted made = record {
-  needed = λ on. needed;
-  voted = λ on m low need. ap (λ (votes : List ℕ). has_voted votes m) voted;
-  made = λ on. made;
-}
 
 or_none : (b : Bool) → (b || false) ≡ b
 or_none true = refl

@@ -1,12 +1,12 @@
 -- The walk over the rows of a member's pairs: what is passed, and the places of the next pairs.
-use Rattle.std.proofs.Common.{◌≡◌, ℕ, ◌+◌, ◌*◌, ◌≤◌, List, length, subst, arith}
+use Rattle.std.proofs.Common.{◌≡◌, ℕ, ◌≤◌, List, length, subst, arith}
 use Rattle.network_laws.specs.declared.rows.LimitRow.{LimitRow}
 use Rattle.network_laws.specs.declared.rows.Row.{Row}
 use Rattle.network_laws.specs.Limits.{IsLimitCursor}
 use Rattle.network_laws.specs.Networks.{IsCursor}
 use Rattle.cycle_states.specs.declared.machine.pair_places.PairPlaces.{PairPlaces}
 use Rattle.cycle_states.specs.declared.machine.part.Part.{Part}
-use Rattle.cycle_states.specs.PairPlaces.{ArePast, IsAtPair, IsPastLimits, IsPastRows, pair_place}
+use Rattle.cycle_states.specs.PairPlaces.{ArePast, IsPastLimits, IsPastRows}
 
 -- a cursor has passed what stands before its place
 pub limits_before : (rows all : List LimitRow) (m w : ℕ) → rows ≡ all → m ≤ length rows → IsLimitCursor rows m w → IsPastLimits all m w
@@ -28,10 +28,6 @@ later part at w v past le = record {
   now = rows_later part.problem.now.network.rows at.now w v past.now le;
   next = rows_later part.solution.now.network.rows at.next w v past.next le;
 }
-
--- at a pair all is passed that stands before it, and before each later place
-pub pair_passed : (part : Part) (at : PairPlaces) (seller buyer v : ℕ) → IsAtPair part at → at.seller ≡ seller → at.buyer ≡ buyer → seller * 65536 + buyer ≤ v → ArePast part at v
-pair_passed part at seller buyer v is sells buys le = later part at (pair_place at.seller at.buyer) v is.past (omega (arith, sells, buys, le))
 
 -- nothing is passed at first
 pub nothing_passed : (part : Part) (w : ℕ) → ArePast part (record { seller = 0; buyer = 0; limit = 0; now = 0; next = 0 }) w

@@ -1,6 +1,5 @@
 -- A posting that the machine accepts, and a proposal that it keeps, can be executed.
-use Rattle.std.proofs.Common.{◌≡◌, ℕ, ◌≤◌, List, [], ◌∷◌, length, Option, Some, None, is_some, IsTrue, All, refl, ap, sym, subst, ◌∙◌, arith}
-use Rattle.std.specs.Prelude.{filter, not}
+use Rattle.std.proofs.Common.{◌≡◌, ℕ, ◌≤◌, List, [], ◌∷◌, length, Option, Some, None, is_some, IsTrue, All, refl, sym, subst, arith}
 use Rattle.std.proofs.lemmas.Bool.{false≢true}
 use Rattle.std.proofs.lemmas.List.Elements.{All-weaker}
 use Rattle.network_laws.specs.Solutions.{SolutionData, IsSolution}
@@ -13,9 +12,8 @@ use Rattle.command_types.specs.declared.trade.TradeRow.{TradeRow}
 use Rattle.command_types.specs.Roster.{Rows}
 use Rattle.command_types.specs.Trades.{gross_of, trade_numbered}
 use Rattle.command_types.specs.Cycles.{is_solving, is_proposed, may_break, has_limits, bad_post, plan_on, posted_plan, old_networks, new_networks}
-use Rattle.command_types.specs.CycleRefusals.{has_voted}
-use Rattle.command_types.specs.CycleSteps.{proposed_or_done, proposed_answer, after_vote, left_after, vote_answer, after_execution}
-use Rattle.command_types.specs.Plans.{plan_of, count_of, is_new, touched_by}
+use Rattle.command_types.specs.CycleSteps.{proposed_or_done, proposed_answer, after_vote, vote_answer, after_execution}
+use Rattle.command_types.specs.Plans.{plan_of, count_of, is_new}
 use Rattle.command_types.specs.Execution.{IsExecutable}
 use Rattle.acceptance.specs.Parties.{HasPartiesBelow, IsStepBelow, IsPlanBelow}
 use Rattle.trade_history.specs.Laws.{is_execution}
@@ -24,7 +22,7 @@ use Rattle.posting.specs.Laws.{AreBegun, IsFrozenMarket, IsSettled}
 use Rattle.posting.specs.Posted.{AreOfMembers}
 use Rattle.posting.proofs.CertifiedFacts.{shaped, shape_size}
 use Rattle.posting.proofs.Settled.{begun_size, begun_of_members, begun_is_settled}
-use Rattle.cycle_states.specs.Machine.{state_in, IsMachine, IsVersion}
+use Rattle.cycle_states.specs.Machine.{IsMachine, IsVersion}
 use Rattle.cycle_states.proofs.PlanSizes.{few_made}
 use Rattle.cycle_states.proofs.CycleFacts.{limits_break, proposed_limits, solving_limits}
 
@@ -122,12 +120,3 @@ nobody_touched s solutions (member ∷ members) told = absurd (false≢true told
 pub nobody_left : (cycle : Cycle) (left : List ℕ) → IsTrue (is_execution (vote_answer cycle left)) → left ≡ []
 nobody_left cycle [] told = refl
 nobody_left cycle (voter ∷ voters) told = absurd (false≢true told)
-
--- whose votes are left, whatever names the members, the trades, the plan and the votes have
-pub left_is : (roster : Rows) (rows : List TradeRow) (cycle : Cycle) (member n : ℕ) (trades : List TradeRow) (plan : List PlanRow) (votes : List ℕ) → n ≡ length roster.members → trades ≡ rows → plan ≡ cycle.plan → votes ≡ cycle.votes →
-    length (filter (λ voter. not (has_voted (member ∷ votes) voter)) (touched_by n trades plan)) ≡ length (left_after (state_in roster rows cycle) member)
-left_is roster rows cycle member n trades plan votes all same planned counted =
-    ap (λ k. length (filter (λ voter. not (has_voted (member ∷ votes) voter)) (touched_by k trades plan))) all
-    ∙ ap (λ ts. length (filter (λ voter. not (has_voted (member ∷ votes) voter)) (touched_by (length roster.members) ts plan))) same
-    ∙ ap (λ p. length (filter (λ voter. not (has_voted (member ∷ votes) voter)) (touched_by (length roster.members) rows p))) planned
-    ∙ ap (λ vs. length (filter (λ voter. not (has_voted (member ∷ vs) voter)) (touched_by (length roster.members) rows cycle.plan))) counted

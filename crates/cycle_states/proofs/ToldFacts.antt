@@ -1,5 +1,5 @@
 -- Which pairs a member is told of.
-use Rattle.std.proofs.Common.{◌≡◌, ◌≢◌, ℕ, ◌==◌, ◌&&◌, ◌||◌, true, false, [], ◌∷◌, if◌then◌else◌, refl, ap, ◌∙◌}
+use Rattle.std.proofs.Common.{◌≡◌, ◌≢◌, ℕ, ◌==◌, ◌&&◌, ◌||◌, [], ◌∷◌, if◌then◌else◌, refl, ap, ◌∙◌}
 use Rattle.std.proofs.lemmas.Bool.{eq-eqb, ne_eqb}
 use Rattle.command_types.specs.declared.proof.ProofRow.TheVariants.{Pair}
 use Rattle.command_types.specs.MemberProofs.{Part, is_told, pair_line, pair_row}
@@ -15,10 +15,3 @@ pub own_bought : (part : Part) (member seller : ℕ) → seller ≢ member → p
 own_bought part member seller other =
     ap (λ b. if (b || (member == member)) && is_told part seller member then Pair (pair_line part seller member) ∷ [] else []) (ne_eqb seller member other)
     ∙ ap (λ b. if b && is_told part seller member then Pair (pair_line part seller member) ∷ [] else []) (eq-eqb member member refl)
-
--- a pair that is told, and one that is not
-pub is_told_row : (part : Part) (seller buyer : ℕ) → is_told part seller buyer ≡ true → told_row part seller buyer ≡ Pair (pair_line part seller buyer) ∷ []
-is_told_row part seller buyer is = ap (λ b. if b then Pair (pair_line part seller buyer) ∷ [] else []) is
-
-pub not_told_row : (part : Part) (seller buyer : ℕ) → is_told part seller buyer ≡ false → told_row part seller buyer ≡ []
-not_told_row part seller buyer is = ap (λ b. if b then Pair (pair_line part seller buyer) ∷ [] else []) is

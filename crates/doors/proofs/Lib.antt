@@ -1,4 +1,3 @@
 pub mod ListFacts
 pub mod PlanFacts
-pub mod DoorFacts
 pub mod PlannedFacts

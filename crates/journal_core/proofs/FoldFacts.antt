@@ -362,14 +362,6 @@ body_place_is SlotsShort (Some h) end place size form_is ready there = absurd fo
 body_place_is (Slots which offset) (Some h) end place size form_is ready there =
     (place_within which offset h.content ready.0 ready.1 end ready.2.1.0 ready.2.1.1 place size there).1
 
-pub selector_place_is : (form : Form) (o : Option History) (end : ℕ) → IsSlots form → IsReady o form end → IsPlace o 8
-selector_place_is form None end form_is ready = tt
-selector_place_is Short (Some h) end form_is ready = absurd form_is
-selector_place_is Plain (Some h) end form_is ready = absurd form_is
-selector_place_is SlotsShort (Some h) end form_is ready = absurd form_is
-selector_place_is (Slots which offset) (Some h) end form_is ready =
-    let long = file_long which offset h.content ready.0 ready.1 end ready.2.1.0 ready.2.1.1 in omega (arith, long)
-
 pub slot_place_is : (form : Form) (o mid : Option History) (end place slot_at : ℕ) (bytes : List ℕ) → IsSlots form → IsReady o form end → place ≡ fold_place form end (5 + length bytes) → slot_at ≡ slot_place (other_slot form)
     → Puts o place (staged_bytes bytes) mid → IsPlace mid slot_at
 slot_place_is Short o mid end place slot_at bytes form ready there slot_is puts = absurd form

@@ -221,10 +221,6 @@ gate_place (Some h) mid form end gate bytes ready is puts =
     let longer : length h.content ≤ length (overwritten end bytes h.content) = (torn_done end bytes h.content place).no_shorter in
     subst (λ (m : Option History). IsPlace m gate) (sym puts.1) (omega (arith, place, longer, ap length puts.2, is))
 
-pub ready_settled : (o : Option History) (form : Form) (end : ℕ) → IsReady o form end → IsSettled o
-ready_settled None form end ready = tt
-ready_settled (Some h) form end ready = ready.2.0
-
 pub ready_again : (o after : Option History) (form : Form) (end next : ℕ) (more : List (List ℕ)) → IsReady o form end
     → ((base : List ℕ) (records : List (List ℕ)) → IsAtRest o form end base records → IsAtRest after form next base (records ++ more)) → IsReady after form next
 ready_again None None form end next more ready rest = tt

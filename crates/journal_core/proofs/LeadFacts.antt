@@ -5,7 +5,7 @@ use Rattle.std.proofs.Math.Seq.{take-append_seam}
 use Rattle.std.specs.Int.{w32, w64, to_le_bytes}
 use Rattle.std.specs.List.{flat_map}
 use Rattle.outside.specs.Disk.{History}
-use Rattle.journal_core.specs.Holds.{plain_header, slots_header, limit, bytes_at, frame, slot_place, Selects, HasSlots, IsJournal, end_in, IsShort, Holds}
+use Rattle.journal_core.specs.Holds.{slots_header, limit, bytes_at, frame, slot_place, Selects, HasSlots, IsJournal, end_in, IsShort, Holds}
 use Rattle.journal_core.specs.Journal.{EndsAs}
 use Rattle.journal_core.specs.Records.{AreAhead}
 use Rattle.journal_core.specs.Lead.{IsLongLed, IsLed, EndsBehind, EndsLed}
@@ -15,8 +15,8 @@ use Rattle.journal_core.specs.declared.form.Form.TheVariants.{Short, Plain, Slot
 use Rattle.journal_core.specs.declared.walked.Walked.{Walked}
 use Rattle.journal_core.specs.declared.walked.WalkFault.{WalkFault}
 use Rattle.journal_core.specs.declared.walked.WalkFault.TheVariants.{Damaged, DiskFault, Memory}
-use Rattle.journal_core.proofs.PartFacts.{length-frame, drop_sum, lt_or_le, journal_holds, other_header}
-use Rattle.journal_core.proofs.OneReading.{same_size, same_base, one_lead, one_reading}
+use Rattle.journal_core.proofs.PartFacts.{length-frame, drop_sum, lt_or_le, journal_holds}
+use Rattle.journal_core.proofs.OneReading.{same_base, one_lead, one_reading}
 use Rattle.journal_core.proofs.WalkFacts.{IsPiece, holds_all}
 
 -- one byte
@@ -105,27 +105,6 @@ module _ (file : List ℕ) (which slot offset : ℕ) (long : 31 ≤ length file)
           });
           small = small;
         }
-
--- a plain journal
-pub plain_led : (file : List ℕ) → 10 ≤ length file → take 8 file ≡ plain_header → IsLed file Plain 8 8
-plain_led file long header = record {
-  long = not_short;
-  order = omega arith;
-  within = omega (arith, long);
-  leads = (header, refl, refl);
-  small = omega arith;
-}
-  where
-    not_short : IsShort file → ⊥
-    not_short (inl short) = omega (arith, long, short)
-    not_short (inr short) = other_header file header short.1
-
-pub no_header : (file : List ℕ) → 10 ≤ length file → take 8 file ≢ plain_header → take 8 file ≢ slots_header → IsDamaged file 0
-no_header file long plain slots = (not_short, inl (refl, plain, slots))
-  where
-    not_short : IsShort file → ⊥
-    not_short (inl short) = omega (arith, long, short)
-    not_short (inr short) = slots short.1
 
 no_bytes : (l : List ℕ) → length l ≡ 0 → l ≡ []
 no_bytes [] none = refl
@@ -266,38 +245,3 @@ ended gate bytes at (g ∷ rest) so_far some shut = record {
   within = omega (arith, so_far.here, so_far.within);
   there = omega (arith, so_far.here);
 }
-
-pub no_gate : (gate : ℕ) (bytes : List ℕ) (at : ℕ) (rest : List ℕ) → SoFar gate bytes at rest → length rest ≡ 0 → BreaksAt gate bytes at
-no_gate gate bytes at rest so_far none = record {
-  records = so_far.records;
-  tail = rest;
-  split = so_far.split;
-  here = so_far.here;
-  small = so_far.within;
-  opens = λ shut more is. absurd (omega (arith, none, ap length is));
-  none = λ b more is. absurd (omega (arith, none, ap length is, length-append (frame b) more, length-frame b));
-}
-
-pub no_frame : (gate : ℕ) (bytes : List ℕ) (at : ℕ) (rest body : List ℕ) → SoFar gate bytes at rest → rest ≡ 1 ∷ body
-    → ((b more : List ℕ) → body ≡ to_le_bytes w32 (length b) ++ b ++ more → limit ≤ at + (5 + length b)) → BreaksAt gate bytes at
-no_frame gate bytes at rest body so_far opens far = record {
-  records = so_far.records;
-  tail = rest;
-  split = so_far.split;
-  here = so_far.here;
-  small = so_far.within;
-  opens = λ shut more is. ap (λ (l : List ℕ). get_or l 0 0) (sym is ∙ opens);
-  none = λ b more is. far b more (ap (λ (l : List ℕ). drop 1 l) (sym opens ∙ is));
-}
-
-pub unnamed : (at : ℕ) (body : List ℕ) → NamesNoRecord body → (b more : List ℕ) → body ≡ to_le_bytes w32 (length b) ++ b ++ more → limit ≤ at + (5 + length b)
-unnamed at body none b more is = omega (arith, none b more is)
-
-pub too_far : (at : ℕ) (body found after : List ℕ) → body ≡ to_le_bytes w32 (length found) ++ found ++ after → length found < 2 ^ 32 → limit ≤ at + 5 + length found
-    → (b more : List ℕ) → body ≡ to_le_bytes w32 (length b) ++ b ++ more → limit ≤ at + (5 + length b)
-too_far at body found after found_is few far b more is = ⊎_elim
-    (λ short.
-    let same : length found ≡ length b = same_size (length found) (length b) few short (ap (λ (l : List ℕ). take 4 l) (sym found_is ∙ is)) in
-    omega (arith, far, same))
-    (λ large. omega (arith, large))
-    (lt_or_le (length b) (2 ^ 32))

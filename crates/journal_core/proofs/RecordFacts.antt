@@ -1,5 +1,5 @@
 -- The bytes of a file's records, without what stands before and behind them.
-use Rattle.std.proofs.Common.{◌≡◌, inl, inr, ℕ, ◌+◌, ◌-◌, ◌≤◌, List, [], ◌∷◌, ◌++◌, length, take, drop, min, sym, ◌∙◌, ap, arith, append_assoc, length-append}
+use Rattle.std.proofs.Common.{◌≡◌, inl, inr, ℕ, ◌+◌, ◌-◌, List, [], ◌∷◌, ◌++◌, length, take, drop, min, sym, ◌∙◌, ap, arith, append_assoc, length-append}
 use Rattle.std.proofs.lemmas.List.{take_at, length-drop}
 use Rattle.std.proofs.Math.Seq.{take-nil}
 use Rattle.std.specs.List.{flat_map}
@@ -42,16 +42,6 @@ ends_there Short file base records start gate end led ends other all holds on = 
 ends_there SlotsShort file base records start gate end led ends other all holds on = absurd (short_none file gate all led.3 on)
 ends_there Plain file base records start gate end led ends other all holds on = long_end Plain file base records start gate end led ends.0 ends.1 other all holds
 ends_there (Slots which offset) file base records start gate end led ends other all holds on = long_end (Slots which offset) file base records start gate end led ends.0 ends.1 other all holds
-
--- no file ends before its first gate
-gate_before : (form : Form) (file base : List ℕ) (records : List (List ℕ)) (start gate end : ℕ) → IsLed file form start gate → EndsAs form file end base records → gate ≤ end
-gate_before Short file base records start gate end led ends = omega (arith, led.0, led.2, ends.3)
-gate_before SlotsShort file base records start gate end led ends = omega (arith, led.0, led.3, ends.4)
-gate_before Plain file base records start gate end led ends = omega (arith, ends.1, same_gate Plain file base records start gate led ends.0)
-gate_before (Slots which offset) file base records start gate end led ends = omega (arith, ends.1, same_gate (Slots which offset) file base records start gate led ends.0)
-
-pub gate_early : (w : Walked) → IsWalked w → w.gate ≤ w.end
-gate_early w walked = gate_before w.form (bytes_of w) (base_of w) walked.1.0 w.base w.gate w.end walked.0 walked.1.1
 
 -- ---- the bytes up to there
 

@@ -83,12 +83,6 @@ header_starting (Some h) mid tiny leaves = λ base records holds.
     let none = holds_nothing h.content base records (inl tiny) holds in
     leaves_more (Some h) mid (IsTorn 0 9 h.content) (λ image. Holds image base records) (λ image torn. short_holds image base records (torn_header h.content image tiny torn) none) leaves
 
-pub header_bare : (o mid : Option History) → IsTiny o → Puts o 0 first_bytes mid → IsBare mid
-header_bare None mid tiny puts = subst IsBare (sym puts) tt
-header_bare (Some h) mid tiny puts =
-    let is : puts.0.content ≡ first_bytes = puts.2 ∙ header_done h.content tiny in
-    subst IsBare (sym puts.1) (subst (λ (f : List ℕ). (length f < 31) × (take 8 f ≡ slots_header)) (sym is) (omega arith, refl))
-
 pub bare_place : (o : Option History) → IsBare o → IsPlace o 8
 bare_place None bare = tt
 bare_place (Some h) bare = omega (arith, length-take 8 h.content, ap length bare.1)

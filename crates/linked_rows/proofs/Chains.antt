@@ -68,10 +68,6 @@ pub chain_split : (links : List Link) (p : ℕ) (xs : List ℕ) (x : ℕ) (ys : 
 chain_split links p [] x ys q h = (h.0, h.1)
 chain_split links p (y ∷ xs) x ys q h = let s = chain_split links y xs x ys q h.1 in ((h.0, s.0), s.1)
 
-pub chain_join : (links : List Link) (p : ℕ) (xs : List ℕ) (x : ℕ) (ys : List ℕ) (q : ℕ) → IsChain links p xs x → IsChain links x ys q → IsChain links p (xs ++ x ∷ ys) q
-chain_join links p [] x ys q h k = (h, k)
-chain_join links p (y ∷ xs) x ys q h k = (h.0, chain_join links y xs x ys q h.1 k)
-
 -- what holds of all places of a chain holds of those before its last and after its first
 pub before_chain : (P : ℕ → Type 0) (links : List Link) (p : ℕ) (xs : List ℕ) (q : ℕ) → P p → Each P xs → IsChain links p xs q → P (before links q)
 before_chain P links p [] q hp h c = subst P (sym c.before) hp

@@ -126,7 +126,3 @@ entries_written values base x v (y ∷ ys) le low h =
     rw (slice_get-set_other values (x - base) (y - base) v far)
     (written_other x y v (slice_get values (y - base)) (entries_of values base ys) ne ∙ ap (λ es. with_entry y (slice_get values (y - base)) es) (entries_written values base x v ys le low h.1)))
     (cases_eq y x)
-
--- the first of places that all have values
-pub first_is : {T : Type 0} (values : List T) (base : ℕ) (y : ℕ) (ys : List ℕ) (v : T) → slice_get values (y - base) ≡ Some v → first_of (entries_of values base (y ∷ ys)) ≡ Some y
-first_is values base y ys v e = rw e refl

@@ -1,10 +1,10 @@
 -- Sums over members are within the gross.
-use Rattle.std.proofs.Common.{◌≡◌, ◌≢◌, ℕ, zero, suc, ◌+◌, ◌<◌, ◌≤◌, List, [], ◌∷◌, eqb, refl, ap, ◌∙◌, arith, ⊎_elim}
+use Rattle.std.proofs.Common.{◌≡◌, ◌≢◌, ℕ, zero, suc, ◌+◌, ◌<◌, ◌≤◌, List, [], ◌∷◌, eqb, refl, ap, arith, ⊎_elim}
 use Rattle.std.proofs.lemmas.Bool.{cases_eq, cond_both}
 use Rattle.std.proofs.lemmas.List.Sums.{sum_by-cons}
 use Rattle.network_laws.specs.declared.rows.Row.{Row}
-use Rattle.network_laws.specs.Networks.{sum_below, sold_part, bought_part, pair_part, total, sold_in, amount_in}
-use Rattle.network_laws.proofs.RowSums.{sold_part-other, pair_part-seller, pair_part-buyer, pair_part-same}
+use Rattle.network_laws.specs.Networks.{sum_below, sold_part, bought_part, total, sold_in}
+use Rattle.network_laws.proofs.RowSums.{sold_part-other}
 
 pub sold_part-le : (i : ℕ) (row : Row) → sold_part i row ≤ row.amount
 sold_part-le i row = cond_both (eqb row.seller i) row.amount 0 (λ x. x ≤ row.amount) (λ _. omega arith) (λ _. omega arith)
@@ -52,36 +52,6 @@ pub sum_below-more : (n i : ℕ) (f : ℕ → ℕ) → i < n → sum_below i f +
 sum_below-more zero i f l = absurd (omega arith)
 sum_below-more (suc n) i f l =
     ⊎_elim (λ (e : i ≡ n). rw e (omega arith)) (λ (ne : i ≢ n). omega (arith, sum_below-more n i f (omega arith))) (cases_eq i n)
-
--- pairs of which each stands once are within all pairs
-pub triangle : (n : ℕ) (f : ℕ → ℕ → ℕ) → sum_below n (λ j. sum_below j (λ i. f i j + f j i)) ≤ sum_below n (λ i. sum_below n (f i))
-triangle zero f = omega arith
-triangle (suc n) f =
-    omega (arith, triangle n f, sum_below-add n (λ i. f i n) (f n), sum_below-add n (λ i. sum_below n (f i)) (λ i. f i n))
-
--- all pairs together are within the total
-pub sum_below-pairs : (n : ℕ) (rows : List Row) → sum_below n (λ i. sum_below n (λ j. amount_in rows i j)) ≤ total rows
-sum_below-pairs n [] = omega (arith, none n n)
-  where
-    zeros : (n : ℕ) → sum_below n (λ j. 0) ≡ 0
-    zeros zero = refl
-    zeros (suc n) = omega (arith, zeros n)
-
-    none : (m n : ℕ) → sum_below m (λ i. sum_below n (λ j. 0)) ≡ 0
-    none zero n = refl
-    none (suc m) n = omega (arith, none m n, zeros n)
-sum_below-pairs n (row ∷ rows) =
-    let split = λ (i : ℕ). sum_below-same n (λ j. amount_in (row ∷ rows) i j) (λ j. pair_part i j row + amount_in rows i j) (λ j _. sum_by-cons (pair_part i j) row rows) ∙ sum_below-add n (λ j. pair_part i j row) (amount_in rows i) in
-    omega (
-      arith,
-      sum_below-same n (λ i. sum_below n (λ j. amount_in (row ∷ rows) i j)) (λ i. sum_below n (λ j. pair_part i j row) + sum_below n (amount_in rows i)) (λ i _. split i),
-      sum_below-add n (λ i. sum_below n (λ j. pair_part i j row)) (λ i. sum_below n (amount_in rows i)),
-      sum_below-one n row.seller row.amount (λ i. sum_below n (λ j. pair_part i j row))
-          (sum_below-one n row.buyer row.amount (λ j. pair_part row.seller j row) (omega (arith, pair_part-same row)) (λ j ne. pair_part-buyer row.seller j row refl ne))
-          (λ i ne. omega (arith, sum_below-one n 0 0 (λ j. pair_part i j row) (omega (arith, pair_part-seller i 0 row ne)) (λ j _. pair_part-seller i j row ne))),
-      sum_below-pairs n rows,
-      sum_by-cons (λ (r : Row). r.amount) row rows,
-    )
 
 pub sum_below-sold : (n : ℕ) (rows : List Row) → sum_below n (λ i. sold_in rows i) ≤ total rows
 sum_below-sold n [] = omega (arith, nothing n)

@@ -99,10 +99,3 @@ cursor_stays rows m w rising c other = record {
       (λ (q : k ≢ m). omega (arith, rising m k d (omega arith) lk, c.behind m d (omega arith) (omega arith)))
       (cases_eq k m);
 }
-
--- from the end of a seller's pairs to the next seller
-pub cursor_next_seller : (rows : List Row) (n i m : ℕ) → n ≤ 256 → AreRows n rows → IsCursor rows m (i * 65536 + n) → IsCursor rows m ((i + 1) * 65536)
-cursor_next_seller rows n i m few h c = record {
-  before = λ k d lk. omega (arith, c.before k d lk);
-  behind = λ k d km lk. omega (arith, c.behind k d km lk, (h.good k d lk).buyer);
-}

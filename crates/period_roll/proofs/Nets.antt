@@ -26,10 +26,6 @@ seller_of row = row.seller
 abbrev pub buyer_of : TradeRow → ℕ
 buyer_of row = row.buyer
 
-and_false : (a : Bool) → (a && false) ≡ false
-and_false true = refl
-and_false false = refl
-
 no_party : (party : TradeRow → ℕ) (product : ℕ) (row : TradeRow) → part_of party (Some product) None row ≡ 0
 no_party party product row = by (row.product == product) (is_live row.state)
   where

@@ -20,7 +20,7 @@ use Rattle.command_types.specs.Trades.{is_alleged, trade_numbered, with_row, cha
 use Rattle.command_types.specs.Cycles.{problem_of, problems_from}
 use Rattle.acceptance.specs.Laws.{unmarked, frozen_of}
 use Rattle.acceptance.proofs.FrozenRows.{plan_is_of_the_frozen}
-use Rattle.posting.specs.Laws.{AreBegun, PlanStays}
+use Rattle.posting.specs.Laws.{PlanStays}
 
 module _ (rows other : List TradeRow) (same : frozen_of rows ≡ frozen_of other) where
   problem_same : (roster : Rows) (settings : List ToleranceRow) (mode : Mode) (product : ℕ) → problem_of roster rows settings mode product ≡ problem_of roster other settings mode product
@@ -40,14 +40,6 @@ pub plan_stays : PlanStays
 plan_stays rows other same = record {
   problems = λ roster settings mode. problems_same rows other same roster settings mode 0 roster.products;
   plan = (plan_is_of_the_frozen rows other same).plan;
-}
-
--- and a version's problems are still those of its beginning
-pub begun_stays : (roster : Rows) (rows other : List TradeRow) (problems : List ProblemData) → frozen_of rows ≡ frozen_of other → AreBegun roster rows problems → AreBegun roster other problems
-begun_stays roster rows other problems same begun = record {
-  settings = begun.settings;
-  mode = begun.mode;
-  same = begun.same ∙ (plan_stays rows other same).problems roster begun.settings begun.mode;
 }
 
 frozen_append : (rows more : List TradeRow) → frozen_of (rows ++ more) ≡ frozen_of rows ++ frozen_of more

@@ -1,8 +1,8 @@
 -- What keeps the sums of trades right: a new trade, a change of one, and changes that add nothing.
-use Rattle.std.proofs.Common.{◌≡◌, ℕ, ◌+◌, ◌-◌, ◌≤◌, ◌<◌, ◌==◌, ◌&&◌, Bool, List, [], ◌∷◌, ◌++◌, length, map, get_or, set, replicate, if◌then◌else◌, arith, refl, ap, sym, ◌∙◌, ⊎_elim, length-set}
+use Rattle.std.proofs.Common.{◌≡◌, ℕ, ◌+◌, ◌-◌, ◌≤◌, ◌<◌, ◌==◌, ◌&&◌, Bool, List, [], ◌∷◌, ◌++◌, length, map, get_or, set, if◌then◌else◌, arith, refl, ap, sym, ◌∙◌, ⊎_elim, length-set}
 use Rattle.std.specs.Prelude.{sum_by}
 use Rattle.std.proofs.lemmas.Bool.{cases_eq, eq-eqb, ne_eqb}
-use Rattle.std.proofs.lemmas.List.{get_or-set_same, get_or-set_other, get_or-replicate, length-replicate}
+use Rattle.std.proofs.lemmas.List.{get_or-set_same, get_or-set_other}
 use Rattle.std.proofs.lemmas.List.Sums.{sum_by_push, sum_by-cons, sum_by-set, get_or-le-sum_by}
 use Rattle.command_types.specs.declared.trade.TradeRow.{TradeRow}
 use Rattle.product_book.specs.Kept.{raised, moved, AreSums}
@@ -18,10 +18,6 @@ at_own key test n row e = rw (eq-eqb (key row) n e) refl
 
 at_other : (key : TradeRow → ℕ) (test : TradeRow → Bool) (n : ℕ) (row : TradeRow) → (key row ≡ n → ⊥) → at_part key test n row ≡ 0
 at_other key test n row ne = rw (ne_eqb (key row) n ne) refl
-
--- no trades
-pub none_kept : (key : TradeRow → ℕ) (test : TradeRow → Bool) (m : ℕ) → AreSums key test (replicate m 0) []
-none_kept key test m n low = get_or-replicate m n 0 0 (omega (arith, low, length-replicate {A = ℕ} m 0))
 
 -- one more trade
 pub kept_push : (key : TradeRow → ℕ) (test : TradeRow → Bool) (sums : List ℕ) (rows : List TradeRow) (row : TradeRow) → AreSums key test sums rows → key row < length sums → AreSums key test (raised sums (key row) (own_part test row)) (rows ++ row ∷ [])

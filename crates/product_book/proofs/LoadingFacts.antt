@@ -1,12 +1,11 @@
 -- What a book keeps while trades are put into it one after another.
-use Rattle.std.proofs.Common.{◌≡◌, ℕ, zero, suc, ◌+◌, ◌-◌, ◌≤◌, ◌<◌, Bool, true, false, List, [], ◌∷◌, ◌++◌, length, take, filter, get_or, slice_get, slice_set, nat_lt, Some, None, is_some, if◌then◌else◌, arith, refl, sym, ap, ◌∙◌, subst, length-append}
+use Rattle.std.proofs.Common.{◌≡◌, ℕ, zero, suc, ◌+◌, ◌-◌, ◌≤◌, ◌<◌, true, false, List, [], ◌∷◌, ◌++◌, length, take, get_or, slice_get, slice_set, nat_lt, Some, None, if◌then◌else◌, arith, refl, sym, ap, ◌∙◌, subst}
 use Rattle.std.proofs.lemmas.Bool.{lt-ltb}
 use Rattle.std.proofs.lemmas.List.{take_more}
-use Rattle.std.proofs.lemmas.List.Elements.{filter-append}
 use Rattle.std.proofs.lemmas.List.Sums.{sum_by-cons}
 use Rattle.std.proofs.lemmas.Option.{slice_get_read}
 use Rattle.command_types.specs.declared.trade.TradeRow.{TradeRow}
-use Rattle.command_types.specs.Trades.{counts, gross_of, live_row, submitted_count, trade_numbered, with_row}
+use Rattle.command_types.specs.Trades.{counts, gross_of, live_row, trade_numbered, with_row}
 use Rattle.product_book.specs.declared.kept.KeptSums.{KeptSums}
 use Rattle.product_book.specs.Book.{gross_limit, AreTrades, IsTrade}
 use Rattle.product_book.specs.Execution.{IsRunning}
@@ -69,17 +68,6 @@ within_next rows i row lt is bounded product =
     subst (λ (l : List TradeRow). gross_of product l ≤ gross_limit) (take_push rows i row lt is) (omega (arith, gross_take product (i + 1) rows, bounded product))
 
 -- ---- submitters
-
-one_counted : (t : Bool) (row : TradeRow) → length (if t then row ∷ [] else []) ≡ (if t then 1 else 0)
-one_counted true row = refl
-one_counted false row = refl
-
-pub submitted_more : (rows : List TradeRow) (i : ℕ) (row : TradeRow) (t : Bool) → i < length rows → row ≡ get_or rows i row → is_some row.submitter ≡ t →
-    submitted_count (take (i + 1) rows) ≡ submitted_count (take i rows) + (if t then 1 else 0)
-submitted_more rows i row t lt is by =
-    let counted : TradeRow → Bool = λ r. is_some r.submitter in
-    ap submitted_count (take_push rows i row lt is) ∙ ap length (filter-append counted (take i rows) (row ∷ [])) ∙ length-append (filter counted (take i rows)) (filter counted (row ∷ []))
-    ∙ ap (λ n. submitted_count (take i rows) + n) (one_counted (is_some row.submitter) row ∙ ap (λ b. if b then 1 else 0) by)
 
 -- ---- numbers
 

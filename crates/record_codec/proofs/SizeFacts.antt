@@ -11,7 +11,7 @@ use Rattle.command_types.specs.declared.ask.What.TheVariants.{Hello, Trade, Affi
 use Rattle.command_types.specs.declared.spelling.Spelling.TheVariants.{Second}
 use Rattle.command_types.specs.Machine.{changes}
 use Rattle.command_types.specs.Sizes.{ceiling_size, solution_size, fields_size, record_size}
-use Rattle.command_types.specs.Spelling.{number_spelling, name_spelling, day_spelling, side_byte, ceiling_spelling, row_spelling, potential_spelling, solution_spelling, fields_spelling, spelling, AreFields}
+use Rattle.command_types.specs.Spelling.{number_spelling, name_spelling, day_spelling, side_byte, ceiling_spelling, row_spelling, potential_spelling, solution_spelling, fields_spelling, spelling}
 use Rattle.record_codec.proofs.RowReading.{rows_few}
 
 length_3 : (a b c : List ℕ) → length (a ++ b ++ c) ≡ length a + length b + length c
@@ -90,33 +90,6 @@ spelling_length e is =
     let party : List ℕ = unwrap_or e.ask.by [] in
     let all = length_4 (number_spelling e.ask.moment) (to_le_bytes w32 e.seat) (name_spelling party) (fields_spelling e.ask.what) in
     omega (arith, all, fields_length e.ask.what is)
-
--- only changes have fields
-pub fields_change : (what : What) → AreFields what → changes what ≡ true
-fields_change (Trade seller buyer product amount day) fields = refl
-fields_change (Affirm trade) fields = refl
-fields_change (End trade) fields = refl
-fields_change (Hold trade) fields = refl
-fields_change (Free trade) fields = refl
-fields_change (Tol other product side floor ceiling) fields = refl
-fields_change (Freeze day) fields = refl
-fields_change (Begin cycle mode) fields = refl
-fields_change (Post cycle version solutions) fields = refl
-fields_change (Accept cycle version) fields = refl
-fields_change (Decline cycle version) fields = refl
-fields_change (Cancel cycle) fields = refl
-fields_change (Hello name key) fields = absurd fields
-fields_change (Nets product) fields = absurd fields
-fields_change Statement fields = absurd fields
-fields_change (Limits product) fields = absurd fields
-fields_change (Row product seller buyer amount size sum) fields = absurd fields
-fields_change (Pot product member value size) fields = absurd fields
-fields_change (Fetch cycle version) fields = absurd fields
-fields_change (Next position) fields = absurd fields
-fields_change (Plan cycle) fields = absurd fields
-fields_change (Proof cycle) fields = absurd fields
-fields_change Bye fields = absurd fields
-fields_change (Unreadable at) fields = absurd fields
 
 -- a solution's rows are few enough for their number's four bytes
 pub solution_small : (s : SolutionData) → IsSolution s → (length s.network.rows ≤ 16777216) × (length s.potentials ≤ 256) × (solution_size s ≤ 268435456)

@@ -36,15 +36,6 @@ stands_base (byte ∷ bytes) b start spells stands =
       stands.3 ∙ ap (λ (c : Base). base_in start.state.roster c) same,
     )
 
--- no bytes stand for the beginning of a roster's market alone
-pub stands_first : (bytes : List ℕ) (start : Start) → bytes ≡ [] → StandsForBase bytes start → start ≡ first_start start.state.roster
-stands_first [] start none stands = stands
-stands_first (byte ∷ bytes) start none stands = absurd (omega (arith, ap length none))
-
-pub first_stands : (roster : Rows) (bytes : List ℕ) → bytes ≡ [] → StandsForBase bytes (first_start roster)
-first_stands roster [] none = refl
-first_stands roster (byte ∷ bytes) none = absurd (omega (arith, ap length none))
-
 -- what stands for a start is no bytes, or spells some base
 pub stands_spelled : (bytes : List ℕ) (start : Start) → StandsForBase bytes start → (bytes ≡ []) ⊎ SpellsSomeBase bytes
 stands_spelled [] start stands = inl refl

@@ -6,12 +6,11 @@ use Rattle.command_types.specs.declared.figures.Start.{Start}
 use Rattle.command_types.specs.History.{History}
 use Rattle.command_types.specs.Roster.{Rows}
 use Rattle.command_types.specs.Bases.{spelling_behind}
-use Rattle.command_types.specs.declared.spelling.Spelling.{Spelling}
 use Rattle.journal_core.specs.Holds.{limit, frame, Holds}
-use Rattle.recovery.specs.Bodies.{Written, Placed, changes_in, changes_of, spelling_after}
+use Rattle.recovery.specs.Bodies.{Written, Placed, changes_in, changes_of}
 use Rattle.journal_core.proofs.OneReading.{one_reading, one_place, not_both}
 use Rattle.record_codec.proofs.RecordReading.{unique}
-use Rattle.recovery.specs.StandsFor.{SpellAll, SpellsAs, StandsFor, StandsForBase, GoesOnIn, HoldsAt, changes_at, IsFirstBad, IsUnreadable}
+use Rattle.recovery.specs.StandsFor.{SpellAll, SpellsAs, StandsFor, StandsForBase, HoldsAt, changes_at, IsFirstBad, IsUnreadable}
 use Rattle.recovery.specs.Reading.{entries_in, SpellsAt, IsRead, HasBase, FitsIn, start_of, history_of}
 use Rattle.recovery.specs.Reading.{IsFault, IsOnlyFault}
 use Rattle.recovery.specs.Laws.{FilesStandForOneHistory}
@@ -43,12 +42,6 @@ pub one_placing : (file b c : List ℕ) (rs ss : List (List ℕ)) (p q : ℕ) �
 one_placing file b c rs ss p q here there =
     let one = one_reading file b c rs ss (at_holds file b rs p here) (at_holds file c ss q there) in
     ap (λ (x : List ℕ). changes_at x p rs) one.0 ∙ ap (λ (l : List (ℕ × List ℕ)). changes_of (spelling_behind c) l) (one_gate file b c rs ss p q here there)
-
--- a file goes on in one spelling
-pub one_spelling : (file : List ℕ) (s t : Spelling) → GoesOnIn file s → GoesOnIn file t → s ≡ t
-one_spelling file s t here there =
-    let one = one_reading file here.0 there.0 here.1 there.1 here.2 there.2 in
-    here.3 ∙ ap (λ (x : List ℕ). spelling_after (spelling_behind x) here.1) one.0 ∙ ap (λ (l : List (List ℕ)). spelling_after (spelling_behind there.0) l) one.1 ∙ sym there.3
 
 -- a file's histories have the same changes,
 pub one_list_of_entries : (file : List ℕ) (a b : History) → StandsFor file a → StandsFor file b → a.entries ≡ b.entries

@@ -9,7 +9,6 @@ use Rattle.journal_core.specs.declared.form.Form.TheVariants.{Short, Plain, Slot
 use Rattle.journal_core.specs.declared.walked.Walked.{Walked}
 use Rattle.journal_core.proofs.PartFacts.{journal_holds, other_header}
 use Rattle.journal_core.proofs.OneReading.{one_lead, one_reading}
-use Rattle.journal_core.proofs.EndFacts.{same_end}
 use Rattle.recovery.specs.StandsFor.{HoldsAt}
 
 -- ---- what is held
@@ -133,7 +132,3 @@ one_form (Slots m o) (Slots n p) file b c rs ss j k =
     let which : m ≡ n = one_slot x.selector y.selector m n selector x.selects y.selects in
     let offset : o ≡ p = omega (arith, x.place_is, y.place_is, lead.1, ap length lead.0) in
     ap (λ (i : ℕ). Slots i o) which ∙ ap (λ (i : ℕ). Slots n i) offset
-
--- and one with slots ends at one place
-pub one_end : (m o n p : ℕ) (file b c : List ℕ) (rs ss : List (List ℕ)) (end last : ℕ) → EndsAs (Slots m o) file end b rs → EndsAs (Slots n p) file last c ss → end ≡ last
-one_end m o n p file b c rs ss end last ends others = ends.1 ∙ same_end (Slots m o) (Slots n p) file b c rs ss ends.0 others.0 ∙ sym others.1

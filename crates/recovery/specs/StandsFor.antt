@@ -28,10 +28,6 @@ SpellAll spelling records entries = AllZip SpellsAs (changes_in spelling records
 abbrev pub first_start : Rows → Start
 first_start roster = record { position = 0; state = empty_state roster }
 
--- the history of these changes from there on
-abbrev pub first_history : Rows → List Entry → History
-first_history roster entries = record { base = first_start roster; entries = entries }
-
 -- no bytes stand for where a roster's market begins, and others spell a base that fits the roster, and stand for where that one begins
 abbrev pub StandsForBase : List ℕ → Start → Type 0
 StandsForBase [] start = start ≡ first_start start.state.roster

@@ -26,9 +26,6 @@ record FirstFor (rows : List LimitRow) (i j : ℕ) : Type 0 where
   yes : (d : LimitRow) → is_for i j (get_or rows at_k d) ≡ true
   before : (k : ℕ) (d : LimitRow) → k < at_k → is_for i j (get_or rows k d) ≡ false
 
-NoneFor : List LimitRow → ℕ → ℕ → Type 0
-NoneFor rows i j = (k : ℕ) (d : LimitRow) → k < length rows → is_for i j (get_or rows k d) ≡ false
-
 first_for : (rows : List LimitRow) (i j : ℕ) → FirstFor rows i j ⊎ ((k : ℕ) (d : LimitRow) → k < length rows → is_for i j (get_or rows k d) ≡ false)
 first_for [] i j = inr (λ k d l. absurd (omega arith))
 first_for (row ∷ rows) i j =

@@ -17,12 +17,6 @@ pub record AreInStep (sales : List Row) (rows : List LimitRow) (m k : ℕ) : Typ
   pub passed : (j n : ℕ) (d : Row) (e : LimitRow) → j < m → k ≤ n → n < length rows → place (get_or sales j d) < limit_place (get_or rows n e)
   pub ahead : (j n : ℕ) (d : Row) (e : LimitRow) → m ≤ j → j < length sales → n < k → limit_place (get_or rows n e) < place (get_or sales j d)
 
-pub first_step : (sales : List Row) (rows : List LimitRow) → AreInStep sales rows 0 0
-first_step sales rows = record {
-  passed = λ j n d e lj le l. absurd (omega (arith, lj));
-  ahead = λ j n d e le l ln. absurd (omega (arith, ln));
-}
-
 module _ (sales : List Row) (rows : List LimitRow) (m k : ℕ) (rising : IsRising sales) (rising_limits : IsRisingLimits rows) (step : AreInStep sales rows m k) (in_rows : k < length rows) (d : Row) (e : LimitRow) where
   -- both rows are of one pair
   module _ (in_sales : m < length sales) (same : limit_place (get_or rows k e) ≡ place (get_or sales m d)) where

@@ -110,10 +110,6 @@ served_finally clock turns final main start (Some p) (Some q) v w most out on ma
     let P : Sight → Type 0 = λ s. HasServed clock final s v w most out in
     subst P sight (served_told clock final p q v w most out fresh grows (goes_through final.history (seen main) (seen q) on t.0.seen_too) (none_behind main q final.history on t.0 t.1 made) (λ e. stops (t.0.stop_too e)) serves)
 
--- a pass takes in itself
-pub itself : (p : Pass) → Includes p p
-itself p = record { seen_too = ([], ap (λ es. record (seen p) { entries = es }) (sym (append-nil (seen p).entries))); stands_too = λ n h. h; same_entries = λ n h. refl; stop_too = λ e. e }
-
 -- what a pass has taken in, it has taken in where a later one stands for it
 pub taken_through : (p q : Pass) (other : Option Pass) → Includes p q → TakesIn q other → TakesIn p other
 taken_through p q None includes taken = tt

@@ -22,13 +22,6 @@ pub kept_none : {X Y : Type 0} (h : X → Option Y) (xs : List X) (i : ℕ) (d :
 kept_none {X} {Y} h xs i d ys l e none =
     e ∙ sym (append-nil (filter_map h (take i xs))) ∙ ap (λ (zs : List Y). filter_map h (take i xs) ++ zs) (sym (kept_no h (get_or xs i d) [] none)) ∙ sym (filter_map-append h (take i xs) (get_or xs i d ∷ [])) ∙ ap (filter_map h) (sym (take_more xs i d l))
 
-pub kept_agree : {X Y : Type 0} (f g : X → Option Y) (xs : List X) → All (λ x. f x ≡ g x) xs → filter_map f xs ≡ filter_map g xs
-kept_agree f g [] h = refl
-kept_agree f g (x ∷ xs) h =
-    let one : f x ≡ g x = All-head (λ z. f z ≡ g z) x xs h in
-    let rest = kept_agree f g xs (All-tail (λ z. f z ≡ g z) x xs h) in
-    rw (one, rest) refl
-
 pub kept_all : {X Y : Type 0} (f : X → Option Y) (P : X → Type 0) (Q : Y → Type 0) → ((x : X) (y : Y) → P x → f x ≡ Some y → Q y) → (xs : List X) → All P xs → All Q (filter_map f xs)
 kept_all f P Q step [] h = All-nil Q
 kept_all {X} {Y} f P Q step (x ∷ xs) h = by_cases (kept_all f P Q step xs (All-tail P x xs h)) (option_cases (f x))

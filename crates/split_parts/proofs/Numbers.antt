@@ -74,14 +74,6 @@ part_short part n rising within = short (cases_lt 0 (length part))
         omega arith
     short (inr l) = omega arith
 
-pub number_of : (part : List ℕ) (members : ℕ) (numbers : List (Option ℕ)) (n : ℕ) → IsRisingPart part → ((q : ℕ) → q < n → get_or numbers (get_or part q 0) None ≡ Some q) → ((m : ℕ) → m < members → ((q : ℕ) → q < n → get_or part q 0 ≢ m) → get_or numbers m None ≡ None) → length part ≡ n →
-    (m : ℕ) → m < members → get_or numbers m None ≡ number_in part m
-number_of part members numbers n rising here rest is m lm = by_cases (option_cases (number_in part m))
-  where
-    by_cases : (number_in part m ≡ None) ⊎ ((q : ℕ) × (number_in part m ≡ Some q)) → get_or numbers m None ≡ number_in part m
-    by_cases (inl e) = rest m lm (λ q lq. number_none part m e q (omega arith)) ∙ sym e
-    by_cases (inr q) = let h = number_some part m q.0 q.1 in ap (λ x. get_or numbers x None) (sym h.1) ∙ here q.0 (let l = h.0 in omega arith) ∙ sym q.1
-
 pub not_some : {X : Type 0} (o : Option X) → ((x : X) → o ≡ Some x → ⊥) → o ≡ None
 not_some None h = refl
 not_some (Some x) h = absurd (h x refl)

@@ -27,12 +27,6 @@ pub record StandsIn {X : Type 0} (seller : X → ℕ) (rows : List X) (at s : �
   pub before : (k : ℕ) (d : X) → k < at → seller (get_or rows k d) ≤ s
   pub behind : (k : ℕ) (d : X) → at ≤ k → k < length rows → s ≤ seller (get_or rows k d)
 
-pub at_first : {X : Type 0} (seller : X → ℕ) (part : List ℕ) (rows : List X) → StandsAt seller part rows 0 0
-at_first seller part rows = record {
-  before = λ k d lk q lq l. absurd (omega arith);
-  behind = λ k d le lk q lq l. absurd (omega arith);
-}
-
 passed_by : {X Y : Type 0} (f : X → Option Y) (rows : List X) (d : X) (from n : ℕ) (ys : List Y) → from + n ≤ length rows → ((k : ℕ) → from ≤ k → k < from + n → f (get_or rows k d) ≡ None) → ys ≡ filter_map f (take from rows) → ys ≡ filter_map f (take (from + n) rows)
 passed_by {X} {Y} f rows d from zero ys within none is = let e : from ≡ from + zero = omega arith in subst (λ k. ys ≡ filter_map f (take k rows)) e is
 passed_by {X} {Y} f rows d from (suc n) ys within none is =
