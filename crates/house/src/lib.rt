@@ -3,12 +3,12 @@
 
 mod calling;
 mod executions;
-pub mod fault;
-pub mod folding;
-pub mod house;
+mod fault;
+mod folding;
+mod house;
 mod opening;
-pub mod past;
-pub mod recovering;
+mod past;
+mod recovering;
 mod storing;
 mod turning;
 

@@ -1,19 +1,19 @@
 //! The journal: byte records in a file, each on the disk before its append is answered.
 #![tactic(auto)]
 
-pub mod form;
-pub mod frame;
-pub mod frames;
-pub mod journal;
+mod form;
+mod frame;
+mod frames;
+mod journal;
 mod laws;
 mod log;
 mod parts;
 mod put;
-pub mod record_bytes;
-pub mod records;
+mod record_bytes;
+mod records;
 mod staged;
 mod starting;
-pub mod walked;
+mod walked;
 mod walking;
 
 pub use form::Form;

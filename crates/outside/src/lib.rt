@@ -2,23 +2,23 @@
 //! the disk that keeps its journal, the clock that it asks, and the gate that its workers pass.
 #![tactic(auto)]
 
-pub mod access;
-pub mod clock;
-pub mod disk;
-pub mod failed;
-pub mod file_disk;
-pub mod files;
-pub mod gate;
-pub mod memory_disk;
-pub mod memory_files;
-pub mod memory_sink;
-pub mod memory_source;
-pub mod sink;
-pub mod source;
-pub mod streams;
+mod access;
+mod clock;
+mod disk;
+mod failed;
+mod file_disk;
+mod files;
+mod gate;
+mod memory_disk;
+mod memory_files;
+mod memory_sink;
+mod memory_source;
+mod sink;
+mod source;
+mod streams;
 mod system_file;
-pub mod system_files;
-pub mod trouble;
+mod system_files;
+mod trouble;
 
 pub use access::Access;
 pub use clock::{Clock, MemoryClock, SystemClock};

@@ -3,11 +3,11 @@
 #![tactic(auto)]
 
 mod body;
-pub mod contents;
-pub mod entries;
-pub mod fault;
+mod contents;
+mod entries;
+mod fault;
 mod laws;
-pub mod reader;
+mod reader;
 mod reading;
 
 pub use contents::{BaseAt, Contents};

@@ -2,14 +2,14 @@
 //! limits of the service.
 #![tactic(auto)]
 
-pub mod amount;
-pub mod day;
-pub mod limits;
-pub mod name;
-pub mod number;
-pub mod place;
-pub mod print;
-pub mod signed;
+mod amount;
+mod day;
+mod limits;
+mod name;
+mod number;
+mod place;
+mod print;
+mod signed;
 
 pub use amount::Amount;
 pub use day::Day;
