@@ -4,9 +4,15 @@
 ghost use Rattle.std.specs.Prelude.{◌≡◌, ◌+◌, ◌<◌, ◌≤◌, ◌++◌, length, take, decimal};
 ghost use Rattle.std.specs.Fmt.{signed_decimal};
 ghost use Rattle.command_types.specs.Text.{member_name, product_name, state_text, mode_text, pair_text, numbers_text};
+ghost use Rattle.command_text.specs.declared.put.TheConstants.{PAIR};
+ghost use Rattle.units_core.specs.declared.limits.TheConstants.{MOST_NAME};
 
 use command_types::{Mode, Roster, TradeState};
 use itoa::Buffer;
+use units_core::MOST_NAME;
+
+/// The most bytes of two names with a space in front of each.
+pub const PAIR: usize = MOST_NAME + MOST_NAME + 2;
 
 /// Writes bytes at a place of the buffer, and says where they end.
 pub fn put(into: &mut [u8], at: usize, bytes: &[u8]) -> usize
@@ -74,10 +80,10 @@ pub fn put_told(into: &mut [u8], at: usize, bytes: &[u8], number: u64) -> usize
     put_number(into, end, number)
 }
 
-/// Writes the name of the member at a place of the roster, of at most 16 bytes. A place without a member has no name.
+/// Writes the name of the member at a place of the roster. A place without a member has no name.
 pub fn put_member(into: &mut [u8], at: usize, roster: &Roster, member: u16) -> usize
-    requires { at + 16 ≤ length into.old }
-    ensures end { result ≤ at + 16 }
+    requires { at + MOST_NAME ≤ length into.old }
+    ensures end { result ≤ at + MOST_NAME }
     ensures text { take result into.new ≡ take at into.old ++ member_name roster.now member }
 {
     match roster.members().get(usize::from(member)) {
@@ -86,10 +92,10 @@ pub fn put_member(into: &mut [u8], at: usize, roster: &Roster, member: u16) -> u
     }
 }
 
-/// Writes the name of the product at a place of the roster, of at most 16 bytes. A place without a product has no name.
+/// Writes the name of the product at a place of the roster. A place without a product has no name.
 pub fn put_product(into: &mut [u8], at: usize, roster: &Roster, product: u16) -> usize
-    requires { at + 16 ≤ length into.old }
-    ensures end { result ≤ at + 16 }
+    requires { at + MOST_NAME ≤ length into.old }
+    ensures end { result ≤ at + MOST_NAME }
     ensures text { take result into.new ≡ take at into.old ++ product_name roster.now product }
 {
     match roster.products().get(usize::from(product)) {
@@ -100,8 +106,8 @@ pub fn put_product(into: &mut [u8], at: usize, roster: &Roster, product: u16) ->
 
 /// Writes the names of two members, with a space in front of each.
 pub fn put_pair(into: &mut [u8], at: usize, roster: &Roster, seller: u16, buyer: u16) -> usize
-    requires { at + 34 ≤ length into.old }
-    ensures end { result ≤ at + 34 }
+    requires { at + PAIR ≤ length into.old }
+    ensures end { result ≤ at + PAIR }
     ensures text { take result into.new ≡ take at into.old ++ pair_text roster.now seller buyer }
 {
     let end = put(into, at, b" ");

@@ -2,6 +2,8 @@
 
 ghost use Rattle.std.specs.Prelude.{◌≡◌, ◌+◌, ◌≤◌, ◌++◌, length, take};
 ghost use Rattle.command_types.specs.Text.{phase_text, clash_text, post_text, refusal_text};
+ghost use Rattle.command_text.specs.declared.put.TheConstants.{PAIR};
+ghost use Rattle.units_core.specs.declared.limits.TheConstants.{MOST_NAME};
 
 use crate::put::{put, put_member, put_pair, put_product, put_state, put_told};
 use command_types::{BadPost, Clash, Phase, Refusal, Roster};
@@ -23,8 +25,8 @@ fn put_phase(into: &mut [u8], at: usize, phase: Phase) -> usize
 
 // What clashes, with the names of the members.
 fn put_clash(into: &mut [u8], at: usize, roster: &Roster, clash: Clash) -> usize
-    requires { at + 40 ≤ length into.old }
-    ensures end { result ≤ at + 40 }
+    requires { at + (PAIR + 6) ≤ length into.old }
+    ensures end { result ≤ at + (PAIR + 6) }
     ensures text { take result into.new ≡ take at into.old ++ clash_text roster.now clash }
 {
     match clash {
@@ -53,8 +55,8 @@ fn put_clash(into: &mut [u8], at: usize, roster: &Roster, clash: Clash) -> usize
 
 // What is wrong with a posted list.
 fn put_post(into: &mut [u8], at: usize, roster: &Roster, post: BadPost) -> usize
-    requires { at + 60 ≤ length into.old }
-    ensures end { result ≤ at + 60 }
+    requires { at + (MOST_NAME + PAIR + 10) ≤ length into.old }
+    ensures end { result ≤ at + (MOST_NAME + PAIR + 10) }
     ensures text { take result into.new ≡ take at into.old ++ post_text roster.now post }
 {
     match post {
@@ -67,10 +69,10 @@ fn put_post(into: &mut [u8], at: usize, roster: &Roster, post: BadPost) -> usize
     }
 }
 
-/// A refusal's number, name and value, of at most 100 bytes.
+/// A refusal's number, name and value.
 pub(crate) fn put_refusal(into: &mut [u8], at: usize, roster: &Roster, refusal: Refusal) -> usize
-    requires { at + 100 ≤ length into.old }
-    ensures end { result ≤ at + 100 }
+    requires { at + (MOST_NAME + PAIR + 50) ≤ length into.old }
+    ensures end { result ≤ at + (MOST_NAME + PAIR + 50) }
     ensures text { take result into.new ≡ take at into.old ++ refusal_text roster.now refusal }
 {
     match refusal {

@@ -7,6 +7,7 @@ use Rattle.std.proofs.lemmas.Slice.Eq.{bytes_eq-Decides}
 use Rattle.std.proofs.Math.Nat.{pow-le-pow_right}
 use Rattle.std.specs.List.{list_all}
 use Rattle.std.specs.Str.{bytes_eq}
+use Rattle.units_core.specs.declared.limits.TheConstants.{MOST_NAME}
 use Rattle.units_core.specs.Name.{is_name, is_name_byte}
 use Rattle.command_types.specs.Roster.{are_different}
 use Rattle.command_types.specs.Stamps.{key_on, key_number, stamp, kept_stamp, AreStamps, IsPut}
@@ -50,7 +51,7 @@ name_bytes (byte ∷ bytes) all zero = name_byte byte (and_parts (is_name_byte b
 name_bytes (byte ∷ bytes) all (suc i) = name_bytes bytes (and_parts (is_name_byte byte) (list_all is_name_byte bytes) all).1 i
 
 bytes_of_name : (name : List ℕ) → IsTrue (is_name name) → (i : ℕ) → get_or name i 0 < 256
-bytes_of_name name is = name_bytes name (and_parts (nat_le 1 (length name) && nat_le (length name) 16) (list_all is_name_byte name) is).1
+bytes_of_name name is = name_bytes name (and_parts (nat_le 1 (length name) && nat_le (length name) MOST_NAME) (list_all is_name_byte name) is).1
 
 -- where a short text has what is kept of a name, it is the name
 kept_is : (name text : List ℕ) (short : Bool) → nat_le (length name) 6 ≡ short → IsTrue (is_name name) → length text ≤ 6 → ((i : ℕ) → get_or text i 0 < 256) →

@@ -25,18 +25,15 @@ use command_types::{Answer, Ask, Listed, Moment, Roster, TradeRow, What};
 use cycle_states::Machine;
 use house::{Dated, Executions, OpenFault, Recovered, recover_noting};
 use outside::{Disk, Files, Sink, write_all};
-use statements::{DetailRow, ExecutionLine, put_row};
+use statements::{DetailRow, ExecutionLine, MOST_ROW, put_row};
 use std::alloc::{AllocError, Global};
 use units_core::{MemberNo, print_u128};
-
-/// How many bytes a line has at most.
-const LINE: usize = 154;
 
 // Puts the line of a row behind the text. The only error is want of memory, as below.
 fn push_row(text: &mut Vec<u8>, roster: &Roster, row: &DetailRow) -> Result<(), AllocError>
     ensures { OnOk result (text.new.items ≡ text.old.items ++ row_text roster.now row.now) }
 {
-    let mut line = [0; LINE];
+    let mut line = [0; MOST_ROW];
     let size = put_row(&mut line, 0, roster, row);
     text.extend_from_slice(&line[..size])
 }

@@ -7,6 +7,7 @@ ghost use Rattle.std.specs.Prelude.{◌≡◌, ◌≤◌, ◌+◌, ◌++◌, len
 ghost use Rattle.command_types.specs.declared.spelling.Spelling.TheVariants.{Second};
 ghost use Rattle.command_types.specs.Spelling.{spelling, Spells};
 ghost use Rattle.record_codec.specs.Votes.{accept_by};
+ghost use Rattle.units_core.specs.declared.limits.TheConstants.{MOST_NAME};
 
 use command_types::Moment;
 use units_core::Name;
@@ -24,7 +25,7 @@ fn put_at(into: &mut [u8], at: usize, bytes: &[u8]) -> usize
 }
 
 /// Writes the record of this party's ACCEPT to the front of `into`, its second spelling, and gives how many bytes it has,
-/// 46 at most. It takes no memory.
+/// 46 at most, since a name has at most 16. It takes no memory.
 pub fn encode_short(
     seat: u32,
     by: &Name,
@@ -33,7 +34,7 @@ pub fn encode_short(
     moment: Moment,
     into: &mut [u8; 64],
 ) -> usize
-    ensures short { result ≤ 46 }
+    ensures short { result ≤ MOST_NAME + 30 }
     ensures exact { take result into.new ≡ spelling Second (accept_by seat by.now cycle version moment) }
     ensures spells { Spells Second (take result into.new) (accept_by seat by.now cycle version moment) }
 {

@@ -4,7 +4,7 @@ ghost use Rattle.command_types.specs.declared.spelling.Spelling.TheVariants.{Sec
 ghost use Rattle.command_types.specs.Machine.{changes};
 ghost use Rattle.command_types.specs.Sizes.{name_size, ceiling_size, solution_size, fields_size, record_size};
 ghost use Rattle.command_types.specs.Spelling.{spelling, posted, most_solutions};
-ghost use Rattle.units_core.specs.declared.limits.TheConstants.{MOST_MEMBERS};
+ghost use Rattle.units_core.specs.declared.limits.TheConstants.{MOST_MEMBERS, MOST_NAME};
 
 use command_types::{Entry, Level, What};
 use network_laws::{Row, Solution};
@@ -13,7 +13,7 @@ use units_core::Name;
 // The byte with its length, and the name.
 fn name_size(name: &Name) -> u64
     ensures size { result ≡ name_size name.now }
-    ensures small { result ≤ 17 }
+    ensures small { result ≤ MOST_NAME + 1 }
 {
     1 + name.text().len() as u64
 }

@@ -9,4 +9,4 @@ mod row_text;
 mod trade_text;
 
 pub use details::{DetailRow, ExecutionLine, detail_count, detail_row};
-pub use row_text::{put_row, write_row};
+pub use row_text::{MOST_ROW, put_row, write_row};

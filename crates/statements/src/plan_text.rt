@@ -4,6 +4,8 @@ ghost use Rattle.std.specs.Prelude.{◌≡◌, ◌+◌, ◌≤◌, ◌++◌, len
 ghost use Rattle.command_types.specs.Text.{numbers_text};
 ghost use Rattle.command_types.specs.Details.{upper_text, limit_text, plan_text};
 ghost use Rattle.statements.specs.Details.{new_text};
+ghost use Rattle.command_text.specs.declared.put.TheConstants.{PAIR};
+ghost use Rattle.units_core.specs.declared.limits.TheConstants.{MOST_NAME};
 
 use command_text::put::{put, put_number, put_numbers, put_pair, put_product, put_told};
 use command_types::{LimitLine, PlanRow, Roster};
@@ -21,10 +23,10 @@ pub(crate) fn put_upper(into: &mut [u8], at: usize, upper: Option<u64>) -> usize
     }
 }
 
-/// Writes the limits of a pair at a place of the buffer, of at most 103 bytes, and says where they end.
+/// Writes the limits of a pair at a place of the buffer, and says where they end.
 pub(crate) fn put_limit(into: &mut [u8], at: usize, roster: &Roster, line: &LimitLine) -> usize
-    requires { at + 103 ≤ length into.old }
-    ensures end { result ≤ at + 103 }
+    requires { at + (PAIR + 69) ≤ length into.old }
+    ensures end { result ≤ at + (PAIR + 69) }
     ensures text { take result into.new ≡ take at into.old ++ limit_text roster.now line.entry.now }
 {
     let end = put(into, at, b"limit");
@@ -45,8 +47,8 @@ fn put_new(
     buyer: MemberNo,
     amount: Amount,
 ) -> usize
-    requires { at + 76 ≤ length into.old }
-    ensures end { result ≤ at + 76 }
+    requires { at + (MOST_NAME + PAIR + 26) ≤ length into.old }
+    ensures end { result ≤ at + (MOST_NAME + PAIR + 26) }
     ensures text { take result into.new ≡ take at into.old ++ new_text roster.now product seller buyer amount }
 {
     let end = put(into, at, b"new");
@@ -78,10 +80,10 @@ fn put_end(into: &mut [u8], at: usize, trade: u64) -> usize
     put(into, end, b"\n")
 }
 
-/// Writes a step of a plan at a place of the buffer, of at most 76 bytes, and says where it ends.
+/// Writes a step of a plan at a place of the buffer, and says where it ends.
 pub(crate) fn put_plan(into: &mut [u8], at: usize, roster: &Roster, row: &PlanRow) -> usize
-    requires { at + 76 ≤ length into.old }
-    ensures end { result ≤ at + 76 }
+    requires { at + (MOST_NAME + PAIR + 26) ≤ length into.old }
+    ensures end { result ≤ at + (MOST_NAME + PAIR + 26) }
     ensures text { take result into.new ≡ take at into.old ++ plan_text roster.now row.now }
 {
     match *row {

@@ -3,6 +3,8 @@
 ghost use Rattle.std.specs.Prelude.{◌≡◌, ◌+◌, ◌≤◌, ◌++◌, length, take, codes, decimal};
 ghost use Rattle.command_types.specs.declared.proof.ProofRow.TheVariants.{Potential};
 ghost use Rattle.command_types.specs.Details.{upper_text, whose_text, pair_line_text, proof_text};
+ghost use Rattle.command_text.specs.declared.put.TheConstants.{PAIR};
+ghost use Rattle.units_core.specs.declared.limits.TheConstants.{MOST_NAME};
 
 use crate::plan_text::put_upper;
 use command_text::put::{
@@ -51,8 +53,8 @@ fn put_most(into: &mut [u8], at: usize, upper: Option<u64>, whose: Whose) -> usi
 
 // A pair with its bounds.
 fn put_bounds(into: &mut [u8], at: usize, roster: &Roster, line: &PairLine) -> usize
-    requires { at + 154 ≤ length into.old }
-    ensures end { result ≤ at + 154 }
+    requires { at + (MOST_NAME + PAIR + 104) ≤ length into.old }
+    ensures end { result ≤ at + (MOST_NAME + PAIR + 104) }
     ensures text { take result into.new ≡ take at into.old ++ pair_line_text roster.now line.entry.now }
 {
     let end = put(into, at, b"pair ");
@@ -73,8 +75,8 @@ fn put_potential(
     member: u16,
     value: i32,
 ) -> usize
-    requires { at + 59 ≤ length into.old }
-    ensures end { result ≤ at + 59 }
+    requires { at + (PAIR + 25) ≤ length into.old }
+    ensures end { result ≤ at + (PAIR + 25) }
     ensures text { take result into.new ≡ take at into.old ++ proof_text roster.now (Potential product member value) }
 {
     let end = put(into, at, b"pot ");
@@ -86,10 +88,10 @@ fn put_potential(
     put(into, end, b"\n")
 }
 
-/// Writes what a member is told of a proposal at a place of the buffer, of at most 154 bytes, and says where it ends.
+/// Writes what a member is told of a proposal at a place of the buffer, and says where it ends.
 pub(crate) fn put_proof(into: &mut [u8], at: usize, roster: &Roster, row: &ProofRow) -> usize
-    requires { at + 154 ≤ length into.old }
-    ensures end { result ≤ at + 154 }
+    requires { at + (MOST_NAME + PAIR + 104) ≤ length into.old }
+    ensures end { result ≤ at + (MOST_NAME + PAIR + 104) }
     ensures text { take result into.new ≡ take at into.old ++ proof_text roster.now row.now }
 {
     match *row {

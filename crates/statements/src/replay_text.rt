@@ -2,13 +2,14 @@
 
 ghost use Rattle.std.specs.Prelude.{◌≡◌, ◌+◌, ◌≤◌, ◌++◌, length, take, codes};
 ghost use Rattle.statements.specs.Details.{member_text, execution_text, moment_text};
+ghost use Rattle.units_core.specs.declared.limits.TheConstants.{MOST_NAME};
 
 use crate::details::ExecutionLine;
 use command_text::put::{put, put_member, put_numbers, put_told};
 use command_types::{Moment, Roster};
 use units_core::MemberNo;
 
-/// Writes a member and a count at a place of the buffer, of at most 45 bytes, and says where they end.
+/// Writes a member and a count at a place of the buffer, and says where they end.
 pub(crate) fn put_member_count(
     into: &mut [u8],
     at: usize,
@@ -16,8 +17,8 @@ pub(crate) fn put_member_count(
     member: MemberNo,
     count: u64,
 ) -> usize
-    requires { at + 45 ≤ length into.old }
-    ensures end { result ≤ at + 45 }
+    requires { at + (MOST_NAME + 29) ≤ length into.old }
+    ensures end { result ≤ at + (MOST_NAME + 29) }
     ensures text { take result into.new ≡ take at into.old ++ member_text roster.now member count }
 {
     let end = put(into, at, b"member ");

@@ -4,6 +4,8 @@ ghost use Rattle.std.specs.Prelude.{◌≡◌, ◌+◌, ◌≤◌, ◌++◌, len
 ghost use Rattle.command_types.specs.Books.{is_held};
 ghost use Rattle.command_types.specs.Details.{held_text, trade_line};
 ghost use Rattle.statements.specs.Details.{parties_text, standing_text};
+ghost use Rattle.command_text.specs.declared.put.TheConstants.{PAIR};
+ghost use Rattle.units_core.specs.declared.limits.TheConstants.{MOST_NAME};
 
 use command_text::put::{put, put_pair, put_product, put_state, put_told};
 use command_types::{Roster, TradeRow};
@@ -22,8 +24,8 @@ fn put_held(into: &mut [u8], at: usize, row: &TradeRow) -> usize
 
 // The trade's number, its parties and its product.
 fn put_parties(into: &mut [u8], at: usize, roster: &Roster, row: &TradeRow) -> usize
-    requires { at + 77 ≤ length into.old }
-    ensures end { result ≤ at + 77 }
+    requires { at + (MOST_NAME + PAIR + 27) ≤ length into.old }
+    ensures end { result ≤ at + (MOST_NAME + PAIR + 27) }
     ensures text { take result into.new ≡ take at into.old ++ parties_text roster.now row.now }
 {
     let end = put_told(into, at, b"trade ", row.number);
@@ -47,10 +49,10 @@ fn put_standing(into: &mut [u8], at: usize, row: &TradeRow) -> usize
     put_held(into, end, row)
 }
 
-/// Writes the line of a trade at a place of the buffer, of at most 123 bytes, and says where it ends.
+/// Writes the line of a trade at a place of the buffer, and says where it ends.
 pub(crate) fn put_trade(into: &mut [u8], at: usize, roster: &Roster, row: &TradeRow) -> usize
-    requires { at + 123 ≤ length into.old }
-    ensures end { result ≤ at + 123 }
+    requires { at + (MOST_NAME + PAIR + 73) ≤ length into.old }
+    ensures end { result ≤ at + (MOST_NAME + PAIR + 73) }
     ensures text { take result into.new ≡ take at into.old ++ trade_line roster.now row.now }
 {
     let end = put_parties(into, at, roster, row);

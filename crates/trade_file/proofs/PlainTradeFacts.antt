@@ -9,7 +9,7 @@ use Rattle.units_core.specs.Name.{is_name, is_name_byte}
 use Rattle.units_core.specs.Number.{is_digit, of_first, of_amount, amount_of}
 use Rattle.units_core.specs.declared.number.NumberFault.{NumberFault}
 use Rattle.units_core.specs.declared.number.NumberFault.TheVariants.{Empty}
-use Rattle.units_core.specs.declared.limits.TheConstants.{MOST_FILE_TRADES, MOST_GROSS}
+use Rattle.units_core.specs.declared.limits.TheConstants.{MOST_FILE_TRADES, MOST_GROSS, MOST_NAME}
 use Rattle.command_types.specs.Roster.{Rows, member_place, product_place}
 use Rattle.command_types.specs.declared.file_fault.FileFault.{FileFault}
 use Rattle.command_types.specs.declared.file_fault.FileFault.TheVariants.{SameParty}
@@ -25,7 +25,7 @@ name_bytes true false all h = absurd cc
 name_bytes false most all h = absurd cc
 
 plain_name : (text : List ℕ) → is_name text ≡ true → IsPlain text
-plain_name text h = plain_of is_name_byte refl refl refl refl text (name_bytes (nat_le 1 (length text)) (nat_le (length text) 16) (list_all is_name_byte text) h)
+plain_name text h = plain_of is_name_byte refl refl refl refl text (name_bytes (nat_le 1 (length text)) (nat_le (length text) MOST_NAME) (list_all is_name_byte text) h)
 
 all_digits : (text : List ℕ) → length text ≤ position_or_len (λ c. not (is_digit c)) text → list_all is_digit text ≡ true
 all_digits [] h = refl

@@ -1,5 +1,8 @@
 //! The limits of the service, each once: definitions, clauses and code cite them by name.
 
+/// The most bytes of a name.
+pub const MOST_NAME: usize = 16;
+
 /// The most members of a roster, of a network and of limits, dealers and customers together.
 pub const MOST_MEMBERS: u16 = 256;
 

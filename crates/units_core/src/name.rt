@@ -2,14 +2,17 @@
 ghost use Rattle.std.specs.Prelude.{◌≡◌, if◌then◌else◌, Some, None, ◌≤◌, ◌↔◌, IsTrue, IsSome, IfSome, IfNone, List, ℕ, take, length, replicate};
 ghost use Rattle.std.specs.List.{list_all};
 ghost use Rattle.std.specs.Str.{bytes_eq};
+ghost use Rattle.units_core.specs.declared.limits.TheConstants.{MOST_NAME};
 ghost use Rattle.units_core.specs.Name.{is_name, is_name_byte, padded_name};
 
+use crate::limits::MOST_NAME;
 use std::marker::Model;
 
-/// A name: 1 to 16 bytes of A-Z, 0-9 and '-'. It is kept in place and takes no memory. Contracts see it as its bytes.
+/// A name: 1 to 16 bytes (`MOST_NAME`) of A-Z, 0-9 and '-'. It is kept in place and takes no memory. Contracts see it as
+/// its bytes.
 #[derive(Clone, Copy, PartialEq, Eq, Hash)]
 pub struct Name {
-    bytes: [u8; 16],
+    bytes: [u8; MOST_NAME],
     size: usize,
 }
 
@@ -43,7 +46,7 @@ fn has_only_name_bytes(text: &[u8]) -> bool
 fn is_text_of_name(text: &[u8]) -> bool
     ensures { result ≡ is_name text.now }
 {
-    if text.is_empty() || text.len() > 16 {
+    if text.is_empty() || text.len() > MOST_NAME {
         return false;
     }
     has_only_name_bytes(text)
@@ -59,7 +62,7 @@ impl Name {
             return None;
         }
         let size = text.len();
-        let mut bytes = [0; 16];
+        let mut bytes = [0; MOST_NAME];
         bytes[..size].copy_from_slice(text);
         Some(Name { bytes, size })
     }
@@ -68,7 +71,7 @@ impl Name {
     pub fn text(&self) -> &[u8]
         ensures text { result.now ≡ self.now }
         ensures form { IsTrue (is_name self.now) }
-        ensures size { length self.now ≤ 16 }
+        ensures size { length self.now ≤ MOST_NAME }
     {
         &self.bytes[..self.size]
     }
