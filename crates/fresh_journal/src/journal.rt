@@ -10,14 +10,12 @@ ghost use Rattle.fresh_journal.specs.Journals.{begun_history, journal_of};
 
 use base_codec::encode_base;
 use command_types::Base;
+use journal_core::FIRST_BODY;
 use std::alloc::{AllocError, Global};
 use units_core::MOST_JOURNAL;
 
-/// Where the length of the base stands.
-const BASE_AT: u64 = 25;
-
 /// The place of the first gate, behind a base of no bytes.
-const GATE_AT: usize = 29;
+const GATE_AT: usize = FIRST_BODY as usize + 4;
 
 // The journal's bytes, where the base's length has four bytes.
 fn journal_bytes(alloc: Global, base: &[u8]) -> Result<Vec<u8>, AllocError>
@@ -26,7 +24,7 @@ fn journal_bytes(alloc: Global, base: &[u8]) -> Result<Vec<u8>, AllocError>
 {
     let mut bytes = Vec::from_slice(alloc, b"OTCJRNLC")?;
     bytes.push(0)?;
-    bytes.extend_from_slice(&BASE_AT.to_le_bytes())?;
+    bytes.extend_from_slice(&FIRST_BODY.to_le_bytes())?;
     bytes.extend_from_slice(&0u64.to_le_bytes())?;
     bytes.extend_from_slice(&(base.len() as u32).to_le_bytes())?;
     bytes.extend_from_slice(base)?;

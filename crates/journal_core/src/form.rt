@@ -17,8 +17,11 @@
 ghost use Rattle.std.specs.Prelude.{◌≡◌};
 ghost use Rattle.journal_core.specs.Holds.{slot_place};
 
-// Where the first body stands, behind the slots.
-pub(crate) const FIRST_BODY: u64 = 25;
+// How many bytes a header has. A selector, or the first gate, stands behind it.
+pub(crate) const HEADER: usize = 8;
+
+/// Where the first body stands, behind the slots.
+pub const FIRST_BODY: u64 = 25;
 
 /// How a journal's file begins.
 #[derive(Clone, Copy, Debug, PartialEq, Eq)]

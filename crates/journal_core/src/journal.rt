@@ -21,7 +21,7 @@ ghost use Rattle.journal_core.specs.Form.{IsSlots, begun_form, fold_end};
 ghost use Rattle.journal_core.specs.Journal.{disk_of, form_of, size_of, staged_of, form_staged, end_staged, is_sound, EndsAt, IsReady, IsStaged, IsReadyToSwitch};
 ghost use Rattle.journal_core.specs.Calls.{IsStarted, IsStarting, IsStaging, IsStagedBeside, IsSwitching, IsSwitched};
 
-use crate::form::place_of;
+use crate::form::{HEADER, place_of};
 use crate::put::put;
 use crate::staged::Staged;
 use crate::starting::begin;
@@ -158,7 +158,7 @@ impl<D: Disk> Journal<D> {
         };
         self.sound = false;
         // One byte: a crash leaves one selector or the other, whatever it tears.
-        put(&mut self.disk, 8, &[staged.selected])?;
+        put(&mut self.disk, HEADER as u64, &[staged.selected])?;
         self.form = Form::Slots {
             selected: staged.selected,
             offset: staged.offset,

@@ -16,7 +16,7 @@ mod starting;
 mod walked;
 mod walking;
 
-pub use form::Form;
+pub use form::{FIRST_BODY, Form};
 pub use frame::Frame;
 pub use frames::Frames;
 pub use journal::Journal;

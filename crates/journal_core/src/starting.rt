@@ -7,6 +7,7 @@ ghost use Rattle.journal_core.specs.Journal.{IsTiny, IsBare, IsShortAs, IsAtRest
 ghost use Rattle.journal_core.specs.Calls.{IsStarted, IsStarting};
 
 use crate::Form;
+use crate::form::HEADER;
 use crate::put::put;
 use outside::{Disk, Failed};
 
@@ -22,7 +23,7 @@ fn begin_slots<D: Disk>(disk: &mut D) -> Result<(), Failed>
 {
     put(
         disk,
-        8,
+        HEADER as u64,
         &[
             0, 25, 0, 0, 0, 0, 0, 0, 0, 0, 0, 0, 0, 0, 0, 0, 0, 0, 0, 0, 0, 0,
         ],

@@ -7,7 +7,7 @@ ghost use Rattle.journal_core.specs.Journal.{EndsAt, HasForm};
 ghost use Rattle.journal_core.specs.Lead.{IsLed, EndsLed, EndsBehind};
 ghost use Rattle.journal_core.specs.Walk.{IsBadLead, IsBreak, IsWalked, FindsRecords, FindsFault, bytes_of};
 
-use crate::form::{FIRST_BODY, place_of};
+use crate::form::{FIRST_BODY, HEADER, place_of};
 use crate::journal::LIMIT;
 use crate::parts::{behind_open, record_of};
 use crate::{Form, WalkFault, Walked};
@@ -37,7 +37,7 @@ fn selected_in(bytes: &[u8]) -> u8
     requires { 9 ≤ length bytes.now }
     ensures { Selects (get_or bytes.now 8 0) result }
 {
-    if bytes[8] == 1 { 1 } else { 0 }
+    if bytes[HEADER] == 1 { 1 } else { 0 }
 }
 
 // What stands before the first gate of a file with slots.
@@ -87,8 +87,8 @@ fn lead_of(bytes: &[u8]) -> Result<Lead, WalkFault>
     if bytes.starts_with(b"OTCJRNL1") {
         return Ok(Lead {
             form: Form::Plain,
-            base: 8,
-            gate: 8,
+            base: HEADER,
+            gate: HEADER,
         });
     }
     if !bytes.starts_with(b"OTCJRNLC") {
