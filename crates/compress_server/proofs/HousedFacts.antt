@@ -14,8 +14,8 @@ use Rattle.cycle_laws.specs.Histories.{IsMarketBase}
 use Rattle.house.specs.Folding.{LeavesOpenedAs, OpensOn}
 use Rattle.house.specs.House.{HouseView, figures_of, first_of, is_stopped, bytes_of, Keeps}
 use Rattle.house.specs.Opening.{IsOpened, FindsFault, LeavesOpened, StandsForNone}
-use Rattle.house.specs.declared.fault.OpenFault.{OpenFault}
-use Rattle.house.specs.declared.fault.OpenFault.TheVariants as opens
+use Rattle.journal_core.specs.declared.fault.JournalFault.{JournalFault}
+use Rattle.journal_core.specs.declared.fault.JournalFault.TheVariants as faults
 use Rattle.house.specs.Storing.{ContentStandsFor, AreOnDisk, LeavesHistory, LeavesKept, StandsForFront, StandsForKept, NeverGoBack, moment_of}
 use Rattle.house.proofs.JournalFacts.{stored_stand}
 use Rattle.house.proofs.OpeningFacts.{still_standing, only_opened}
@@ -123,9 +123,9 @@ module _ (rows copy : Rows) (o mid : Option disks.History) (before after : ℕ) 
   }
 
   -- it is damaged
-  pub damaged_later : (now : Option disks.History) (n m : ℕ) (fault : OpenFault) (place : ℕ) → fault ≡ opens.Damaged place → FindsFault copy mid fault → IsUnopened rows (disk_of o n) (disk_of now m) → now ≡ mid → IsDamaged rows (disk_of o n) (disk_of now m) place
+  pub damaged_later : (now : Option disks.History) (n m : ℕ) (fault : JournalFault) (place : ℕ) → fault ≡ faults.Damaged place → FindsFault copy mid fault → IsUnopened rows (disk_of o n) (disk_of now m) → now ≡ mid → IsDamaged rows (disk_of o n) (disk_of now m) place
   damaged_later now n m fault place is found unopened stays = record {
-    found = subst (λ (r : Rows). FindsFault r o (opens.Damaged place)) copied (subst (λ (d : Option disks.History). FindsFault copy d (opens.Damaged place)) same (subst (λ (f : OpenFault). FindsFault copy mid f) is found));
+    found = subst (λ (r : Rows). FindsFault r o (faults.Damaged place)) copied (subst (λ (d : Option disks.History). FindsFault copy d (faults.Damaged place)) same (subst (λ (f : JournalFault). FindsFault copy mid f) is found));
     unopened = unopened;
     same = stays ∙ same;
   }

@@ -34,8 +34,8 @@ use Rattle.house.specs.declared.recovering.Recovered.{Recovered}
 use Rattle.house.specs.Executions.{told_by, executions_told, told_of}
 use Rattle.house.specs.Storing.{ContentStandsFor}
 use Rattle.house.specs.Opening.{FindsFault}
-use Rattle.house.specs.declared.fault.OpenFault.{OpenFault}
-use Rattle.house.specs.declared.fault.OpenFault.TheVariants as opens
+use Rattle.journal_core.specs.declared.fault.JournalFault.{JournalFault}
+use Rattle.journal_core.specs.declared.fault.JournalFault.TheVariants as faults
 use Rattle.house.proofs.ExecutionFacts.{executions_told-push}
 use Rattle.statements.specs.Details.{member_text}
 use Rattle.compress_server.specs.Told.{rows_told, reply_told, end_text, told_text, recovered_text}
@@ -204,6 +204,6 @@ module _ (rows : Rows) (o mid now : Option disks.History) (before after : ℕ) (
         let k = replay_told rows o read (subst (λ (d : Option disks.History). ContentStandsFor d read.past) same stands) replayed base told in
         (stays ∙ same, (k.0, k.1, subst (λ t. TakesFront begun taken t) (is ∙ k.2) takes))
 
-  pub replay_damaged : (fault : OpenFault) (place : ℕ) → fault ≡ opens.Damaged place → FindsFault rows mid fault → taken ≡ begun → JournalReplays rows (disk_of o before) (disk_of now after) begun taken (Damaged place)
+  pub replay_damaged : (fault : JournalFault) (place : ℕ) → fault ≡ faults.Damaged place → FindsFault rows mid fault → taken ≡ begun → JournalReplays rows (disk_of o before) (disk_of now after) begun taken (Damaged place)
   replay_damaged fault place is found none =
-      (stays ∙ same, (none, subst (λ (d : Option disks.History). FindsFault rows d (opens.Damaged place)) same (subst (λ (f : OpenFault). FindsFault rows mid f) is found)))
+      (stays ∙ same, (none, subst (λ (d : Option disks.History). FindsFault rows d (faults.Damaged place)) same (subst (λ (f : JournalFault). FindsFault rows mid f) is found)))

@@ -11,7 +11,7 @@ use Rattle.house.specs.Storing.{ContentStandsFor, LeavesHistory, LeavesKept, Sta
 use Rattle.compress_server.specs.declared.ending.End.{End}
 use Rattle.compress_server.specs.declared.ending.End.TheVariants.{Damaged, DiskFault, Memory}
 use Rattle.compress_server.specs.Cycles.{KeepsLaws}
-use Rattle.house.specs.declared.fault.OpenFault.TheVariants as opens
+use Rattle.journal_core.specs.declared.fault.JournalFault.TheVariants as faults
 
 -- a disk, and the count of its faults
 pub record DiskState : Type 0 where
@@ -60,7 +60,7 @@ pub record IsUnopened (rows : Rows) (disk left : DiskState) : Type 0 where
 
 -- the disk's content stands for no legal history, with the one place that is told, and is as it was
 pub record IsDamaged (rows : Rows) (disk left : DiskState) (place : ℕ) : Type 0 where
-  pub found : FindsFault rows disk.history (opens.Damaged place)
+  pub found : FindsFault rows disk.history (faults.Damaged place)
   pub unopened : IsUnopened rows disk left
   pub same : left.history ≡ disk.history
 

@@ -13,7 +13,7 @@ use Rattle.trade_history.specs.Book.{ExecutionRow, own_rows, executions_of}
 use Rattle.statements.specs.Details.{member_text, execution_text, moment_text}
 use Rattle.house.specs.Storing.{ContentStandsFor}
 use Rattle.house.specs.Opening.{FindsFault}
-use Rattle.house.specs.declared.fault.OpenFault.TheVariants as opens
+use Rattle.journal_core.specs.declared.fault.JournalFault.TheVariants as faults
 use Rattle.compress_server.specs.declared.ending.End.{End}
 use Rattle.compress_server.specs.declared.ending.End.TheVariants.{Done, Damaged, DiskFault, SinkFault, Memory}
 use Rattle.compress_server.specs.Housed.{DiskState}
@@ -59,7 +59,7 @@ ReplaysFront rows disk begun taken = (h : History) × IsKept rows disk.history h
 -- by the end of a replay over these rows and a disk: damage is told only where the content stands for no legal history, with the one place that is told
 abbrev pub ReplayEnds : Rows → DiskState → DiskState → Option (List ℕ) → Option (List ℕ) → End → Type 0
 ReplayEnds rows disk left begun taken Done = Replays rows disk begun taken
-ReplayEnds rows disk left begun taken (Damaged place) = (taken ≡ begun) × FindsFault rows disk.history (opens.Damaged place)
+ReplayEnds rows disk left begun taken (Damaged place) = (taken ≡ begun) × FindsFault rows disk.history (faults.Damaged place)
 ReplayEnds rows disk left begun taken DiskFault = (taken ≡ begun) × Rose disk.faults left.faults
 ReplayEnds rows disk left begun taken SinkFault = ReplaysFront rows disk begun taken
 ReplayEnds rows disk left begun taken Memory = taken ≡ begun

@@ -9,7 +9,8 @@ ghost use Rattle.compress_server.specs.Housed.{disk_by, OpeningFails};
 
 use crate::ending::End;
 use command_types::Roster;
-use house::{House, OpenFault};
+use house::House;
+use journal_core::JournalFault;
 use outside::Disk;
 use std::alloc::Global;
 
@@ -36,8 +37,8 @@ pub fn open_house<D: Disk + Send>(
     };
     match House::new(alloc, copy, disk) {
         Ok(house) => Ok(house),
-        Err((OpenFault::Damaged { offset }, disk)) => Err((End::Damaged(offset), disk)),
-        Err((OpenFault::DiskFault, disk)) => Err((End::DiskFault, disk)),
-        Err((OpenFault::Memory, disk)) => Err((End::Memory, disk)),
+        Err((JournalFault::Damaged { offset }, disk)) => Err((End::Damaged(offset), disk)),
+        Err((JournalFault::DiskFault, disk)) => Err((End::DiskFault, disk)),
+        Err((JournalFault::Memory, disk)) => Err((End::Memory, disk)),
     }
 }

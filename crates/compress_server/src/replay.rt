@@ -23,7 +23,8 @@ use crate::ending::End;
 use crate::load::{LoadFault, load_roster};
 use command_types::{Answer, Ask, Listed, Moment, Roster, TradeRow, What};
 use cycle_states::Machine;
-use house::{Dated, Executions, OpenFault, Recovered, recover_noting};
+use house::{Dated, Executions, Recovered, recover_noting};
+use journal_core::JournalFault;
 use outside::{Disk, Files, Sink, write_all};
 use statements::{DetailRow, ExecutionLine, MOST_ROW, put_row};
 use std::alloc::{AllocError, Global};
@@ -170,9 +171,9 @@ fn replay_journal<K: Sink, D: Disk>(
     }
     let read = match recover_noting(alloc, roster, disk, Executions::none(alloc)) {
         Ok(read) => read,
-        Err(OpenFault::Damaged { offset }) => return End::Damaged(offset),
-        Err(OpenFault::DiskFault) => return End::DiskFault,
-        Err(OpenFault::Memory) => return End::Memory,
+        Err(JournalFault::Damaged { offset }) => return End::Damaged(offset),
+        Err(JournalFault::DiskFault) => return End::DiskFault,
+        Err(JournalFault::Memory) => return End::Memory,
     };
     let Ok(text) = text_of(alloc, &read) else {
         return End::Memory;

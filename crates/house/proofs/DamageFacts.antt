@@ -11,14 +11,11 @@ use Rattle.outside.specs.Disk as disks
 use Rattle.recovery.specs.declared.contents.BaseAt.{BaseAt}
 use Rattle.recovery.specs.declared.entries.Entries.{Entries}
 use Rattle.recovery.specs.declared.entries.EntryAt.{EntryAt}
-use Rattle.recovery.specs.declared.fault.RecoverFault.{RecoverFault}
-use Rattle.recovery.specs.declared.fault.RecoverFault.TheVariants as recovers
+use Rattle.journal_core.specs.declared.fault.JournalFault.{JournalFault}
+use Rattle.journal_core.specs.declared.fault.JournalFault.TheVariants.{Damaged, DiskFault, Memory}
 use Rattle.recovery.specs.StandsFor.{StandsFor}
 use Rattle.recovery.specs.Reading.{file_of, entries_in, start_of, history_of, FitsIn, HasBase, IsRead, HasRead, FindsEntries, FindsBase, FindsFault as FindsReadFault}
 use Rattle.recovery.proofs.EntryFacts.{read_no_fault}
-use Rattle.house.specs.declared.fault.OpenFault.{OpenFault}
-use Rattle.house.specs.declared.fault.OpenFault.TheVariants.{Damaged, DiskFault, Memory}
-use Rattle.house.specs.Faults.{fault_of_reading}
 use Rattle.house.specs.Storing.{ContentStandsFor}
 use Rattle.house.specs.Opening.{IsFirstRefused, IsMisfit, IsRefused, IsDamaged, TellsTrue, IsOnlyFault, IsBeginFault, IsReplayFault, FindsFault}
 use Rattle.house.proofs.JournalFacts.{contents_stand, contents_read, read_one_way, one_base}
@@ -63,7 +60,7 @@ module _ (roster : Rows) (file : List ℕ) (base : Option BaseAt) (list : List E
       refused_illegal (start_of roster base).state list place bad (subst (λ (past : History). IsLegal past) is legal)
 
   -- the fault of replaying what was read
-  replay_told : FitsIn roster base → (fault : OpenFault) → IsReplayFault (start_of roster base).state list fault → TellsTrue roster file fault × IsOnlyFault roster file fault
+  replay_told : FitsIn roster base → (fault : JournalFault) → IsReplayFault (start_of roster base).state list fault → TellsTrue roster file fault × IsOnlyFault roster file fault
   replay_told fits (Damaged place) bad = (inr (inr (base, list, has, read, fits, bad)), ((λ other damaged. other_refused fits place other bad damaged), refused_none place bad))
   replay_told fits DiskFault bad = absurd bad
   replay_told fits Memory bad = (tt, tt)
@@ -86,7 +83,7 @@ module _ (roster : Rows) (file : List ℕ) (x : BaseAt) (list : List EntryAt) (h
   misfit_told : TellsTrue roster file (Damaged x.at) × IsOnlyFault roster file (Damaged x.at)
   misfit_told = (inr (inl (x, list, has, read, misfits, refl)), (other_misfit, misfit_none))
 
-begin_told : (roster : Rows) (file : List ℕ) (base : Option BaseAt) (list : List EntryAt) (fault : OpenFault) → HasBase file base → IsRead file list → IsBeginFault roster base fault
+begin_told : (roster : Rows) (file : List ℕ) (base : Option BaseAt) (list : List EntryAt) (fault : JournalFault) → HasBase file base → IsRead file list → IsBeginFault roster base fault
     → TellsTrue roster file fault × IsOnlyFault roster file fault
 begin_told roster file None list (Damaged place) has read bad = absurd bad
 begin_told roster file (Some x) list (Damaged place) has read bad =
@@ -94,12 +91,12 @@ begin_told roster file (Some x) list (Damaged place) has read bad =
 begin_told roster file base list DiskFault has read bad = absurd bad
 begin_told roster file base list Memory has read bad = (tt, tt)
 
-pub begin_fault : (roster : Rows) (o : Option disks.History) (base : Option BaseAt) (e : Entries) (fault : OpenFault) → HasRead e → FindsEntries o e → FindsBase o base
+pub begin_fault : (roster : Rows) (o : Option disks.History) (base : Option BaseAt) (e : Entries) (fault : JournalFault) → HasRead e → FindsEntries o e → FindsBase o base
     → IsBeginFault roster base fault → FindsFault roster o fault
 begin_fault roster None base e fault read finds found bad = tt
 begin_fault roster (Some h) base e fault read finds found bad = begin_told roster h.content base read.0 fault found (finds read.0 read.1) bad
 
-pub replay_fault : (roster : Rows) (o : Option disks.History) (base : Option BaseAt) (e : Entries) (fault : OpenFault) → HasRead e → FindsEntries o e → FindsBase o base → FitsIn roster base
+pub replay_fault : (roster : Rows) (o : Option disks.History) (base : Option BaseAt) (e : Entries) (fault : JournalFault) → HasRead e → FindsEntries o e → FindsBase o base → FitsIn roster base
     → ((list : List EntryAt) → IsRead (file_of e) list → IsReplayFault (start_of roster base).state list fault) → FindsFault roster o fault
 replay_fault roster None base e fault read finds found fits bad = tt
 replay_fault roster (Some h) base e fault read finds found fits bad = replay_told roster h.content base read.0 found (finds read.0 read.1) fits fault (bad read.0 read.1)
@@ -114,8 +111,8 @@ replay_stands roster (Some disk) base e h read finds found fits begins those =
     subst (λ (past : History). StandsFor disk.content past) (sym is) (contents_stand roster disk.content base read.0 found (finds read.0 read.1) fits)
 
 -- the fault of reading
-reading_told : (roster : Rows) (h : disks.History) (fault : RecoverFault) → FindsReadFault (Some h) fault → TellsTrue roster h.content (fault_of_reading fault) × IsOnlyFault roster h.content (fault_of_reading fault)
-reading_told roster h (recovers.Damaged place) finds = (
+reading_told : (roster : Rows) (h : disks.History) (fault : JournalFault) → FindsReadFault (Some h) fault → TellsTrue roster h.content fault × IsOnlyFault roster h.content fault
+reading_told roster h (Damaged place) finds = (
   inl finds.0,
   (
     λ other. ⊎_elim (λ damaged. finds.1.0 other damaged) (⊎_elim
@@ -124,10 +121,10 @@ reading_told roster h (recovers.Damaged place) finds = (
     λ past same stands legal. finds.1.1 past stands,
   ),
 )
-reading_told roster h recovers.DiskFault finds = (tt, tt)
-reading_told roster h recovers.Memory finds = (tt, tt)
+reading_told roster h DiskFault finds = (tt, tt)
+reading_told roster h Memory finds = (tt, tt)
 
-pub reading_fault : (roster : Rows) (o : Option disks.History) (fault : RecoverFault) → FindsReadFault o fault → FindsFault roster o (fault_of_reading fault)
+pub reading_fault : (roster : Rows) (o : Option disks.History) (fault : JournalFault) → FindsReadFault o fault → FindsFault roster o fault
 reading_fault roster None fault finds = tt
 reading_fault roster (Some h) fault finds = reading_told roster h fault finds
 

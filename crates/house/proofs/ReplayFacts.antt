@@ -8,16 +8,13 @@ use Rattle.command_types.specs.Machine.{state_after}
 use Rattle.command_types.specs.History.{History, IsAcceptedIn, IsLegalFrom, longer, replayed_from}
 use Rattle.journal_core.specs.Holds.{limit}
 use Rattle.recovery.specs.declared.entries.EntryAt.{EntryAt}
-use Rattle.recovery.specs.declared.fault.RecoverFault.{RecoverFault}
-use Rattle.recovery.specs.declared.fault.RecoverFault.TheVariants as recovers
+use Rattle.journal_core.specs.declared.fault.JournalFault.{JournalFault}
+use Rattle.journal_core.specs.declared.fault.JournalFault.TheVariants.{Damaged, DiskFault, Memory}
 use Rattle.recovery.specs.declared.reader.EntryReader.{EntryReader}
 use Rattle.recovery.specs.Reading.{entries_in, IsRead, AreLeft, IsNext}
 use Rattle.recovery.proofs.EntryFacts.{read_few}
 use Rattle.cycle_states.specs.Replayed.{history_from, IsReplayed}
 use Rattle.cycle_states.proofs.DeskFacts.{replayed_more}
-use Rattle.house.specs.declared.fault.OpenFault.{OpenFault}
-use Rattle.house.specs.declared.fault.OpenFault.TheVariants.{Damaged, DiskFault, Memory}
-use Rattle.house.specs.Faults.{fault_of_reading}
 use Rattle.house.specs.Opening.{IsReplayFault}
 
 abbrev pub entry_of : EntryAt → Entry
@@ -26,14 +23,14 @@ entry_of x = x.entry
 -- ---- entries that are replayed
 
 -- behind changes that were accepted, the fault of the others is that of all
-fault_behind : (s : State) (front others : List EntryAt) (fault : OpenFault) → IsLegalFrom s (map entry_of front) → IsReplayFault (replayed_from s (map entry_of front)) others fault → IsReplayFault s (front ++ others) fault
+fault_behind : (s : State) (front others : List EntryAt) (fault : JournalFault) → IsLegalFrom s (map entry_of front) → IsReplayFault (replayed_from s (map entry_of front)) others fault → IsReplayFault s (front ++ others) fault
 fault_behind s [] others fault legal told = told
 fault_behind s (x ∷ front) others (Damaged place) legal told = inr (legal.0, fault_behind (state_after s x.entry.ask) front others (Damaged place) legal.1 told)
 fault_behind s (x ∷ front) others DiskFault legal told = absurd told
 fault_behind s (x ∷ front) others Memory legal told = tt
 
 -- the first of some changes is the one that is refused
-fault_before : (s : State) (x : EntryAt) (others : List EntryAt) (fault : OpenFault) → IsReplayFault s (x ∷ []) fault → IsReplayFault s (x ∷ others) fault
+fault_before : (s : State) (x : EntryAt) (others : List EntryAt) (fault : JournalFault) → IsReplayFault s (x ∷ []) fault → IsReplayFault s (x ∷ others) fault
 fault_before s x others (Damaged place) (inl bad) = inl bad
 fault_before s x others (Damaged place) (inr bad) = absurd bad.1
 fault_before s x others DiskFault told = absurd told
@@ -96,7 +93,7 @@ module _ (base : Start) (file : List ℕ) where
   so_far_state reader now h f = f.replayed.same ∙ ap (λ (b : Start). replayed_from b.state h.entries) f.begins
 
   -- the fault of the next change is that of all
-  pub so_far_fault : (list : List EntryAt) (reader next : EntryReader) (now : State) (h : History) (x : EntryAt) (fault : OpenFault) → ReplayedSoFar base file reader now h → IsRead file list
+  pub so_far_fault : (list : List EntryAt) (reader next : EntryReader) (now : State) (h : History) (x : EntryAt) (fault : JournalFault) → ReplayedSoFar base file reader now h → IsRead file list
       → ((l : List EntryAt) → AreLeft reader l → IsNext l next (Some x)) → IsReplayFault now (x ∷ []) fault → IsReplayFault base.state list fault
   so_far_fault list reader next now h x fault f read here told =
       let s = base.state in
@@ -117,7 +114,7 @@ module _ (base : Start) (file : List ℕ) where
       g.same ∙ ap (map entry_of) (sym whole)
 
   -- reading on fails for want of memory alone
-  pub so_far_memory : (list : List EntryAt) (reader : EntryReader) (now : State) (h : History) (fault : RecoverFault) → ReplayedSoFar base file reader now h → IsRead file list
-      → ((l : List EntryAt) → AreLeft reader l → fault ≡ recovers.Memory) → IsReplayFault base.state list (fault_of_reading fault)
+  pub so_far_memory : (list : List EntryAt) (reader : EntryReader) (now : State) (h : History) (fault : JournalFault) → ReplayedSoFar base file reader now h → IsRead file list
+      → ((l : List EntryAt) → AreLeft reader l → fault ≡ Memory) → IsReplayFault base.state list fault
   so_far_memory list reader now h fault f read here =
-      let g = f.read list read in subst (λ (e : RecoverFault). IsReplayFault base.state list (fault_of_reading e)) (sym (here g.others g.left)) tt
+      let g = f.read list read in subst (λ (e : JournalFault). IsReplayFault base.state list e) (sym (here g.others g.left)) tt

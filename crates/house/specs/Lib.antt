@@ -1,4 +1,3 @@
-pub mod Faults
 pub mod Unstored
 pub mod Storing
 pub mod Folding

@@ -9,11 +9,10 @@ use Rattle.cycle_laws.specs.Bases.{IsWritable}
 use Rattle.outside.specs.Disk as disks
 use Rattle.recovery.specs.declared.contents.BaseAt.{BaseAt}
 use Rattle.recovery.specs.declared.entries.EntryAt.{EntryAt}
-use Rattle.recovery.specs.declared.fault.RecoverFault.TheVariants as recovers
+use Rattle.journal_core.specs.declared.fault.JournalFault.TheVariants.{Damaged, DiskFault, Memory}
 use Rattle.recovery.specs.StandsFor.{StandsFor}
 use Rattle.recovery.specs.Reading.{FitsIn, HasBase, IsRead, IsFault, start_of}
-use Rattle.house.specs.declared.fault.OpenFault.{OpenFault}
-use Rattle.house.specs.declared.fault.OpenFault.TheVariants.{Damaged, DiskFault, Memory}
+use Rattle.journal_core.specs.declared.fault.JournalFault.{JournalFault}
 use Rattle.house.specs.Folding.{LeavesOpenedAs, OpensOn}
 use Rattle.house.specs.Storing.{moment_of, ContentStandsFor}
 use Rattle.house.specs.House.{HouseView, first_of}
@@ -39,16 +38,16 @@ IsRefused roster file place =
 -- The file stands for no legal history of the roster: it stands for none, and is damaged at this place as recovery tells, or its base
 -- does not fit the roster, or one of the entries that are read of it is not accepted at its place.
 abbrev pub IsDamaged : Rows → List ℕ → ℕ → Type 0
-IsDamaged roster file place = IsFault file (recovers.Damaged place) ⊎ IsMisfit roster file place ⊎ IsRefused roster file place
+IsDamaged roster file place = IsFault file (Damaged place) ⊎ IsMisfit roster file place ⊎ IsRefused roster file place
 
 -- a fault of opening a house on this file tells true
-abbrev pub TellsTrue : Rows → List ℕ → OpenFault → Type 0
+abbrev pub TellsTrue : Rows → List ℕ → JournalFault → Type 0
 TellsTrue roster file (Damaged place) = IsDamaged roster file place
 TellsTrue roster file DiskFault = Unit {0}
 TellsTrue roster file Memory = Unit {0}
 
 -- no other damage can be told of the file, and it stands for no legal history
-abbrev pub IsOnlyFault : Rows → List ℕ → OpenFault → Type 0
+abbrev pub IsOnlyFault : Rows → List ℕ → JournalFault → Type 0
 IsOnlyFault roster file (Damaged place) =
     ((other : ℕ) → IsDamaged roster file other → other ≡ place)
     × ((h : History) → h.base.state.roster ≡ roster → StandsFor file h → IsLegal h → ⊥)
@@ -57,13 +56,13 @@ IsOnlyFault roster file Memory = Unit {0}
 
 -- a fault of replaying these entries from this state: damage is told at the gate of the first that is not accepted, and no
 -- disk is asked
-abbrev pub IsReplayFault : State → List EntryAt → OpenFault → Type 0
+abbrev pub IsReplayFault : State → List EntryAt → JournalFault → Type 0
 IsReplayFault s xs (Damaged place) = IsFirstRefused s xs place
 IsReplayFault s xs DiskFault = ⊥
 IsReplayFault s xs Memory = Unit {0}
 
 -- a fault of beginning at a base, or none: damage is told at the offset of one that does not fit the roster, and no disk is asked
-abbrev pub IsBeginFault : Rows → Option BaseAt → OpenFault → Type 0
+abbrev pub IsBeginFault : Rows → Option BaseAt → JournalFault → Type 0
 IsBeginFault roster None (Damaged place) = ⊥
 IsBeginFault roster (Some x) (Damaged place) = (¬ Fits roster x.base) × (place ≡ x.at)
 IsBeginFault roster base DiskFault = ⊥
@@ -81,7 +80,7 @@ abbrev pub StandsForNone : Rows → Option disks.History → Type 0
 StandsForNone roster disk = (h : History) → h.base.state.roster ≡ roster → ContentStandsFor disk h → IsLegal h → ⊥
 
 -- the fault tells true, and is the only one
-abbrev pub FindsFault : Rows → Option disks.History → OpenFault → Type 0
+abbrev pub FindsFault : Rows → Option disks.History → JournalFault → Type 0
 FindsFault roster None fault = Unit {0}
 FindsFault roster (Some disk) fault = TellsTrue roster disk.content fault × IsOnlyFault roster disk.content fault
 

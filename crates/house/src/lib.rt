@@ -3,7 +3,6 @@
 
 mod calling;
 mod executions;
-mod fault;
 mod folding;
 mod house;
 mod opening;
@@ -13,7 +12,6 @@ mod storing;
 mod turning;
 
 pub use executions::{Dated, Executions};
-pub use fault::OpenFault;
 pub use folding::FEWEST_TO_FOLD;
 pub use house::House;
 pub use recovering::{Recovered, recover_noting};

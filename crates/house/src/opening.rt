@@ -9,7 +9,7 @@ ghost use Rattle.outside.specs.Faults.{Rose};
 ghost use Rattle.journal_core.specs.Journal.{disk_of, form_of, size_of, is_sound, EndsAt, HasForm, IsReady};
 ghost use Rattle.journal_core.specs.Moments.{LeavesOnly};
 ghost use Rattle.recovery.specs.Reading.{FindsSpelling};
-ghost use Rattle.house.specs.declared.fault.OpenFault.TheVariants.{DiskFault};
+ghost use Rattle.journal_core.specs.declared.fault.JournalFault.TheVariants.{DiskFault};
 ghost use Rattle.house.specs.Due.{IsDue};
 ghost use Rattle.house.specs.Folding.{LeavesOpenedAs, MayBeFolded, OpensOn, StandsForOne, opened_with};
 ghost use Rattle.house.specs.Opening.{LeavesOpened, StandsForNone, FindsFault, IsOpened};
@@ -19,10 +19,10 @@ use crate::folding::Folding;
 use crate::past::Past;
 use crate::recovering::{Recovered, recover_noting};
 use crate::turning::{turn_frame, turned};
-use crate::{Executions, House, OpenFault};
+use crate::{Executions, House};
 use command_types::{Roster, Spelling};
 use cycle_states::Machine;
-use journal_core::{Form, Frame, Journal};
+use journal_core::{Form, Frame, Journal, JournalFault};
 use outside::{Disk, Failed};
 use std::alloc::Global;
 use std::snapshot::Snapshot;
@@ -40,7 +40,7 @@ pub(crate) struct Reopened {
 }
 
 // Reads a disk's journal, and makes its changes and its fold, if one is due. It writes nothing.
-fn reopen<D: Disk>(alloc: Global, roster: Roster, disk: &mut D) -> Result<Reopened, OpenFault>
+fn reopen<D: Disk>(alloc: Global, roster: Roster, disk: &mut D) -> Result<Reopened, JournalFault>
     ensures stands { IfOk result (λ r. ContentStandsFor (D.history disk.old) r.past) }
     ensures replayed { IfOk result (λ r. IsReplayed r.machine.state r.past) }
     ensures base { IfOk result (λ r. IsWritable roster r.past.base.state) }
@@ -65,10 +65,10 @@ fn reopen<D: Disk>(alloc: Global, roster: Roster, disk: &mut D) -> Result<Reopen
         executions: _,
     } = recovered;
     let Ok(turn) = turn_frame(alloc) else {
-        return Err(OpenFault::Memory);
+        return Err(JournalFault::Memory);
     };
     let Ok(folding) = Folding::of(alloc, &machine, &past, form) else {
-        return Err(OpenFault::Memory);
+        return Err(JournalFault::Memory);
     };
     Ok(Reopened {
         machine,
@@ -149,7 +149,7 @@ impl<D: Disk> House<D> {
     /// `Damaged` comes only where the content stands for no history that is legal for the roster, with
     /// the one place that is told. There the content stays as it is, whatever fails. A crash at any moment leaves what stands
     /// for the history or, where it is folded, for its fold.
-    pub fn new(alloc: Global, roster: Roster, disk: D) -> Result<House<D>, (OpenFault, D)>
+    pub fn new(alloc: Global, roster: Roster, disk: D) -> Result<House<D>, (JournalFault, D)>
         requires { IsSettled (D.history disk) }
         ensures opened { IfOk result (λ house. IsOpened roster (D.history disk) (D.fault_count disk) house) }
         ensures keeps { IfOk result (λ house. Keeps house) }
@@ -183,7 +183,7 @@ impl<D: Disk> House<D> {
                     taken,
                 })
             }
-            Err((_, disk)) => Err((OpenFault::DiskFault, disk)),
+            Err((_, disk)) => Err((JournalFault::DiskFault, disk)),
         }
     }
 }

@@ -11,22 +11,22 @@ ghost use Rattle.outside.specs.Faults.{Rose};
 ghost use Rattle.journal_core.specs.Journal.{EndsAt, HasForm};
 ghost use Rattle.recovery.specs.declared.entries.EntryAt.{EntryAt};
 ghost use Rattle.recovery.specs.Reading.{file_of, entries_in, start_of, FitsIn, FindsSpelling, IsRead, HasRead};
-ghost use Rattle.house.specs.declared.fault.OpenFault.TheVariants.{DiskFault};
+ghost use Rattle.journal_core.specs.declared.fault.JournalFault.TheVariants.{DiskFault};
 ghost use Rattle.house.specs.Opening.{IsBeginFault, IsReplayFault, FindsFault};
 ghost use Rattle.house.specs.Storing.{ContentStandsFor};
 ghost use Rattle.house.specs.Executions.{executions_told, told_of};
 
+use crate::Executions;
 use crate::past::Past;
-use crate::{Executions, OpenFault};
 use command_types::{Answer, Entry, Roster, Spelling};
 use cycle_states::{BaseFault, Decision, Machine};
-use journal_core::Form;
+use journal_core::{Form, JournalFault};
 use outside::Disk;
 use recovery::{BaseAt, Entries, EntryAt, read_entries};
 use std::alloc::Global;
 
 // Has the machine make the change, if it accepts it, and gives the change and its answer.
-fn accept(machine: &mut Machine, item: EntryAt) -> Result<(Entry, Answer), OpenFault>
+fn accept(machine: &mut Machine, item: EntryAt) -> Result<(Entry, Answer), JournalFault>
     requires { IsYoung machine.old.state.cycle }
     ensures entry { IfOk result (λ made. made.0 ≡ item.entry) }
     ensures answer { IfOk result (λ made. made.1 ≡ answer_to machine.old.state item.entry.ask) }
@@ -37,13 +37,17 @@ fn accept(machine: &mut Machine, item: EntryAt) -> Result<(Entry, Answer), OpenF
     let offset = item.at;
     let decision = machine.decide(item.entry)?;
     match decision {
-        Decision::Told(_) => Err(OpenFault::Damaged { offset }),
+        Decision::Told(_) => Err(JournalFault::Damaged { offset }),
         Decision::Ready(ready) => Ok(machine.commit(ready)),
     }
 }
 
 // The machine in the state in which a history of this roster begins, with this base or without one, and the position there.
-fn begin(alloc: Global, roster: Roster, base: Option<BaseAt>) -> Result<(Machine, u64), OpenFault>
+fn begin(
+    alloc: Global,
+    roster: Roster,
+    base: Option<BaseAt>,
+) -> Result<(Machine, u64), JournalFault>
     requires { IfSome base (λ x. CanBeWritten x.base) }
     ensures start { IfOk result (λ r. base_at r.1 r.0.state ≡ start_of roster base) }
     ensures fits { OnOk result (FitsIn roster base) }
@@ -61,8 +65,8 @@ fn begin(alloc: Global, roster: Roster, base: Option<BaseAt>) -> Result<(Machine
     let position = base.position;
     match Machine::of_base(alloc, roster, base) {
         Ok(machine) => Ok((machine, position)),
-        Err(BaseFault::Misfit) => Err(OpenFault::Damaged { offset: at }),
-        Err(BaseFault::Memory) => Err(OpenFault::Memory),
+        Err(BaseFault::Misfit) => Err(JournalFault::Damaged { offset: at }),
+        Err(BaseFault::Memory) => Err(JournalFault::Memory),
     }
 }
 
@@ -75,7 +79,7 @@ fn replay(
     position: u64,
     read: &Entries,
     executions: &mut Executions,
-) -> Result<Past, OpenFault>
+) -> Result<Past, JournalFault>
     requires small { IsSmall (base_at position machine.old.state) }
     requires read { HasRead read.now }
     ensures base { IfOk result (λ past. past.base ≡ base_at position machine.old.state) }
@@ -115,7 +119,7 @@ pub fn recover_noting<D: Disk>(
     roster: Roster,
     disk: &mut D,
     mut executions: Executions,
-) -> Result<Recovered, OpenFault>
+) -> Result<Recovered, JournalFault>
     ensures stands { IfOk result (λ r. ContentStandsFor (D.history disk.old) r.past) }
     ensures replayed { IfOk result (λ r. IsReplayed r.machine.state r.past) }
     ensures base { IfOk result (λ r. IsWritable roster r.past.base.state) }

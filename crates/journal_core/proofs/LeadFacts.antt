@@ -13,8 +13,8 @@ use Rattle.journal_core.specs.Walk.{NamesNoRecord, NamesOffset, BreaksAt, IsBrea
 use Rattle.journal_core.specs.declared.form.Form.{Form}
 use Rattle.journal_core.specs.declared.form.Form.TheVariants.{Short, Plain, SlotsShort, Slots}
 use Rattle.journal_core.specs.declared.walked.Walked.{Walked}
-use Rattle.journal_core.specs.declared.walked.WalkFault.{WalkFault}
-use Rattle.journal_core.specs.declared.walked.WalkFault.TheVariants.{Damaged, DiskFault, Memory}
+use Rattle.journal_core.specs.declared.fault.JournalFault.{JournalFault}
+use Rattle.journal_core.specs.declared.fault.JournalFault.TheVariants.{Damaged, DiskFault, Memory}
 use Rattle.journal_core.proofs.PartFacts.{length-frame, drop_sum, lt_or_le, journal_holds}
 use Rattle.journal_core.proofs.OneReading.{same_base, one_lead, one_reading}
 use Rattle.journal_core.proofs.WalkFacts.{IsPiece, holds_all}
@@ -147,12 +147,12 @@ walked_by SlotsShort w is led ends = walked_slots_short w is led ends
 walked_by Plain w is led ends = walked_plain w is led ends
 walked_by (Slots which offset) w is led ends = walked_slots w which offset is led ends
 
-pub broken_by : (form : Form) (file : List ℕ) (start gate : ℕ) (fault : WalkFault) → IsLongLed form file start gate → IsBreak gate (drop gate file) fault → IsBadLead file fault
+pub broken_by : (form : Form) (file : List ℕ) (start gate : ℕ) (fault : JournalFault) → IsLongLed form file start gate → IsBreak gate (drop gate file) fault → IsBadLead file fault
 broken_by form file start gate (Damaged place) led b = broken form file start gate place led b
 broken_by form file start gate DiskFault led b = b
 broken_by form file start gate Memory led b = b
 
-pub bad_is_fault : (file : List ℕ) (fault : WalkFault) → IsBadLead file fault → IsFault file fault
+pub bad_is_fault : (file : List ℕ) (fault : JournalFault) → IsBadLead file fault → IsFault file fault
 bad_is_fault file (Damaged place) bad = bad
 bad_is_fault file DiskFault bad = tt
 bad_is_fault file Memory bad = tt

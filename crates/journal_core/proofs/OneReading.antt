@@ -9,8 +9,8 @@ use Rattle.journal_core.specs.Records.{AreAhead, IsNext}
 use Rattle.journal_core.specs.Walk.{NamesNoRecord, NamesOffset, IsDamaged, IsFault, IsOnlyFault}
 use Rattle.journal_core.specs.declared.form.Form.{Form}
 use Rattle.journal_core.specs.declared.form.Form.TheVariants.{Short, Plain, SlotsShort, Slots}
-use Rattle.journal_core.specs.declared.walked.WalkFault.{WalkFault}
-use Rattle.journal_core.specs.declared.walked.WalkFault.TheVariants.{Damaged, DiskFault, Memory}
+use Rattle.journal_core.specs.declared.fault.JournalFault.{JournalFault}
+use Rattle.journal_core.specs.declared.fault.JournalFault.TheVariants.{Damaged, DiskFault, Memory}
 use Rattle.journal_core.proofs.PartFacts.{length-frame, take_front, other_header}
 
 pub same_size : (m n : ℕ) → m < 2 ^ 32 → n < 2 ^ 32 → to_le_bytes w32 m ≡ to_le_bytes w32 n → m ≡ n
@@ -204,7 +204,7 @@ one_place file p q (_, inr (inr (f, b, from, rs, t, leads, split, here, small, g
     (compared rs ss t u (omega (arith, here, small)) (omega (arith, here', small')) both)
 
 -- so what a walk tells is all that can be told
-pub only_fault : (file : List ℕ) (fault : WalkFault) → IsFault file fault → IsOnlyFault file fault
+pub only_fault : (file : List ℕ) (fault : JournalFault) → IsFault file fault → IsOnlyFault file fault
 only_fault file (Damaged place) damaged = (λ other is. one_place file other place is damaged, λ base records holds. not_both file base records place holds damaged)
 only_fault file DiskFault told = tt
 only_fault file Memory told = tt

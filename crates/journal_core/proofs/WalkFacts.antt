@@ -10,8 +10,8 @@ use Rattle.journal_core.specs.Lead.{IsLed}
 use Rattle.journal_core.specs.declared.form.Form.{Form}
 use Rattle.journal_core.specs.declared.form.Form.TheVariants.{Short, Plain, SlotsShort, Slots}
 use Rattle.journal_core.specs.declared.walked.Walked.{Walked}
-use Rattle.journal_core.specs.declared.walked.WalkFault.{WalkFault}
-use Rattle.journal_core.specs.declared.walked.WalkFault.TheVariants.{Damaged, DiskFault, Memory}
+use Rattle.journal_core.specs.declared.fault.JournalFault.{JournalFault}
+use Rattle.journal_core.specs.declared.fault.JournalFault.TheVariants.{Damaged, DiskFault, Memory}
 use Rattle.journal_core.proofs.PartFacts.{length-frame, lt_or_le, take_front, bytes_before, slot_ends, slots_same, leads_same}
 use Rattle.journal_core.proofs.OneReading.{only_fault}
 
@@ -179,7 +179,7 @@ damaged_all file place damaged = ⊎_elim
     (λ part. front_damaged file part.0 place (subst (λ (f : List ℕ). IsDamaged f place) part.1 damaged))
     (all_or_front file)
 
-fault_all : (file : List ℕ) (fault : WalkFault) → IsFault (take (min (length file) limit) file) fault → IsFault file fault
+fault_all : (file : List ℕ) (fault : JournalFault) → IsFault (take (min (length file) limit) file) fault → IsFault file fault
 fault_all file (Damaged place) damaged = damaged_all file place damaged
 fault_all file DiskFault damaged = tt
 fault_all file Memory damaged = tt
@@ -191,7 +191,7 @@ piece_of (Some h) size n old new long room reads =
     let taken : length (take n h.content) ≡ n = omega (arith, length-take n h.content, count) in
     ap (λ (l : List ℕ). take n l) reads.1 ∙ take_at (take n h.content) (drop n old) n taken ∙ ap (λ (k : ℕ). take k h.content) count
 
-pub fault_of : (o : Option History) (piece : List ℕ) (fault : WalkFault) → IsPiece o piece → IsFault piece fault → FindsFault o fault
+pub fault_of : (o : Option History) (piece : List ℕ) (fault : JournalFault) → IsPiece o piece → IsFault piece fault → FindsFault o fault
 fault_of None piece fault is told = tt
 fault_of (Some h) piece fault is told =
     let all = fault_all h.content fault (subst (λ (l : List ℕ). IsFault l fault) is told) in

@@ -8,8 +8,8 @@ use Rattle.journal_core.specs.Journal.{EndsAs}
 use Rattle.journal_core.specs.declared.form.Form.{Form}
 use Rattle.journal_core.specs.Lead.{IsLed}
 use Rattle.journal_core.specs.declared.walked.Walked.{Walked}
-use Rattle.journal_core.specs.declared.walked.WalkFault.{WalkFault}
-use Rattle.journal_core.specs.declared.walked.WalkFault.TheVariants.{Damaged, DiskFault, Memory}
+use Rattle.journal_core.specs.declared.fault.JournalFault.{JournalFault}
+use Rattle.journal_core.specs.declared.fault.JournalFault.TheVariants.{Damaged, DiskFault, Memory}
 
 -- the records with the places of their gates, of which the first is this one
 abbrev pub placed : ℕ → List (List ℕ) → List (ℕ × List ℕ)
@@ -43,7 +43,7 @@ pub record BreaksAt (gate : ℕ) (bytes : List ℕ) (place : ℕ) : Type 0 where
   pub none : (bytes rest : List ℕ) → tail ≡ frame bytes ++ rest → limit ≤ place + (5 + length bytes)
 
 -- a fault of a walk from a gate at this place on
-abbrev pub IsBreak : ℕ → List ℕ → WalkFault → Type 0
+abbrev pub IsBreak : ℕ → List ℕ → JournalFault → Type 0
 IsBreak gate bytes (Damaged place) = BreaksAt gate bytes place
 IsBreak gate bytes DiskFault = ⊥
 IsBreak gate bytes Memory = ⊥
@@ -80,19 +80,19 @@ IsDamaged file place = (IsShort file → ⊥) × (
     × ((bytes rest : List ℕ) → tail ≡ frame bytes ++ rest → limit ≤ place + (5 + length bytes))))
 
 -- a fault of a walk over this file tells true
-abbrev pub IsFault : List ℕ → WalkFault → Type 0
+abbrev pub IsFault : List ℕ → JournalFault → Type 0
 IsFault file (Damaged place) = IsDamaged file place
 IsFault file DiskFault = Unit {0}
 IsFault file Memory = Unit {0}
 
 -- a fault of what stands before the first gate
-abbrev pub IsBadLead : List ℕ → WalkFault → Type 0
+abbrev pub IsBadLead : List ℕ → JournalFault → Type 0
 IsBadLead file (Damaged place) = IsDamaged file place
 IsBadLead file DiskFault = ⊥
 IsBadLead file Memory = ⊥
 
 -- no other damage can be told of the file, and it holds nothing
-abbrev pub IsOnlyFault : List ℕ → WalkFault → Type 0
+abbrev pub IsOnlyFault : List ℕ → JournalFault → Type 0
 IsOnlyFault file (Damaged place) = ((other : ℕ) → IsDamaged file other → other ≡ place) × ((base : List ℕ) (records : List (List ℕ)) → Holds file base records → ⊥)
 IsOnlyFault file DiskFault = Unit {0}
 IsOnlyFault file Memory = Unit {0}
@@ -105,6 +105,6 @@ FindsRecords (Some h) w =
     × ((base : List ℕ) (records : List (List ℕ)) → Holds h.content base records → Holds (bytes_of w) base records)
 
 -- and the fault tells true, and is the only one
-abbrev pub FindsFault : Option History → WalkFault → Type 0
+abbrev pub FindsFault : Option History → JournalFault → Type 0
 FindsFault None fault = Unit {0}
 FindsFault (Some h) fault = IsFault h.content fault × IsOnlyFault h.content fault

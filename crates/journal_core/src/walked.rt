@@ -1,14 +1,10 @@
 //! What a walk over a journal answers.
 ghost use Rattle.std.specs.Prelude.{◌≡◌, ◌-◌, ◌<◌, ◌≤◌, ◌^◌, List, ℕ, length, take, drop};
-ghost use Rattle.journal_core.specs.declared.walked.WalkFault.TheVariants.{Memory, DiskFault};
 ghost use Rattle.journal_core.specs.Holds.{Holds};
 ghost use Rattle.journal_core.specs.Records.{AreAhead};
 
 use crate::{Form, RecordBytes, Records};
-use outside::Failed;
-use std::alloc::{AllocError, AllocFailed};
 use std::snapshot::Snapshot;
-use thiserror::Error;
 
 /// A file that holds a base and records: its form, and the place just past the gate behind the records. The base stands from
 /// one place to the other, which is that of the first gate.
@@ -84,34 +80,5 @@ impl Walked {
             first: self.gate,
             bytes,
         }
-    }
-}
-
-/// Why a walk found no records.
-#[derive(Clone, Copy, Debug, PartialEq, Eq, Error)]
-pub enum WalkFault {
-    /// The file is damaged at this place.
-    #[error("damaged at {offset}")]
-    Damaged { offset: u64 },
-    /// The disk failed, and counted it.
-    #[error("the disk failed")]
-    DiskFault,
-    #[error("out of memory")]
-    Memory,
-}
-
-impl From<Failed> for WalkFault {
-    ghost from_gives = { λ _ e. e ≡ DiskFault };
-
-    fn from(_: Failed) -> WalkFault {
-        WalkFault::DiskFault
-    }
-}
-
-impl From<AllocError> for WalkFault {
-    ghost from_gives = { λ _ e. e ≡ Memory };
-
-    fn from(_: AllocError) -> WalkFault {
-        WalkFault::Memory
     }
 }

@@ -10,7 +10,7 @@ ghost use Rattle.journal_core.specs.Walk.{IsBadLead, IsBreak, IsWalked, FindsRec
 use crate::form::{FIRST_BODY, HEADER, place_of};
 use crate::journal::LIMIT;
 use crate::parts::{behind_open, record_of};
-use crate::{Form, WalkFault, Walked};
+use crate::{Form, JournalFault, Walked};
 use outside::Disk;
 use std::alloc::Global;
 
@@ -41,7 +41,7 @@ fn selected_in(bytes: &[u8]) -> u8
 }
 
 // What stands before the first gate of a file with slots.
-fn slots_lead(bytes: &[u8]) -> Result<Lead, WalkFault>
+fn slots_lead(bytes: &[u8]) -> Result<Lead, JournalFault>
     requires long { 31 ≤ length bytes.now }
     requires header { take 8 bytes.now ≡ slots_header }
     ensures led { IfOk result (λ l. IsLed bytes.now l.form l.base l.gate) }
@@ -51,18 +51,18 @@ fn slots_lead(bytes: &[u8]) -> Result<Lead, WalkFault>
     let slot = place_of(selected) as usize;
     let offset = offset_of(&bytes[slot..slot + 8]);
     if offset < FIRST_BODY {
-        return Err(WalkFault::Damaged { offset });
+        return Err(JournalFault::Damaged { offset });
     }
     if offset > bytes.len() as u64 {
-        return Err(WalkFault::Damaged { offset });
+        return Err(JournalFault::Damaged { offset });
     }
     let start = offset as usize;
     let Some((base, _)) = record_of(&bytes[start..]) else {
-        return Err(WalkFault::Damaged { offset });
+        return Err(JournalFault::Damaged { offset });
     };
     let gate = start + 4 + base.len();
     if gate as u64 >= LIMIT {
-        return Err(WalkFault::Damaged { offset });
+        return Err(JournalFault::Damaged { offset });
     }
     Ok(Lead {
         form: Form::Slots { selected, offset },
@@ -72,7 +72,7 @@ fn slots_lead(bytes: &[u8]) -> Result<Lead, WalkFault>
 }
 
 // What stands before the first gate of a file.
-fn lead_of(bytes: &[u8]) -> Result<Lead, WalkFault>
+fn lead_of(bytes: &[u8]) -> Result<Lead, JournalFault>
     ensures led { IfOk result (λ l. IsLed bytes.now l.form l.base l.gate) }
     ensures fault { IfErr result (IsBadLead bytes.now) }
 {
@@ -92,7 +92,7 @@ fn lead_of(bytes: &[u8]) -> Result<Lead, WalkFault>
         });
     }
     if !bytes.starts_with(b"OTCJRNLC") {
-        return Err(WalkFault::Damaged { offset: 0 });
+        return Err(JournalFault::Damaged { offset: 0 });
     }
     if size < 31 {
         return Ok(Lead {
@@ -105,7 +105,7 @@ fn lead_of(bytes: &[u8]) -> Result<Lead, WalkFault>
 }
 
 // The place just past the gate behind the records that stand in the bytes from a gate at this place on.
-fn end_behind(bytes: &[u8], gate: u64) -> Result<u64, WalkFault>
+fn end_behind(bytes: &[u8], gate: u64) -> Result<u64, JournalFault>
     requires small { gate < limit }
     ensures found { IfOk result (EndsBehind gate bytes.now) }
     ensures fault { IfErr result (IsBreak gate bytes.now) }
@@ -114,25 +114,25 @@ fn end_behind(bytes: &[u8], gate: u64) -> Result<u64, WalkFault>
     let mut at = gate;
     while let Some(body) = behind_open(rest) {
         let Some((record_bytes, after)) = record_of(body) else {
-            return Err(WalkFault::Damaged { offset: at });
+            return Err(JournalFault::Damaged { offset: at });
         };
         let next = at
             .saturating_add(5)
             .saturating_add(record_bytes.len() as u64);
         if next >= LIMIT {
-            return Err(WalkFault::Damaged { offset: at });
+            return Err(JournalFault::Damaged { offset: at });
         }
         at = next;
         rest = after;
     }
     if rest.is_empty() {
-        return Err(WalkFault::Damaged { offset: at });
+        return Err(JournalFault::Damaged { offset: at });
     }
     Ok(at + 1)
 }
 
 // Where a journal on the bytes, which begin so, ends, or will when it is begun.
-fn end_of(bytes: &[u8], lead: &Lead) -> Result<u64, WalkFault>
+fn end_of(bytes: &[u8], lead: &Lead) -> Result<u64, JournalFault>
     requires { IsLed bytes.now lead.now.form lead.now.base lead.now.gate }
     ensures ends { IfOk result (EndsLed lead.now.form bytes.now lead.now.gate) }
     ensures fault { IfErr result (IsBadLead bytes.now) }
@@ -152,7 +152,7 @@ fn end_of(bytes: &[u8], lead: &Lead) -> Result<u64, WalkFault>
 }
 
 // A file's form and its parts, and where a journal on it ends, or will when it is begun.
-fn walk_over(bytes: Vec<u8>) -> Result<Walked, WalkFault>
+fn walk_over(bytes: Vec<u8>) -> Result<Walked, JournalFault>
     ensures walked { IfOk result (λ w. IsWalked w × (bytes_of w ≡ bytes.items)) }
     ensures fault { IfErr result (IsBadLead bytes.items) }
 {
@@ -170,7 +170,7 @@ fn walk_over(bytes: Vec<u8>) -> Result<Walked, WalkFault>
 /// The file of a journal, with its form, the base and the records that it holds, and the place just past the gate behind them.
 /// `Damaged` comes only where it holds none, with the one place at which it is damaged. It reads the file in one piece, at most
 /// as much of it as a journal may have, and writes nothing.
-pub fn walk<D: Disk>(alloc: Global, disk: &mut D) -> Result<Walked, WalkFault>
+pub fn walk<D: Disk>(alloc: Global, disk: &mut D) -> Result<Walked, JournalFault>
     ensures walked { IfOk result IsWalked }
     ensures found { IfOk result (FindsRecords (D.history disk.old)) }
     ensures ends { IfOk result (λ w. EndsAt (D.history disk.old) w.form w.end) }
@@ -178,7 +178,7 @@ pub fn walk<D: Disk>(alloc: Global, disk: &mut D) -> Result<Walked, WalkFault>
     ensures fault { IfErr result (FindsFault (D.history disk.old)) }
     ensures same { D.history disk.new ≡ D.history disk.old }
     ensures never_falls { D.fault_count disk.old ≤ D.fault_count disk.new }
-    ensures failed { result ≡ Err WalkFault.DiskFault → Rose (D.fault_count disk.old) (D.fault_count disk.new) }
+    ensures failed { result ≡ Err JournalFault.DiskFault → Rose (D.fault_count disk.old) (D.fault_count disk.new) }
 {
     let length = disk.length()?;
     let mut bytes = vec![in alloc; 0u8; length.min(LIMIT) as usize]?;

@@ -7,8 +7,9 @@ use crate::disks::{BEGUN, TWO, damaged, is_read, read_over, with};
 use crate::houses::named;
 use base_codec::{decode_base, encode_base};
 use command_types::{Base, Listed, Side, ToleranceRow, TradeRow, TradeState};
+use journal_core::JournalFault;
 use record_codec::DecodeFault;
-use recovery::{BaseAt, Entries, RecoverFault};
+use recovery::{BaseAt, Entries};
 use std::alloc::Global;
 use std::test::Fail;
 use units_core::{MemberNo, ProductNo};
@@ -305,7 +306,7 @@ fn damage_of_the_journal_then_of_the_base_then_of_a_record_is_told(
 }
 
 /// The answer to the file cut to this size. With fewer than 151 bytes the base or the gate behind it is cut.
-fn answer_when_cut(size: usize) -> Result<(usize, u64), RecoverFault> {
+fn answer_when_cut(size: usize) -> Result<(usize, u64), JournalFault> {
     match size {
         0..=30 => Ok((0, 30)),
         31..=149 => damaged(25),

@@ -1,7 +1,7 @@
 //! Each other byte at each place of the plain file of one record.
 
 use crate::disks::{ONE, damaged, is_read};
-use recovery::RecoverFault;
+use journal_core::JournalFault;
 use std::test::Fail;
 
 /// Whether names have it.
@@ -33,7 +33,7 @@ fn is_spelling(place: usize, byte: u8) -> bool {
 /// the second, bytes 17 to 24: no base stands there. A smaller length ends the record before the byte 13 + length:
 /// where that is 01 no record stands behind it, and else the record is cut and spells no change. A length of 26 takes the
 /// closed gate too.
-fn answer_with(place: usize, byte: u8) -> Result<(usize, u64), RecoverFault> {
+fn answer_with(place: usize, byte: u8) -> Result<(usize, u64), JournalFault> {
     match (place, byte) {
         (7, b'C') => damaged(u64::from_le_bytes([1, b'A', 1, 1, b'A', 1, b'B', 1])),
         (0..=7, _) => damaged(0),

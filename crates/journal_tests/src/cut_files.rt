@@ -1,12 +1,12 @@
 //! Cut files, and records that spell no change.
 
 use crate::disks::{BEGUN_ONE, FIRST_TAG, ONE, SECOND_TAG, TURNED_TWO, TWO, damaged, is_read};
-use recovery::RecoverFault;
+use journal_core::JournalFault;
 use std::test::Fail;
 
 /// The answer to the plain file of two records cut to this size. With fewer bytes it will be begun with slots. From 10 bytes on a gate is due at byte 8, with 38 one at byte
 /// 38, and with 58 one at byte 58; a record ends where the next gate is due.
-fn answer_when_cut(size: usize) -> Result<(usize, u64), RecoverFault> {
+fn answer_when_cut(size: usize) -> Result<(usize, u64), JournalFault> {
     match size {
         0..=9 => Ok((0, 30)),
         10..=37 => damaged(8),
@@ -29,7 +29,7 @@ fn each_cut_of_a_file_has_its_answer(rt: HostRuntime) -> Result<(), Fail> {
 
 /// The answer to the file with slots and one record cut to this size. From 31 bytes on a gate is due at byte 29, and with 59
 /// one at byte 59, where the record ends.
-fn answer_in_slots_when_cut(size: usize) -> Result<(usize, u64), RecoverFault> {
+fn answer_in_slots_when_cut(size: usize) -> Result<(usize, u64), JournalFault> {
     match size {
         0..=30 => Ok((0, 30)),
         31..=58 => damaged(29),
@@ -133,7 +133,7 @@ fn what_is_short_or_behind_a_closed_gate_is_not_read(rt: HostRuntime) -> Result<
 }
 
 /// The answer to the turned file of two changes cut to this size: a gate is due at the bytes 8, 38, 51 and 79.
-fn answer_when_turned_and_cut(size: usize) -> Result<(usize, u64), RecoverFault> {
+fn answer_when_turned_and_cut(size: usize) -> Result<(usize, u64), JournalFault> {
     match size {
         0..=9 => Ok((0, 30)),
         10..=37 => damaged(8),

@@ -1,9 +1,9 @@
 //! Calls of the disk that fail: in an append, a walk, a start and in reading entries.
 
 use crate::disks::{BEGUN, FIRST_TAG, ONE, append_to, count_of, damaged, failing_disk};
-use journal_core::{Journal, WalkFault, walk};
+use journal_core::{Journal, JournalFault, walk};
 use outside::Disk;
-use recovery::{RecoverFault, read_entries};
+use recovery::read_entries;
 use std::alloc::Global;
 use std::test::Fail;
 
@@ -44,7 +44,7 @@ fn an_append_fails_where_one_of_its_four_calls_does(rt: HostRuntime) -> Result<(
 fn walk_fails(alloc: Global, call: u64) -> Result<bool, Fail> {
     let mut disk = failing_disk(alloc, &ONE, call)?;
     let fault = walk(alloc, &mut disk).err();
-    Ok(fault == Some(WalkFault::DiskFault) && disk.faults() == 1)
+    Ok(fault == Some(JournalFault::DiskFault) && disk.faults() == 1)
 }
 
 #[test]
@@ -90,7 +90,7 @@ fn reading_gives(
     alloc: Global,
     bytes: &[u8],
     call: u64,
-    fault: Option<RecoverFault>,
+    fault: Option<JournalFault>,
     faults: u64,
 ) -> Result<bool, Fail> {
     let mut disk = failing_disk(alloc, bytes, call)?;
@@ -103,7 +103,7 @@ fn reading_gives(
 fn reading_fails_where_one_of_its_two_calls_does(rt: HostRuntime) -> Result<(), Fail> {
     let mut bad = ONE;
     bad[FIRST_TAG] = 13;
-    let failed = Some(RecoverFault::DiskFault);
+    let failed = Some(JournalFault::DiskFault);
     let cases = [
         (&ONE, 1, failed, 1),
         (&ONE, 2, failed, 1),
@@ -122,16 +122,16 @@ fn reading_fails_where_one_of_its_two_calls_does(rt: HostRuntime) -> Result<(), 
 }
 
 /// Whether a fault has this text.
-fn has_text(alloc: Global, fault: RecoverFault, text: &str) -> Result<bool, Fail> {
+fn has_text(alloc: Global, fault: JournalFault, text: &str) -> Result<bool, Fail> {
     Ok(format!(in alloc; "{fault}")?.as_str() == text)
 }
 
 #[test]
 fn faults_have_these_texts(rt: HostRuntime) -> Result<(), Fail> {
     let cases = [
-        (RecoverFault::Damaged { offset: 38 }, "damaged at 38"),
-        (RecoverFault::DiskFault, "the disk failed"),
-        (RecoverFault::Memory, "out of memory"),
+        (JournalFault::Damaged { offset: 38 }, "damaged at 38"),
+        (JournalFault::DiskFault, "the disk failed"),
+        (JournalFault::Memory, "out of memory"),
     ];
     for (fault, text) in cases {
         assert!(rt; has_text(rt.alloc(), fault, text)?, "{text}");

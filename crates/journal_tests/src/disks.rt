@@ -5,9 +5,9 @@ ghost use Rattle.command_types.specs.Bases.{CanBeWritten};
 ghost use Rattle.outside.specs.Disk.{IsSettled};
 ghost use Rattle.journal_core.specs.Journal.{disk_of, form_of, size_of, is_sound, IsReady};
 
-use journal_core::{Frame, Journal, WalkFault, Walked, walk};
+use journal_core::{Frame, Journal, JournalFault, Walked, walk};
 use outside::{Disk, Failed, MemoryDisk};
-use recovery::{Contents, Entries, RecoverFault, read_entries};
+use recovery::{Contents, Entries, read_entries};
 use std::alloc::Global;
 use std::test::Fail;
 
@@ -104,7 +104,7 @@ fn entries_in(alloc: Global, entries: &Entries) -> Result<(usize, u64), Fail> {
 }
 
 /// What a walk over these bytes answers.
-pub fn walked_over(alloc: Global, bytes: &[u8]) -> Result<Result<Walked, WalkFault>, Fail> {
+pub fn walked_over(alloc: Global, bytes: &[u8]) -> Result<Result<Walked, JournalFault>, Fail> {
     let mut disk = disk_of(alloc, bytes)?;
     Ok(walk(alloc, &mut disk))
 }
@@ -113,7 +113,7 @@ pub fn walked_over(alloc: Global, bytes: &[u8]) -> Result<Result<Walked, WalkFau
 pub fn is_walked(
     alloc: Global,
     bytes: &[u8],
-    answer: Result<(usize, u64), WalkFault>,
+    answer: Result<(usize, u64), JournalFault>,
 ) -> Result<bool, Fail> {
     let given = match walked_over(alloc, bytes)? {
         Ok(walked) => Ok((count_of(&walked), walked.end)),
@@ -123,7 +123,7 @@ pub fn is_walked(
 }
 
 /// What reading these bytes answers.
-pub fn read_over(alloc: Global, bytes: &[u8]) -> Result<Result<Contents, RecoverFault>, Fail>
+pub fn read_over(alloc: Global, bytes: &[u8]) -> Result<Result<Contents, JournalFault>, Fail>
     ensures { IfOk result (λ read. IfOk read (λ c. IfSome c.base (λ found. CanBeWritten found.base))) }
 {
     let mut disk = disk_of(alloc, bytes)?;
@@ -134,7 +134,7 @@ pub fn read_over(alloc: Global, bytes: &[u8]) -> Result<Result<Contents, Recover
 pub fn is_read(
     alloc: Global,
     bytes: &[u8],
-    answer: Result<(usize, u64), RecoverFault>,
+    answer: Result<(usize, u64), JournalFault>,
 ) -> Result<bool, Fail> {
     match read_over(alloc, bytes)? {
         Ok(contents) => Ok(answer == Ok(entries_in(alloc, &contents.entries)?)),
@@ -143,8 +143,8 @@ pub fn is_read(
 }
 
 /// The answer that the file is damaged at this place.
-pub fn damaged(offset: u64) -> Result<(usize, u64), RecoverFault> {
-    Err(RecoverFault::Damaged { offset })
+pub fn damaged(offset: u64) -> Result<(usize, u64), JournalFault> {
+    Err(JournalFault::Damaged { offset })
 }
 
 /// The journal that is started on a disk.

@@ -6,7 +6,7 @@ ghost use Rattle.journal_core.specs.Journal.{is_sound};
 use crate::disks::{BEGUN, BEGUN_ONE, is_walked, walked_over, with};
 use crate::traced_disk::TracedDisk;
 use crate::traced_journals::{Change, Deed, Held, Seen, does, is_held, seen_after};
-use journal_core::{Form, Journal, WalkFault, walk};
+use journal_core::{Form, Journal, JournalFault, walk};
 use outside::Disk;
 use std::alloc::Global;
 use std::test::Fail;
@@ -90,18 +90,18 @@ fn a_short_file_gets_its_slots(rt: HostRuntime) -> Result<(), Fail> {
 }
 
 /// What a walk over the file of one record answers where it is cut to this size.
-fn answer_when_cut(size: usize) -> Result<(Form, u64), WalkFault> {
+fn answer_when_cut(size: usize) -> Result<(Form, u64), JournalFault> {
     match size {
         0..=9 => Ok((Form::Short, 30)),
         10..=30 => Ok((Form::SlotsShort, 30)),
-        31..=58 => Err(WalkFault::Damaged { offset: 29 }),
-        59 => Err(WalkFault::Damaged { offset: 59 }),
+        31..=58 => Err(JournalFault::Damaged { offset: 29 }),
+        59 => Err(JournalFault::Damaged { offset: 59 }),
         _ => Ok((slots(0, 25), 60)),
     }
 }
 
 /// The form and the end that a walk over these bytes finds, or its fault.
-fn form_of(alloc: Global, bytes: &[u8]) -> Result<Result<(Form, u64), WalkFault>, Fail> {
+fn form_of(alloc: Global, bytes: &[u8]) -> Result<Result<(Form, u64), JournalFault>, Fail> {
     match walked_over(alloc, bytes)? {
         Ok(walked) => Ok(Ok((walked.form, walked.end))),
         Err(fault) => Ok(Err(fault)),
@@ -130,7 +130,7 @@ fn slots_that_name_no_base_are_damage_there(rt: HostRuntime) -> Result<(), Fail>
         (28, 255, 25),
     ];
     for (place, byte, offset) in cases {
-        let damaged = Err(WalkFault::Damaged { offset });
+        let damaged = Err(JournalFault::Damaged { offset });
         assert!(rt;
             is_walked(rt.alloc(), &with(BEGUN_ONE, place, &[byte]), damaged)?,
             "{byte} at {place}"

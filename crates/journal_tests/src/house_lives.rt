@@ -5,7 +5,8 @@ ghost use Rattle.outside.specs.Disk.{IsSettled};
 
 use crate::houses::{content_of, crashed, day, large_disk_of, large_failing_disk, named, opened};
 use command_types::{Answer, Ask, Listed, Mode, Moment, Refusal, Reply, What};
-use house::{House, OpenFault};
+use house::House;
+use journal_core::JournalFault;
 use network_laws::{Network, Solution};
 use outside::{Disk, MemoryDisk};
 use std::alloc::Global;
@@ -185,7 +186,7 @@ fn ended(rt: &impl Abort, alloc: Global, life: &Life<'_>) -> Result<(bool, Memor
             Ok((end == life.end, disk))
         }
         Err((fault, disk)) => {
-            let is_fault = fault == OpenFault::DiskFault && disk.faults() == 1;
+            let is_fault = fault == JournalFault::DiskFault && disk.faults() == 1;
             Ok((is_fault && life.end == End::Unopened, disk))
         }
     }

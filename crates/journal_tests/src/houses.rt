@@ -5,7 +5,8 @@ ghost use Rattle.outside.specs.Disk.{IsSettled};
 ghost use Rattle.units_core.specs.Name.{is_name};
 
 use command_types::{MemberRow, OperatorRow, ProductRow, Role, Roster};
-use house::{House, OpenFault};
+use house::House;
+use journal_core::JournalFault;
 use outside::{Disk, MemoryDisk};
 use std::alloc::{AllocError, Global};
 use std::process::Abort;
@@ -80,7 +81,7 @@ pub fn opened(
     rt: &impl Abort,
     alloc: Global,
     disk: MemoryDisk,
-) -> Result<Result<House<MemoryDisk>, (OpenFault, MemoryDisk)>, AllocError>
+) -> Result<Result<House<MemoryDisk>, (JournalFault, MemoryDisk)>, AllocError>
     requires { IsSettled (Some disk.history) }
 {
     let roster = three_dealers(alloc, day(rt, b"2031-06-30"))?;
@@ -107,7 +108,7 @@ pub fn answer_to(
     rt: &impl Abort,
     alloc: Global,
     bytes: &[u8],
-) -> Result<Result<u64, OpenFault>, Fail> {
+) -> Result<Result<u64, JournalFault>, Fail> {
     match opened(rt, alloc, large_disk_of(alloc, bytes)?)? {
         Ok(house) => {
             let length = house.length();
@@ -119,8 +120,8 @@ pub fn answer_to(
 }
 
 /// The answer that the file is damaged at this place.
-pub fn damaged(offset: u64) -> Result<u64, OpenFault> {
-    Err(OpenFault::Damaged { offset })
+pub fn damaged(offset: u64) -> Result<u64, JournalFault> {
+    Err(JournalFault::Damaged { offset })
 }
 
 /// The disk that a crash leaves of an opening of a file.

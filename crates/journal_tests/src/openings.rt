@@ -5,7 +5,8 @@ use crate::house_lives::fails_in_each;
 use crate::houses::{
     answer_to, content_opened, damaged, day, large_disk_of, three_dealers, turned,
 };
-use house::{Executions, OpenFault, recover_noting};
+use house::{Executions, recover_noting};
+use journal_core::JournalFault;
 use std::alloc::Global;
 use std::process::Abort;
 use std::test::Fail;
@@ -71,7 +72,7 @@ fn recovered_of(
     rt: &impl Abort,
     alloc: Global,
     bytes: &[u8],
-) -> Result<Result<[u64; 3], OpenFault>, Fail> {
+) -> Result<Result<[u64; 3], JournalFault>, Fail> {
     let mut disk = large_disk_of(alloc, bytes)?;
     let roster = three_dealers(alloc, day(rt, b"2031-06-30"))?;
     match recover_noting(alloc, roster, &mut disk, Executions::none(alloc)) {
@@ -88,7 +89,7 @@ fn a_history_is_recovered_without_a_house(rt: HostRuntime) -> Result<(), Fail> {
         (&ONE, Ok([1, 1, 39])),
         (&TWO, Ok([2, 2, 59])),
         (&TURNED_TWO, Ok([2, 2, 80])),
-        (&ONE[..30], Err(OpenFault::Damaged { offset: 8 })),
+        (&ONE[..30], Err(JournalFault::Damaged { offset: 8 })),
     ];
     for (file, answer) in cases {
         assert!(rt;

@@ -2,7 +2,7 @@
 
 use crate::crashes::ONE_AND_MORE;
 use crate::disks::{BEGUN_ONE, ONE, is_walked, walked_over};
-use journal_core::{WalkFault, Walked};
+use journal_core::{JournalFault, Walked};
 use std::alloc::Global;
 use std::test::Fail;
 
@@ -34,11 +34,11 @@ fn a_record_is_found_with_its_gate_and_its_bytes(rt: HostRuntime) -> Result<(), 
 
 /// The answer to the plain file cut to this size. With fewer it will be begun with slots, and end at byte 30. From 10 bytes on a gate is due at byte 8, and only with 38 there stands a
 /// whole record behind it. Then the next gate is due at byte 38.
-fn answer_when_cut(size: usize) -> Result<(usize, u64), WalkFault> {
+fn answer_when_cut(size: usize) -> Result<(usize, u64), JournalFault> {
     match size {
         0..=9 => Ok((0, 30)),
-        10..=37 => Err(WalkFault::Damaged { offset: 8 }),
-        38 => Err(WalkFault::Damaged { offset: 38 }),
+        10..=37 => Err(JournalFault::Damaged { offset: 8 }),
+        38 => Err(JournalFault::Damaged { offset: 38 }),
         _ => Ok((1, 39)),
     }
 }
@@ -71,21 +71,21 @@ fn behind_a_closed_gate_no_cut_matters(rt: HostRuntime) -> Result<(), Fail> {
 /// The answer to the plain file with another byte at this place. With a C in byte 7 it is one with slots, of which byte 8
 /// selects the second, bytes 17 to 24. A smaller length ends the record before the byte 13 + length,
 /// which is then the next gate: where it is 01, no record stands behind it. A length of 26 takes the closed gate too.
-fn answer_with(place: usize, byte: u8) -> Result<(usize, u64), WalkFault> {
+fn answer_with(place: usize, byte: u8) -> Result<(usize, u64), JournalFault> {
     let length = u64::from(byte);
     match (place, byte) {
-        (7, b'C') => Err(WalkFault::Damaged {
+        (7, b'C') => Err(JournalFault::Damaged {
             offset: u64::from_le_bytes([1, b'A', 1, 1, b'A', 1, b'B', 1]),
         }),
-        (0..=7, _) => Err(WalkFault::Damaged { offset: 0 }),
+        (0..=7, _) => Err(JournalFault::Damaged { offset: 0 }),
         (8, _) => Ok((0, 9)),
-        (9, 4 | 6 | 7 | 9 | 11) => Err(WalkFault::Damaged {
+        (9, 4 | 6 | 7 | 9 | 11) => Err(JournalFault::Damaged {
             offset: 13 + length,
         }),
         (9, 0..=24) => Ok((1, 14 + length)),
-        (9, 26) => Err(WalkFault::Damaged { offset: 39 }),
-        (9..=12, _) => Err(WalkFault::Damaged { offset: 8 }),
-        (38, 1) => Err(WalkFault::Damaged { offset: 38 }),
+        (9, 26) => Err(JournalFault::Damaged { offset: 39 }),
+        (9..=12, _) => Err(JournalFault::Damaged { offset: 8 }),
+        (38, 1) => Err(JournalFault::Damaged { offset: 38 }),
         _ => Ok((1, 39)),
     }
 }

@@ -16,8 +16,8 @@ use Rattle.recovery.specs.Reading.{IsFault, IsOnlyFault}
 use Rattle.recovery.specs.Laws.{FilesStandForOneHistory}
 use Rattle.recovery.specs.declared.contents.BaseAt.{BaseAt}
 use Rattle.recovery.specs.declared.entries.EntryAt.{EntryAt}
-use Rattle.recovery.specs.declared.fault.RecoverFault.{RecoverFault}
-use Rattle.recovery.specs.declared.fault.RecoverFault.TheVariants.{Damaged, DiskFault, Memory}
+use Rattle.journal_core.specs.declared.fault.JournalFault.{JournalFault}
+use Rattle.journal_core.specs.declared.fault.JournalFault.TheVariants.{Damaged, DiskFault, Memory}
 use Rattle.recovery.proofs.PlaceFacts.{at_holds, one_gate}
 use Rattle.recovery.proofs.BodyFacts.{written_in, written_in-changes, few_changes}
 use Rattle.recovery.proofs.BaseFacts.{stands_spelled, one_start, read_of, bad_holds, bad_unread, bad_at}
@@ -103,7 +103,7 @@ stands_for_none file place h (inl damaged) s = not_both file s.0 s.1 place s.2 d
 stands_for_none file place h (inr (inl bad)) s = bad_unread file place s.0 s.1 bad s.2 (stands_spelled s.0 h.base s.3)
 stands_for_none file place h (inr (inr bad)) s = unreadable_stands_for_none file place h bad s
 
-pub only_fault : (file : List ℕ) (fault : RecoverFault) → IsFault file fault → IsOnlyFault file fault
+pub only_fault : (file : List ℕ) (fault : JournalFault) → IsFault file fault → IsOnlyFault file fault
 only_fault file (Damaged place) told = (λ other is. only_place file place other told is, λ h s. stands_for_none file place h told s)
 only_fault file DiskFault told = tt
 only_fault file Memory told = tt

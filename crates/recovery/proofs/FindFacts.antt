@@ -11,8 +11,8 @@ use Rattle.journal_core.specs.Walk.{bytes_of, base_of, gate_of, placed, IsWalked
 use Rattle.journal_core.specs.declared.form.Form.{Form}
 use Rattle.journal_core.specs.declared.form.Form.TheVariants.{Slots}
 use Rattle.journal_core.specs.declared.walked.Walked.{Walked}
-use Rattle.journal_core.specs.declared.walked.WalkFault.{WalkFault}
-use Rattle.journal_core.specs.declared.walked.WalkFault.TheVariants as walks
+use Rattle.journal_core.specs.declared.fault.JournalFault.{JournalFault}
+use Rattle.journal_core.specs.declared.fault.JournalFault.TheVariants.{Damaged, DiskFault, Memory}
 use Rattle.journal_core.proofs.OneReading.{one_reading}
 use Rattle.command_types.specs.Bases.{spelling_behind}
 use Rattle.command_types.specs.declared.spelling.Spelling.{Spelling}
@@ -20,13 +20,10 @@ use Rattle.recovery.specs.Bodies.{Placed, changes_of, spelling_after}
 use Rattle.recovery.specs.StandsFor.{HoldsAt, SpellsSomeBase, IsFirstBad}
 use Rattle.recovery.specs.Reading.{SpellsAt, AreSpelled, IsFaultAmong, IsRead, HasRead, HasBase, IsBaseOf, IsBaseFault}
 use Rattle.recovery.specs.Reading.{IsFault, FindsEntries, FindsSpelling, FindsBase, GivesOnly, FindsFault}
-use Rattle.recovery.specs.Faults.{fault_of_walk}
 use Rattle.recovery.specs.declared.contents.BaseAt.{BaseAt}
 use Rattle.recovery.specs.declared.contents.Contents.{Contents}
 use Rattle.recovery.specs.declared.entries.Entries.{Entries}
 use Rattle.recovery.specs.declared.entries.EntryAt.{EntryAt}
-use Rattle.recovery.specs.declared.fault.RecoverFault.{RecoverFault}
-use Rattle.recovery.specs.declared.fault.RecoverFault.TheVariants.{Damaged, DiskFault, Memory}
 use Rattle.recovery.proofs.PlaceFacts.{at_holds, ends_hold, walked_at, held_alike}
 use Rattle.recovery.proofs.BaseFacts.{written_can}
 use Rattle.recovery.proofs.EntryFacts.{only_fault, stands_read}
@@ -94,12 +91,12 @@ module _ (disk : disks.History) (w : Walked) (walked : IsWalked w) (finds : Find
   base_content None is = (walked.1.0, subst (λ (b : List ℕ). Holds disk.content b walked.1.0) is content_holds)
   base_content (Some x) is = (is.0, base_of w, ends.1, content_slot is.0 x.at is.1, is.2)
 
-  bad_content : (fault : RecoverFault) → IsBaseFault w fault → IsFault disk.content fault
+  bad_content : (fault : JournalFault) → IsBaseFault w fault → IsFault disk.content fault
   bad_content (Damaged place) bad = inr (inl (bad.0, base_of w, ends.1, content_slot bad.0 place bad.1, bad.2, bad.3))
   bad_content DiskFault bad = tt
   bad_content Memory bad = tt
 
-  among_content : (base : Option BaseAt) (fault : RecoverFault) → IsBaseOf w base → IsFaultAmong (changes_walked w walked.1.0) fault → IsFault disk.content fault
+  among_content : (base : Option BaseAt) (fault : JournalFault) → IsBaseOf w base → IsFaultAmong (changes_walked w walked.1.0) fault → IsFault disk.content fault
   among_content base (Damaged place) is bad =
       let at = content_at (base_of w) walked.1.0 (gate_of w) (walked_at w (base_of w) walked.1.0 walked (walked_holds w walked)) in
       inr (inr (base_of w, walked.1.0, at.0, at.1, base_spelled w base is, subst (λ (l : List (ℕ × List ℕ)). IsFirstBad (changes_of (first_of w) l) place) at.2 bad))
@@ -122,13 +119,13 @@ base_on (Some disk) w base walked finds ends is = base_content disk w walked fin
 -- ---- faults
 
 -- the fault of its base
-pub fault_before : (o : Option disks.History) (w : Walked) (fault : RecoverFault) → IsWalked w → FindsRecords o w → EndsAt o w.form w.end → IsBaseFault w fault → FindsFault o fault
+pub fault_before : (o : Option disks.History) (w : Walked) (fault : JournalFault) → IsWalked w → FindsRecords o w → EndsAt o w.form w.end → IsBaseFault w fault → FindsFault o fault
 fault_before None w fault walked finds ends bad = tt
 fault_before (Some disk) w fault walked finds ends bad =
     let told = bad_content disk w walked finds ends fault bad in (told, only_fault disk.content fault told)
 
 -- the fault of its records
-pub fault_among : (o : Option disks.History) (w : Walked) (base : Option BaseAt) (initial : Spelling) (fault : RecoverFault) (walked : IsWalked w) → FindsRecords o w → EndsAt o w.form w.end → IsBaseOf w base → initial ≡ first_of w
+pub fault_among : (o : Option disks.History) (w : Walked) (base : Option BaseAt) (initial : Spelling) (fault : JournalFault) (walked : IsWalked w) → FindsRecords o w → EndsAt o w.form w.end → IsBaseOf w base → initial ≡ first_of w
     → IsFaultAmong (changes_of initial (placed (gate_of w) walked.1.0)) fault → FindsFault o fault
 fault_among None w base initial fault walked finds ends is begins bad = tt
 fault_among (Some disk) w base initial fault walked finds ends is begins bad =
@@ -136,15 +133,15 @@ fault_among (Some disk) w base initial fault walked finds ends is begins bad =
     let told = among_content disk w walked finds ends base fault is here in (told, only_fault disk.content fault told)
 
 -- a walk's fault
-walk_told : (h : disks.History) (fault : WalkFault) → FindsWalkFault (Some h) fault → IsFault h.content (fault_of_walk fault)
-walk_told h (walks.Damaged place) finds = inl finds.0
-walk_told h walks.DiskFault finds = tt
-walk_told h walks.Memory finds = tt
+walk_told : (h : disks.History) (fault : JournalFault) → FindsWalkFault (Some h) fault → IsFault h.content fault
+walk_told h (Damaged place) finds = inl finds.0
+walk_told h DiskFault finds = tt
+walk_told h Memory finds = tt
 
-pub fault_of : (o : Option disks.History) (fault : WalkFault) → FindsWalkFault o fault → FindsFault o (fault_of_walk fault)
+pub fault_of : (o : Option disks.History) (fault : JournalFault) → FindsWalkFault o fault → FindsFault o fault
 fault_of None fault finds = tt
 fault_of (Some h) fault finds =
-    let told : IsFault h.content (fault_of_walk fault) = walk_told h fault finds in (told, only_fault h.content (fault_of_walk fault) told)
+    let told : IsFault h.content fault = walk_told h fault finds in (told, only_fault h.content fault told)
 
 -- ---- the answer is the only one
 
@@ -154,7 +151,7 @@ only_of (Some disk) c read finds has = λ h s.
     let is = stands_read disk.content c.base read.0 h has (finds read.0 read.1) s in
     (read.0, read.1, is.0, is.1)
 
-pub only_fault_of : (o : Option disks.History) (fault : RecoverFault) → FindsFault o fault → GivesOnly o (Err fault)
+pub only_fault_of : (o : Option disks.History) (fault : JournalFault) → FindsFault o fault → GivesOnly o (Err fault)
 only_fault_of None fault told = tt
 only_fault_of (Some disk) (Damaged place) told = λ h s. told.1.1 h s
 only_fault_of (Some disk) DiskFault told = λ h s. tt

@@ -14,8 +14,8 @@ use Rattle.recovery.specs.StandsFor.{changes_at}
 use Rattle.recovery.specs.Reading.{SpellsAt, AreSpelled, IsFaultAmong, IsRead, AreAheadOf, changes_ahead, IsFirstOf, HasNone, AreLeft, IsNext as IsNextOf}
 use Rattle.recovery.specs.declared.body.Body.{Body}
 use Rattle.recovery.specs.declared.entries.EntryAt.{EntryAt}
-use Rattle.recovery.specs.declared.fault.RecoverFault.{RecoverFault}
-use Rattle.recovery.specs.declared.fault.RecoverFault.TheVariants.{Damaged, DiskFault, Memory}
+use Rattle.journal_core.specs.declared.fault.JournalFault.{JournalFault}
+use Rattle.journal_core.specs.declared.fault.JournalFault.TheVariants.{Damaged, DiskFault, Memory}
 use Rattle.journal_core.proofs.OneReading.{one_reading}
 use Rattle.recovery.proofs.PlaceFacts.{at_holds, ends_hold, one_gate, walked_at}
 use Rattle.recovery.proofs.BodyFacts.{plain_first, turned_first, plain_after, turned_after}
@@ -80,7 +80,7 @@ none_turned old mid new records bytes n turned none second =
 -- ---- records that spell entries
 
 -- behind records that spell entries, the fault of the others is that of all
-fault_behind : (rs others : List Placed) (xs : List EntryAt) (fault : RecoverFault) → AllZip SpellsAt rs xs → IsFaultAmong others fault → IsFaultAmong (rs ++ others) fault
+fault_behind : (rs others : List Placed) (xs : List EntryAt) (fault : JournalFault) → AllZip SpellsAt rs xs → IsFaultAmong others fault → IsFaultAmong (rs ++ others) fault
 fault_behind [] others xs fault all told = told
 fault_behind (r ∷ rs) others [] fault all told = absurd all
 fault_behind (r ∷ rs) others (x ∷ xs) (Damaged place) all told = inr ((x.entry, all.0.1), fault_behind rs others xs (Damaged place) all.1 told)
@@ -88,7 +88,7 @@ fault_behind (r ∷ rs) others (x ∷ xs) DiskFault all told = absurd told
 fault_behind (r ∷ rs) others (x ∷ xs) Memory all told = tt
 
 -- the first of some is the one that is bad
-fault_before : (r : Placed) (others : List Placed) (fault : RecoverFault) → IsFaultAmong (r ∷ []) fault → IsFaultAmong (r ∷ others) fault
+fault_before : (r : Placed) (others : List Placed) (fault : JournalFault) → IsFaultAmong (r ∷ []) fault → IsFaultAmong (r ∷ others) fault
 fault_before r others (Damaged place) (inl bad) = inl bad
 fault_before r others (Damaged place) (inr bad) = absurd bad.1
 fault_before r others DiskFault told = absurd told
@@ -129,7 +129,7 @@ spelled_more initial gate records body new found x f n here = record {
 }
 
 -- the fault of the first that is bad is that of all
-pub spelled_fault : (initial : Spelling) (gate : ℕ) (records : List (List ℕ)) (body new : Body) (found : Placed) (fault : RecoverFault) (f : SpelledFront initial gate records body) → IsFirstOf body new f.others found
+pub spelled_fault : (initial : Spelling) (gate : ℕ) (records : List (List ℕ)) (body new : Body) (found : Placed) (fault : JournalFault) (f : SpelledFront initial gate records body) → IsFirstOf body new f.others found
     → IsFaultAmong (found ∷ []) fault → IsFaultAmong (changes_of initial (placed gate records)) fault
 spelled_fault initial gate records body new found fault f n told =
     let behind = changes_ahead new n.others in
@@ -160,7 +160,7 @@ left_next old new records found list x n spelled here = by_first list (subst (λ
         (ys, same, (n.others, n.ahead, all.1))
 
 -- and it spells some
-pub left_spelled : (old new : Body) (records : List (List ℕ)) (found : Placed) (list : List EntryAt) (fault : RecoverFault) → IsFirstOf old new records found → AllZip SpellsAt (changes_ahead old records) list
+pub left_spelled : (old new : Body) (records : List (List ℕ)) (found : Placed) (list : List EntryAt) (fault : JournalFault) → IsFirstOf old new records found → AllZip SpellsAt (changes_ahead old records) list
     → IsFaultAmong (found ∷ []) fault → fault ≡ Memory
 left_spelled old new records found list Memory n spelled told = refl
 left_spelled old new records found list DiskFault n spelled told = absurd told

@@ -1,5 +1,4 @@
 pub mod Bodies
 pub mod StandsFor
-pub mod Faults
 pub mod Reading
 pub mod Laws

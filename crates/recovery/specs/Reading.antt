@@ -23,8 +23,8 @@ use Rattle.recovery.specs.declared.contents.Contents.{Contents}
 use Rattle.recovery.specs.declared.entries.Entries.{Entries}
 use Rattle.recovery.specs.declared.entries.EntryAt.{EntryAt}
 use Rattle.recovery.specs.declared.reader.EntryReader.{EntryReader}
-use Rattle.recovery.specs.declared.fault.RecoverFault.{RecoverFault}
-use Rattle.recovery.specs.declared.fault.RecoverFault.TheVariants.{Damaged, DiskFault, Memory}
+use Rattle.journal_core.specs.declared.fault.JournalFault.{JournalFault}
+use Rattle.journal_core.specs.declared.fault.JournalFault.TheVariants.{Damaged, DiskFault, Memory}
 
 -- the bytes that were read, their form, and the place just past the gate behind their records
 abbrev pub file_of : Entries → List ℕ
@@ -49,7 +49,7 @@ abbrev pub SpellsAt : Placed → EntryAt → Type 0
 SpellsAt r x = (x.at ≡ r.0) × SpellsAs r.1 x.entry
 
 -- a fault of reading these: damage is told at the gate of the first that spells no change, and no disk is asked
-abbrev pub IsFaultAmong : List Placed → RecoverFault → Type 0
+abbrev pub IsFaultAmong : List Placed → JournalFault → Type 0
 IsFaultAmong changes (Damaged place) = IsFirstBad changes place
 IsFaultAmong changes DiskFault = ⊥
 IsFaultAmong changes Memory = Unit {0}
@@ -112,7 +112,7 @@ IsBaseOf w None = base_of w ≡ []
 IsBaseOf w (Some x) = (which : ℕ) × (w.form ≡ Slots which x.at) × SpellsBase (base_of w) x.base
 
 -- a fault of reading its base: damage is told at the base's offset, where it spells none, and no disk is asked
-abbrev pub IsBaseFault : Walked → RecoverFault → Type 0
+abbrev pub IsBaseFault : Walked → JournalFault → Type 0
 IsBaseFault w (Damaged place) = (which : ℕ) × (w.form ≡ Slots which place) × (base_of w ≢ []) × (¬ SpellsSomeBase (base_of w))
 IsBaseFault w DiskFault = ⊥
 IsBaseFault w Memory = Unit {0}
@@ -133,13 +133,13 @@ history_of roster base list = record { base = start_of roster base; entries = en
 
 -- damage is told at the place where the file is damaged as a journal, or, where it holds a base and records, at the offset of a
 -- base that is not spelled, or else at the gate of the first record that spells no change
-abbrev pub IsFault : List ℕ → RecoverFault → Type 0
+abbrev pub IsFault : List ℕ → JournalFault → Type 0
 IsFault file (Damaged place) = IsDamaged file place ⊎ (IsBadBase file place ⊎ IsUnreadable file place)
 IsFault file DiskFault = Unit {0}
 IsFault file Memory = Unit {0}
 
 -- no other damage can be told of the file, and it stands for no history
-abbrev pub IsOnlyFault : List ℕ → RecoverFault → Type 0
+abbrev pub IsOnlyFault : List ℕ → JournalFault → Type 0
 IsOnlyFault file (Damaged place) = ((other : ℕ) → IsFault file (Damaged other) → other ≡ place) × ((h : History) → StandsFor file h → ⊥)
 IsOnlyFault file DiskFault = Unit {0}
 IsOnlyFault file Memory = Unit {0}
@@ -151,7 +151,7 @@ AreOf c h =
     × (h ≡ history_of h.base.state.roster c.base list)
 
 -- the answer is the contents of this history, or the disk failed, or there was no memory
-abbrev pub IsAnswer : Result Contents RecoverFault → History → Type 0
+abbrev pub IsAnswer : Result Contents JournalFault → History → Type 0
 IsAnswer (Ok c) h = AreOf c h
 IsAnswer (Err (Damaged place)) h = ⊥
 IsAnswer (Err DiskFault) h = Unit {0}
@@ -175,11 +175,11 @@ FindsBase None base = Unit {0}
 FindsBase (Some disk) base = HasBase disk.content base
 
 -- whatever history the disk's content stands for is the answer
-abbrev pub GivesOnly : Option disks.History → Result Contents RecoverFault → Type 0
+abbrev pub GivesOnly : Option disks.History → Result Contents JournalFault → Type 0
 GivesOnly None answer = Unit {0}
 GivesOnly (Some disk) answer = (h : History) → StandsFor disk.content h → IsAnswer answer h
 
 -- the fault tells true, and is the only one
-abbrev pub FindsFault : Option disks.History → RecoverFault → Type 0
+abbrev pub FindsFault : Option disks.History → JournalFault → Type 0
 FindsFault None fault = Unit {0}
 FindsFault (Some disk) fault = IsFault disk.content fault × IsOnlyFault disk.content fault

@@ -5,14 +5,12 @@
 mod body;
 mod contents;
 mod entries;
-mod fault;
 mod laws;
 mod reader;
 mod reading;
 
 pub use contents::{BaseAt, Contents};
 pub use entries::{Entries, EntryAt};
-pub use fault::RecoverFault;
 pub use laws::files_stand_for_one_history;
 pub use reader::EntryReader;
 pub use reading::read_entries;

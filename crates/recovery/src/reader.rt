@@ -1,13 +1,13 @@
 //! A file's entries, read one after another.
 ghost use Rattle.std.specs.Prelude.{◌≡◌, ◌<◌, ◌∷◌, [], List, IfOk, IfErr, IfSome, IfNone, OnErr};
 ghost use Rattle.recovery.specs.declared.entries.EntryAt.{EntryAt};
-ghost use Rattle.recovery.specs.declared.fault.RecoverFault.TheVariants.{Memory};
+ghost use Rattle.journal_core.specs.declared.fault.JournalFault.TheVariants.{Memory};
 ghost use Rattle.recovery.specs.Reading.{SpellsAt, IsFaultAmong};
 
+use crate::EntryAt;
 use crate::body::Body;
-use crate::{EntryAt, RecoverFault};
 use command_types::Spelling;
-use journal_core::RecordAt;
+use journal_core::{JournalFault, RecordAt};
 use record_codec::{DecodeFault, decode};
 use std::alloc::Global;
 
@@ -16,7 +16,7 @@ pub(crate) fn read_entry(
     alloc: Global,
     found: &RecordAt<'_>,
     spelling: Spelling,
-) -> Result<EntryAt, RecoverFault>
+) -> Result<EntryAt, JournalFault>
     ensures found { IfOk result (SpellsAt (found.now.at, (spelling, found.now.bytes.now))) }
     ensures fault { IfErr result (IsFaultAmong ((found.now.at, (spelling, found.now.bytes.now)) ∷ [])) }
 {
@@ -25,8 +25,8 @@ pub(crate) fn read_entry(
             at: found.at,
             entry,
         }),
-        Err(DecodeFault::BadRecord { .. }) => Err(RecoverFault::Damaged { offset: found.at }),
-        Err(DecodeFault::Memory) => Err(RecoverFault::Memory),
+        Err(DecodeFault::BadRecord { .. }) => Err(JournalFault::Damaged { offset: found.at }),
+        Err(DecodeFault::Memory) => Err(JournalFault::Memory),
     }
 }
 
@@ -40,7 +40,7 @@ impl<'a> EntryReader<'a> {
     ghost use Rattle.recovery.specs.Reading.{AreLeft, IsNext, bytes_left};
 
     /// The next entry, if there is one. The only fault is want of memory. Where none is told, the reader stands where it stood.
-    pub fn next(&mut self, alloc: Global) -> Result<Option<EntryAt>, RecoverFault>
+    pub fn next(&mut self, alloc: Global) -> Result<Option<EntryAt>, JournalFault>
         ensures next { (list : List EntryAt) → AreLeft self.old list → IfOk result (IsNext list self.new) }
         ensures fault { (list : List EntryAt) → AreLeft self.old list → IfErr result (λ e. e ≡ Memory) }
         ensures same { OnErr result (self.new ≡ self.old) }

@@ -11,16 +11,16 @@ ghost use Rattle.recovery.specs.Reading.{FindsEntries, FindsSpelling, FindsBase,
 
 use crate::body::{Body, spelling_behind};
 use crate::reader::read_entry;
-use crate::{BaseAt, Contents, Entries, RecoverFault};
+use crate::{BaseAt, Contents, Entries};
 use base_codec::decode_base;
 use command_types::Spelling;
-use journal_core::{Form, Walked, walk};
+use journal_core::{Form, JournalFault, Walked, walk};
 use outside::Disk;
 use record_codec::DecodeFault;
 use std::alloc::Global;
 
 // The base of a file, if it has one.
-fn read_base(alloc: Global, walked: &Walked) -> Result<Option<BaseAt>, RecoverFault>
+fn read_base(alloc: Global, walked: &Walked) -> Result<Option<BaseAt>, JournalFault>
     requires { IsWalked walked.now }
     ensures found { IfOk result (IsBaseOf walked.now) }
     ensures fault { IfErr result (IsBaseFault walked.now) }
@@ -34,14 +34,14 @@ fn read_base(alloc: Global, walked: &Walked) -> Result<Option<BaseAt>, RecoverFa
     }
     match decode_base(alloc, bytes) {
         Ok(base) => Ok(Some(BaseAt { at: offset, base })),
-        Err(DecodeFault::BadRecord { .. }) => Err(RecoverFault::Damaged { offset }),
-        Err(DecodeFault::Memory) => Err(RecoverFault::Memory),
+        Err(DecodeFault::BadRecord { .. }) => Err(JournalFault::Damaged { offset }),
+        Err(DecodeFault::Memory) => Err(JournalFault::Memory),
     }
 }
 
 // Goes over a file's records, of a body that begins in this spelling, and fails at the first that is to spell an entry and spells
 // none. It tells the spelling in which the body goes on behind them.
-fn read_all(alloc: Global, walked: &Walked, first: Spelling) -> Result<Spelling, RecoverFault>
+fn read_all(alloc: Global, walked: &Walked, first: Spelling) -> Result<Spelling, JournalFault>
     requires { IsWalked walked.now }
     ensures spelled { (base : List ℕ) (records : List (List ℕ)) → Holds (bytes_of walked.now) base records → OnOk result (AreSpelled (changes_of first (placed (gate_of walked.now) records))) }
     ensures last { (base : List ℕ) (records : List (List ℕ)) → Holds (bytes_of walked.now) base records → IfOk result (λ last. last ≡ spelling_after first records) }
@@ -62,7 +62,7 @@ fn read_all(alloc: Global, walked: &Walked, first: Spelling) -> Result<Spelling,
 /// with the one place that is told: the place at which it is damaged as a journal of byte records, or else the offset of a base
 /// that is spelled by no bytes, or else the gate of the first record that spells no change and does not turn the file. Whether
 /// the base fits a roster is not asked. It writes nothing, and keeps no entry.
-pub fn read_entries<D: Disk>(alloc: Global, disk: &mut D) -> Result<Contents, RecoverFault>
+pub fn read_entries<D: Disk>(alloc: Global, disk: &mut D) -> Result<Contents, JournalFault>
     ensures read { IfOk result (λ c. HasRead c.entries) }
     ensures found { IfOk result (λ c. FindsEntries (D.history disk.old) c.entries) }
     ensures base { IfOk result (λ c. FindsBase (D.history disk.old) c.base) }
@@ -75,7 +75,7 @@ pub fn read_entries<D: Disk>(alloc: Global, disk: &mut D) -> Result<Contents, Re
     ensures fault { IfErr result (FindsFault (D.history disk.old)) }
     ensures same { D.history disk.new ≡ D.history disk.old }
     ensures never_falls { D.fault_count disk.old ≤ D.fault_count disk.new }
-    ensures failed { result ≡ Err RecoverFault.DiskFault → Rose (D.fault_count disk.old) (D.fault_count disk.new) }
+    ensures failed { result ≡ Err JournalFault.DiskFault → Rose (D.fault_count disk.old) (D.fault_count disk.new) }
 {
     let walked = walk(alloc, disk)?;
     let base = read_base(alloc, &walked)?;

@@ -7,7 +7,8 @@ ghost use Rattle.units_core.specs.Name.{is_name};
 use command_types::{
     Answer, Ask, MemberRow, Moment, OperatorRow, ProductRow, Reply, Role, Roster, What,
 };
-use house::{House, OpenFault};
+use house::House;
+use journal_core::JournalFault;
 use outside::{Disk, MemoryDisk};
 use std::alloc::{AllocError, Global};
 use std::process::Abort;
@@ -73,7 +74,7 @@ pub fn opened(
     rt: &impl Abort,
     alloc: Global,
     disk: MemoryDisk,
-) -> Result<Result<House<MemoryDisk>, (OpenFault, MemoryDisk)>, AllocError>
+) -> Result<Result<House<MemoryDisk>, (JournalFault, MemoryDisk)>, AllocError>
     requires { IsSettled (Some disk.history) }
 {
     let roster = three_dealers(alloc, day(rt, b"2031-06-30"))?;

@@ -4,9 +4,8 @@ use Rattle.command_types.specs.declared.figures.Start.{Start}
 use Rattle.command_types.specs.declared.figures.State.{State}
 use Rattle.recovery.specs.Reading.{file_of}
 use Rattle.recovery.proofs.EntryFacts.{read_few}
-use Rattle.house.specs.declared.fault.OpenFault.{OpenFault}
+use Rattle.journal_core.specs.declared.fault.JournalFault.{JournalFault}
 use Rattle.house.specs.declared.recovering.Recovered.{Recovered}
-use Rattle.house.specs.Faults.{fault_of_reading}
 use Rattle.house.specs.Opening.{IsReplayFault, FindsFault}
 use Rattle.house.proofs.ReplayFacts.{entry_of}
 use Rattle.house.proofs.DamageFacts.{reading_fault, begin_fault, replay_fault, replay_stands}
@@ -15,7 +14,7 @@ use Rattle.house.proofs.recovering.recover_noting.Goals as goal
 pub returns-in_err-contents-clause-fault : goal.returns-in_err-contents-clause-fault
 returns-in_err-contents-clause-fault g c =
     let was = g.D.Disk.history c.args.disk.now in
-    let is : c.from_residual.result ≡ Err (fault_of_reading c.in_err-contents.field-0.0) = search rules in
+    let is : c.from_residual.result ≡ Err c.in_err-contents.field-0.0 = search rules in
     subst (λ r. IfErr r (FindsFault c.args.roster was)) (sym is) (reading_fault c.args.roster was c.in_err-contents.field-0.0 c.in_err-contents.ensures.fault)
 
 pub returns-in_err-machine-clause-fault : goal.returns-in_err-machine-clause-fault
@@ -39,7 +38,7 @@ returns-in-Err-clause-fault g c =
 pub returns-in-Err-clause-failed : goal.returns-in-Err-clause-failed
 returns-in-Err-clause-failed g c = λ failed.
     let read = c.in_ok-contents.ensures.read in
-    let replayed : Result Recovered OpenFault → Type 0 = λ r. IfErr r (IsReplayFault c.in_ok-machine.machine.state read.0) in
+    let replayed : Result Recovered JournalFault → Type 0 = λ r. IfErr r (IsReplayFault c.in_ok-machine.machine.state read.0) in
     let bad : replayed (Err c.in-Err.fault) = c.in-Err.ensures.fault read.0 read.1 in
     absurd (subst replayed failed bad)
 

@@ -9,7 +9,6 @@ use Rattle.recovery.specs.declared.reader.EntryReader.{EntryReader}
 use Rattle.recovery.specs.Reading.{file_of, AreLeft, IsNext}
 use Rattle.cycle_states.specs.Replayed.{base_at}
 use Rattle.cycle_states.proofs.CycleFacts.{young_of}
-use Rattle.house.specs.Faults.{fault_of_reading}
 use Rattle.house.specs.Opening.{IsReplayFault}
 use Rattle.house.specs.Executions.{told_of}
 use Rattle.house.proofs.ExecutionFacts.{none_noted, one_noted}
@@ -26,7 +25,7 @@ pub returns-in_err-item-clause-fault : goal.returns-in_err-item-clause-fault
 returns-in_err-item-clause-fault c = λ list read.
     let s = c.args.machine.now.state in
     let fault = c.in_err-item.field-0.0 in
-    let is : c.from_residual.result ≡ Err (fault_of_reading fault) = search rules in
+    let is : c.from_residual.result ≡ Err fault = search rules in
     subst (λ r. IfErr r (IsReplayFault s list)) (sym is)
     (so_far_memory (base_at c.args.position s) (file_of c.args.read.now) list c.loop-past.reader c.loop-past.machine.state c.loop-past.past fault c.loop-past.invariant.so_far read c.in_err-item.ensures.fault)
 

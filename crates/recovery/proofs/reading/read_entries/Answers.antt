@@ -2,7 +2,6 @@ use Rattle.std.proofs.Common.{◌≡◌, Err, IfErr, sym, subst, rules}
 use Rattle.journal_core.specs.Walk.{base_of, gate_of, placed}
 use Rattle.recovery.specs.Bodies.{changes_of}
 use Rattle.recovery.specs.Reading.{IsFaultAmong, IsBaseFault, GivesOnly, FindsFault}
-use Rattle.recovery.specs.Faults.{fault_of_walk}
 use Rattle.recovery.specs.declared.contents.Contents.{Contents}
 use Rattle.recovery.specs.declared.entries.Entries.{Entries}
 use Rattle.recovery.proofs.FindFacts.{walked_holds, first_of, found_of, spelling_of, base_on, has_read, can_be_written, fault_of, fault_before, fault_among, only_of, only_fault_of}
@@ -11,14 +10,14 @@ use Rattle.recovery.proofs.reading.read_entries.Goals as goal
 pub returns-in_err-walked-clause-fault : goal.returns-in_err-walked-clause-fault
 returns-in_err-walked-clause-fault g c =
     let was = g.D.Disk.history c.args.disk.now in
-    let is : c.from_residual.result ≡ Err (fault_of_walk c.in_err-walked.field-0.0) = search rules in
+    let is : c.from_residual.result ≡ Err c.in_err-walked.field-0.0 = search rules in
     subst (λ r. IfErr r (FindsFault was)) (sym is) (fault_of was c.in_err-walked.field-0.0 c.in_err-walked.ensures.fault)
 
 pub returns-in_err-walked-clause-only : goal.returns-in_err-walked-clause-only
 returns-in_err-walked-clause-only g c =
     let was = g.D.Disk.history c.args.disk.now in
-    let is : c.from_residual.result ≡ Err (fault_of_walk c.in_err-walked.field-0.0) = search rules in
-    subst (GivesOnly was) (sym is) (only_fault_of was (fault_of_walk c.in_err-walked.field-0.0) (fault_of was c.in_err-walked.field-0.0 c.in_err-walked.ensures.fault))
+    let is : c.from_residual.result ≡ Err c.in_err-walked.field-0.0 = search rules in
+    subst (GivesOnly was) (sym is) (only_fault_of was c.in_err-walked.field-0.0 (fault_of was c.in_err-walked.field-0.0 c.in_err-walked.ensures.fault))
 
 pub returns-in_err-base-clause-fault : goal.returns-in_err-base-clause-fault
 returns-in_err-base-clause-fault g c =

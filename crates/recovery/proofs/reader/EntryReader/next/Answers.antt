@@ -1,5 +1,5 @@
 use Rattle.std.proofs.Common.{◌≡◌, Err, IfErr, sym, subst, rules}
-use Rattle.recovery.specs.declared.fault.RecoverFault.TheVariants.{Memory}
+use Rattle.journal_core.specs.declared.fault.JournalFault.TheVariants.{Memory}
 use Rattle.recovery.specs.Bodies.{Placed}
 use Rattle.recovery.specs.Reading.{changes_ahead}
 use Rattle.recovery.proofs.LoopFacts.{left_none, left_spelled, left_next}
