@@ -1,222 +1,228 @@
 //! Files of a market that have a fault or are too long.
 
-use crate::market_files::{DEALERS, PROPOSAL, TRADES, check_is_told, ran_over};
-use std::alloc::{AllocError, AllocGlobal};
+use crate::market_files::{CHECK, DEALERS, PROPOSAL, SOLVE, TRADES};
+use crate::memory::repeated;
+use crate::program::Trial;
+use std::alloc::AllocGlobal;
 use std::sync::Wait;
 use std::test::Fail;
 use std::thread::Threads;
 
+// That these trades and this proposal have a fault, which this line tells.
+fn is_told<R: Threads + Wait + Sync + AllocGlobal>(
+    rt: &R,
+    form: &Trial<'_>,
+    trades: &[u8],
+    proposal: &[u8],
+    line: &[u8],
+) -> Result<(), Fail> {
+    let told = Trial {
+        files: &[("T", DEALERS), ("t", trades), ("p", proposal)],
+        status: 3,
+        errors: line,
+        ..*form
+    };
+    told.ends(rt)
+}
+
 // A trade file, and the line of its first fault.
-const TRADE_FILES: &[(&str, &str)] = &[
-    ("", "trades row 1: columns\n"),
-    ("seller,buyer,product\n", "trades row 1: columns\n"),
-    ("buyer,seller,product,amount\n", "trades row 1: columns\n"),
+const TRADE_FILES: &[(&[u8], &[u8])] = &[
+    (b"", b"trades row 1: columns\n"),
+    (b"seller,buyer,product\n", b"trades row 1: columns\n"),
+    (b"buyer,seller,product,amount\n", b"trades row 1: columns\n"),
     (
-        "seller,buyer,product,amount\nA,A,P,1\n",
-        "trades row 2: same-party\n",
+        b"seller,buyer,product,amount\nA,A,P,1\n",
+        b"trades row 2: same-party\n",
     ),
     (
-        "seller,buyer,product,amount\nA,B,P\n",
-        "trades row 2: columns\n",
+        b"seller,buyer,product,amount\nA,B,P\n",
+        b"trades row 2: columns\n",
     ),
     (
-        "seller,buyer,product,amount\nA,B,P,1,\n",
-        "trades row 2: columns\n",
+        b"seller,buyer,product,amount\nA,B,P,1,\n",
+        b"trades row 2: columns\n",
     ),
     (
-        "seller,buyer,product,amount\nA,X,P,1\n",
-        "trades row 2: unknown-name\n",
+        b"seller,buyer,product,amount\nA,X,P,1\n",
+        b"trades row 2: unknown-name\n",
     ),
     (
-        "seller,buyer,product,amount\nX,B,P,1\n",
-        "trades row 2: unknown-name\n",
+        b"seller,buyer,product,amount\nX,B,P,1\n",
+        b"trades row 2: unknown-name\n",
     ),
     (
-        "seller,buyer,product,amount\nA,B,Q,1\n",
-        "trades row 2: unknown-name\n",
+        b"seller,buyer,product,amount\nA,B,Q,1\n",
+        b"trades row 2: unknown-name\n",
     ),
     (
-        "seller,buyer,product,amount\nA,OPS,P,1\n",
-        "trades row 2: unknown-name\n",
+        b"seller,buyer,product,amount\nA,OPS,P,1\n",
+        b"trades row 2: unknown-name\n",
     ),
     (
-        "seller,buyer,product,amount\nA,B,P,1\nA,B,P,0\n",
-        "trades row 3: bad-amount\n",
+        b"seller,buyer,product,amount\nA,B,P,1\nA,B,P,0\n",
+        b"trades row 3: bad-amount\n",
     ),
     (
-        "seller,buyer,product,amount\nA,B,P,-1\n",
-        "trades row 2: bad-amount\n",
+        b"seller,buyer,product,amount\nA,B,P,-1\n",
+        b"trades row 2: bad-amount\n",
     ),
     (
-        "seller,buyer,product,amount\nA,B,P,1000000000000000\nA,B,P,1000000000000001\n",
-        "trades row 3: bad-amount\n",
+        b"seller,buyer,product,amount\nA,B,P,1000000000000000\nA,B,P,1000000000000001\n",
+        b"trades row 3: bad-amount\n",
     ),
 ];
 
 // A check and a solve both tell it.
-fn trade_files_are_told<R: Threads + Wait + Sync + AllocGlobal>(
-    rt: &R,
-) -> Result<bool, AllocError> {
-    for (records, line) in TRADE_FILES {
-        if !check_is_told(rt, records, PROPOSAL.as_bytes(), line)? {
-            return Ok(false);
-        }
-        let words = ["solve", "T", "t", "hybrid"];
-        let solve = ran_over(rt, &words, (DEALERS, records), b"", 256)?;
-        if !solve.is(3, b"", line) {
-            return Ok(false);
-        }
+fn trade_files_are_told<R: Threads + Wait + Sync + AllocGlobal>(rt: &R) -> Result<(), Fail> {
+    for &(trades, line) in TRADE_FILES {
+        is_told(rt, &CHECK, trades, PROPOSAL, line)?;
+        is_told(rt, &SOLVE, trades, PROPOSAL, line)?;
     }
-    Ok(true)
+    Ok(())
 }
 
 #[test]
 fn the_first_fault_of_a_trade_file_is_told_with_its_record(rt: HostRuntime) -> Result<(), Fail> {
-    let all = trade_files_are_told(&rt)?;
-    assert!(rt; all);
-    Ok(())
+    trade_files_are_told(&rt)
 }
 
-// So many of a trade, and the line that they get.
-const MANY_TRADES: &[(usize, &str, &str)] = &[
-    (100_000, "A,B,P,1\n", "proposal row 1: bad-line\n"),
-    (100_001, "A,B,P,1\n", "trades row 100002: row-limit\n"),
+// A trade, how many there are of it, the size of a proposal, and the line that tells the fault.
+const LONG: &[(&str, usize, usize, &[u8])] = &[
+    ("A,B,P,1\n", 100_000, 0, b"proposal row 1: bad-line\n"),
+    ("A,B,P,1\n", 100_001, 0, b"trades row 100002: row-limit\n"),
     (
+        "A,B,P,1000000000000000\n",
         1_000,
-        "A,B,P,1000000000000000\n",
-        "proposal row 1: bad-line\n",
+        0,
+        b"proposal row 1: bad-line\n",
     ),
     (
-        1_001,
         "A,B,P,1000000000000000\n",
-        "trades row 1002: gross-limit\n",
+        1_001,
+        0,
+        b"trades row 1002: gross-limit\n",
     ),
+    ("A,B,P,1\n", 1, 67_108_864, b"proposal row 1: bad-line\n"),
+    ("A,B,P,1\n", 1, 67_108_865, b"proposal: too-long\n"),
 ];
 
-fn many_trades_are_told<R: Threads + Wait + Sync + AllocGlobal>(
-    rt: &R,
-) -> Result<bool, AllocError> {
-    for (count, trade, line) in MANY_TRADES {
-        let mut trades = String::from_str(rt.alloc(), "seller,buyer,product,amount\n")?;
-        for _ in 0..*count {
-            trades.push_str(trade)?;
-        }
-        if !check_is_told(rt, trades.as_str(), b"", line)? {
-            return Ok(false);
-        }
+fn long_files_are_told<R: Threads + Wait + Sync + AllocGlobal>(rt: &R) -> Result<(), Fail> {
+    let head = "seller,buyer,product,amount\n";
+    for &(trade, count, size, line) in LONG {
+        let trades = repeated(rt.alloc(), head, trade, count, "")?;
+        let proposal = vec![in rt.alloc(); b'X'; size]?;
+        is_told(rt, &CHECK, trades.as_bytes(), &proposal, line)?;
     }
-    Ok(true)
+    Ok(())
 }
 
 #[test]
-fn a_trade_too_many_and_an_amount_too_much_are_told_at_their_record(
-    rt: HostRuntime,
-) -> Result<(), Fail> {
-    let all = many_trades_are_told(&rt)?;
-    assert!(rt; all);
-    Ok(())
+fn a_trade_or_a_byte_too_many_and_an_amount_too_much_are_told(rt: HostRuntime) -> Result<(), Fail> {
+    long_files_are_told(&rt)
 }
 
-// The lines of a proposal, and the first of them that cannot stand.
-const PROPOSALS: &[(&str, u32)] = &[
+// A proposal, and the line of the first of its lines that cannot stand.
+const PROPOSALS: &[(&[u8], &[u8])] = &[
     // Without its last line, with one too many, and with an unfinished one.
     (
-        "product P 20 10 10 20\nrow A B 5\nrow D C 5\npot A 1\npot B 0\npot C 0\npot D 1\npot E 0\nbound 10\n",
-        10,
+        b"product P 20 10 10 20\nrow A B 5\nrow D C 5\npot A 1\npot B 0\npot C 0\npot D 1\npot E 0\nbound 10\n",
+        b"proposal row 10: bad-line\n",
     ),
     (
-        "product P 20 10 10 20\nrow A B 5\nrow D C 5\npot A 1\npot B 0\npot C 0\npot D 1\npot E 0\nbound 10\nend 1\nend 1\n",
-        11,
+        b"product P 20 10 10 20\nrow A B 5\nrow D C 5\npot A 1\npot B 0\npot C 0\npot D 1\npot E 0\nbound 10\nend 1\nend 1\n",
+        b"proposal row 11: bad-line\n",
     ),
     (
-        "product P 20 10 10 20\nrow A B 5\nrow D C 5\npot A 1\npot B 0\npot C 0\npot D 1\npot E 0\nbound 10\nend 1\n\n",
-        11,
+        b"product P 20 10 10 20\nrow A B 5\nrow D C 5\npot A 1\npot B 0\npot C 0\npot D 1\npot E 0\nbound 10\nend 1\n\n",
+        b"proposal row 11: bad-line\n",
     ),
     (
-        "product P 20 10 10 20\nrow A B 5\nrow D C 5\npot A 1\npot B 0\npot C 0\npot D 1\npot E 0\nbound 10\nend 1",
-        10,
+        b"product P 20 10 10 20\nrow A B 5\nrow D C 5\npot A 1\npot B 0\npot C 0\npot D 1\npot E 0\nbound 10\nend 1",
+        b"proposal row 10: bad-line\n",
     ),
-    ("", 1),
+    (b"", b"proposal row 1: bad-line\n"),
     // An end too early, and one with another count.
-    ("end 1\n", 1),
-    ("product P 20 10 10 20\nrow A B 5\nend 1\n", 3),
+    (b"end 1\n", b"proposal row 1: bad-line\n"),
     (
-        "product P 20 10 10 20\nrow A B 5\nrow D C 5\npot A 1\npot B 0\npot C 0\npot D 1\npot E 0\nbound 10\nend 2\n",
-        10,
+        b"product P 20 10 10 20\nrow A B 5\nend 1\n",
+        b"proposal row 3: bad-line\n",
+    ),
+    (
+        b"product P 20 10 10 20\nrow A B 5\nrow D C 5\npot A 1\npot B 0\npot C 0\npot D 1\npot E 0\nbound 10\nend 2\n",
+        b"proposal row 10: bad-line\n",
     ),
     // A member twice, left out, and out of order; a part that ends before its last member.
     (
-        "product P 20 10 10 20\nrow A B 5\nrow D C 5\npot A 1\npot A 1\n",
-        5,
+        b"product P 20 10 10 20\nrow A B 5\nrow D C 5\npot A 1\npot A 1\n",
+        b"proposal row 5: bad-line\n",
     ),
     (
-        "product P 20 10 10 20\nrow A B 5\nrow D C 5\npot A 1\npot C 0\n",
-        5,
+        b"product P 20 10 10 20\nrow A B 5\nrow D C 5\npot A 1\npot C 0\n",
+        b"proposal row 5: bad-line\n",
     ),
     (
-        "product P 20 10 10 20\nrow A B 5\nrow D C 5\npot A 1\npot B 0\nbound 10\n",
-        6,
+        b"product P 20 10 10 20\nrow A B 5\nrow D C 5\npot A 1\npot B 0\nbound 10\n",
+        b"proposal row 6: bad-line\n",
     ),
     // Figures that are none, too few or too many, and a product that is not next.
-    ("product P 20 10 10 x\n", 1),
-    ("product P 020 10 10 20\n", 1),
-    ("product P 20 10 10\n", 1),
-    ("product P 20 10 10 20 1\n", 1),
-    ("product  P 20 10 10 20\n", 1),
-    ("product Q 20 10 10 20\n", 1),
-    ("product P 20 10 10 1000000000000000001\n", 1),
-    // Rows: out of order, twice, of one member, of nobody, of nothing, past the gross, behind a potential.
-    ("product P 20 10 10 20\nrow D C 5\nrow A B 5\n", 3),
-    ("product P 20 10 10 20\nrow A B 5\nrow A B 5\n", 3),
-    ("product P 20 10 10 20\nrow A A 5\n", 2),
-    ("product P 20 10 10 20\nrow A X 5\n", 2),
-    ("product P 20 10 10 20\nrow A B 0\n", 2),
+    (b"product P 20 10 10 x\n", b"proposal row 1: bad-line\n"),
+    (b"product P 020 10 10 20\n", b"proposal row 1: bad-line\n"),
+    (b"product P 20 10 10\n", b"proposal row 1: bad-line\n"),
+    (b"product P 20 10 10 20 1\n", b"proposal row 1: bad-line\n"),
+    (b"product  P 20 10 10 20\n", b"proposal row 1: bad-line\n"),
+    (b"product Q 20 10 10 20\n", b"proposal row 1: bad-line\n"),
     (
-        "product P 20 10 10 20\nrow A B 1000000000000000000\nrow D C 1\n",
-        3,
+        b"product P 20 10 10 1000000000000000001\n",
+        b"proposal row 1: bad-line\n",
     ),
-    ("product P 20 10 10 20\npot A 1\nrow A B 5\n", 3),
+    // Rows: out of order, twice, of one member, of nobody, of nothing, past the gross, behind a potential.
+    (
+        b"product P 20 10 10 20\nrow D C 5\nrow A B 5\n",
+        b"proposal row 3: bad-line\n",
+    ),
+    (
+        b"product P 20 10 10 20\nrow A B 5\nrow A B 5\n",
+        b"proposal row 3: bad-line\n",
+    ),
+    (
+        b"product P 20 10 10 20\nrow A A 5\n",
+        b"proposal row 2: bad-line\n",
+    ),
+    (
+        b"product P 20 10 10 20\nrow A X 5\n",
+        b"proposal row 2: bad-line\n",
+    ),
+    (
+        b"product P 20 10 10 20\nrow A B 0\n",
+        b"proposal row 2: bad-line\n",
+    ),
+    (
+        b"product P 20 10 10 20\nrow A B 1000000000000000000\nrow D C 1\n",
+        b"proposal row 3: bad-line\n",
+    ),
+    (
+        b"product P 20 10 10 20\npot A 1\nrow A B 5\n",
+        b"proposal row 3: bad-line\n",
+    ),
     // Potentials past their range, and with a zero that is negative.
-    ("product P 20 10 10 20\npot A 1000001\n", 2),
-    ("product P 20 10 10 20\npot A -0\n", 2),
+    (
+        b"product P 20 10 10 20\npot A 1000001\n",
+        b"proposal row 2: bad-line\n",
+    ),
+    (
+        b"product P 20 10 10 20\npot A -0\n",
+        b"proposal row 2: bad-line\n",
+    ),
 ];
 
-fn proposals_are_told<R: Threads + Wait + Sync + AllocGlobal>(rt: &R) -> Result<bool, AllocError> {
-    for (lines, row) in PROPOSALS {
-        let line = format!(in rt.alloc(); "proposal row {row}: bad-line\n")?;
-        if !check_is_told(rt, TRADES, lines.as_bytes(), line.as_str())? {
-            return Ok(false);
-        }
+fn proposals_are_told<R: Threads + Wait + Sync + AllocGlobal>(rt: &R) -> Result<(), Fail> {
+    for &(proposal, line) in PROPOSALS {
+        is_told(rt, &CHECK, TRADES, proposal, line)?;
     }
-    Ok(true)
+    Ok(())
 }
 
 #[test]
 fn the_first_line_of_a_proposal_that_cannot_stand_is_told(rt: HostRuntime) -> Result<(), Fail> {
-    let all = proposals_are_told(&rt)?;
-    assert!(rt; all);
-    Ok(())
-}
-
-// The size of a proposal, and the line that it gets.
-const SIZES: &[(usize, &str)] = &[
-    (67_108_864, "proposal row 1: bad-line\n"),
-    (67_108_865, "proposal: too-long\n"),
-];
-
-fn sizes_are_told<R: Threads + Wait + Sync + AllocGlobal>(rt: &R) -> Result<bool, AllocError> {
-    for (size, line) in SIZES {
-        let text = vec![in rt.alloc(); b'X'; *size]?;
-        if !check_is_told(rt, TRADES, &text, line)? {
-            return Ok(false);
-        }
-    }
-    Ok(true)
-}
-
-#[test]
-fn a_file_of_one_byte_too_many_is_too_long(rt: HostRuntime) -> Result<(), Fail> {
-    let all = sizes_are_told(&rt)?;
-    assert!(rt; all);
-    Ok(())
+    proposals_are_told(&rt)
 }

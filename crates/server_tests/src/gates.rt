@@ -1,66 +1,112 @@
-//! The gate that the program is given: a worker passes it before each piece that it solves.
+//! The gate that the program is given: a worker passes it before each piece that it solves, and workers solve beside one another.
 
-use crate::journals::disk_of;
 use crate::paced::{PacedGate, Steps};
-use crate::program::run_through;
-use outside::{MemorySink, MemorySource};
+use crate::program::{SCRIPT, Text, Trial, run_at, so};
+use crate::sources::Input;
+use doors::MemoryListener;
+use outside::MemorySink;
 use std::alloc::AllocGlobal;
 use std::sync::Wait;
 use std::test::Fail;
 use std::thread::Threads;
 
-const TWO_PRODUCTS: &str =
-    "name,role,key\nA,dealer,KA\nB,dealer,KB\nOPS,operator,KO\nP,product,2031-06-30\nQ,product,2031-06-30\n";
+const TWO_PRODUCTS: &[u8] =
+    b"name,role,key\nA,dealer,KA\nB,dealer,KB\nC,dealer,KC\nOPS,operator,KO\nP,product,2031-06-30\nQ,product,2031-06-30\n";
 
-// The lines of a script, its replies, and how often the gate is passed.
-const PASSED: &[(&str, &str, u64)] = &[
+// A ring of three trades in each product.
+const RINGS: &[u8] =
+    b"seller,buyer,product,amount\nA,B,P,10\nB,C,P,10\nC,A,P,10\nA,B,Q,7\nB,C,Q,7\nC,A,Q,7\n";
+
+const RINGS_BY_HAND: &[u8] =
+    b"HELLO A KA\nTRADE A B P 10 2026-03-02\nTRADE A B Q 7 2026-03-02\nHELLO B KB\nAFFIRM 1\nAFFIRM 2\nTRADE B C P 10 2026-03-02\nTRADE B C Q 7 2026-03-02\nHELLO C KC\nAFFIRM 3\nAFFIRM 4\nTRADE C A P 10 2026-03-02\nTRADE C A Q 7 2026-03-02\nHELLO A KA\nAFFIRM 5\nAFFIRM 6\nHELLO OPS KO\nFREEZE 2026-03-31\nPROPOSE 1 conservative\n";
+
+// What is said, how many workers the gate waits for, how often it is passed, and the output.
+const PASSED: &[(&[&str], &[u8], u64, u64, Text<'static>)] = &[
     (
-        "HELLO OPS KO\nFREEZE 2026-03-31\nBEGIN 1 conservative\n",
-        "ok 0 hello OPS\nok 1 frozen 1 0\nok 2 begun 1 1\n",
+        &["script", "T", "j"],
+        b"HELLO OPS KO\nFREEZE 2026-03-31\nBEGIN 1 conservative\n",
         0,
+        0,
+        Text::Is(b"ok 0 hello OPS\nok 1 frozen 1 0\nok 2 begun 1 1\n"),
     ),
     // Without a trade no pair may have one, and no member is in a part.
     (
-        "HELLO OPS KO\nFREEZE 2026-03-31\nPROPOSE 1 conservative\n",
-        "ok 0 hello OPS\nok 1 frozen 1 0\nok 3 nothing 1 1\n",
+        &["script", "T", "j"],
+        b"HELLO OPS KO\nFREEZE 2026-03-31\nPROPOSE 1 conservative\n",
         0,
+        0,
+        Text::Is(b"ok 0 hello OPS\nok 1 frozen 1 0\nok 3 nothing 1 1\n"),
     ),
-    // Two dealers may trade, in each product.
+    // The dealers may trade, in each product.
     (
-        "HELLO OPS KO\nFREEZE 2026-03-31\nPROPOSE 1 hybrid\n",
-        "ok 0 hello OPS\nok 1 frozen 1 0\nok 3 nothing 1 1\n",
+        &["script", "T", "j"],
+        b"HELLO OPS KO\nFREEZE 2026-03-31\nPROPOSE 1 hybrid\n",
+        0,
         2,
+        Text::Is(b"ok 0 hello OPS\nok 1 frozen 1 0\nok 3 nothing 1 1\n"),
+    ),
+    // A gate that holds each worker until two have come.
+    (
+        &["solve", "T", "t", "conservative"],
+        b"",
+        2,
+        2,
+        Text::Ends(b"\nbound 0\nend 2\n"),
+    ),
+    (
+        &["script", "T", "j"],
+        RINGS_BY_HAND,
+        2,
+        2,
+        Text::Ends(b"\nok 15 proposed 1 1 51 0\n"),
+    ),
+    // Two are enough.
+    (
+        &["solve", "T", "t", "conservative", "--workers", "2"],
+        b"",
+        2,
+        2,
+        Text::Ends(b"\nbound 0\nend 2\n"),
+    ),
+    (
+        &["script", "--workers=2", "T", "j"],
+        RINGS_BY_HAND,
+        2,
+        2,
+        Text::Ends(b"\nok 15 proposed 1 1 51 0\n"),
     ),
 ];
 
-fn all_are_passed<R: Threads + Wait + Sync + AllocGlobal>(rt: &R) -> Result<bool, Fail> {
-    let files: &[(&str, &[u8])] = &[("T", TWO_PRODUCTS.as_bytes())];
-    for (lines, replies, count) in PASSED {
+// That it passes this gate and writes what it is to.
+fn passes<R: Threads + Wait + Sync + AllocGlobal>(
+    rt: &R,
+    trial: &Trial<'_>,
+    gate: &PacedGate<'_>,
+) -> Result<(), Fail> {
+    let mut source = Input::new(trial.input, trial.most, 0);
+    let mut output = MemorySink::new(rt.alloc(), trial.room)?;
+    let mut listener = MemoryListener::new(rt.alloc());
+    let _images = run_at(rt, trial, &mut source, &mut output, &mut listener, gate)?;
+    so(trial.output.is(output.bytes()), "its output is otherwise")
+}
+
+fn all_pass<R: Threads + Wait + Sync + AllocGlobal>(rt: &R) -> Result<(), Fail> {
+    for &(words, input, due, count, output) in PASSED {
         let steps = Steps::new();
-        let gate = PacedGate::new(0, &steps);
-        let mut source = MemorySource::new(rt.alloc(), lines.as_bytes())?;
-        let mut output = MemorySink::new(rt.alloc(), 1024)?;
-        let disk = disk_of(rt.alloc(), b"")?;
-        let words = &["script", "T", "j"];
-        let (status, _errors, _disk) = run_through(
-            rt,
+        let trial = Trial {
             words,
-            files,
-            &mut source,
-            &mut output,
-            disk,
-            &gate,
-        )?;
-        if status != 0 || output.bytes() != replies.as_bytes() || !steps.are(*count) {
-            return Ok(false);
-        }
+            files: &[("T", TWO_PRODUCTS), ("t", RINGS)],
+            input,
+            output,
+            ..SCRIPT
+        };
+        passes(rt, &trial, &PacedGate::new(due, &steps))?;
+        so(steps.are(count), "the gate was passed otherwise")?;
     }
-    Ok(true)
+    Ok(())
 }
 
 #[test]
-fn each_piece_of_a_proposal_passes_the_gate(rt: HostRuntime) -> Result<(), Fail> {
-    let passed = all_are_passed(&rt)?;
-    assert!(rt; passed);
-    Ok(())
+fn each_piece_passes_the_gate_and_two_workers_meet_there(rt: HostRuntime) -> Result<(), Fail> {
+    all_pass(&rt)
 }

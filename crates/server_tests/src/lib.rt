@@ -2,10 +2,6 @@
 #![tactic(auto)]
 
 #[cfg(test)]
-mod behind_bases;
-#[cfg(test)]
-mod checks;
-#[cfg(test)]
 mod failing_streams;
 #[cfg(test)]
 mod file_faults;
@@ -16,13 +12,7 @@ mod gates;
 #[cfg(test)]
 mod gathering;
 #[cfg(test)]
-mod generated_markets;
-#[cfg(test)]
-mod in_step;
-#[cfg(test)]
 mod journal_faults;
-#[cfg(test)]
-mod journal_files;
 #[cfg(test)]
 mod journals;
 #[cfg(test)]
@@ -32,7 +22,7 @@ mod lock;
 #[cfg(test)]
 mod market_files;
 #[cfg(test)]
-mod meetings;
+mod memory;
 #[cfg(test)]
 mod openings;
 #[cfg(test)]
@@ -59,8 +49,6 @@ mod sources;
 mod stopped_cycles;
 #[cfg(test)]
 mod torn_cycles;
-#[cfg(test)]
-mod trades;
 #[cfg(test)]
 mod two_sessions;
 #[cfg(test)]

@@ -10,6 +10,11 @@ use std::sync::atomic::{AtomicU64, Ordering};
 /// How many looks at the word are many enough for another thread to come.
 pub const MANY_LOOKS: u64 = 200_000_000;
 
+/// How many lines end among these bytes.
+pub fn lines_in(bytes: &[u8]) -> u64 {
+    bytes.iter().filter(|byte| **byte == b'\n').count() as u64
+}
+
 /// A word that counts the lines that were replied and the gates that were reached, and what came too late.
 #[derive(Drop)]
 pub struct Steps {
@@ -31,8 +36,7 @@ impl Steps {
 
     /// Counts the lines among these bytes.
     pub fn add_lines(&self, bytes: &[u8]) {
-        let lines = bytes.iter().filter(|byte| **byte == b'\n').count();
-        self.add(lines as u64);
+        self.add(lines_in(bytes));
     }
 
     // Looks at the word until it is so far, and notes a miss where that is not within so many looks.
@@ -94,19 +98,20 @@ impl Source for PacedSource<'_> {
     }
 }
 
-/// Keeps what it takes, and counts its lines.
+/// Keeps each write with a bar behind it, and counts its lines.
 #[derive(Drop)]
-pub struct CountingSink<'a> {
+pub struct BarSink<'a> {
     sink: MemorySink,
     steps: &'a Steps,
 }
 
-impl<'a> CountingSink<'a> {
-    pub fn new(alloc: Global, steps: &'a Steps) -> Result<CountingSink<'a>, AllocError> {
-        Ok(CountingSink {
-            sink: MemorySink::new(alloc, 4096)?,
-            steps,
-        })
+impl<'a> BarSink<'a> {
+    /// The write with the number `failing` fails, the first being 1; none where it is 0.
+    pub fn new(alloc: Global, steps: &'a Steps, failing: u64) -> Result<BarSink<'a>, AllocError> {
+        let mut sink = MemorySink::new(alloc, 1 << 18)?;
+        // Each write is two of the sink below, the text's and the bar's.
+        sink.fail_at(failing.saturating_mul(2).saturating_sub(1))?;
+        Ok(BarSink { sink, steps })
     }
 
     pub fn bytes(&self) -> &[u8] {
@@ -114,7 +119,7 @@ impl<'a> CountingSink<'a> {
     }
 }
 
-impl Sink for CountingSink<'_> {
+impl Sink for BarSink<'_> {
     ghost use Rattle.std.specs.Prelude.{None};
 
     ghost taken = { λ _. None };
@@ -124,7 +129,9 @@ impl Sink for CountingSink<'_> {
     fn write(&mut self, bytes: &[u8]) -> Result<usize, Failed> {
         let n = self.sink.write(bytes)?;
         self.steps.add_lines(&bytes[..n]);
-        Ok(n)
+        match self.sink.write(b"|") {
+            Ok(_) | Err(Failed) => Ok(n),
+        }
     }
 }
 

@@ -1,263 +1,260 @@
 //! The program as a service: seats at the doors of a listener, over one journal.
 
-ghost use Rattle.std.specs.Prelude.{Some};
-ghost use Rattle.outside.specs.Disk.{IsSettled};
+ghost use Rattle.std.specs.Prelude.{IfOk};
+ghost use Rattle.doors.specs.MemoryDoor.{IsFresh};
 
-use crate::program::{ROSTER, empty_disk, run_at};
-use crate::served_seats::{FIRST, FIRST_REPLIES, SECOND, SECOND_REPLIES, connection};
-use doors::{Listener, MemoryListener};
-use outside::{MemoryDisk, MemorySink, MemorySource, OpenGate};
+use crate::journals::NONE;
+use crate::program::{SCRIPT, Text, Trial, so};
+use doors::{MemoryConnection, MemoryListener};
+use outside::{MemorySink, MemorySource};
 use std::alloc::{AllocError, AllocGlobal, Global};
 use std::sync::Wait;
 use std::test::Fail;
 use std::thread::Threads;
 
-/// A service with the numbers that no option gives.
-pub const WORDS: &[&str] = &["serve", "T", "j", "a"];
+/// What A and B say first, and then A; and the replies.
+pub const FIRST: &str = "HELLO A KA\nTRADE A B P 10 2026-03-02\nHELLO B KB\nAFFIRM 1\nNETS P\n";
 
-/// What a service left.
-#[derive(Drop)]
-pub struct Service {
-    status: u8,
-    output: MemorySink,
-    errors: MemorySink,
-    disk: MemoryDisk,
-}
+pub const FIRST_REPLIES: &str =
+    "ok 0 hello A\nok 1 trade 1\nok 1 hello B\nok 2 live 1\nok 2 nets 0 10 -10\n";
 
-impl Service {
-    /// Whether it ended with this status, and wrote and told exactly this.
-    pub fn is(&self, status: u8, output: &str, errors: &str) -> bool {
-        self.status == status
-            && self.output.bytes() == output.as_bytes()
-            && self.errors.bytes() == errors.as_bytes()
-    }
-}
+pub const SECOND: &str = "HELLO A KA\nNETS P\n";
 
-/// Runs a service by these words, of the roster at this listener, over this disk, with room for so many bytes of output.
-pub fn serve_at<R: Threads + Wait + Sync + AllocGlobal, L: Listener>(
-    rt: &R,
-    words: &[&str],
-    listener: &mut L,
-    disk: MemoryDisk,
-    room: usize,
-) -> Result<Service, AllocError>
-    requires { IsSettled (Some disk.history) }
-{
-    let alloc = rt.alloc();
-    let mut source = MemorySource::new(alloc, b"HELLO A KA\n")?;
-    let mut output = MemorySink::new(alloc, room)?;
-    let (status, errors, disk) = run_at(
-        rt,
-        words,
-        &[("T", ROSTER.as_bytes())],
-        &mut source,
-        &mut output,
-        disk,
-        listener,
-        &OpenGate,
-    )?;
-    Ok(Service {
-        status,
-        output,
-        errors,
-        disk,
-    })
-}
+pub const SECOND_REPLIES: &str = "ok 2 hello A\nok 2 nets 10 0 10\n";
 
-// A service: its words, how many doors it has, what comes to the first, which call of that door and of the listener fails, 0
-// for none, the room of the output, the status, what was told, the output, and the replies.
+// The journal of both changes, which came from seat 1.
+const SEATED: &[u8] =
+    b"OTCJRNLC\0\x19\0\0\0\0\0\0\0\0\0\0\0\0\0\0\0\0\0\0\0\x01\x08\0\0\0MOMENTS2\x01\x21\0\0\0\x40\xb7\xcb\x69\0\0\0\0\x01\0\0\0\x01A\x01\x01A\x01B\x01P\x0a\0\0\0\0\0\0\0\xea\x07\x03\x02\x01\x17\0\0\0\x40\xb7\xcb\x69\0\0\0\0\x01\0\0\0\x01B\x02\x01\0\0\0\0\0\0\0\0";
+
+// And from seat 4.
+const SEATED_AT_THE_LAST: &[u8] =
+    b"OTCJRNLC\0\x19\0\0\0\0\0\0\0\0\0\0\0\0\0\0\0\0\0\0\0\x01\x08\0\0\0MOMENTS2\x01\x21\0\0\0\x40\xb7\xcb\x69\0\0\0\0\x04\0\0\0\x01A\x01\x01A\x01B\x01P\x0a\0\0\0\0\0\0\0\xea\x07\x03\x02\x01\x17\0\0\0\x40\xb7\xcb\x69\0\0\0\0\x04\0\0\0\x01B\x02\x01\0\0\0\0\0\0\0\0";
+
+/// A service with the numbers that no option gives, over no journal. It reads no input.
+pub const SERVICE: Trial<'static> = Trial {
+    words: &["serve", "T", "j", "a"],
+    failing_read: 1,
+    output: Text::Is(b"history 2\n"),
+    ..SCRIPT
+};
+
+// A service: what comes to which of the listener's doors, which call of that door and of the listener fails, 0 for none, how many
+// doors come back, the replies at that one, and the journal then.
 #[derive(Clone, Copy)]
 struct Case {
-    words: &'static [&'static str],
-    doors: usize,
+    trial: Trial<'static>,
+    door: u32,
     texts: &'static [&'static str],
     door_call: u64,
     listener_call: u64,
-    room: usize,
-    status: u8,
-    errors: &'static str,
-    output: &'static str,
+    doors: usize,
     replies: &'static [&'static str],
+    after: &'static [u8],
 }
 
 const WHOLE: Case = Case {
-    words: WORDS,
-    doors: 4,
+    trial: SERVICE,
+    door: 0,
     texts: &[FIRST, SECOND],
     door_call: 0,
     listener_call: 0,
-    room: 64,
-    status: 0,
-    errors: "",
-    output: "history 2\n",
+    doors: 4,
     replies: &[FIRST_REPLIES, SECOND_REPLIES],
+    after: SEATED,
+};
+
+const FAILS: Trial<'static> = Trial {
+    status: 10,
+    errors: b"listener fault\n",
+    ..SERVICE
+};
+
+// The second call of the door fails: the first connection was served, and so were the other seats.
+const DOOR_FAILS: Case = Case {
+    trial: FAILS,
+    door_call: 2,
+    replies: &[FIRST_REPLIES],
+    ..WHOLE
+};
+
+// No seat begins, and the doors handed out come back.
+const LISTENER_FAILS: Case = Case {
+    trial: Trial {
+        output: Text::Is(b""),
+        ..FAILS
+    },
+    replies: &[],
+    after: NONE,
+    ..WHOLE
 };
 
 const CASES: &[Case] = &[
     WHOLE,
     Case {
+        trial: Trial {
+            output: Text::Is(b"history 0\n"),
+            ..SERVICE
+        },
         texts: &[],
-        output: "history 0\n",
         replies: &[],
+        after: NONE,
+        ..WHOLE
+    },
+    // Another door, and a service that goes on from what that one's journal keeps.
+    Case {
+        door: 3,
+        texts: &[FIRST],
+        replies: &[FIRST_REPLIES],
+        after: SEATED_AT_THE_LAST,
+        ..WHOLE
+    },
+    Case {
+        trial: Trial {
+            disk: SEATED_AT_THE_LAST,
+            ..SERVICE
+        },
+        texts: &[SECOND],
+        replies: &[SECOND_REPLIES],
+        after: SEATED_AT_THE_LAST,
         ..WHOLE
     },
     // So many seats.
     Case {
-        words: &["serve", "T", "j", "a", "--seats", "1"],
+        trial: Trial {
+            words: &["serve", "T", "j", "a", "--seats", "1"],
+            ..SERVICE
+        },
         doors: 1,
         ..WHOLE
     },
     Case {
-        words: &["serve", "--seats=64", "T", "j", "--workers", "64", "a"],
+        trial: Trial {
+            words: &["serve", "--seats=64", "T", "j", "--workers", "64", "a"],
+            ..SERVICE
+        },
         doors: 64,
         ..WHOLE
     },
     // So many connections of each.
     Case {
-        words: &["serve", "T", "j", "--connections=2", "--", "a"],
+        trial: Trial {
+            words: &["serve", "T", "j", "--connections=2", "--", "a"],
+            ..SERVICE
+        },
         ..WHOLE
     },
     Case {
-        words: &["serve", "T", "j", "a", "--connections", "1"],
+        trial: Trial {
+            words: &["serve", "T", "j", "a", "--connections", "1"],
+            ..SERVICE
+        },
         replies: &[FIRST_REPLIES],
         ..WHOLE
     },
-    // The second call of the door fails: the first connection was served, and so were the other seats.
-    Case {
-        door_call: 2,
-        status: 10,
-        errors: "listener fault\n",
-        replies: &[FIRST_REPLIES],
-        ..WHOLE
-    },
+    DOOR_FAILS,
     // The output takes a front of the line.
     Case {
-        room: 9,
-        status: 5,
-        errors: "sink fault\n",
-        output: "history 2",
+        trial: Trial {
+            room: 9,
+            status: 5,
+            output: Text::Is(b"history 2"),
+            errors: b"sink fault\n",
+            ..SERVICE
+        },
         ..WHOLE
     },
     // The door's fault comes before the output's.
     Case {
-        door_call: 2,
-        room: 3,
-        status: 10,
-        errors: "listener fault\n",
-        output: "his",
-        replies: &[FIRST_REPLIES],
-        ..WHOLE
+        trial: Trial {
+            room: 3,
+            output: Text::Is(b"his"),
+            ..FAILS
+        },
+        ..DOOR_FAILS
+    },
+    Case {
+        listener_call: 1,
+        doors: 0,
+        ..LISTENER_FAILS
+    },
+    Case {
+        listener_call: 2,
+        doors: 0,
+        ..LISTENER_FAILS
+    },
+    Case {
+        listener_call: 3,
+        doors: 1,
+        ..LISTENER_FAILS
+    },
+    Case {
+        listener_call: 4,
+        doors: 2,
+        ..LISTENER_FAILS
+    },
+    Case {
+        listener_call: 5,
+        doors: 3,
+        ..LISTENER_FAILS
     },
 ];
 
-// Whether the connections that the listener's first door gave back took these replies.
-fn took(listener: &MemoryListener, replies: &[&str]) -> bool {
-    let Some(door) = listener.back().first() else {
-        return false;
-    };
-    let back = door.back();
-    back.len() == replies.len()
-        && back.iter().zip(replies).all(|(connection, text)| connection.output.bytes()
-            == text.as_bytes())
+// A connection whose input gives this text.
+fn connection(alloc: Global, text: &str) -> Result<MemoryConnection, AllocError>
+    ensures { IfOk result (λ c. IsFresh c) }
+{
+    Ok(MemoryConnection {
+        input: MemorySource::new(alloc, text.as_bytes())?,
+        output: MemorySink::new(alloc, 4096)?,
+    })
 }
 
-// A listener to whose first door connections with these texts come, and this call of that door for one fails, 0 for none.
-fn listener_with(
-    alloc: Global,
-    texts: &[&str],
-    door_call: u64,
-) -> Result<MemoryListener, AllocError> {
+// A listener to one of whose doors these connections come.
+fn listener_of(alloc: Global, case: &Case) -> Result<MemoryListener, AllocError> {
     let mut listener = MemoryListener::new(alloc);
-    for text in texts {
-        listener.add(0, connection(alloc, text)?)?;
+    for text in case.texts {
+        listener.add(case.door, connection(alloc, text)?)?;
     }
-    if door_call > 0 {
-        listener.fail_door_at(0, door_call)?;
-    }
+    listener.fail_door_at(case.door, case.door_call)?;
+    listener.fail_at(case.listener_call)?;
     Ok(listener)
 }
 
-fn is_case<R: Threads + Wait + Sync + AllocGlobal>(
-    rt: &R,
-    case: &Case,
-) -> Result<bool, AllocError> {
-    let alloc = rt.alloc();
-    let mut listener = listener_with(alloc, case.texts, case.door_call)?;
-    let disk = empty_disk(alloc)?;
-    let left = serve_at(rt, case.words, &mut listener, disk, case.room)?;
-    Ok(
-        left.is(case.status, case.output, case.errors)
-            && listener.back().len() == case.doors
-            && took(&listener, case.replies),
-    )
-}
-
-fn are_cases<R: Threads + Wait + Sync + AllocGlobal>(
-    rt: &R,
-    cases: &[Case],
-) -> Result<bool, AllocError> {
-    for case in cases {
-        if !is_case(rt, case)? {
-            return Ok(false);
-        }
+// Whether as many doors came back as are to, and the connections of that one took the replies.
+fn took(listener: &MemoryListener, case: &Case) -> bool {
+    let back = listener.back();
+    if back.len() != case.doors {
+        return false;
     }
-    Ok(true)
+    let Some(door) = back.get(case.door as usize) else {
+        return case.replies.is_empty();
+    };
+    let back = door.back();
+    back.len() == case.replies.len()
+        && back.iter().zip(case.replies).all(|(connection, text)| connection.output.bytes()
+            == text.as_bytes())
 }
 
-#[test]
-fn a_service_ends_as_its_seats_its_disk_and_its_output_do(rt: HostRuntime) -> Result<(), Fail> {
-    let are = are_cases(&rt, CASES)?;
-    assert!(rt; are);
-    Ok(())
+fn is_served<R: Threads + Wait + Sync + AllocGlobal>(rt: &R, case: &Case) -> Result<(), Fail> {
+    let mut listener = listener_of(rt.alloc(), case)?;
+    let left = case.trial.left_at(rt, &mut listener)?;
+    so(
+        left.synced.as_slice() == case.after,
+        "the journal is otherwise",
+    )?;
+    so(took(&listener, case), "the replies are otherwise")
 }
 
-// Whether a listener of which this call fails ends the service before a seat begins, with the doors handed out back.
-fn does_not_begin<R: Threads + Wait + Sync + AllocGlobal>(
-    rt: &R,
-    call: u64,
-    doors: usize,
-) -> Result<bool, AllocError> {
-    let alloc = rt.alloc();
-    let mut listener = MemoryListener::new(alloc);
-    listener.add(0, connection(alloc, FIRST)?)?;
-    listener.fail_at(call)?;
-    let disk = empty_disk(alloc)?;
-    let left = serve_at(rt, WORDS, &mut listener, disk, 64)?;
-    Ok(left.is(10, "", "listener fault\n") && listener.back().len() == doors)
-}
-
-fn never_begins<R: Threads + Wait + Sync + AllocGlobal>(rt: &R) -> Result<bool, AllocError> {
-    for k in 0..5 {
-        if !does_not_begin(rt, k + 1, (k as usize).saturating_sub(1))? {
-            return Ok(false);
-        }
+fn all_are_served<R: Threads + Wait + Sync + AllocGlobal>(rt: &R) -> Result<(), Fail> {
+    for case in CASES {
+        is_served(rt, case)?;
     }
-    Ok(true)
-}
-
-#[test]
-fn a_listener_that_fails_ends_a_service_before_it_begins(rt: HostRuntime) -> Result<(), Fail> {
-    let never = never_begins(&rt)?;
-    assert!(rt; never);
     Ok(())
 }
 
-// A service of the first text, and then one of the second over the disk that it left.
-fn goes_on<R: Threads + Wait + Sync + AllocGlobal>(rt: &R) -> Result<bool, AllocError> {
-    let alloc = rt.alloc();
-    let mut first = MemoryListener::new(alloc);
-    first.add(3, connection(alloc, FIRST)?)?;
-    let disk = empty_disk(alloc)?;
-    let left = serve_at(rt, WORDS, &mut first, disk, 64)?;
-    let mut second = MemoryListener::new(alloc);
-    second.add(0, connection(alloc, SECOND)?)?;
-    let then = serve_at(rt, WORDS, &mut second, left.disk.crash(), 64)?;
-    Ok(left.status == 0 && then.is(0, "history 2\n", "") && took(&second, &[SECOND_REPLIES]))
-}
-
 #[test]
-fn a_service_goes_on_from_what_its_journal_keeps(rt: HostRuntime) -> Result<(), Fail> {
-    let on = goes_on(&rt)?;
-    assert!(rt; on);
-    Ok(())
+fn a_service_ends_as_its_listener_its_seats_its_disk_and_its_output_do(
+    rt: HostRuntime,
+) -> Result<(), Fail> {
+    all_are_served(&rt)
 }

@@ -1,5 +1,6 @@
 //! Two clients of two seats, over a bound socket.
 
+use crate::program::so;
 use crate::served_seats::history_served;
 use doors::{Listener, SocketListener};
 use outside::Trouble;
@@ -30,27 +31,29 @@ fn is_closed(client: &mut TcpStream) -> io::Result<bool> {
     Ok(client.read(&mut [0; 16])? == 0)
 }
 
-// Two clients at once, each answered from what the other has changed.
+// Each is answered from what the other has changed.
+fn each_is_answered(a: &mut TcpStream, b: &mut TcpStream) -> io::Result<bool> {
+    Ok(
+        is_answered(
+            a,
+            "HELLO A KA\nTRADE A B P 10 2026-03-02\n",
+            "ok 0 hello A\nok 1 trade 1\n",
+        )? && is_answered(b, "HELLO B KB\nAFFIRM 1\n", "ok 1 hello B\nok 2 live 1\n")?
+            && is_answered(a, "NETS P\n", "ok 2 nets 10 0 10\n")?
+            && is_answered(b, "NETS P\n", "ok 2 nets 0 10 -10\n")?
+            && is_closed(b)?
+            && is_closed(a)?,
+    )
+}
+
+// Two clients at once.
 fn both_are_answered<R: Net<Listener = TcpListener, Stream = TcpStream>>(
     rt: &R,
     port: u16,
 ) -> io::Result<bool> {
     let mut a = TcpStream::connect(rt, ("127.0.0.1", port))?;
     let mut b = TcpStream::connect(rt, ("127.0.0.1", port))?;
-    Ok(
-        is_answered(
-            &mut a,
-            "HELLO A KA\nTRADE A B P 10 2026-03-02\n",
-            "ok 0 hello A\nok 1 trade 1\n",
-        )? && is_answered(
-            &mut b,
-            "HELLO B KB\nAFFIRM 1\n",
-            "ok 1 hello B\nok 2 live 1\n",
-        )? && is_answered(&mut a, "NETS P\n", "ok 2 nets 10 0 10\n")?
-            && is_answered(&mut b, "NETS P\n", "ok 2 nets 0 10 -10\n")?
-            && is_closed(&mut b)?
-            && is_closed(&mut a)?,
-    )
+    each_is_answered(&mut a, &mut b)
 }
 
 fn two_clients_are_served<
@@ -78,7 +81,6 @@ fn two_clients_are_served<
 
 #[test]
 fn two_clients_at_a_socket_are_answered_beside_one_another(rt: HostRuntime) -> Result<(), Fail> {
-    let served = two_clients_are_served(&rt);
-    assert!(rt; served == Ok(true));
-    Ok(())
+    let served = two_clients_are_served(&rt) == Ok(true);
+    so(served, "the clients are answered otherwise")
 }

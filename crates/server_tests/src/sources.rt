@@ -1,40 +1,50 @@
-//! Sources that behave oddly: one that gives a byte at a time, and one without an end.
+//! Inputs of a run: bytes, and a letter without an end.
 
 ghost use Rattle.std.specs.Prelude.{◌≡◌};
 
-use outside::{Failed, MemorySource, Source};
-use std::alloc::{AllocError, Global};
+use outside::{Failed, Source};
 
-/// Gives one byte at a time.
+/// Gives bytes, at most so many at once. One of its reads may fail.
 #[derive(Drop)]
-pub struct Trickle {
-    source: MemorySource,
+pub struct Input<'a> {
+    rest: &'a [u8],
+    most: usize,
+    reads: u64,
+    failing: u64,
+    faults: u64,
 }
 
-impl Trickle {
-    pub fn new(alloc: Global, bytes: &[u8]) -> Result<Trickle, AllocError> {
-        Ok(Trickle {
-            source: MemorySource::new(alloc, bytes)?,
-        })
-    }
-
-    /// Lets that read fail, the first being 1.
-    pub fn fail_at(&mut self, call: u64) -> Result<(), AllocError> {
-        self.source.fail_at(call)
+impl<'a> Input<'a> {
+    /// The read with the number `failing` fails, the first being 1.
+    pub fn new(bytes: &'a [u8], most: usize, failing: u64) -> Input<'a> {
+        Input {
+            rest: bytes,
+            most,
+            reads: 0,
+            failing,
+            faults: 0,
+        }
     }
 }
 
-impl Source for Trickle {
-    ghost use Rattle.std.specs.Prelude.{Some};
-    ghost use Rattle.outside.specs.MemorySource.{input_flow};
+impl Source for Input<'_> {
+    ghost use Rattle.std.specs.Prelude.{None};
 
-    ghost flow = { λ s. Some (input_flow s.source) };
+    ghost flow = { λ _. None };
 
-    ghost faults = { λ s. s.source.faults };
+    ghost faults = { λ s. s.faults };
 
     fn read(&mut self, into: &mut [u8]) -> Result<usize, Failed> {
-        let room = into.len().min(1);
-        self.source.read(&mut into[..room])
+        self.reads = self.reads.saturating_add(1);
+        if self.reads == self.failing {
+            self.faults = self.faults.saturating_add(1);
+            return Err(Failed);
+        }
+        let size = self.most.min(self.rest.len()).min(into.len());
+        let (given, rest) = self.rest.split_at(size);
+        into[..size].copy_from_slice(given);
+        self.rest = rest;
+        Ok(size)
     }
 }
 

@@ -5,35 +5,20 @@
 //! byte changed too, would be some 700,000, which is too much for a test; journals of one or two records have them in
 //! `journal_tests`.
 
-use crate::journals::{crashed, disk_of, left_by};
-use crate::stopped_cycles::{MARKET, left_by_fault, market_after, whole_cycle};
-use outside::{Disk, MemoryDisk};
-use std::alloc::{AllocGlobal, Global};
+use crate::program::{Left, Trial, finds, so};
+use crate::stopped_cycles::{CYCLE, MARKET, market_after};
+use std::alloc::{AllocError, AllocGlobal, Global};
 use std::sync::Wait;
 use std::test::Fail;
 use std::thread::Threads;
 
-// What a disk holds, up to 1,024 bytes.
-fn content_of(alloc: Global, disk: &mut MemoryDisk) -> Result<Vec<u8>, Fail> {
-    let mut into = vec![in alloc; 0u8; 1024]?;
-    let read = disk.read(0, &mut into)?;
-    into.truncate(read);
-    Ok(into)
-}
-
-// Opens a disk of these bytes, whose market has to be that one.
-fn finds<R: Threads + Wait + Sync + AllocGlobal>(
-    rt: &R,
-    image: &[u8],
-    market: &str,
-) -> Result<(), Fail> {
-    let disk = disk_of(rt.alloc(), image)?;
-    let _ = left_by(rt, disk, MARKET, (0, market, ""))?;
-    Ok(())
-}
-
 /// Some bytes with another one at a place, if there is one.
-pub fn with_other(alloc: Global, bytes: &[u8], place: usize, other: u8) -> Result<Vec<u8>, Fail> {
+pub fn with_other(
+    alloc: Global,
+    bytes: &[u8],
+    place: usize,
+    other: u8,
+) -> Result<Vec<u8>, AllocError> {
     let mut changed = bytes.to_vec(alloc)?;
     if let Some(byte) = changed.get_mut(place) {
         *byte = other;
@@ -41,67 +26,88 @@ pub fn with_other(alloc: Global, bytes: &[u8], place: usize, other: u8) -> Resul
     Ok(changed)
 }
 
-// Opens what a crash may leave of a write behind the old file's end, where the whole write makes the new one.
+// Some bytes with another one at each place from one up to one behind them.
+fn with_others(
+    alloc: Global,
+    bytes: &[u8],
+    places: (usize, usize),
+    other: u8,
+) -> Result<Vec<u8>, AllocError> {
+    let mut changed = bytes.to_vec(alloc)?;
+    for place in places.0..places.1 {
+        if let Some(byte) = changed.get_mut(place) {
+            *byte = other;
+        }
+    }
+    Ok(changed)
+}
+
+// That a file with others at these places has this market.
+fn finds_changed<R: Threads + Wait + Sync + AllocGlobal>(
+    rt: &R,
+    file: &[u8],
+    places: (usize, usize),
+    other: u8,
+    market: &[u8],
+) -> Result<(), Fail> {
+    let changed = with_others(rt.alloc(), file, places, other)?;
+    finds(rt, &changed, MARKET, market)
+}
+
+// That what a crash may leave of a write behind the old file's end has this market, where the whole write makes the new one.
 fn finds_torn<R: Threads + Wait + Sync + AllocGlobal>(
     rt: &R,
     old: &[u8],
     new: &[u8],
-    market: &str,
+    market: &[u8],
 ) -> Result<(), Fail> {
-    let mut without_front = new.to_vec(rt.alloc())?;
+    so(old.len() < new.len(), "nothing was written")?;
     for place in old.len()..new.len() {
         let front = new.get(..place).unwrap_or(new);
-        finds(rt, front, market)?;
-        let without_one = with_other(rt.alloc(), new, place, 0xff)?;
-        finds(rt, &without_one, market)?;
-        without_front = with_other(rt.alloc(), &without_front, place, 0)?;
-        finds(rt, &without_front, market)?;
+        finds(rt, front, MARKET, market)?;
+        finds_changed(rt, new, (place, place + 1), 0xff, market)?;
+        finds_changed(rt, new, (old.len(), place + 1), 0, market)?;
     }
-    finds(rt, new, market)
+    finds(rt, new, MARKET, market)
 }
 
-// Opens what a crash may leave of a gate that opens: only where it is open, the change is made.
+// That of a gate that opens only what has it open has the change.
 fn finds_gate<R: Threads + Wait + Sync + AllocGlobal>(
     rt: &R,
     old: &[u8],
     new: &[u8],
-    markets: (&str, &str),
+    before: &[u8],
+    after: &[u8],
 ) -> Result<(), Fail> {
-    finds(rt, old, markets.0)?;
-    finds(rt, new, markets.1)?;
-    for (place, (before, after)) in old.iter().zip(new).enumerate() {
-        if before != after {
-            let neither = with_other(rt.alloc(), old, place, 0xff)?;
-            finds(rt, &neither, markets.0)?;
+    so(old != new, "nothing was written")?;
+    finds(rt, old, MARKET, before)?;
+    finds(rt, new, MARKET, after)?;
+    for place in 0..old.len() {
+        if old.get(place) != new.get(place) {
+            finds_changed(rt, old, (place, place + 1), 0xff, before)?;
         }
     }
     Ok(())
 }
 
-// The file without and with the last write, where that call of the disk, which is a sync, fails.
-fn around<R: Threads + Wait + Sync + AllocGlobal>(
-    rt: &R,
-    call: u64,
-) -> Result<(Vec<u8>, Vec<u8>), Fail> {
-    let lines = whole_cycle(rt)?;
-    let mut disk = left_by_fault(rt, call, lines.as_str())?;
-    let new = content_of(rt.alloc(), &mut disk)?;
-    let old = content_of(rt.alloc(), &mut crashed(disk))?;
-    if old == new {
-        return Err(Fail::new("nothing was written"));
-    }
-    Ok((old, new))
+// What is left where that call of the disk, which is a sync, fails.
+fn left_at<R: Threads + Wait + Sync + AllocGlobal>(rt: &R, call: u64) -> Result<Left, Fail> {
+    let cycle = Trial {
+        failing_call: call,
+        ..CYCLE
+    };
+    cycle.left(rt)
 }
 
 // An opening has eleven calls, and a change four: its record is written and synced, and then its gate. A call that writes and
 // fails leaves what the sync behind it may leave.
 fn each_write_is_torn<R: Threads + Wait + Sync + AllocGlobal>(rt: &R) -> Result<(), Fail> {
     for change in 0..12u64 {
-        let done = market_after(change);
-        let (old, new) = around(rt, 13 + 4 * change)?;
-        finds_torn(rt, &old, &new, done)?;
-        let (old, new) = around(rt, 15 + 4 * change)?;
-        finds_gate(rt, &old, &new, (done, market_after(change + 1)))?;
+        let (before, after) = (market_after(change), market_after(change + 1));
+        let record = left_at(rt, 13 + 4 * change)?;
+        finds_torn(rt, &record.synced, &record.written, before)?;
+        let gate = left_at(rt, 15 + 4 * change)?;
+        finds_gate(rt, &gate.synced, &gate.written, before, after)?;
     }
     Ok(())
 }

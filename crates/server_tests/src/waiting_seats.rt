@@ -1,14 +1,12 @@
-//! Two seats that each wait for the replies of the other, by themselves and in a service.
+//! Two seats of a service that each wait for the replies of the other.
 
 ghost use Rattle.std.specs.Prelude.{◌≡◌, IfOk};
 
 use crate::paced::{MANY_LOOKS, PacedSource, Piece, Steps};
-use crate::program::empty_disk;
-use crate::served::{WORDS, serve_at};
-use crate::served_seats::{FIRST, FIRST_REPLIES, SECOND, SECOND_REPLIES, history_served};
+use crate::program::so;
+use crate::served::{FIRST, FIRST_REPLIES, SECOND, SECOND_REPLIES, SERVICE};
 use doors::{Door, Listener};
 use outside::{Failed, MemorySink, Sink, Source, Trouble};
-use seats::Place;
 use std::alloc::{AllocError, AllocGlobal, Global};
 use std::sync::{Arc, Wait};
 use std::test::Fail;
@@ -121,9 +119,15 @@ impl PacedDoor {
         })
     }
 
-    fn took(&self, text: &str) -> bool {
+    // Whether its connection took the replies that are due.
+    fn is_answered(&self) -> bool {
+        let replies = match self.part {
+            Part::First => FIRST_REPLIES,
+            Part::Second => SECOND_REPLIES,
+            Part::Nobody => return self.back.is_none(),
+        };
         match &self.back {
-            Some(output) => output.sink.bytes() == text.as_bytes(),
+            Some(output) => output.sink.bytes() == replies.as_bytes(),
             None => false,
         }
     }
@@ -156,35 +160,12 @@ impl Door for PacedDoor {
     }
 }
 
-fn wait_for_one_another<R: Threads + Wait + Sync + AllocGlobal>(
-    rt: &R,
-) -> Result<bool, AllocError> {
-    let alloc = rt.alloc();
-    let steps = Arc::new(alloc, Steps::new())?;
-    let mut places = [
-        Place::new(PacedDoor::new(alloc, Part::First, &steps)?),
-        Place::new(PacedDoor::new(alloc, Part::Second, &steps)?),
-    ];
-    let history = history_served(rt, alloc, &mut places, 1000)?;
-    Ok(
-        history == 2
-            && places[0].door.took(FIRST_REPLIES)
-            && places[1].door.took(SECOND_REPLIES)
-            && steps.are(7),
-    )
-}
-
-#[test]
-fn two_seats_each_wait_for_the_replies_of_the_other(rt: HostRuntime) -> Result<(), Fail> {
-    let waited = wait_for_one_another(&rt)?;
-    assert!(rt; waited);
-    Ok(())
-}
-
-// Hands out the doors of two connections that wait for one another, and then doors to which nobody comes.
+// Hands out the doors of two connections that wait for one another, and then doors to which nobody comes. It counts those that it
+// takes back with the replies that are due.
 #[derive(Drop)]
 struct PacedListener {
     handed: u64,
+    answered: u64,
     steps: Arc<Steps, Global>,
     idle: Option<u64>,
     alloc: Global,
@@ -218,30 +199,32 @@ impl Listener for PacedListener {
         }
     }
 
-    fn take_back(&mut self, _door: PacedDoor) {}
+    fn take_back(&mut self, door: PacedDoor) {
+        if door.is_answered() {
+            self.answered = self.answered.saturating_add(1);
+        }
+    }
 
     fn set_idle(&mut self, seconds: Option<u64>) {
         self.idle = seconds;
     }
 }
 
-fn wait_in_a_service<R: Threads + Wait + Sync + AllocGlobal>(rt: &R) -> Result<bool, AllocError> {
-    let alloc = rt.alloc();
-    let steps = Arc::new(alloc, Steps::new())?;
+fn wait_in_a_service<R: Threads + Wait + Sync + AllocGlobal>(rt: &R) -> Result<(), Fail> {
+    let steps = Arc::new(rt.alloc(), Steps::new())?;
     let mut listener = PacedListener {
         handed: 0,
+        answered: 0,
         steps: Arc::try_clone(&steps)?,
         idle: None,
-        alloc,
+        alloc: rt.alloc(),
     };
-    let disk = empty_disk(alloc)?;
-    let left = serve_at(rt, WORDS, &mut listener, disk, 64)?;
-    Ok(left.is(0, "history 2\n", "") && steps.are(7))
+    let _left = SERVICE.left_at(rt, &mut listener)?;
+    let waited = listener.answered == 4 && steps.are(7);
+    so(waited, "the seats are answered otherwise")
 }
 
 #[test]
 fn two_seats_of_a_service_wait_for_the_replies_of_one_another(rt: HostRuntime) -> Result<(), Fail> {
-    let waited = wait_in_a_service(&rt)?;
-    assert!(rt; waited);
-    Ok(())
+    wait_in_a_service(&rt)
 }
