@@ -1,11 +1,10 @@
 -- How hearing goes on, from what was replied to the next reply.
-use Rattle.std.proofs.Common.{◌≡◌, ℕ, ◌-◌, ◌≤◌, List, [], ◌∷◌, ◌++◌, length, map, Option, Ok, Err, refl, sym, ap, subst, ◌∙◌, arith, length-append}
+use Rattle.std.proofs.Common.{◌≡◌, ℕ, ◌-◌, ◌≤◌, List, [], ◌∷◌, ◌++◌, length, map, Option, Ok, Err, refl, sym, ap, subst, ◌∙◌, arith, append-nil, length-append}
 use Rattle.outside.specs.Faults.{Rose}
 use Rattle.outside.specs.Flow.{Flow, Gives}
 use Rattle.outside.proofs.FlowFacts.{gives_both}
-use Rattle.standby_wire.specs.declared.stop.Stop.TheVariants.{More}
 use Rattle.standby_wire.specs.Replies.{reply_to}
-use Rattle.standby_wire.specs.Taking.{Pending, moved_on, IsNone, IsWaiting, Waits}
+use Rattle.standby_wire.specs.Taking.{Pending, moved_on, IsWaiting, Waits}
 use Rattle.standby_wire.specs.Noted.{replied_of}
 use Rattle.standby_wire.specs.Replied.{Replied, AreRead, HearingView, IsHearing, Hears}
 use Rattle.standby_wire.specs.declared.hearing.Noted.{Noted}
@@ -111,23 +110,7 @@ module _ (question : Question) (old new : HearingView) (h : IsHearing old) (firs
       (subst (λ (p : Pending). AreRead 0 old.replied (h.taken ++ w.taken) p) (sym is)
       (read_there question old.first old.flow new.flow old.replied old.pending there h.taken h.gives h.read w)))
 
-  due_stays : (there : Pending) → IsWaiting question old.pending there old.flow new.flow → new.pending ≡ there → new.pending.due ≡ old.pending.due
-  due_stays there w is = ap (λ (p : Pending). p.due) (is ∙ w.has)
-
   pub hears_none : (fault : WaitFault) → Waits question old.pending new.pending old.flow new.flow (Err fault) → new.replied ≡ old.replied → IsHearing new
   hears_none (Broken at) w same = still_there w.there w.waits w.answers.0 same
   hears_none SourceFault w same = still_there w.there w.waits w.answers.0 same
   hears_none Memory w same = still_there w.there w.waits w.answers same
-
-  pub why_none : (fault : WaitFault) → Waits question old.pending new.pending old.flow new.flow (Err fault) → new.replied ≡ old.replied
-      → (fault ≡ SourceFault → Rose old.faults new.faults) → Hears question old new (Err fault)
-  why_none (Broken at) w same rose =
-      let is : w.there ≡ new.pending = sym w.answers.0 in (
-        same,
-        due_stays w.there w.waits w.answers.0,
-        (w.answers.1 ∙ ap (λ (p : Pending). p.due) is, subst (λ (p : Pending). IsNone (reply_to question p.bytes) new.flow) is w.answers.2),
-      )
-  why_none SourceFault w same rose =
-      let is : w.there ≡ new.pending = sym w.answers.0 in
-      (same, due_stays w.there w.waits w.answers.0, (subst (λ (p : Pending). reply_to question p.bytes ≡ Err More) is w.answers.1, rose refl))
-  why_none Memory w same rose = (same, due_stays w.there w.waits w.answers, tt)

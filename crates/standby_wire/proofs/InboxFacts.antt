@@ -1,5 +1,5 @@
 -- Waiting for a reply, a piece on.
-use Rattle.std.proofs.Common.{◌≡◌, ℕ, ◌-◌, Bool, true, List, [], ◌++◌, length, take, drop, Option, Some, None, Ok, Err, refl, sym, ap, subst, ◌∙◌, append_assoc, append-nil, inl, inr}
+use Rattle.std.proofs.Common.{◌≡◌, ℕ, ◌-◌, ◌≤◌, Bool, true, List, [], ◌++◌, length, take, drop, Option, Some, None, Ok, Err, refl, sym, ap, subst, ◌∙◌, append_assoc, append-nil, inl, inr}
 use Rattle.std.proofs.lemmas.List.{length-drop}
 use Rattle.std.proofs.Math.Seq.{take-append_seam}
 use Rattle.outside.specs.Flow.{Flow, Gives}
@@ -14,6 +14,7 @@ use Rattle.standby_wire.specs.Replies.{reply_to}
 use Rattle.standby_wire.specs.Taking.{Pending, IsWaiting, Waits, Fills}
 use Rattle.standby_wire.specs.declared.reply.Question.{Question}
 use Rattle.standby_wire.specs.declared.reply.Reply.{Reply}
+use Rattle.standby_wire.specs.declared.inbox.TheConstants.{PIECE}
 use Rattle.standby_wire.specs.declared.inbox.WaitFault.{WaitFault}
 use Rattle.standby_wire.specs.declared.inbox.WaitFault.TheVariants.{Broken, SourceFault, Memory}
 
@@ -37,12 +38,12 @@ module _ (question : Question) (old there : Pending) (before mid after : Option 
   had : there.bytes ≡ old.bytes ++ w.taken
   had = ap (λ (p : Pending). p.bytes) w.has
 
-  pub waits_more : (new : Pending) (piece : List ℕ) → reply_to question there.bytes ≡ Err More → Gives mid after piece
+  pub waits_more : (new : Pending) (piece : List ℕ) → reply_to question there.bytes ≡ Err More → Gives mid after piece → length piece ≤ PIECE
       → new ≡ record { bytes = there.bytes ++ piece; due = there.due } → IsWaiting question old new before after
-  waits_more new piece more gives is = record {
+  waits_more new piece more gives few is = record {
     taken = w.taken ++ piece;
     gives = gives_both before mid after w.taken piece w.gives gives;
-    needed = inr (w.taken, piece, refl, subst (λ v. reply_to question v ≡ Err More) had more);
+    needed = inr (w.taken, piece, refl, few, subst (λ v. reply_to question v ≡ Err More) had more);
     has = is ∙ ap (λ (p : Pending). record { bytes = p.bytes ++ piece; due = p.due }) w.has ∙ ap (λ v. record { bytes = v; due = old.due }) (append_assoc old.bytes w.taken piece);
   }
 
@@ -59,7 +60,7 @@ module _ (question : Question) (old there : Pending) (before mid after : Option 
       → Fills left new mid after (Ok is_more) → IsWaiting question old new before after
   waits_on left new is_more same more is fills =
       let f : Fills left new mid after (Ok true) = subst (λ (b : Bool). Fills left new mid after (Ok b)) is fills in
-      waits_more new f.0 more f.1 (f.2 ∙ ap (λ (p : Pending). record { bytes = p.bytes ++ f.0; due = p.due }) same)
+      waits_more new f.0 more f.1 f.4 (f.2 ∙ ap (λ (p : Pending). record { bytes = p.bytes ++ f.0; due = p.due }) same)
 
   pub waits_failed : (left new : Pending) (fault : WaitFault) → left ≡ there → reply_to question there.bytes ≡ Err More
       → Fills left new mid after (Err fault) → Waits question old new before after (Err fault)

@@ -2,13 +2,12 @@
 use Rattle.std.specs.Prelude.{◌≡◌, ℕ, ◌-◌, ◌≤◌, List, [], ◌∷◌, ◌++◌, length, Option, Result, Ok, Err}
 use Rattle.outside.specs.Faults.{Rose}
 use Rattle.outside.specs.Flow.{Flow, Gives}
-use Rattle.standby_wire.specs.declared.stop.Stop.TheVariants.{More}
 use Rattle.standby_wire.specs.Replies.{reply_to}
-use Rattle.standby_wire.specs.Taking.{Pending, moved_on, IsNone}
+use Rattle.standby_wire.specs.Taking.{Pending, moved_on, Waits}
 use Rattle.standby_wire.specs.declared.reply.Question.{Question}
 use Rattle.standby_wire.specs.declared.reply.Reply.{Reply}
 use Rattle.standby_wire.specs.declared.inbox.WaitFault.{WaitFault}
-use Rattle.standby_wire.specs.declared.inbox.WaitFault.TheVariants.{Broken, SourceFault, Memory}
+use Rattle.standby_wire.specs.declared.inbox.WaitFault.TheVariants.{SourceFault}
 
 -- a question, the offset in the input at which its reply was due, and that reply
 pub record Replied : Type 0 where
@@ -39,19 +38,19 @@ pub record IsHearing (view : HearingView) : Type 0 where
   pub read : AreRead 0 view.replied taken view.pending
   pub never_falls : view.first_faults ≤ view.faults
 
--- why there is no reply to a question
-abbrev pub IsFault : Question → HearingView → HearingView → WaitFault → Type 0
-IsFault question old new (Broken at) = (at ≡ new.pending.due) × IsNone (reply_to question new.pending.bytes) new.flow
-IsFault question old new SourceFault = (reply_to question new.pending.bytes ≡ Err More) × Rose old.faults new.faults
-IsFault question old new Memory = Unit {0}
-
 -- the same source, from its start on
 pub record IsSameSource (old new : HearingView) : Type 0 where
   pub first : new.first ≡ old.first
   pub first_faults : new.first_faults ≡ old.first_faults
   pub never_falls : old.faults ≤ new.faults
 
--- From old to new, a question was asked and came to this.
-abbrev pub Hears : Question → HearingView → HearingView → Result Reply WaitFault → Type 0
-Hears question old new (Ok reply) = new.replied ≡ old.replied ++ record { question = question; due = old.pending.due; reply = reply } ∷ []
-Hears question old new (Err fault) = (new.replied ≡ old.replied) × (new.pending.due ≡ old.pending.due) × IsFault question old new fault
+-- what is noted of a question whose reply was due at an offset
+abbrev pub noted : Question → ℕ → Result Reply WaitFault → List Replied
+noted question due (Ok reply) = record { question = question; due = due; reply = reply } ∷ []
+noted question due (Err fault) = []
+
+-- From old to new, a question was asked and came to this: no more was taken than that needs, and a reply is noted.
+pub record Hears (question : Question) (old new : HearingView) (result : Result Reply WaitFault) : Type 0 where
+  pub waits : Waits question old.pending new.pending old.flow new.flow result
+  pub notes : new.replied ≡ old.replied ++ noted question old.pending.due result
+  pub failed : result ≡ Err SourceFault → Rose old.faults new.faults

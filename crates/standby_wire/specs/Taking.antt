@@ -1,11 +1,12 @@
 -- How a standby waits for a reply: it reads what it has, and takes more only where that may go on to a reply.
-use Rattle.std.specs.Prelude.{◌≡◌, ◌⊎◌, ℕ, ◌+◌, ◌-◌, ◌^◌, ◌<◌, min, Bool, true, false, List, [], ◌++◌, length, Option, Result, Ok, Err}
+use Rattle.std.specs.Prelude.{◌≡◌, ◌⊎◌, ℕ, ◌+◌, ◌-◌, ◌^◌, ◌<◌, ◌≤◌, min, Bool, true, false, List, [], ◌++◌, length, Option, Result, Ok, Err}
 use Rattle.outside.specs.Flow.{Flow, Gives, IsAtEnd}
 use Rattle.standby_wire.specs.declared.stop.Stop.{Stop}
 use Rattle.standby_wire.specs.declared.stop.Stop.TheVariants.{More, Bad}
 use Rattle.standby_wire.specs.Replies.{reply_to}
 use Rattle.standby_wire.specs.declared.reply.Question.{Question}
 use Rattle.standby_wire.specs.declared.reply.Reply.{Reply}
+use Rattle.standby_wire.specs.declared.inbox.TheConstants.{PIECE}
 use Rattle.standby_wire.specs.declared.inbox.WaitFault.{WaitFault}
 use Rattle.standby_wire.specs.declared.inbox.WaitFault.TheVariants.{Broken, SourceFault, Memory}
 
@@ -22,10 +23,11 @@ moved_on due count = min (due + count) (2 ^ 64 - 1)
 abbrev pub IsNone : Result (Reply × List ℕ) Stop → Option Flow → Type 0
 IsNone read after = (read ≡ Err Bad) ⊎ ((read ≡ Err More) × IsAtEnd after)
 
--- more was taken only where the bytes before the last piece may go on to a reply
+-- more was taken only where the bytes before the last piece, which is at most one call's, may go on to a reply
 abbrev pub IsNeeded : Question → List ℕ → List ℕ → Type 0
 IsNeeded question bytes taken =
-    (taken ≡ []) ⊎ ((front : List ℕ) × (last : List ℕ) × (taken ≡ front ++ last) × (reply_to question (bytes ++ front) ≡ Err More))
+    (taken ≡ [])
+    ⊎ ((front : List ℕ) × (last : List ℕ) × (taken ≡ front ++ last) × (length last ≤ PIECE) × (reply_to question (bytes ++ front) ≡ Err More))
 
 -- From old to now, a standby that waits for the reply to a question took what its source gave, and read nothing.
 pub record IsWaiting (question : Question) (old now : Pending) (before after : Option Flow) : Type 0 where
@@ -50,7 +52,8 @@ pub record Waits (question : Question) (old new : Pending) (before after : Optio
 
 -- A piece was taken, or the input had ended, or nothing was taken.
 abbrev pub Fills : Pending → Pending → Option Flow → Option Flow → Result Bool WaitFault → Type 0
-Fills old new before after (Ok true) = (piece : List ℕ) × Gives before after piece × (new ≡ record { bytes = old.bytes ++ piece; due = old.due }) × (0 < length piece)
+Fills old new before after (Ok true) =
+    (piece : List ℕ) × Gives before after piece × (new ≡ record { bytes = old.bytes ++ piece; due = old.due }) × (0 < length piece) × (length piece ≤ PIECE)
 Fills old new before after (Ok false) = Gives before after [] × (new ≡ old) × IsAtEnd after
 Fills old new before after (Err (Broken at)) = ⊥
 Fills old new before after (Err SourceFault) = (after ≡ before) × (new ≡ old)
