@@ -17,7 +17,7 @@ use Rattle.command_types.specs.declared.trade.TradeRow.{TradeRow}
 use Rattle.command_types.specs.declared.trade.TradeState.{TradeState}
 use Rattle.command_types.specs.declared.trade.TradeState.TheVariants.{Alleged, Live, Ended}
 use Rattle.command_types.specs.Roster.{Rows, is_party}
-use Rattle.command_types.specs.Trades.{is_alleged, is_live, trade_numbered, ended_by}
+use Rattle.command_types.specs.Trades.{is_alleged, is_live, trade_numbered, affirmed, ended_by, held_by, freed_by}
 use Rattle.command_types.specs.Cycles.{closed, is_open, is_solving, is_proposed, may_begin, may_break, has_limits, bad_post, plan_on, posted_plan, old_networks, new_networks, broken_at}
 use Rattle.command_types.specs.CycleRefusals.{begin_refusals, post_refusals, accept_refusals, if_bad_post}
 use Rattle.command_types.specs.CycleSteps.{is_frozen_and_marked, proposed_or_done, touched_in, after_vote, left_after}
@@ -30,12 +30,12 @@ use Rattle.cycle_states.specs.Machine.{IsCycle, IsUnbroken}
 use Rattle.cycle_states.proofs.MachineFacts.{none_holds, not_false}
 use Rattle.cycle_states.proofs.CycleFacts.{found, second_fails, begin_breaks, limits_break, proposed_limits, solving_limits, decline_proposed}
 
-limits_open : (p : Phase) → IsTrue (has_limits p) → IsTrue (is_open p)
-limits_open phase.None h = absurd (false≢true h)
-limits_open phase.Frozen h = refl
-limits_open phase.Solving h = refl
-limits_open phase.Proposed h = refl
-limits_open phase.Broken h = refl
+breaks_open : (p : Phase) → IsTrue (may_break p) → IsTrue (is_open p)
+breaks_open phase.None h = absurd (false≢true h)
+breaks_open phase.Frozen h = refl
+breaks_open phase.Solving h = refl
+breaks_open phase.Proposed h = refl
+breaks_open phase.Broken h = refl
 
 plan_same : (day : Option DayParts) (rows other : List TradeRow) (old new : List NetworkData) → HasSamePosting other rows → plan_on day rows old new ≡ plan_on day other old new
 plan_same None rows other old new same = refl
@@ -96,6 +96,27 @@ unmarked_stays true marked Alleged off sound = absurd (false≢true (sound refl)
 unmarked_stays true marked Live off sound = off
 unmarked_stays true marked Ended off sound = absurd (false≢true (sound refl))
 
+-- no command about one trade changes a frozen one but by a mark, while the cycle may break
+pub affirm_leaves : (s : State) (by : Option (List ℕ)) (trade : ℕ) → first_of (refusals s by (Affirm trade)) ≡ None → IsUnbroken s.cycle.phase s.trades → IsTrue (may_break s.cycle.phase) →
+    frozen_of (affirmed s.trades trade) ≡ frozen_of s.trades
+affirm_leaves s by trade none unbroken may =
+    affirmed_stays s.trades trade (λ row is. alleged_unfrozen row.frozen row.state (found s.trades trade (nat_lt 0 trade) row is (unbroken may)) (affirm_stands s by trade row none is))
+
+pub hold_leaves : (s : State) (by : Option (List ℕ)) (trade : ℕ) (side : Side) → first_of (refusals s by (Hold trade)) ≡ None → IsTrue (may_break s.cycle.phase) → frozen_of (held_by side s.trades trade) ≡ frozen_of s.trades
+hold_leaves s by trade side none may =
+    held_stays side s.trades trade (λ row is. second_fails (is_open s.cycle.phase) row.frozen (hold_stands s by trade row none is) (breaks_open s.cycle.phase may))
+
+pub free_leaves : (s : State) (by : Option (List ℕ)) (trade : ℕ) (side : Side) → first_of (refusals s by (Free trade)) ≡ None → IsTrue (may_break s.cycle.phase) → frozen_of (freed_by side s.trades trade) ≡ frozen_of s.trades
+free_leaves s by trade side none may =
+    freed_stays side s.trades trade (λ row is. second_fails (is_open s.cycle.phase) row.frozen (free_stands s by trade row none is) (breaks_open s.cycle.phase may))
+
+pub end_leaves : (cycle : Cycle) (rows : List TradeRow) (trade : ℕ) (side : Side) → (may_break cycle.phase && is_frozen_and_marked (trade_numbered rows trade)) ≡ false → IsUnbroken cycle.phase rows → IsTrue (may_break cycle.phase) →
+    frozen_of (ended_by side rows trade) ≡ frozen_of rows
+end_leaves cycle rows trade side is unbroken may =
+    let off : is_frozen_and_marked (trade_numbered rows trade) ≡ false = second_fails (may_break cycle.phase) (is_frozen_and_marked (trade_numbered rows trade)) is may in
+    ended_stays side rows trade
+    (λ row at_place. unmarked_stays row.frozen (is_some row.mark) row.state (sym (ap is_frozen_and_marked at_place) ∙ off) (found rows trade (nat_lt 0 trade) row at_place (unbroken may)))
+
 -- an END breaks the cycle, or leaves the frozen trades but for a mark
 ended_kept : (t : Bool) (roster : Rows) (cycle : Cycle) (rows : List TradeRow) (trade : ℕ) (side : Side) → (may_break cycle.phase && is_frozen_and_marked (trade_numbered rows trade)) ≡ t → IsUnbroken cycle.phase rows → IsCycle roster rows cycle →
     IsCycle roster (ended_by side rows trade) (if t then broken_at cycle trade else cycle)
@@ -105,13 +126,7 @@ ended_kept true roster cycle rows trade side is unbroken kept = record {
   proposed = λ on. absurd (false≢true on);
 }
 ended_kept false roster cycle rows trade side is unbroken kept =
-    same_frozen roster rows (ended_by side rows trade) cycle
-    (λ stands.
-    let may : IsTrue (may_break cycle.phase) = limits_break cycle.phase stands in
-    let off : is_frozen_and_marked (trade_numbered rows trade) ≡ false = second_fails (may_break cycle.phase) (is_frozen_and_marked (trade_numbered rows trade)) is may in
-    ended_stays side rows trade
-    (λ row at_place. unmarked_stays row.frozen (is_some row.mark) row.state (sym (ap is_frozen_and_marked at_place) ∙ off) (found rows trade (nat_lt 0 trade) row at_place (unbroken may))))
-    kept
+    same_frozen roster rows (ended_by side rows trade) cycle (λ stands. end_leaves cycle rows trade side is unbroken (limits_break cycle.phase stands)) kept
 
 -- what an accepted POST found
 post_rows : (s : State) (by : Option (List ℕ)) (cycle version : ℕ) (solutions : List SolutionData) → first_of (refusals s by (Post cycle version solutions)) ≡ None → (is_solving s.cycle.phase ≡ true) × ((if_bad_post (bad_post (length s.roster.members) s.cycle.begun solutions)).0 ≡ false)
@@ -135,7 +150,7 @@ pub accept_proposed : (s : State) (by : Option (List ℕ)) (cycle version : ℕ)
 accept_proposed s by cycle version none =
     not_false (is_proposed s.cycle.phase) (none_holds ((not (is_party s.roster by), NotGreeted) ∷ accept_refusals s (unwrap_or by []) cycle version) none).1.1.1.0
 
-begin_may : (s : State) (by : Option (List ℕ)) (cycle : ℕ) → first_of ((not (is_party s.roster by), NotGreeted) ∷ begin_refusals s (unwrap_or by []) cycle) ≡ None → IsTrue (may_break s.cycle.phase)
+pub begin_may : (s : State) (by : Option (List ℕ)) (cycle : ℕ) → first_of ((not (is_party s.roster by), NotGreeted) ∷ begin_refusals s (unwrap_or by []) cycle) ≡ None → IsTrue (may_break s.cycle.phase)
 begin_may s by cycle none =
     begin_breaks s.cycle.phase (not_false (may_begin s.cycle.phase) (none_holds ((not (is_party s.roster by), NotGreeted) ∷ begin_refusals s (unwrap_or by []) cycle) none).1.1.1.1.0)
 
@@ -162,20 +177,13 @@ kept_by s by (Hello name key) none unbroken sound kept = kept
 kept_by s by (Trade seller buyer product amount day) none unbroken sound kept =
     same_frozen s.roster s.trades _ s.cycle (λ stands. alleged_stays s.trades (member_of s seller) (member_of s buyer) (product_of s product) amount day (side_of (unwrap_or by []) seller)) kept
 kept_by s by (Affirm trade) none unbroken sound kept =
-    same_frozen s.roster s.trades _ s.cycle
-    (λ stands. affirmed_stays s.trades trade
-    (λ row is. alleged_unfrozen row.frozen row.state (found s.trades trade (nat_lt 0 trade) row is (unbroken (limits_break s.cycle.phase stands))) (affirm_stands s by trade row none is)))
-    kept
+    same_frozen s.roster s.trades _ s.cycle (λ stands. affirm_leaves s by trade none unbroken (limits_break s.cycle.phase stands)) kept
 kept_by s by (End trade) none unbroken sound kept =
     ended_kept (may_break s.cycle.phase && is_frozen_and_marked (trade_numbered s.trades trade)) s.roster s.cycle s.trades trade (side_at s (unwrap_or by []) (trade_numbered s.trades trade)) refl unbroken kept
 kept_by s by (Hold trade) none unbroken sound kept =
-    same_frozen s.roster s.trades _ s.cycle
-    (λ stands. held_stays (side_at s (unwrap_or by []) (trade_numbered s.trades trade)) s.trades trade (λ row is. second_fails (is_open s.cycle.phase) row.frozen (hold_stands s by trade row none is) (limits_open s.cycle.phase stands)))
-    kept
+    same_frozen s.roster s.trades _ s.cycle (λ stands. hold_leaves s by trade (side_at s (unwrap_or by []) (trade_numbered s.trades trade)) none (limits_break s.cycle.phase stands)) kept
 kept_by s by (Free trade) none unbroken sound kept =
-    same_frozen s.roster s.trades _ s.cycle
-    (λ stands. freed_stays (side_at s (unwrap_or by []) (trade_numbered s.trades trade)) s.trades trade (λ row is. second_fails (is_open s.cycle.phase) row.frozen (free_stands s by trade row none is) (limits_open s.cycle.phase stands)))
-    kept
+    same_frozen s.roster s.trades _ s.cycle (λ stands. free_leaves s by trade (side_at s (unwrap_or by []) (trade_numbered s.trades trade)) none (limits_break s.cycle.phase stands)) kept
 kept_by s by (Tol other product side floor ceiling) none unbroken sound kept = kept
 kept_by s by (Nets product) none unbroken sound kept = kept
 kept_by s by Statement none unbroken sound kept = kept

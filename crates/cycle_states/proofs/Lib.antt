@@ -3,6 +3,7 @@ pub mod LoopFacts
 pub mod CycleFacts
 pub mod KeptFacts
 mod TakenFacts
+mod FrozenFacts
 pub mod SettledFacts
 pub mod Thawing
 pub mod CommitFacts

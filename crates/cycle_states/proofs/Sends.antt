@@ -15,6 +15,7 @@ use Rattle.tolerance_sets.specs.contracts.settings.Settings as Settings
 use Rattle.tolerance_sets.specs.contracts.tolerances.Tolerances as Tolerances
 use Rattle.cycle_states.specs.contracts.machine.begun.Begun as Begun
 use Rattle.cycle_states.specs.contracts.machine.cycle.Cycle as Cycle
+use Rattle.cycle_states.specs.contracts.machine.frozen.Frozen as Frozen
 use Rattle.cycle_states.specs.contracts.machine.Machine as Machine
 use Rattle.cycle_states.specs.contracts.plain_desk.PlainDesk as PlainDesk
 
@@ -42,8 +43,11 @@ begun_send = search (problem_send, sendable, crosses) depth 60
 cycle_send : IsSend Cycle.the_row
 cycle_send = search (begun_send, solution_send, sendable, crosses) depth 60 fits 100000
 
+frozen_send : IsSend Frozen.the_row
+frozen_send = search (sendable, crosses) depth 60
+
 pub machine_send : IsSend Machine.the_row
-machine_send = search (roster_send, book_send, tolerances_send, cycle_send, sendable, crosses) depth 60
+machine_send = search (roster_send, book_send, tolerances_send, cycle_send, frozen_send, sendable, crosses) depth 60
 
 what_send : IsSend What.the_row
 what_send = search (solution_send, sendable, crosses) depth 200 fits 100000

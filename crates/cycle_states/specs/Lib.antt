@@ -12,3 +12,4 @@ pub mod Ready
 pub mod Ballot
 pub mod Decision
 pub mod Begun
+pub mod Frozen

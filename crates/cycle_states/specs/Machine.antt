@@ -11,7 +11,13 @@ use Rattle.network_laws.specs.Solutions.{IsSolution, ProblemData}
 use Rattle.command_types.specs.Cycles.{may_break, has_limits, is_proposed, bad_post, posted_plan, problems_of}
 use Rattle.command_types.specs.Trades.{is_live}
 use Rattle.command_types.specs.Machine.{empty_state}
+use Rattle.product_book.specs.Book.{BookView}
+use Rattle.tolerance_sets.specs.Settings.{TolerancesView}
 use Rattle.units_core.specs.declared.limits.TheConstants.{MOST_MEMBERS, MOST_PRODUCTS}
+use Rattle.cycle_states.specs.declared.machine.ballot.Ballot.{Ballot}
+use Rattle.cycle_states.specs.declared.machine.frozen.FrozenProduct.{FrozenProduct}
+use Rattle.cycle_states.specs.Ballot.{IsBallot}
+use Rattle.cycle_states.specs.Frozen.{AreOfFreeze}
 
 -- the machine's state, and for how many more trades and settings there is room without memory
 pub record MachineView : Type 0 where
@@ -73,6 +79,12 @@ pub record IsMachine (roster : Rows) (members products : ℕ) (rows : List Trade
   pub book : IsBookOf roster members products
   pub unbroken : IsUnbroken cycle.phase rows
   pub cycle_kept : IsCycle roster rows cycle
+
+-- and with it its ballot, the settings last taken, and the freeze's networks
+abbrev pub IsWhole : Rows → BookView → TolerancesView → Cycle → Ballot → List FrozenProduct → Type 0
+IsWhole roster book tolerances cycle ballot frozen =
+    IsMachine roster book.members book.products book.rows cycle × IsBallot (length roster.members) book.rows cycle ballot
+    × AreTaken cycle tolerances.taken × AreOfFreeze book.members book.rows cycle.phase frozen
 
 -- both numbers may rise by one more
 pub record IsYoung (cycle : Cycle) : Type 0 where

@@ -12,6 +12,7 @@ mod decision;
 mod effect;
 mod effects;
 mod freezing;
+mod frozen;
 mod held_pair;
 mod limit_lines;
 mod making;
@@ -61,6 +62,7 @@ use command_types::{Answer, Ask, Entry, Roster, ToleranceRow, TradeRow};
 use cycle::Cycle;
 pub use cycle::LastCycle;
 pub use decision::Decision;
+use frozen::Frozen;
 use product_book::Book;
 pub use ready::Ready;
 use room::make_room;
@@ -68,7 +70,7 @@ use std::alloc::{AllocError, Global};
 use std::marker::Model;
 use tolerance_sets::Tolerances;
 
-/// The machine: a roster, the trades and tolerances so far, the cycle, and the ballot on its proposal.
+/// The machine: a roster, the trades and tolerances so far, the cycle, the ballot on its proposal, and its freeze's networks.
 #[derive(Drop)]
 pub struct Machine {
     roster: Roster,
@@ -76,18 +78,17 @@ pub struct Machine {
     tolerances: Tolerances,
     cycle: Cycle,
     ballot: Ballot,
+    frozen: Frozen,
 }
 
 impl Model for Machine {
-    ghost use Rattle.std.specs.Prelude.{length};
-    ghost use Rattle.cycle_states.specs.Ballot.{IsBallot};
-    ghost use Rattle.cycle_states.specs.Machine.{MachineView, state_with, AreTaken, IsMachine};
+    ghost use Rattle.cycle_states.specs.Machine.{MachineView, state_with, IsWhole};
 
     ghost Value = { MachineView };
 
     ghost view = { λ m. record { state = state_with m.roster m.book.rows m.tolerances.settings m.cycle; spare = m.book.spare; slots = m.tolerances.spare } };
 
-    ghost invariant = { λ m. IsMachine m.roster m.book.members m.book.products m.book.rows m.cycle × IsBallot (length m.roster.members) m.book.rows m.cycle m.ballot × AreTaken m.cycle m.tolerances.taken };
+    ghost invariant = { λ m. IsWhole m.roster m.book m.tolerances m.cycle m.ballot m.frozen };
 }
 
 impl Machine {
@@ -106,6 +107,7 @@ impl Machine {
             tolerances: Tolerances::new(alloc),
             cycle: Cycle::none(alloc),
             ballot: Ballot::none(),
+            frozen: Frozen::none(alloc),
         })
     }
 
@@ -135,6 +137,7 @@ impl Machine {
             tolerances: Tolerances::of_rows(alloc, tolerances)?,
             cycle: Cycle::after(alloc, last),
             ballot: Ballot::none(),
+            frozen: Frozen::none(alloc),
         })
     }
 
@@ -257,6 +260,7 @@ impl Machine {
         // What a book says of its trades is what the nets rest on.
         let _rows = self.book.rows();
         let (entry, answer, effect, ballot) = ready.into_parts();
+        self.frozen.pass(&effect);
         apply(
             &self.roster,
             &mut self.book,

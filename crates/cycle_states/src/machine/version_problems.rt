@@ -8,7 +8,8 @@ ghost use Rattle.cycle_states.specs.Effects.{is_accept};
 
 use super::Machine;
 use super::cycle::{has_limits, is_solving};
-use super::problems::problems_now;
+use super::frozen::Frozen;
+use super::problems::{Version, problems_now};
 use command_types::What;
 use network_laws::Problem;
 use std::alloc::AllocError;
@@ -31,8 +32,14 @@ impl Machine {
         let Some(mode) = self.cycle.mode() else {
             unreachable!()
         };
-        let alloc = self.cycle.allocator();
-        problems_now(alloc, &self.roster, &self.book, &self.tolerances, mode)
+        let version = Version {
+            roster: &self.roster,
+            book: &self.book,
+            frozen: &self.frozen,
+            tolerances: &self.tolerances,
+            mode,
+        };
+        problems_now(self.cycle.allocator(), &version)
     }
 
     /// The version's problems: those that the cycle keeps, or made for once. The only error is want of memory.
@@ -68,7 +75,31 @@ impl Machine {
         }
     }
 
-    /// Has the cycle keep the version's problems, if they stand and the command asks for them. The only error is want of memory.
+    // Keeps the networks of the freeze, where none are kept.
+    fn keep_frozen(&mut self) -> Result<(), AllocError>
+        requires { IsTrue (has_limits self.old.state.cycle.phase) }
+        ensures { self.new ≡ self.old }
+    {
+        if !self.frozen.is_empty() {
+            return Ok(());
+        }
+        let products = self.roster.products().len() as u16;
+        self.frozen = Frozen::of(self.cycle.allocator(), &self.book, products)?;
+        Ok(())
+    }
+
+    // Has the cycle keep the version's problems, which are made now.
+    fn keep_made(&mut self) -> Result<(), AllocError>
+        requires { IsTrue (has_limits self.old.state.cycle.phase) }
+        ensures { self.new ≡ self.old }
+    {
+        let problems = self.made_problems()?;
+        self.cycle.keep_problems(problems);
+        Ok(())
+    }
+
+    /// Has the cycle keep the version's problems, if they stand and the command asks for them, and the machine the networks that
+    /// they are made of. The only error is want of memory.
     pub(super) fn keep_problems(&mut self, what: &What) -> Result<(), AllocError>
         ensures { self.new ≡ self.old }
     {
@@ -76,8 +107,7 @@ impl Machine {
         if !stand || !asks_problems(what) || self.cycle.problems().is_some() {
             return Ok(());
         }
-        let problems = self.made_problems()?;
-        self.cycle.keep_problems(problems);
-        Ok(())
+        self.keep_frozen()?;
+        self.keep_made()
     }
 }

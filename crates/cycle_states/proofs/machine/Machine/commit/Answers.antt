@@ -1,4 +1,4 @@
-use Rattle.std.proofs.Common.{◌≡◌, ◌∙◌, ◌≤◌, None, IsTrue, refl, ap, sym, subst}
+use Rattle.std.proofs.Common.{◌≡◌, ◌∙◌, ◌≤◌, ℕ, None, IsTrue, refl, ap, sym, subst}
 use Rattle.command_types.specs.declared.answer.Answer.{Answer}
 use Rattle.trade_history.specs.Laws.{is_execution}
 use Rattle.command_types.specs.Machine.{accepted, answer_to, first_of, refusals, state_after}
@@ -13,6 +13,8 @@ use Rattle.cycle_states.proofs.MachineFacts.{recorded_changes, not_refused, acce
 use Rattle.cycle_states.proofs.CycleFacts.{stays_unbroken}
 use Rattle.cycle_states.proofs.KeptFacts.{stays_kept}
 use Rattle.cycle_states.proofs.EffectFacts.{effect_is_next}
+use Rattle.cycle_states.specs.Frozen.{kept_with, AreOfFreeze}
+use Rattle.cycle_states.proofs.FrozenFacts.{stays_frozen}
 use Rattle.cycle_states.proofs.TakenFacts.{stays_taken}
 use Rattle.posting.specs.Laws.{AreLeast, KeepsNets}
 use Rattle.command_types.specs.declared.figures.State.{State}
@@ -60,6 +62,8 @@ invariant_of-self c =
       },
       subst (λ (b : Ballot). IsBallotIn n b) (sym c.into_parts-entry.ensures.ballot) (subst (λ (after : State). IsBallotIn after c.args.ready.ballot) (sym on) ballot),
       stays_taken s n ask m.tolerances c.apply.new.tolerances.taken on (c.apply.ensures.taken ∙ ap (λ (e : Effect). taken_with e m.tolerances) (c.into_parts-entry.ensures.effect ∙ does)) refl c.self.invariant.2,
+      subst (λ (members : ℕ). AreOfFreeze members c.apply.new.book.rows c.apply.new.cycle.phase c.pass.new.self) (sym c.apply.ensures.members)
+          (stays_frozen m.book.members s n ask m.frozen c.pass.new.self on (c.pass.ensures ∙ ap (λ (e : Effect). kept_with e m.frozen) (c.into_parts-entry.ensures.effect ∙ does)) none c.self.invariant.0.unbroken c.self.invariant.3),
     )
 
 pub returns-clause-state : goal.returns-clause-state

@@ -21,6 +21,12 @@ problems_now-requires-clause-live c =
     let on : IsTrue (has_limits m.cycle.phase) = rw (← c.self.view_is) at c.requires in
     c.self.invariant.0.unbroken (limits_break m.cycle.phase on)
 
+pub problems_now-requires-clause-kept : goal.problems_now-requires-clause-kept
+problems_now-requires-clause-kept c =
+    let m = c.self.inside in
+    let on : IsTrue (has_limits m.cycle.phase) = rw (← c.self.view_is) at c.requires in
+    c.self.invariant.3 (limits_break m.cycle.phase on)
+
 pub returns : goal.returns
 returns c =
     let m = c.self.inside in

@@ -1,16 +1,29 @@
 use Rattle.std.proofs.Common.{◌≡◌, ◌∙◌, ◌≤◌, [], true, List, ℕ, None, Option, unwrap_or, ap, sym, subst}
+use Rattle.command_types.specs.declared.figures.Cycle.{Cycle}
 use Rattle.command_types.specs.Machine.{answer_to, changes, first_of, party_answer, refusals, state_by_party}
-use Rattle.cycle_states.specs.declared.machine.effect.Effect.{Effect}
 use Rattle.command_types.specs.Plans.{count_of, is_new}
+use Rattle.command_types.specs.Roster.{Rows}
+use Rattle.product_book.specs.Book.{BookView}
+use Rattle.tolerance_sets.specs.Settings.{TolerancesView}
+use Rattle.cycle_states.specs.declared.machine.ballot.Ballot.{Ballot}
+use Rattle.cycle_states.specs.declared.machine.effect.Effect.{Effect}
+use Rattle.cycle_states.specs.declared.machine.frozen.FrozenProduct.{FrozenProduct}
 use Rattle.cycle_states.specs.Ballot.{IsBallotIn}
 use Rattle.cycle_states.specs.Effects.{effect_by, rows_added, rows_with}
-use Rattle.cycle_states.specs.Machine.{state_with, MachineView}
+use Rattle.cycle_states.specs.Machine.{state_with, MachineView, IsWhole}
 use Rattle.cycle_states.specs.Ready.{IsMade, IsReady, ReadyView}
 use Rattle.cycle_states.proofs.MachineFacts.{accepted_answer, not_refused, recorded_changes}
 use Rattle.cycle_states.proofs.BallotFacts.{rows_by_ballot}
 use Rattle.cycle_states.proofs.EffectFacts.{change_told, few_rows}
 use Rattle.cycle_states.proofs.RecordFacts.{few_posted}
 use Rattle.cycle_states.proofs.machine.Machine.made_ready.Goals as goal
+
+-- room changes nothing of what the machine keeps
+roomy : (roster : Rows) (book after : BookView) (taken more : TolerancesView) (cycle : Cycle) (ballot : Ballot) (frozen : List FrozenProduct) → after ≡ record book { spare = after.spare } → more ≡ record taken { spare = more.spare } →
+    IsWhole roster book taken cycle ballot frozen → IsWhole roster after more cycle ballot frozen
+roomy roster book after taken more cycle ballot frozen same settings kept =
+    subst (λ (b : BookView). IsWhole roster b more cycle ballot frozen) (sym same)
+    (subst (λ (t : TolerancesView). IsWhole roster (record book { spare = after.spare }) t cycle ballot frozen) (sym settings) kept)
 
 pub make_room-requires : goal.make_room-requires
 make_room-requires c =
@@ -61,3 +74,13 @@ returns-clause-few c =
     let s = state_with m.roster m.book.rows m.tolerances.settings m.cycle in
     let ask = c.args.entry.ask in
     few_posted m.roster m.book.members m.book.products m.book.rows m.cycle c.self.invariant.0 m.tolerances.settings ask.by ask.what (not_refused s ask (rw (← c.self.view_is) at c.requires.accepted))
+
+pub invariant_of-self : goal.invariant_of-self
+invariant_of-self c =
+    let m = c.self.inside in
+    roomy m.roster m.book c.make_room.new.book m.tolerances c.make_room.new.tolerances m.cycle m.ballot m.frozen c.make_room.ensures.book c.make_room.ensures.tolerances c.self.invariant
+
+pub invariant_of-self-2 : goal.invariant_of-self-2
+invariant_of-self-2 c =
+    let m = c.self.inside in
+    roomy m.roster m.book c.make_room.new.book m.tolerances c.make_room.new.tolerances m.cycle m.ballot m.frozen c.make_room.ensures.book c.make_room.ensures.tolerances c.self.invariant

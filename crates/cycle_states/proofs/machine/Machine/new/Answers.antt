@@ -3,6 +3,7 @@ use Rattle.std.proofs.lemmas.Bool.{false≢true}
 use Rattle.command_types.specs.declared.figures.Cycle.{Cycle}
 use Rattle.command_types.specs.Cycles.{closed}
 use Rattle.cycle_states.specs.Ballot.{IsBallot}
+use Rattle.cycle_states.specs.Frozen.{AreOfFreeze}
 use Rattle.cycle_states.specs.Machine.{AreTaken, IsCycle, IsUnbroken}
 use Rattle.cycle_states.proofs.BallotFacts.{no_ballot}
 use Rattle.cycle_states.proofs.KeptFacts.{closed_kept}
@@ -24,4 +25,5 @@ invariant_of-result c =
       },
       subst (λ (cycle : Cycle). IsBallot (length roster.members) rows cycle c.none-2.result) (sym c.none.ensures) (no_ballot (length roster.members) rows (closed 0 0) c.none-2.result refl),
       subst (λ (cycle : Cycle). AreTaken cycle c.new-2.result.taken) (sym c.none.ensures) (λ stands. absurd (false≢true stands)),
+      subst (λ (cycle : Cycle). AreOfFreeze c.in_ok-book.book.members rows cycle.phase c.none-3.result) (sym c.none.ensures) (λ may. absurd (false≢true may)),
     )

@@ -4,4 +4,6 @@ use Rattle.cycle_states.proofs.machine.problems.problems_now.Given as goal
 
 abbrev pub invariant-loop-product : goal.invariant-loop-product
 invariant-loop-product l =
-    l.problems.items ++ problems_from l.roster l.book.rows l.tolerances.taken l.mode l.product (drop l.product l.roster.products) ≡ problems_of l.roster l.book.rows l.tolerances.taken l.mode
+    let v = l.version in
+    l.problems.items ++ problems_from v.roster.now v.book.now.rows v.tolerances.now.taken v.mode l.product (drop l.product v.roster.now.products)
+    ≡ problems_of v.roster.now v.book.now.rows v.tolerances.now.taken v.mode
