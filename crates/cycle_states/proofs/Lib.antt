@@ -13,6 +13,7 @@ pub mod BaseFacts
 pub mod EffectFacts
 pub mod RecordFacts
 pub mod RefusalFacts
+pub mod PartyFacts
 pub mod BallotFacts
 pub mod DecisionFacts
 pub mod Sends

@@ -8,6 +8,7 @@ pub mod Replayed
 pub mod BaseOf
 pub mod PlainDesk
 pub mod Refusals
+pub mod Party
 pub mod Ready
 pub mod Ballot
 pub mod Decision

@@ -22,6 +22,7 @@ mod of_base;
 mod pair_places;
 mod part;
 mod parties;
+mod party;
 mod positions;
 mod problem_copies;
 mod problems;
@@ -53,6 +54,7 @@ ghost use Rattle.product_book.specs.Book.{gross_limit, AreTrades};
 ghost use Rattle.cycle_states.specs.Decision.{IsDecision};
 ghost use Rattle.cycle_states.specs.Effects.{is_accept, rows_added, settings_added};
 ghost use Rattle.cycle_states.specs.Machine.{state_with, IsYoung};
+ghost use Rattle.cycle_states.specs.Party.{IsCallerOf};
 ghost use Rattle.cycle_states.specs.Ready.{IsReady};
 
 use crate::recorded::is_change;
@@ -63,6 +65,7 @@ use cycle::Cycle;
 pub use cycle::LastCycle;
 pub use decision::Decision;
 use frozen::Frozen;
+use party::Caller;
 use product_book::Book;
 pub use ready::Ready;
 use room::make_room;
@@ -159,14 +162,16 @@ impl Machine {
     {
         // What the cycle keeps tells that few solutions are posted.
         let _cycle = &self.cycle;
-        match self.refusal(ask)? {
+        let caller = self.caller_of(&ask.by);
+        match self.refusal(ask, &caller)? {
             Some(refusal) => Ok(Answer::No(refusal)),
-            None => self.accepted(ask),
+            None => self.accepted(ask, &caller),
         }
     }
 
     // Makes an accepted change ready: the room that it needs, and all that it is made with.
-    fn made_ready(&mut self, entry: Entry) -> Result<Ready, AllocError>
+    fn made_ready(&mut self, entry: Entry, caller: &Option<Caller>) -> Result<Ready, AllocError>
+        requires caller { IsCallerOf self.old.state.roster entry.ask.by caller.now }
         requires accepted { IsTrue (is_recorded entry.ask.what (answer_to self.old.state entry.ask)) }
         requires young { IsYoung self.old.state.cycle }
         ensures state { self.new.state ≡ self.old.state }
@@ -178,17 +183,20 @@ impl Machine {
         ensures slot { OnOk result (settings_added self.old.state entry.ask ≤ self.new.slots) }
         ensures few { OnOk result (posted entry.ask.what ≤ most_solutions) }
     {
-        let Some(by) = &entry.ask.by else {
-            unreachable!()
-        };
-        let made = self.made_for(by, &entry.ask.what)?;
+        let Some(caller) = caller else { unreachable!() };
+        let made = self.made_for(caller, &entry.ask.what)?;
         let proposed = self.ballot.made;
         make_room(&mut self.book, &mut self.tolerances, &made.effect, proposed)?;
         Ok(Ready::new(entry, made))
     }
 
     // Decides a command that is not refused.
-    fn decide_accepted(&mut self, entry: Entry) -> Result<Decision, AllocError>
+    fn decide_accepted(
+        &mut self,
+        entry: Entry,
+        caller: &Option<Caller>,
+    ) -> Result<Decision, AllocError>
+        requires caller { IsCallerOf self.old.state.roster entry.ask.by caller.now }
         requires accepted { first_of (refusals self.old.state entry.ask.by entry.ask.what) ≡ None }
         requires young { IsYoung self.old.state.cycle }
         ensures state { self.new.state ≡ self.old.state }
@@ -197,10 +205,10 @@ impl Machine {
         ensures decides { IfOk result (λ decision. IsDecision self.new entry decision) }
     {
         if !is_change(&entry.ask.what) {
-            let answer = self.accepted(&entry.ask)?;
+            let answer = self.accepted(&entry.ask, caller)?;
             return Ok(Decision::Told(answer));
         }
-        let ready = self.made_ready(entry)?;
+        let ready = self.made_ready(entry, caller)?;
         Ok(Decision::Ready(ready))
     }
 
@@ -215,9 +223,10 @@ impl Machine {
         ensures decides { IfOk result (λ decision. IsDecision self.new entry decision) }
     {
         self.keep_problems(&entry.ask.what)?;
-        match self.refusal(&entry.ask)? {
+        let caller = self.caller_of(&entry.ask.by);
+        match self.refusal(&entry.ask, &caller)? {
             Some(refusal) => Ok(Decision::Told(Answer::No(refusal))),
-            None => self.decide_accepted(entry),
+            None => self.decide_accepted(entry, &caller),
         }
     }
 

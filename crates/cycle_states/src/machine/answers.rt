@@ -7,17 +7,19 @@ ghost use Rattle.command_types.specs.Machine.{accepted, end_answer, first_of, me
 ghost use Rattle.command_types.specs.Trades.{trade_numbered};
 ghost use Rattle.cycle_states.specs.Machine.{IsYoung};
 ghost use Rattle.cycle_states.specs.Effects.{is_accept};
+ghost use Rattle.cycle_states.specs.Party.{IsCaller, IsCallerOf};
 
 use super::Machine;
 use super::ballot::ballot_on;
 use super::freezing::taken_count;
 use super::limit_lines::limit_lines;
 use super::member_proofs::{MemberProof, proof_rows};
-use super::parties::{place_of_member, place_of_product};
+use super::parties::place_of_product;
+use super::party::Caller;
 use super::positions::{market_of, position_of};
 use super::problem_copies::problem_copies;
 use super::proposal::plan_posted;
-use super::proposal_answers::{nothing, proposed, shown_plan};
+use super::proposal_answers::{nothing, proposed};
 use command_types::{Answer, Ask, Listed, ProofHead, Refusal, TradeState, What};
 use network_laws::Solution;
 use std::alloc::AllocError;
@@ -41,22 +43,24 @@ impl Machine {
     }
 
     // What a party's NETS is answered.
-    fn nets(&self, by: &Name, product: &Name) -> Result<Answer, AllocError>
-        ensures { IfOk result (λ answer. answer ≡ nets_answer self.now.state by.now (product_of self.now.state product.now)) }
+    fn nets(&self, caller: &Caller, product: &Name) -> Result<Answer, AllocError>
+        requires { IsCaller self.now.state.roster caller.now }
+        ensures { IfOk result (λ answer. answer ≡ nets_answer self.now.state caller.now.name (product_of self.now.state product.now)) }
     {
         let product = place_of_product(&self.roster, product);
-        if self.roster.is_operator(by) {
+        if self.is_operator(caller) {
             return market_of(&self.book, product);
         }
-        let member = place_of_member(&self.roster, by);
+        let member = self.place_of(caller);
         Ok(position_of(&self.book, product, member))
     }
 
     // What a member's STATEMENT is answered.
-    fn statement(&self, by: &Name) -> Result<Answer, AllocError>
-        ensures { IfOk result (λ answer. answer ≡ Answer.Statement (rows_of_member (member_of self.now.state by.now) self.now.state.trades)) }
+    fn statement(&self, caller: &Caller) -> Result<Answer, AllocError>
+        requires { IsCaller self.now.state.roster caller.now }
+        ensures { IfOk result (λ answer. answer ≡ Answer.Statement (rows_of_member (member_of self.now.state caller.now.name) self.now.state.trades)) }
     {
-        let rows = self.book.rows_of(place_of_member(&self.roster, by))?;
+        let rows = self.book.rows_of(self.place_of(caller))?;
         let rows = Listed::new(rows);
         Ok(Answer::Statement { rows })
     }
@@ -88,10 +92,11 @@ impl Machine {
     }
 
     // What a party's PLAN is answered.
-    fn plan_rows(&self, by: &Name) -> Result<Answer, AllocError>
-        ensures { IfOk result (λ answer. answer ≡ plan_answer self.now.state by.now (member_of self.now.state by.now)) }
+    fn plan_rows(&self, caller: &Caller) -> Result<Answer, AllocError>
+        requires { IsCaller self.now.state.roster caller.now }
+        ensures { IfOk result (λ answer. answer ≡ plan_answer self.now.state caller.now.name (member_of self.now.state caller.now.name)) }
     {
-        let rows = shown_plan(&self.roster, &self.book, &self.cycle, by)?;
+        let rows = self.shown_plan(caller)?;
         Ok(Answer::PlanRows {
             cycle: self.cycle.number(),
             version: self.cycle.version(),
@@ -100,9 +105,10 @@ impl Machine {
     }
 
     // What a member's PROOF is answered. Where the version begins is not known here.
-    fn proof(&self, by: &Name) -> Result<Answer, AllocError>
-        requires { IsTrue (is_proposed self.now.state.cycle.phase) }
-        ensures { IfOk result (λ answer. answer ≡ proof_answer self.now.state (member_of self.now.state by.now)) }
+    fn proof(&self, caller: &Caller) -> Result<Answer, AllocError>
+        requires proposed { IsTrue (is_proposed self.now.state.cycle.phase) }
+        requires caller { IsCaller self.now.state.roster caller.now }
+        ensures { IfOk result (λ answer. answer ≡ proof_answer self.now.state (member_of self.now.state caller.now.name)) }
     {
         let Some(day) = self.cycle.day() else {
             return Ok(Answer::No(Refusal::NotGreeted));
@@ -118,7 +124,7 @@ impl Machine {
             cycle: &self.cycle,
             problems: problems.as_slice(),
             mode,
-            member: place_of_member(&self.roster, by),
+            member: self.place_of(caller),
         })?;
         let head = ProofHead {
             cycle: self.cycle.number(),
@@ -157,10 +163,11 @@ impl Machine {
     }
 
     /// What a party's command is answered that is not refused. The only error is want of memory.
-    pub(super) fn party_answer(&self, by: &Name, what: &What) -> Result<Answer, AllocError>
+    pub(super) fn party_answer(&self, caller: &Caller, what: &What) -> Result<Answer, AllocError>
         requires young { IsYoung self.now.state.cycle }
-        requires accepted { first_of (refusals self.now.state (Some by.now) what.now) ≡ None }
-        ensures told { IfOk result (λ answer. answer ≡ party_answer self.now.state by.now what.now) }
+        requires caller { IsCaller self.now.state.roster caller.now }
+        requires accepted { first_of (refusals self.now.state (Some caller.now.name) what.now) ≡ None }
+        ensures told { IfOk result (λ answer. answer ≡ party_answer self.now.state caller.now.name what.now) }
         ensures vote { IsTrue (is_accept what.now) → IsOk result }
     {
         match what {
@@ -172,8 +179,8 @@ impl Machine {
             What::Hold { trade } => Ok(Answer::Held { trade: *trade }),
             What::Free { trade } => Ok(Answer::Freed { trade: *trade }),
             What::Tol { .. } => Ok(Answer::Tolerance),
-            What::Nets { product } => self.nets(by, product),
-            What::Statement => self.statement(by),
+            What::Nets { product } => self.nets(caller, product),
+            What::Statement => self.statement(caller),
             What::Freeze { day } => Ok(self.freezing(*day)),
             What::Begin { cycle, .. } => Ok(Answer::Begun {
                 cycle: *cycle,
@@ -185,9 +192,9 @@ impl Machine {
             What::Pot { size, .. } => Ok(Answer::Noted { size: *size }),
             What::Post { solutions, .. } => self.post_answer(solutions.rows()),
             What::Next { .. } => Ok(Answer::NoNext),
-            What::Plan { .. } => self.plan_rows(by),
-            What::Proof { .. } => self.proof(by),
-            What::Accept { .. } => Ok(self.vote_answer(place_of_member(&self.roster, by))),
+            What::Plan { .. } => self.plan_rows(caller),
+            What::Proof { .. } => self.proof(caller),
+            What::Accept { .. } => Ok(self.vote_answer(self.place_of(caller))),
             What::Decline { cycle, version } => Ok(Answer::Declined {
                 cycle: *cycle,
                 version: *version,
@@ -198,8 +205,9 @@ impl Machine {
     }
 
     /// What a command is answered that is not refused. The only error is want of memory.
-    pub(super) fn accepted(&self, ask: &Ask) -> Result<Answer, AllocError>
+    pub(super) fn accepted(&self, ask: &Ask, caller: &Option<Caller>) -> Result<Answer, AllocError>
         requires young { IsYoung self.now.state.cycle }
+        requires caller { IsCallerOf self.now.state.roster ask.now.by caller.now }
         requires accepted { first_of (refusals self.now.state ask.now.by ask.now.what) ≡ None }
         ensures told { IfOk result (λ answer. answer ≡ accepted self.now.state ask.now.by ask.now.what) }
         ensures vote { IsTrue (is_accept ask.now.what) → IsOk result }
@@ -208,9 +216,9 @@ impl Machine {
             What::Hello { name, .. } => Ok(Answer::Hello { name: *name }),
             What::Bye => Ok(Answer::Bye),
             What::Unreadable { at } => Ok(Answer::No(Refusal::BadLine { at: *at })),
-            what => match &ask.by {
+            what => match caller {
                 None => unreachable!(),
-                Some(by) => self.party_answer(by, what),
+                Some(caller) => self.party_answer(caller, what),
             },
         }
     }

@@ -6,11 +6,12 @@ ghost use Rattle.command_types.specs.CycleRefusals.{unless_operator, unless_memb
 ghost use Rattle.command_types.specs.Cycles.{bad_post, is_proposed, is_solving};
 ghost use Rattle.command_types.specs.Plans.{is_touched};
 ghost use Rattle.command_types.specs.Machine.{first_of, if_frozen, is_party_of, maturity_refusal};
+ghost use Rattle.cycle_states.specs.Party.{IsCaller};
 
 use super::Machine;
 use super::cycle::{is_broken, is_open};
 use super::parties::member_count;
-use super::sides::is_party_of;
+use super::party::Caller;
 use command_types::{Level, Refusal, TradeRow};
 use network_laws::{Problem, Solution};
 use posting::bad_post;
@@ -49,10 +50,11 @@ fn has_voted(votes: &[MemberNo], member: MemberNo) -> bool
 
 impl Machine {
     /// Unless the party is the operator.
-    pub(super) fn unless_operator(&self, by: &Name) -> Result<(), Refusal>
-        ensures { result_err result ≡ first_of (unless_operator self.now.state by.now ∷ []) }
+    pub(super) fn unless_operator(&self, caller: &Caller) -> Result<(), Refusal>
+        requires { IsCaller self.now.state.roster caller.now }
+        ensures { result_err result ≡ first_of (unless_operator self.now.state caller.now.name ∷ []) }
     {
-        refuse_if(!self.roster.is_operator(by), Refusal::NotOperator)
+        refuse_if(!self.is_operator(caller), Refusal::NotOperator)
     }
 
     /// Unless the name is a member's.
@@ -124,11 +126,12 @@ impl Machine {
     }
 
     /// Unless the proposed plan touches the party.
-    pub(super) fn unless_touched(&self, by: &Name) -> Result<(), Refusal>
-        requires { IsTrue (is_proposed self.now.state.cycle.phase) }
-        ensures { result_err result ≡ first_of (unless_touched self.now.state by.now ∷ []) }
+    pub(super) fn unless_touched(&self, caller: &Caller) -> Result<(), Refusal>
+        requires proposed { IsTrue (is_proposed self.now.state.cycle.phase) }
+        requires caller { IsCaller self.now.state.roster caller.now }
+        ensures { result_err result ≡ first_of (unless_touched self.now.state caller.now.name ∷ []) }
     {
-        match self.roster.member_named(by) {
+        match self.member(caller) {
             None => Err(Refusal::NotTouched),
             Some(member) => {
                 let touched = self.touches(member);
@@ -138,10 +141,11 @@ impl Machine {
     }
 
     /// If the party has voted.
-    pub(super) fn if_voted(&self, by: &Name) -> Result<(), Refusal>
-        ensures { result_err result ≡ first_of (if_voted self.now.state by.now ∷ []) }
+    pub(super) fn if_voted(&self, caller: &Caller) -> Result<(), Refusal>
+        requires { IsCaller self.now.state.roster caller.now }
+        ensures { result_err result ≡ first_of (if_voted self.now.state caller.now.name ∷ []) }
     {
-        match self.roster.member_named(by) {
+        match self.member(caller) {
             None => Ok(()),
             Some(member) => {
                 let voted = has_voted(self.cycle.votes(), member);
@@ -180,10 +184,11 @@ impl Machine {
     }
 
     /// Unless the party is one of the trade's two.
-    pub(super) fn unless_party(&self, by: &Name, row: &TradeRow) -> Result<(), Refusal>
-        ensures { result_err result ≡ first_of ((not (is_party_of self.now.state by.now row.now), Refusal.NotParty) ∷ []) }
+    pub(super) fn unless_party(&self, caller: &Caller, row: &TradeRow) -> Result<(), Refusal>
+        requires { IsCaller self.now.state.roster caller.now }
+        ensures { result_err result ≡ first_of ((not (is_party_of self.now.state caller.now.name row.now), Refusal.NotParty) ∷ []) }
     {
-        refuse_if(!is_party_of(&self.roster, by, row), Refusal::NotParty)
+        refuse_if(!self.is_party_of(caller, row), Refusal::NotParty)
     }
 
     /// If the trade takes part in an open cycle.

@@ -6,10 +6,12 @@ ghost use Rattle.std.specs.Result.{result_err};
 ghost use Rattle.command_types.specs.CycleRefusals.{freeze_refusals, begin_refusals, fetch_refusals, limits_refusals, row_refusals, pot_refusals, post_refusals, next_refusals, plan_refusals, proof_refusals, accept_refusals, decline_refusals, cancel_refusals};
 ghost use Rattle.command_types.specs.Cycles.{is_solving};
 ghost use Rattle.command_types.specs.Machine.{first_of};
+ghost use Rattle.cycle_states.specs.Party.{IsCaller};
 
 use super::Machine;
 use super::conditions::{if_draft_full, refuse_if};
 use super::cycle::{has_limits, is_open, is_proposed, is_solving, may_begin};
+use super::party::Caller;
 use super::terms::DraftRow;
 use command_types::Refusal;
 use network_laws::{Problem, Solution};
@@ -17,22 +19,24 @@ use units_core::{MOST_GROSS, Name};
 
 impl Machine {
     /// FREEZE: 14, 15.
-    pub(super) fn check_freeze(&self, by: &Name) -> Result<(), Refusal>
-        ensures { result_err result ≡ first_of (freeze_refusals self.now.state by.now) }
+    pub(super) fn check_freeze(&self, caller: &Caller) -> Result<(), Refusal>
+        requires { IsCaller self.now.state.roster caller.now }
+        ensures { result_err result ≡ first_of (freeze_refusals self.now.state caller.now.name) }
     {
         let (cycle, open) = (self.cycle.number(), is_open(self.cycle.phase()));
-        if let Err(refusal) = self.unless_operator(by) {
+        if let Err(refusal) = self.unless_operator(caller) {
             return Err(refusal);
         }
         refuse_if(open, Refusal::CycleOpen { cycle })
     }
 
     /// BEGIN: 14, 16, 21, 17.
-    pub(super) fn check_begin(&self, by: &Name, cycle: u64) -> Result<(), Refusal>
-        ensures { result_err result ≡ first_of (begin_refusals self.now.state by.now cycle) }
+    pub(super) fn check_begin(&self, caller: &Caller, cycle: u64) -> Result<(), Refusal>
+        requires { IsCaller self.now.state.roster caller.now }
+        ensures { result_err result ≡ first_of (begin_refusals self.now.state caller.now.name cycle) }
     {
         let phase = self.cycle.phase();
-        if let Err(refusal) = self.unless_operator(by) {
+        if let Err(refusal) = self.unless_operator(caller) {
             return Err(refusal);
         }
         self.unless_cycle(cycle)?;
@@ -41,11 +45,17 @@ impl Machine {
     }
 
     /// FETCH: 14, 16, 21, 17, 18.
-    pub(super) fn check_fetch(&self, by: &Name, cycle: u64, version: u64) -> Result<(), Refusal>
-        ensures { result_err result ≡ first_of (fetch_refusals self.now.state by.now cycle version) }
+    pub(super) fn check_fetch(
+        &self,
+        caller: &Caller,
+        cycle: u64,
+        version: u64,
+    ) -> Result<(), Refusal>
+        requires { IsCaller self.now.state.roster caller.now }
+        ensures { result_err result ≡ first_of (fetch_refusals self.now.state caller.now.name cycle version) }
     {
         let phase = self.cycle.phase();
-        if let Err(refusal) = self.unless_operator(by) {
+        if let Err(refusal) = self.unless_operator(caller) {
             return Err(refusal);
         }
         self.unless_cycle(cycle)?;
@@ -55,11 +65,12 @@ impl Machine {
     }
 
     /// LIMITS: 14, 5, 21, 17.
-    pub(super) fn check_limits(&self, by: &Name, product: &Name) -> Result<(), Refusal>
-        ensures { result_err result ≡ first_of (limits_refusals self.now.state by.now product.now) }
+    pub(super) fn check_limits(&self, caller: &Caller, product: &Name) -> Result<(), Refusal>
+        requires { IsCaller self.now.state.roster caller.now }
+        ensures { result_err result ≡ first_of (limits_refusals self.now.state caller.now.name product.now) }
     {
         let phase = self.cycle.phase();
-        if let Err(refusal) = self.unless_operator(by) {
+        if let Err(refusal) = self.unless_operator(caller) {
             return Err(refusal);
         }
         self.unless_product(product)?;
@@ -68,10 +79,11 @@ impl Machine {
     }
 
     /// ROW: 14, 4, 5, 6, 9, 29.
-    pub(super) fn check_row(&self, by: &Name, row: &DraftRow) -> Result<(), Refusal>
-        ensures { result_err result ≡ first_of (row_refusals self.now.state by.now row.now.product row.now.seller row.now.buyer row.now.size row.now.sum) }
+    pub(super) fn check_row(&self, caller: &Caller, row: &DraftRow) -> Result<(), Refusal>
+        requires { IsCaller self.now.state.roster caller.now }
+        ensures { result_err result ≡ first_of (row_refusals self.now.state caller.now.name row.now.product row.now.seller row.now.buyer row.now.size row.now.sum) }
     {
-        if let Err(refusal) = self.unless_operator(by) {
+        if let Err(refusal) = self.unless_operator(caller) {
             return Err(refusal);
         }
         self.unless_members(&row.seller, &row.buyer)?;
@@ -84,14 +96,15 @@ impl Machine {
     /// POT: 14, 4, 5, 29.
     pub(super) fn check_pot(
         &self,
-        by: &Name,
+        caller: &Caller,
         product: &Name,
         member: &Name,
         size: u32,
     ) -> Result<(), Refusal>
-        ensures { result_err result ≡ first_of (pot_refusals self.now.state by.now product.now member.now size) }
+        requires { IsCaller self.now.state.roster caller.now }
+        ensures { result_err result ≡ first_of (pot_refusals self.now.state caller.now.name product.now member.now size) }
     {
-        if let Err(refusal) = self.unless_operator(by) {
+        if let Err(refusal) = self.unless_operator(caller) {
             return Err(refusal);
         }
         self.unless_member(member)?;
@@ -102,17 +115,18 @@ impl Machine {
     /// POST: 14, 16, 21, 17, 18, 24. While the version stands, these are its problems.
     pub(super) fn check_post(
         &self,
-        by: &Name,
+        caller: &Caller,
         cycle: u64,
         version: u64,
         problems: &[Problem],
         solutions: &[Solution],
     ) -> Result<(), Refusal>
-        requires { IsTrue (is_solving self.now.state.cycle.phase) → problems.now ≡ self.now.state.cycle.begun }
-        ensures { result_err result ≡ first_of (post_refusals self.now.state by.now cycle version solutions.now) }
+        requires problems { IsTrue (is_solving self.now.state.cycle.phase) → problems.now ≡ self.now.state.cycle.begun }
+        requires caller { IsCaller self.now.state.roster caller.now }
+        ensures { result_err result ≡ first_of (post_refusals self.now.state caller.now.name cycle version solutions.now) }
     {
         let phase = self.cycle.phase();
-        if let Err(refusal) = self.unless_operator(by) {
+        if let Err(refusal) = self.unless_operator(caller) {
             return Err(refusal);
         }
         self.unless_cycle(cycle)?;
@@ -123,10 +137,11 @@ impl Machine {
     }
 
     /// NEXT: 14.
-    pub(super) fn check_next(&self, by: &Name) -> Result<(), Refusal>
-        ensures { result_err result ≡ first_of (next_refusals self.now.state by.now) }
+    pub(super) fn check_next(&self, caller: &Caller) -> Result<(), Refusal>
+        requires { IsCaller self.now.state.roster caller.now }
+        ensures { result_err result ≡ first_of (next_refusals self.now.state caller.now.name) }
     {
-        self.unless_operator(by)
+        self.unless_operator(caller)
     }
 
     /// PLAN: 16, 21, 17.
@@ -142,10 +157,11 @@ impl Machine {
     }
 
     /// PROOF: 7, 16, 21, 17.
-    pub(super) fn check_proof(&self, by: &Name, cycle: u64) -> Result<(), Refusal>
-        ensures { result_err result ≡ first_of (proof_refusals self.now.state by.now cycle) }
+    pub(super) fn check_proof(&self, caller: &Caller, cycle: u64) -> Result<(), Refusal>
+        requires { IsCaller self.now.state.roster caller.now }
+        ensures { result_err result ≡ first_of (proof_refusals self.now.state caller.now.name cycle) }
     {
-        let (phase, operator) = (self.cycle.phase(), self.roster.is_operator(by));
+        let (phase, operator) = (self.cycle.phase(), self.is_operator(caller));
         if let Err(refusal) = refuse_if(operator, Refusal::NotParty) {
             return Err(refusal);
         }
@@ -155,8 +171,14 @@ impl Machine {
     }
 
     /// ACCEPT: 16, 21, 17, 18, 19, 20.
-    pub(super) fn check_accept(&self, by: &Name, cycle: u64, version: u64) -> Result<(), Refusal>
-        ensures { result_err result ≡ first_of (accept_refusals self.now.state by.now cycle version) }
+    pub(super) fn check_accept(
+        &self,
+        caller: &Caller,
+        cycle: u64,
+        version: u64,
+    ) -> Result<(), Refusal>
+        requires { IsCaller self.now.state.roster caller.now }
+        ensures { result_err result ≡ first_of (accept_refusals self.now.state caller.now.name cycle version) }
     {
         let phase = self.cycle.phase();
         if let Err(refusal) = self.unless_cycle(cycle) {
@@ -165,13 +187,19 @@ impl Machine {
         self.if_broken()?;
         self.unless_phase(is_proposed(phase))?;
         self.unless_version(version)?;
-        self.unless_touched(by)?;
-        self.if_voted(by)
+        self.unless_touched(caller)?;
+        self.if_voted(caller)
     }
 
     /// DECLINE: 16, 21, 17, 18, 19.
-    pub(super) fn check_decline(&self, by: &Name, cycle: u64, version: u64) -> Result<(), Refusal>
-        ensures { result_err result ≡ first_of (decline_refusals self.now.state by.now cycle version) }
+    pub(super) fn check_decline(
+        &self,
+        caller: &Caller,
+        cycle: u64,
+        version: u64,
+    ) -> Result<(), Refusal>
+        requires { IsCaller self.now.state.roster caller.now }
+        ensures { result_err result ≡ first_of (decline_refusals self.now.state caller.now.name cycle version) }
     {
         let phase = self.cycle.phase();
         if let Err(refusal) = self.unless_cycle(cycle) {
@@ -180,15 +208,16 @@ impl Machine {
         self.if_broken()?;
         self.unless_phase(is_proposed(phase))?;
         self.unless_version(version)?;
-        self.unless_touched(by)
+        self.unless_touched(caller)
     }
 
     /// CANCEL: 14, 16, 17.
-    pub(super) fn check_cancel(&self, by: &Name, cycle: u64) -> Result<(), Refusal>
-        ensures { result_err result ≡ first_of (cancel_refusals self.now.state by.now cycle) }
+    pub(super) fn check_cancel(&self, caller: &Caller, cycle: u64) -> Result<(), Refusal>
+        requires { IsCaller self.now.state.roster caller.now }
+        ensures { result_err result ≡ first_of (cancel_refusals self.now.state caller.now.name cycle) }
     {
         let phase = self.cycle.phase();
-        if let Err(refusal) = self.unless_operator(by) {
+        if let Err(refusal) = self.unless_operator(caller) {
             return Err(refusal);
         }
         self.unless_cycle(cycle)?;

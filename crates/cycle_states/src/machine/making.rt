@@ -9,12 +9,13 @@ ghost use Rattle.command_types.specs.Machine.{changes, first_of, refusals, state
 ghost use Rattle.cycle_states.specs.Ballot.{IsBallotIn};
 ghost use Rattle.cycle_states.specs.Effects.{accept_effect, decides, post_effect, MayApply};
 ghost use Rattle.cycle_states.specs.Machine.{IsYoung};
+ghost use Rattle.cycle_states.specs.Party.{IsCaller};
 ghost use Rattle.cycle_states.specs.Ready.{IsMade};
 
 use super::Machine;
 use super::ballot::{Ballot, ballot_on};
 use super::effect::Effect;
-use super::parties::place_of_member;
+use super::party::Caller;
 use super::proposal::plan_posted;
 use super::proposal_answers::{counted, executed_answer, nothing, proposed};
 use super::ready::Made;
@@ -22,7 +23,7 @@ use super::solutions::copies;
 use command_types::{Answer, Listed, What};
 use network_laws::Solution;
 use std::alloc::AllocError;
-use units_core::{MemberNo, Name};
+use units_core::MemberNo;
 
 impl Machine {
     /// What the POST of certified solutions is answered, and what it does. Its plan, its gross and whom it touches are
@@ -110,9 +111,9 @@ impl Machine {
     }
 
     // The ballot, which stays with any command that neither posts nor votes.
-    fn same_ballot(&self, by: &Name, what: &What) -> Ballot
+    fn same_ballot(&self, caller: &Caller, what: &What) -> Ballot
         requires { decides what.now ≡ false }
-        ensures { IsBallotIn (state_by_party self.now.state by.now what.now) result }
+        ensures { IsBallotIn (state_by_party self.now.state caller.now.name what.now) result }
     {
         // What a book says of its trades is what the plan rests on.
         let _rows = self.book.rows();
@@ -120,19 +121,20 @@ impl Machine {
     }
 
     /// What a party's accepted change is answered, and what it does. The only error is want of memory.
-    pub(super) fn made_for(&self, by: &Name, what: &What) -> Result<Made, AllocError>
+    pub(super) fn made_for(&self, caller: &Caller, what: &What) -> Result<Made, AllocError>
         requires young { IsYoung self.now.state.cycle }
         requires change { changes what.now ≡ true }
-        requires accepted { first_of (refusals self.now.state (Some by.now) what.now) ≡ None }
-        ensures { IfOk result (λ made. IsMade self.now.state by.now what.now made) }
+        requires caller { IsCaller self.now.state.roster caller.now }
+        requires accepted { first_of (refusals self.now.state (Some caller.now.name) what.now) ≡ None }
+        ensures { IfOk result (λ made. IsMade self.now.state caller.now.name what.now made) }
     {
         match what {
             What::Post { solutions, .. } => self.posting(solutions.rows()),
-            What::Accept { .. } => self.vote(place_of_member(&self.roster, by)),
+            What::Accept { .. } => self.vote(self.place_of(caller)),
             _ => {
-                let answer = self.party_answer(by, what)?;
-                let effect = self.effect(by, what);
-                let ballot = self.same_ballot(by, what);
+                let answer = self.party_answer(caller, what)?;
+                let effect = self.effect(caller, what);
+                let ballot = self.same_ballot(caller, what);
                 Ok(Made {
                     answer,
                     effect,

@@ -1,10 +1,10 @@
 //! Parties and products of the roster, as the machine looks them up.
 
-ghost use Rattle.std.specs.Prelude.{◌≡◌, ◌≤◌, Some, length, unwrap_or};
-ghost use Rattle.command_types.specs.Roster.{is_party, is_member_at, is_member_row, member_place, product_place};
+ghost use Rattle.std.specs.Prelude.{◌≡◌, ◌≤◌, length, unwrap_or};
+ghost use Rattle.command_types.specs.Roster.{member_place, product_place};
 ghost use Rattle.units_core.specs.declared.limits.TheConstants.{MOST_MEMBERS};
 
-use command_types::{MemberRow, Roster};
+use command_types::Roster;
 use units_core::{MemberNo, Name, ProductNo};
 
 /// How many members there are.
@@ -13,29 +13,6 @@ pub(super) fn member_count(roster: &Roster) -> u16
     ensures few { result ≤ MOST_MEMBERS }
 {
     roster.members().len() as u16
-}
-
-/// Whether the name is a member's or the operator's.
-pub(super) fn is_party(roster: &Roster, name: &Name) -> bool
-    ensures { result ≡ is_party roster.now (Some name.now) }
-{
-    roster.member_named(name).is_some() || roster.is_operator(name)
-}
-
-fn is_named(row: Option<MemberRow>, name: &Name) -> bool
-    ensures { result ≡ is_member_row row name.now }
-{
-    match row {
-        None => false,
-        Some(member) => member.name.is(name),
-    }
-}
-
-/// Whether the member at this place has this name.
-pub(super) fn is_member_at(roster: &Roster, member: MemberNo, name: &Name) -> bool
-    ensures { result ≡ is_member_at roster.now member name.now }
-{
-    is_named(roster.members().get(member.0 as usize).copied(), name)
 }
 
 /// The place of the member with this name; 0 where there is none.

@@ -4,16 +4,15 @@ ghost use Rattle.std.specs.Prelude.{◌≡◌, IfOk};
 ghost use Rattle.command_types.specs.Cycles.{gross_of_all, new_networks, old_networks};
 ghost use Rattle.command_types.specs.CycleSteps.{executed_answer, shown_plan};
 ghost use Rattle.command_types.specs.Machine.{member_of};
-ghost use Rattle.cycle_states.specs.Machine.{state_in};
+ghost use Rattle.cycle_states.specs.Party.{IsCaller};
 
+use super::Machine;
 use super::cycle::Cycle;
-use super::parties::place_of_member;
-use command_types::{Answer, PlanRow, Roster};
+use super::party::Caller;
+use command_types::{Answer, PlanRow};
 use network_laws::{Problem, Solution};
 use posting::{counts_of, gross_after, gross_before, steps_of};
-use product_book::Book;
 use std::alloc::AllocError;
-use units_core::Name;
 
 /// What the POST of a plan that touches nobody is answered.
 pub(super) fn nothing(cycle: &Cycle) -> Answer
@@ -63,18 +62,16 @@ pub(super) fn executed_answer(cycle: &Cycle) -> Answer
     }
 }
 
-/// The steps of the plan that the party may see. The only error is want of memory.
-pub(super) fn shown_plan(
-    roster: &Roster,
-    book: &Book,
-    cycle: &Cycle,
-    by: &Name,
-) -> Result<Vec<PlanRow>, AllocError>
-    ensures { IfOk result (λ steps. steps.items ≡ shown_plan (state_in roster.now book.now.rows cycle.now) by.now (member_of (state_in roster.now book.now.rows cycle.now) by.now)) }
-{
-    if roster.is_operator(by) {
-        return cycle.plan_copy();
+impl Machine {
+    /// The steps of the plan that the caller may see. The only error is want of memory.
+    pub(super) fn shown_plan(&self, caller: &Caller) -> Result<Vec<PlanRow>, AllocError>
+        requires { IsCaller self.now.state.roster caller.now }
+        ensures { IfOk result (λ steps. steps.items ≡ shown_plan self.now.state caller.now.name (member_of self.now.state caller.now.name)) }
+    {
+        if self.is_operator(caller) {
+            return self.cycle.plan_copy();
+        }
+        let (cycle, member) = (&self.cycle, self.place_of(caller));
+        steps_of(cycle.allocator(), self.book.rows(), cycle.plan(), member)
     }
-    let member = place_of_member(roster, by);
-    steps_of(cycle.allocator(), book.rows(), cycle.plan(), member)
 }

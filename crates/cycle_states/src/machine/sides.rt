@@ -1,59 +1,56 @@
-//! Where a party stands in a trade, and how the trade stands. The roster and the trade itself tell, whatever the other
-//! trades are.
+//! Where a party stands in a trade, and how the trade stands.
 
 ghost use Rattle.std.specs.Prelude.{◌≡◌};
 ghost use Rattle.command_types.specs.Trades.{is_alleged, is_live, is_ended, is_marked_by, hold_of};
-ghost use Rattle.command_types.specs.Machine.{empty_state, is_on_side, is_party_of, is_submitter, side_in, side_at, side_of};
+ghost use Rattle.command_types.specs.Machine.{is_on_side, is_party_of, is_submitter, side_in, side_of};
+ghost use Rattle.cycle_states.specs.Party.{IsCaller};
 
-use super::parties::is_member_at;
-use command_types::{Roster, Side, TradeRow, TradeState};
+use super::Machine;
+use super::party::Caller;
+use command_types::{Side, TradeRow, TradeState};
 use units_core::Name;
 
-// Whether the party stands on this side of the trade.
-fn is_on_side(roster: &Roster, by: &Name, row: &TradeRow, side: Side) -> bool
-    ensures { result ≡ is_on_side (empty_state roster.now) by.now row.now side }
-{
-    match side {
-        Side::Out => is_member_at(roster, row.seller, by),
-        Side::In => is_member_at(roster, row.buyer, by),
+impl Machine {
+    // Whether the caller stands on this side of the trade.
+    fn is_on_side(&self, caller: &Caller, row: &TradeRow, side: Side) -> bool
+        requires { IsCaller self.now.state.roster caller.now }
+        ensures { result ≡ is_on_side self.now.state caller.now.name row.now side }
+    {
+        match side {
+            Side::Out => self.is_at(caller, row.seller),
+            Side::In => self.is_at(caller, row.buyer),
+        }
     }
-}
 
-/// Whether the party is one of the trade's two.
-pub(super) fn is_party_of(roster: &Roster, by: &Name, row: &TradeRow) -> bool
-    ensures { result ≡ is_party_of (empty_state roster.now) by.now row.now }
-{
-    is_on_side(roster, by, row, Side::Out) || is_on_side(roster, by, row, Side::In)
-}
-
-/// Whether the party submitted the trade.
-pub(super) fn is_submitter(roster: &Roster, by: &Name, row: &TradeRow) -> bool
-    ensures { result ≡ is_submitter (empty_state roster.now) by.now row.now row.now.submitter }
-{
-    match row.submitter {
-        None => false,
-        Some(side) => is_on_side(roster, by, row, side),
+    /// Whether the caller is one of the trade's two.
+    pub(super) fn is_party_of(&self, caller: &Caller, row: &TradeRow) -> bool
+        requires { IsCaller self.now.state.roster caller.now }
+        ensures { result ≡ is_party_of self.now.state caller.now.name row.now }
+    {
+        self.is_on_side(caller, row, Side::Out) || self.is_on_side(caller, row, Side::In)
     }
-}
 
-/// The side of a party of the trade.
-pub(super) fn side_in(roster: &Roster, by: &Name, row: &TradeRow) -> Side
-    ensures { result ≡ side_in (empty_state roster.now) by.now row.now }
-{
-    if is_on_side(roster, by, row, Side::Out) {
-        Side::Out
-    } else {
-        Side::In
+    /// Whether the caller submitted the trade.
+    pub(super) fn is_submitter(&self, caller: &Caller, row: &TradeRow) -> bool
+        requires { IsCaller self.now.state.roster caller.now }
+        ensures { result ≡ is_submitter self.now.state caller.now.name row.now row.now.submitter }
+    {
+        match row.submitter {
+            None => false,
+            Some(side) => self.is_on_side(caller, row, side),
+        }
     }
-}
 
-/// The side of a party of the trade, if it is there.
-pub(super) fn side_at(roster: &Roster, by: &Name, row: Option<TradeRow>) -> Side
-    ensures { result ≡ side_at (empty_state roster.now) by.now row }
-{
-    match row {
-        None => Side::Out,
-        Some(row) => side_in(roster, by, &row),
+    /// The caller's side of the trade, where it is one of its two.
+    pub(super) fn side_in(&self, caller: &Caller, row: &TradeRow) -> Side
+        requires { IsCaller self.now.state.roster caller.now }
+        ensures { result ≡ side_in self.now.state caller.now.name row.now }
+    {
+        if self.is_on_side(caller, row, Side::Out) {
+            Side::Out
+        } else {
+            Side::In
+        }
     }
 }
 

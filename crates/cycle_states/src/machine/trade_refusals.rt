@@ -6,14 +6,14 @@ ghost use Rattle.std.specs.Result.{result_err};
 ghost use Rattle.command_types.specs.CycleRefusals.{tol_refusals, statement_refusals};
 ghost use Rattle.command_types.specs.Machine.{first_of, product_of, trade_refusals, affirm_refusals, end_refusals, hold_refusals, free_refusals, nets_refusals};
 ghost use Rattle.command_types.specs.Trades.{trade_numbered};
+ghost use Rattle.cycle_states.specs.Party.{IsCaller};
 ghost use Rattle.cycle_states.specs.Refusals.{product_refusals};
 
 use super::Machine;
 use super::conditions::{is_crossed, refuse_if};
 use super::parties::place_of_product;
-use super::sides::{
-    is_alleged, is_ended, is_held_by, is_live, is_marked_by, is_party_of, is_submitter, side_in,
-};
+use super::party::Caller;
+use super::sides::{is_alleged, is_ended, is_held_by, is_live, is_marked_by};
 use super::terms::{Setting, Terms};
 use command_types::{Refusal, TradeRow};
 use units_core::{MOST_GROSS, MOST_SUBMITTED, MOST_TRADE_AMOUNT, Name, ProductNo};
@@ -48,10 +48,12 @@ impl Machine {
     }
 
     /// TRADE: 4, 5, 6, 7, 8, 22, 9, 10.
-    pub(super) fn check_trade(&self, by: &Name, terms: &Terms) -> Result<(), Refusal>
-        ensures { result_err result ≡ first_of (trade_refusals self.now.state by.now terms.now.seller terms.now.buyer terms.now.product terms.now.amount terms.now.day) }
+    pub(super) fn check_trade(&self, caller: &Caller, terms: &Terms) -> Result<(), Refusal>
+        requires { IsCaller self.now.state.roster caller.now }
+        ensures { result_err result ≡ first_of (trade_refusals self.now.state caller.now.name terms.now.seller terms.now.buyer terms.now.product terms.now.amount terms.now.day) }
     {
         let (seller, buyer, amount) = (&terms.seller, &terms.buyer, terms.amount.get());
+        let by = &caller.name;
         if let Err(refusal) = self.unless_members(seller, buyer) {
             return Err(refusal);
         }
@@ -63,13 +65,14 @@ impl Machine {
     }
 
     /// AFFIRM: 11, 7, 12.
-    pub(super) fn check_affirm(&self, by: &Name, trade: u64) -> Result<(), Refusal>
-        ensures { result_err result ≡ first_of (affirm_refusals self.now.state by.now (trade_numbered self.now.state.trades trade)) }
+    pub(super) fn check_affirm(&self, caller: &Caller, trade: u64) -> Result<(), Refusal>
+        requires { IsCaller self.now.state.roster caller.now }
+        ensures { result_err result ≡ first_of (affirm_refusals self.now.state caller.now.name (trade_numbered self.now.state.trades trade)) }
     {
         let Some(row) = self.book.get(trade) else {
             return Err(Refusal::UnknownTrade);
         };
-        let barred = !is_party_of(&self.roster, by, row) || is_submitter(&self.roster, by, row);
+        let barred = !self.is_party_of(caller, row) || self.is_submitter(caller, row);
         if let Err(refusal) = refuse_if(barred, Refusal::NotParty) {
             return Err(refusal);
         }
@@ -80,21 +83,23 @@ impl Machine {
     }
 
     /// END: 11, 7, 12.
-    pub(super) fn check_end(&self, by: &Name, trade: u64) -> Result<(), Refusal>
-        ensures { result_err result ≡ first_of (end_refusals self.now.state by.now (trade_numbered self.now.state.trades trade)) }
+    pub(super) fn check_end(&self, caller: &Caller, trade: u64) -> Result<(), Refusal>
+        requires { IsCaller self.now.state.roster caller.now }
+        ensures { result_err result ≡ first_of (end_refusals self.now.state caller.now.name (trade_numbered self.now.state.trades trade)) }
     {
         match self.book.get(trade) {
             None => Err(Refusal::UnknownTrade),
-            Some(row) => self.check_end_of(by, row),
+            Some(row) => self.check_end_of(caller, row),
         }
     }
 
     // END of this trade: 7, 12.
-    fn check_end_of(&self, by: &Name, row: &TradeRow) -> Result<(), Refusal>
-        ensures { result_err result ≡ first_of (end_refusals self.now.state by.now (Some row.now)) }
+    fn check_end_of(&self, caller: &Caller, row: &TradeRow) -> Result<(), Refusal>
+        requires { IsCaller self.now.state.roster caller.now }
+        ensures { result_err result ≡ first_of (end_refusals self.now.state caller.now.name (Some row.now)) }
     {
-        let side = side_in(&self.roster, by, row);
-        if let Err(refusal) = self.unless_party(by, row) {
+        let side = self.side_in(caller, row);
+        if let Err(refusal) = self.unless_party(caller, row) {
             return Err(refusal);
         }
         let over = is_ended(row) || is_marked_by(row.mark, side);
@@ -102,21 +107,23 @@ impl Machine {
     }
 
     /// HOLD: 11, 7, 12, 13.
-    pub(super) fn check_hold(&self, by: &Name, trade: u64) -> Result<(), Refusal>
-        ensures { result_err result ≡ first_of (hold_refusals self.now.state by.now (trade_numbered self.now.state.trades trade)) }
+    pub(super) fn check_hold(&self, caller: &Caller, trade: u64) -> Result<(), Refusal>
+        requires { IsCaller self.now.state.roster caller.now }
+        ensures { result_err result ≡ first_of (hold_refusals self.now.state caller.now.name (trade_numbered self.now.state.trades trade)) }
     {
         match self.book.get(trade) {
             None => Err(Refusal::UnknownTrade),
-            Some(row) => self.check_hold_of(by, row),
+            Some(row) => self.check_hold_of(caller, row),
         }
     }
 
     // HOLD of this trade: 7, 12, 13.
-    fn check_hold_of(&self, by: &Name, row: &TradeRow) -> Result<(), Refusal>
-        ensures { result_err result ≡ first_of (hold_refusals self.now.state by.now (Some row.now)) }
+    fn check_hold_of(&self, caller: &Caller, row: &TradeRow) -> Result<(), Refusal>
+        requires { IsCaller self.now.state.roster caller.now }
+        ensures { result_err result ≡ first_of (hold_refusals self.now.state caller.now.name (Some row.now)) }
     {
-        let side = side_in(&self.roster, by, row);
-        if let Err(refusal) = self.unless_party(by, row) {
+        let side = self.side_in(caller, row);
+        if let Err(refusal) = self.unless_party(caller, row) {
             return Err(refusal);
         }
         let held = !is_live(row) || is_held_by(row, side);
@@ -125,21 +132,23 @@ impl Machine {
     }
 
     /// FREE: 11, 7, 12, 13.
-    pub(super) fn check_free(&self, by: &Name, trade: u64) -> Result<(), Refusal>
-        ensures { result_err result ≡ first_of (free_refusals self.now.state by.now (trade_numbered self.now.state.trades trade)) }
+    pub(super) fn check_free(&self, caller: &Caller, trade: u64) -> Result<(), Refusal>
+        requires { IsCaller self.now.state.roster caller.now }
+        ensures { result_err result ≡ first_of (free_refusals self.now.state caller.now.name (trade_numbered self.now.state.trades trade)) }
     {
         match self.book.get(trade) {
             None => Err(Refusal::UnknownTrade),
-            Some(row) => self.check_free_of(by, row),
+            Some(row) => self.check_free_of(caller, row),
         }
     }
 
     // FREE of this trade: 7, 12, 13.
-    fn check_free_of(&self, by: &Name, row: &TradeRow) -> Result<(), Refusal>
-        ensures { result_err result ≡ first_of (free_refusals self.now.state by.now (Some row.now)) }
+    fn check_free_of(&self, caller: &Caller, row: &TradeRow) -> Result<(), Refusal>
+        requires { IsCaller self.now.state.roster caller.now }
+        ensures { result_err result ≡ first_of (free_refusals self.now.state caller.now.name (Some row.now)) }
     {
-        let side = side_in(&self.roster, by, row);
-        if let Err(refusal) = self.unless_party(by, row) {
+        let side = self.side_in(caller, row);
+        if let Err(refusal) = self.unless_party(caller, row) {
             return Err(refusal);
         }
         let free = !is_live(row) || !is_held_by(row, side);
@@ -148,15 +157,16 @@ impl Machine {
     }
 
     /// TOL: 4, 5, 6, 7, 23.
-    pub(super) fn check_tol(&self, by: &Name, setting: &Setting) -> Result<(), Refusal>
-        ensures { result_err result ≡ first_of (tol_refusals self.now.state by.now setting.now.other setting.now.product setting.now.floor setting.now.ceiling) }
+    pub(super) fn check_tol(&self, caller: &Caller, setting: &Setting) -> Result<(), Refusal>
+        requires { IsCaller self.now.state.roster caller.now }
+        ensures { result_err result ≡ first_of (tol_refusals self.now.state caller.now.name setting.now.other setting.now.product setting.now.floor setting.now.ceiling) }
     {
         if let Err(refusal) = self.unless_member(&setting.other) {
             return Err(refusal);
         }
         self.unless_product(&setting.product)?;
-        refuse_if(setting.other.is(by), Refusal::OwnTrade)?;
-        refuse_if(self.roster.is_operator(by), Refusal::NotParty)?;
+        refuse_if(setting.other.is(&caller.name), Refusal::OwnTrade)?;
+        refuse_if(self.is_operator(caller), Refusal::NotParty)?;
         let crossed = is_crossed(setting.floor, setting.ceiling);
         refuse_if(crossed, Refusal::FloorOverCeiling)
     }
@@ -169,9 +179,10 @@ impl Machine {
     }
 
     /// STATEMENT: 7.
-    pub(super) fn check_statement(&self, by: &Name) -> Result<(), Refusal>
-        ensures { result_err result ≡ first_of (statement_refusals self.now.state by.now) }
+    pub(super) fn check_statement(&self, caller: &Caller) -> Result<(), Refusal>
+        requires { IsCaller self.now.state.roster caller.now }
+        ensures { result_err result ≡ first_of (statement_refusals self.now.state caller.now.name) }
     {
-        refuse_if(self.roster.is_operator(by), Refusal::NotParty)
+        refuse_if(self.is_operator(caller), Refusal::NotParty)
     }
 }

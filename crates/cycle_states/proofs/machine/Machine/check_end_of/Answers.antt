@@ -9,6 +9,6 @@ pub returns-in-Err : goal.returns-in-Err
 returns-in-Err c =
     let s = c.args.self.now.state in
     let row = c.args.row.now in
-    stopped (not (is_party_of s c.args.by.now row)) NotParty c.in-Err.refusal
-    ((is_ended row.state || is_marked_by (side_in s c.args.by.now row) row.mark, WrongTradeState row.state) ∷ [])
+    stopped (not (is_party_of s c.args.caller.now.name row)) NotParty c.in-Err.refusal
+    ((is_ended row.state || is_marked_by (side_in s c.args.caller.now.name row) row.mark, WrongTradeState row.state) ∷ [])
     c.in-Err.ensures

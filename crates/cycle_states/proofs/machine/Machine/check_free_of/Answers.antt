@@ -9,6 +9,6 @@ pub returns-in-Err : goal.returns-in-Err
 returns-in-Err c =
     let s = c.args.self.now.state in
     let row = c.args.row.now in
-    stopped (not (is_party_of s c.args.by.now row)) NotParty c.in-Err.refusal
-    ((not (is_live row.state) || not (hold_of (side_in s c.args.by.now row) row), WrongTradeState row.state) ∷ if_frozen s row ∷ [])
+    stopped (not (is_party_of s c.args.caller.now.name row)) NotParty c.in-Err.refusal
+    ((not (is_live row.state) || not (hold_of (side_in s c.args.caller.now.name row) row), WrongTradeState row.state) ∷ if_frozen s row ∷ [])
     c.in-Err.ensures

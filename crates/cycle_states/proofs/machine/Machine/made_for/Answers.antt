@@ -14,4 +14,4 @@ returns-in_ok-answer-in_default c = record {
 }
 
 pub effect-effect-requires : goal.effect-effect-requires
-effect-effect-requires c = record { plain = undecided c.args.what.now c.in_default.not-Post c.in_default.not-Accept; change = c.requires.change; accepted = c.requires.accepted }
+effect-effect-requires c = record { plain = undecided c.args.what.now c.in_default.not-Post c.in_default.not-Accept; change = c.requires.change; caller = c.requires.caller; accepted = c.requires.accepted }

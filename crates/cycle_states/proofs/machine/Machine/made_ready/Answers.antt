@@ -15,6 +15,7 @@ use Rattle.cycle_states.specs.Ready.{IsMade, IsReady, ReadyView}
 use Rattle.cycle_states.proofs.MachineFacts.{accepted_answer, not_refused, recorded_changes}
 use Rattle.cycle_states.proofs.BallotFacts.{rows_by_ballot}
 use Rattle.cycle_states.proofs.EffectFacts.{change_told, few_rows}
+use Rattle.cycle_states.proofs.PartyFacts.{caller_known, caller_named, change_asked}
 use Rattle.cycle_states.proofs.RecordFacts.{few_posted}
 use Rattle.cycle_states.proofs.machine.Machine.made_ready.Goals as goal
 
@@ -25,17 +26,37 @@ roomy roster book after taken more cycle ballot frozen same settings kept =
     subst (λ (b : BookView). IsWhole roster b more cycle ballot frozen) (sym same)
     (subst (λ (t : TolerancesView). IsWhole roster (record book { spare = after.spare }) t cycle ballot frozen) (sym settings) kept)
 
+pub unreachable-requires : goal.unreachable-requires
+unreachable-requires c =
+    let s = c.args.self.now.state in
+    let ask = c.args.entry.ask in
+    change_asked s ask.by ask.what c.args.caller.now c.requires.caller c.in_default.not-Some (not_refused s ask c.requires.accepted) (recorded_changes ask.what (answer_to s ask) c.requires.accepted)
+
+pub made_for-requires : goal.made_for-requires
+made_for-requires c =
+    let s = c.args.self.now.state in
+    let ask = c.args.entry.ask in
+    record {
+      young = c.requires.young;
+      change = recorded_changes ask.what (answer_to s ask) c.requires.accepted;
+      caller = caller_known s.roster ask.by c.args.caller.now c.in-Some.caller c.requires.caller c.in-Some.is;
+      accepted =
+          subst (λ (by : Option (List ℕ)). first_of (refusals s by ask.what) ≡ None) (caller_named s.roster ask.by c.args.caller.now c.in-Some.caller c.requires.caller c.in-Some.is)
+          (not_refused s ask c.requires.accepted);
+    }
+
 pub make_room-requires : goal.make_room-requires
 make_room-requires c =
     let m = c.self.inside in
     let s = state_with m.roster m.book.rows m.tolerances.settings m.cycle in
     let ask = c.args.entry.ask in
+    let named = caller_named c.args.self.now.state.roster ask.by c.args.caller.now c.in-Some.caller c.requires.caller c.in-Some.is in
     let made = c.in_ok-made.made in
-    let is_made = subst (λ (view : MachineView). IsMade view.state c.in-Some.by ask.what made) (sym c.self.view_is) c.in_ok-made.ensures in
+    let is_made = subst (λ (view : MachineView). IsMade view.state c.in-Some.caller.name ask.what made) (sym c.self.view_is) c.in_ok-made.ensures in
     let none : first_of (refusals s ask.by ask.what) ≡ None = not_refused s ask (rw (← c.self.view_is) at c.requires.accepted) in
     let same : rows_with (effect_by s (unwrap_or ask.by []) ask.what) (count_of is_new m.cycle.plan) ≡ rows_with made.effect m.ballot.made =
     sym (rows_by_ballot s ask.by ask.what m.ballot none c.self.invariant.1)
-    ∙ ap (λ (by : Option (List ℕ)). rows_with (effect_by s (unwrap_or by []) ask.what) m.ballot.made) c.in-Some.is
+    ∙ ap (λ (by : Option (List ℕ)). rows_with (effect_by s (unwrap_or by []) ask.what) m.ballot.made) named
     ∙ ap (λ (effect : Effect). rows_with effect m.ballot.made) (sym is_made.does) in
     subst (λ n. n ≤ 4194304) same (few_rows m.roster m.book.members m.book.products m.book.rows m.tolerances.settings m.cycle c.self.invariant.0 ask.by ask.what none)
 
@@ -44,12 +65,13 @@ returns-clause-room c =
     let m = c.self.inside in
     let s = state_with m.roster m.book.rows m.tolerances.settings m.cycle in
     let ask = c.args.entry.ask in
+    let named = caller_named c.args.self.now.state.roster ask.by c.args.caller.now c.in-Some.caller c.requires.caller c.in-Some.is in
     let made = c.in_ok-made.made in
-    let is_made = subst (λ (view : MachineView). IsMade view.state c.in-Some.by ask.what made) (sym c.self.view_is) c.in_ok-made.ensures in
+    let is_made = subst (λ (view : MachineView). IsMade view.state c.in-Some.caller.name ask.what made) (sym c.self.view_is) c.in_ok-made.ensures in
     let none : first_of (refusals s ask.by ask.what) ≡ None = not_refused s ask (rw (← c.self.view_is) at c.requires.accepted) in
     let same : rows_with made.effect m.ballot.made ≡ rows_added s ask =
     ap (λ (effect : Effect). rows_with effect m.ballot.made) is_made.does
-    ∙ ap (λ (by : Option (List ℕ)). rows_with (effect_by s (unwrap_or by []) ask.what) m.ballot.made) (sym c.in-Some.is)
+    ∙ ap (λ (by : Option (List ℕ)). rows_with (effect_by s (unwrap_or by []) ask.what) m.ballot.made) (sym named)
     ∙ rows_by_ballot s ask.by ask.what m.ballot none c.self.invariant.1 in
     subst (λ (view : MachineView). rows_added view.state ask ≤ c.make_room.new.book.spare) c.self.view_is (subst (λ (n : ℕ). n ≤ c.make_room.new.book.spare) same c.in_ok-make_room.ensures.room)
 
@@ -57,14 +79,15 @@ pub returns-clause-ready : goal.returns-clause-ready
 returns-clause-ready c =
     let s = c.args.self.now.state in
     let ask = c.args.entry.ask in
+    let named = caller_named c.args.self.now.state.roster ask.by c.args.caller.now c.in-Some.caller c.requires.caller c.in-Some.is in
     let made = c.in_ok-made.ensures in
     let none = not_refused s ask c.requires.accepted in
     let change : changes ask.what ≡ true = recorded_changes ask.what (answer_to s ask) c.requires.accepted in
     subst (λ (ready : ReadyView). IsReady s ready) (sym c.new.ensures) (record {
-      answer = made.told ∙ ap (λ (by : Option (List ℕ)). party_answer s (unwrap_or by []) ask.what) (sym c.in-Some.is) ∙ change_told s ask.by ask.what change ∙ sym (accepted_answer s ask none);
-      effect = made.does ∙ ap (λ (by : Option (List ℕ)). effect_by s (unwrap_or by []) ask.what) (sym c.in-Some.is);
+      answer = made.told ∙ ap (λ (by : Option (List ℕ)). party_answer s (unwrap_or by []) ask.what) (sym named) ∙ change_told s ask.by ask.what change ∙ sym (accepted_answer s ask none);
+      effect = made.does ∙ ap (λ (by : Option (List ℕ)). effect_by s (unwrap_or by []) ask.what) (sym named);
       may = made.may;
-      ballot = subst (λ (by : Option (List ℕ)). IsBallotIn (state_by_party s (unwrap_or by []) ask.what) c.in_ok-made.made.ballot) (sym c.in-Some.is) made.ballot;
+      ballot = subst (λ (by : Option (List ℕ)). IsBallotIn (state_by_party s (unwrap_or by []) ask.what) c.in_ok-made.made.ballot) (sym named) made.ballot;
       solutions = made.solutions;
     })
 

@@ -12,7 +12,7 @@ use Rattle.cycle_states.proofs.CycleFacts.{limits_break, proposed_limits}
 use Rattle.cycle_states.proofs.machine.Machine.proof.Goals as goal
 
 pub problems-requires : goal.problems-requires
-problems-requires c = proposed_limits c.args.self.now.state.cycle.phase c.requires
+problems-requires c = proposed_limits c.args.self.now.state.cycle.phase c.requires.proposed
 
 pub proof_rows-requires-clause-problems : goal.proof_rows-requires-clause-problems
 proof_rows-requires-clause-problems c = c.as_slice.ensures.value ∙ c.in_ok-problems.ensures ∙ ap (λ (view : MachineView). view.state.cycle.begun) (sym c.self.view_is)
@@ -23,7 +23,7 @@ proof_rows-requires-clause-taken c = c.self.invariant.2 (ap is_some (sym c.mode.
 pub proof_rows-requires-clause-live : goal.proof_rows-requires-clause-live
 proof_rows-requires-clause-live c =
     let m = c.self.inside in
-    c.self.invariant.0.unbroken (limits_break m.cycle.phase (proposed_limits m.cycle.phase (rw (← c.self.view_is) at c.requires)))
+    c.self.invariant.0.unbroken (limits_break m.cycle.phase (proposed_limits m.cycle.phase (rw (← c.self.view_is) at c.requires.proposed)))
 
 -- a proposal with its day and mode
 proved : (s : State) (day : DayParts) (mode : Mode) (cycle version member place : ℕ) (rows listed : List ProofRow) → s.cycle.day ≡ Some day → s.cycle.mode ≡ Some mode → cycle ≡ s.cycle.number → version ≡ s.cycle.version → place ≡ member →
@@ -36,6 +36,6 @@ pub returns : goal.returns
 returns c =
     let m = c.self.inside in
     let s = state_with m.roster m.book.rows m.tolerances.settings m.cycle in
-    proved s c.in-Some.day c.in-Some-mode.mode c.number.result c.version.result (member_of s c.args.by.now) c.place_of_member.result c.in_ok-rows.rows.items c.new-rows.result
-    (sym c.day.ensures ∙ c.in-Some.is) (sym c.mode.ensures ∙ c.in-Some-mode.is) c.number.ensures c.version.ensures c.place_of_member.ensures c.new-rows.ensures c.in_ok-rows.ensures
-    ∙ ap (λ (view : MachineView). proof_answer view.state (member_of view.state c.args.by.now)) c.self.view_is
+    proved s c.in-Some.day c.in-Some-mode.mode c.number.result c.version.result (member_of s c.args.caller.now.name) c.place_of.result c.in_ok-rows.rows.items c.new-rows.result
+    (sym c.day.ensures ∙ c.in-Some.is) (sym c.mode.ensures ∙ c.in-Some-mode.is) c.number.ensures c.version.ensures (c.place_of.ensures ∙ ap (λ (view : MachineView). member_of view.state c.args.caller.now.name) (sym c.self.view_is)) c.new-rows.ensures c.in_ok-rows.ensures
+    ∙ ap (λ (view : MachineView). proof_answer view.state (member_of view.state c.args.caller.now.name)) c.self.view_is

@@ -15,6 +15,6 @@ returns c =
     let s = state_with m.roster m.book.rows m.tolerances.settings m.cycle in
     let below : IsTrue (is_proposed m.cycle.phase) → IsPlanBelow m.book.rows (length m.roster.members) m.cycle.plan =
     λ on. (proposal_settled m.roster m.book.members m.book.products m.book.rows m.cycle c.self.invariant.0 on c.rows-rows.ensures.trades c.rows-rows.ensures.bounded).parties in
-    let stays = ballot_stays s c.args.by.now c.args.what.now m.ballot c.requires below c.self.invariant.1 in
-    subst (λ (view : MachineView). IsBallotIn (state_by_party view.state c.args.by.now c.args.what.now) c.copy.result) c.self.view_is
-    (subst (λ (b : Ballot). IsBallotIn (state_by_party s c.args.by.now c.args.what.now) b) (sym c.copy.ensures) stays)
+    let stays = ballot_stays s c.args.caller.now.name c.args.what.now m.ballot c.requires below c.self.invariant.1 in
+    subst (λ (view : MachineView). IsBallotIn (state_by_party view.state c.args.caller.now.name c.args.what.now) c.copy.result) c.self.view_is
+    (subst (λ (b : Ballot). IsBallotIn (state_by_party s c.args.caller.now.name c.args.what.now) b) (sym c.copy.ensures) stays)

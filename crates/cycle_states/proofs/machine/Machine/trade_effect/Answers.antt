@@ -10,7 +10,7 @@ pub returns-in-Trade-clause-may : goal.returns-in-Trade-clause-may
 returns-in-Trade-clause-may c =
     let m = c.self.inside in
     let s = state_with m.roster m.book.rows m.tolerances.settings m.cycle in
-    let by = c.args.by.now in
+    let by = c.args.caller.now.name in
     let terms = c.in-Trade in
     let Stands : What → Type 0 = λ what. first_of (refusals s (Some by) what) ≡ None in
     let none = subst Stands terms.is (rw (← c.self.view_is) at c.requires.accepted) in

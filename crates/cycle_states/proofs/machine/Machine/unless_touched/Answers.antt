@@ -5,6 +5,6 @@ use Rattle.cycle_states.proofs.machine.Machine.unless_touched.Goals as goal
 
 pub touches-touched-requires-clause-there : goal.touches-touched-requires-clause-there
 touches-touched-requires-clause-there c =
-    let m = c.self.inside in
-    let place : member_place m.roster c.args.by.now ≡ Some c.in-Some.member = sym c.member_named.ensures ∙ c.in-Some.is in
-    rw (← c.self.view_is) (place_within m.roster c.args.by.now c.in-Some.member place)
+    let s = c.args.self.now.state in
+    let place : member_place s.roster c.args.caller.now.name ≡ Some c.in-Some.member = sym c.member.ensures ∙ c.in-Some.is in
+    place_within s.roster c.args.caller.now.name c.in-Some.member place
