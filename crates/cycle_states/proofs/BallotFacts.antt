@@ -1,5 +1,5 @@
 -- The ballot of a proposal stays with any command that neither posts nor votes, since no trade changes its parties.
-use Rattle.std.proofs.Common.{◌≡◌, ℕ, zero, suc, ◌+◌, ◌-◌, ◌<◌, ◌==◌, ◌&&◌, ◌||◌, nat_lt, Bool, true, false, List, [], ◌∷◌, ◌++◌, length, Option, Some, None, is_some, unwrap_or, IsTrue, All, slice_get, slice_set, if◌then◌else◌, refl, ap, sym, ◌∙◌}
+use Rattle.std.proofs.Common.{◌≡◌, ℕ, zero, suc, ◌+◌, ◌-◌, ◌<◌, ◌==◌, ◌&&◌, ◌||◌, nat_lt, Bool, true, false, List, [], ◌∷◌, ◌++◌, length, Option, Some, None, is_some, unwrap_or, IsTrue, All, slice_get, slice_set, if◌then◌else◌, refl, ap, sym, ◌∙◌, take, drop, take-append-drop, subst}
 use Rattle.std.specs.List.{list_any}
 use Rattle.std.proofs.lemmas.Bool.{false≢true}
 use Rattle.std.proofs.lemmas.List.Elements.{All-head, All-tail, All-weaker}
@@ -84,6 +84,17 @@ ended_either false side row m = refl
 ended_leaves : (side : Side) → LeavesParties (row_ended_by side)
 ended_leaves side row m = ended_either (is_alleged row.state || is_some row.mark) side row m
 
+-- the first of them
+pub front_parties : (rows : List TradeRow) (n : ℕ) → KeepParties (take n rows) rows
+front_parties rows n trade m there =
+    subst (λ (all : List TradeRow). is_party_row (trade_numbered all trade) m ≡ is_party_row (trade_numbered (take n rows) trade) m) (take-append-drop n rows)
+    (more_parties (take n rows) (drop n rows) trade m there)
+
+-- with one trade in an earlier form
+pub back_parties : (rows : List TradeRow) (number : ℕ) (now was : TradeRow) → slice_get rows (number - 1) ≡ Some now → ((m : ℕ) → is_party_row (Some was) m ≡ is_party_row (Some now) m)
+    → KeepParties (with_row rows number (Some was)) rows
+back_parties rows number now was is same trade m there = sym (numbered_set (nat_lt 0 trade) rows (number - 1) (trade - 1) m now was is (same m))
+
 -- ---- whom a plan touches
 
 step_same : (rows other : List TradeRow) → KeepParties rows other → (n m : ℕ) (row : PlanRow) → IsStepBelow rows n row → is_in_step other m row ≡ is_in_step rows m row
@@ -124,6 +135,15 @@ module _ (members : ℕ) (rows : List TradeRow) (cycle : Cycle) (ballot : Ballot
   ended_ballot : (t : Bool) (trade : ℕ) (other : List TradeRow) → KeepParties rows other → IsBallot members other (if t then broken_at cycle trade else cycle) ballot
   ended_ballot true trade other keep = no_ballot members other (broken_at cycle trade) ballot refl
   ended_ballot false trade other keep = rows_ballot other keep
+
+-- it stays where trades are taken back
+pub ballot_back : (members : ℕ) (rows other : List TradeRow) (cycle : Cycle) (ballot : Ballot) → (IsTrue (is_proposed cycle.phase) → IsPlanBelow other members cycle.plan) → KeepParties other rows → IsBallot members rows cycle ballot →
+    IsBallot members other cycle ballot
+ballot_back members rows other cycle ballot below keep kept = record {
+  needed = λ on. kept.needed on ∙ touched_same other rows keep members cycle.plan (below on);
+  voted = kept.voted;
+  made = kept.made;
+}
 
 -- it stays with any command that neither posts nor votes
 pub ballot_stays : (s : State) (by : List ℕ) (what : What) (ballot : Ballot) → decides what ≡ false → (IsTrue (is_proposed s.cycle.phase) → IsPlanBelow s.trades (length s.roster.members) s.cycle.plan) → IsBallotIn s ballot →

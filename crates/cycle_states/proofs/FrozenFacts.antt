@@ -56,7 +56,7 @@ problem_made roster rows settings mode members product frozen problem limits net
     made ∙ ap (λ (l : LimitsData). make l network) bound ∙ ap (make (of frozen).limits) same ∙ ap of here
 
 -- where no frozen trade changes but by a mark, the networks stay
-same_networks : (members : ℕ) (rows other : List TradeRow) (kept : List FrozenProduct) → frozen_of other ≡ frozen_of rows → AreFrozenOf members rows kept → AreFrozenOf members other kept
+pub same_networks : (members : ℕ) (rows other : List TradeRow) (kept : List FrozenProduct) → frozen_of other ≡ frozen_of rows → AreFrozenOf members rows kept → AreFrozenOf members other kept
 same_networks members rows other kept same are = λ product d l.
     let plans = plan_is_of_the_frozen rows other (sym same) in
     let make : NetworkData → NetworkData → FrozenProduct = λ network held. record { network = network; held = held } in

@@ -42,7 +42,7 @@ plan_same None rows other old new same = refl
 plan_same (Some day) rows other old new same = sym (same.plan old new day)
 
 -- a cycle goes over to trades of which the frozen ones are the same but for the marks
-same_frozen : (roster : Rows) (rows other : List TradeRow) (cycle : Cycle) → (IsTrue (has_limits cycle.phase) → frozen_of other ≡ frozen_of rows) → IsCycle roster rows cycle → IsCycle roster other cycle
+pub same_frozen : (roster : Rows) (rows other : List TradeRow) (cycle : Cycle) → (IsTrue (has_limits cycle.phase) → frozen_of other ≡ frozen_of rows) → IsCycle roster rows cycle → IsCycle roster other cycle
 same_frozen roster rows other cycle same kept = record {
   day = kept.day;
   begun = λ stands. let version = kept.begun stands in record {

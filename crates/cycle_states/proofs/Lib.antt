@@ -22,3 +22,4 @@ pub mod PlaceFacts
 pub mod NearFacts
 pub mod ToldFacts
 pub mod HeldPairs
+pub mod UndoFacts

@@ -14,3 +14,4 @@ pub mod Ballot
 pub mod Decision
 pub mod Begun
 pub mod Frozen
+pub mod Undo

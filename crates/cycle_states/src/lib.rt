@@ -10,7 +10,7 @@ mod recorded;
 
 pub use base_fault::BaseFault;
 pub use laws::effect_is_next;
-pub use machine::{Decision, LastCycle, Machine, Ready};
+pub use machine::{Decision, LastCycle, Machine, Ready, Undo};
 pub use offers::{OpenAsk, Places, filled, is_begin, open_ask};
 pub use plain_desk::PlainDesk;
 pub use recorded::is_recorded;

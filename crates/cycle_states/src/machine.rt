@@ -37,6 +37,7 @@ mod sides;
 mod solutions;
 mod terms;
 mod trade_refusals;
+mod undo;
 mod version_problems;
 mod whose;
 
@@ -72,6 +73,7 @@ use room::make_room;
 use std::alloc::{AllocError, Global};
 use std::marker::Model;
 use tolerance_sets::Tolerances;
+pub use undo::Undo;
 
 /// The machine: a roster, the trades and tolerances so far, the cycle, the ballot on its proposal, and its freeze's networks.
 #[derive(Drop)]

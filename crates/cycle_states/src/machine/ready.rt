@@ -52,6 +52,13 @@ impl Ready {
         &self.entry
     }
 
+    /// What it does.
+    pub(super) fn effect(&self) -> &Effect
+        ensures { result.now ≡ self.now.effect }
+    {
+        &self.effect
+    }
+
     /// The change, given back. It takes no memory.
     pub fn into_entry(self) -> Entry
         ensures { result ≡ self.entry }
