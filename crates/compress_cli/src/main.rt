@@ -36,10 +36,10 @@ fn fill_standard<R: Files<File = File> + AllocGlobal>(rt: &R) -> io::Result<Vec<
     Ok(taken)
 }
 
-// What the disk of the journal may do: a replay only reads, so that it can tell of a journal that another program has.
+// What the disk of the journal may do: a replay and a roll only read, so that they can tell of a journal that another program has.
 fn access_of(words: &[String]) -> Access {
     match words {
-        [name, ..] if name.as_str() == "replay" => Access::Read,
+        [name, ..] if name.as_str() == "replay" || name.as_str() == "roll" => Access::Read,
         _ => Access::Write,
     }
 }

@@ -18,7 +18,7 @@ use Rattle.compress_server.specs.declared.load.FileRole.{FileRole}
 use Rattle.compress_server.specs.declared.load.LoadFault.{LoadFault}
 use Rattle.compress_server.specs.declared.load.LoadFault.TheVariants.{Files, Faulty, Memory as NoMemory}
 use Rattle.compress_server.specs.declared.ending.End.{End}
-use Rattle.compress_server.specs.declared.ending.End.TheVariants.{Done, No, BadWords, Unloaded, Damaged, DiskFault, Stopped, ListenerFault, SourceFault, SinkFault, Limit, Memory}
+use Rattle.compress_server.specs.declared.ending.End.TheVariants.{Done, No, BadWords, Unloaded, Damaged, DiskFault, Stopped, ListenerFault, SourceFault, SinkFault, Limit, Memory, Unrolled}
 use Rattle.compress_server.specs.Answered.{AnswersInput, ScriptsAreAnswered, IsSeatAnswered, AreSeatsAnswered, AnswersDoors, ServicesAreAnswered}
 use Rattle.compress_server.specs.Complete.{HasFault, IsFormFault}
 use Rattle.compress_server.specs.Ending.{IsFault, IsCounted, JournalRuns, ScriptRuns, ServeRuns, OverRoster}
@@ -28,7 +28,7 @@ use Rattle.compress_server.specs.Run.{at_first, IsReplied, IsWhole, IsAtLimit}
 use Rattle.compress_server.specs.Seen.{ListenerState, Seen, World}
 use Rattle.compress_server.specs.Serve.{ServicePlan, SeatRun, seat_at, final_of, IsSeatAt, AreSeats, IsUnasked}
 use Rattle.compress_server.specs.Telling.{TellsEnd}
-use Rattle.compress_server.specs.Words.{Form, ServiceNumbers}
+use Rattle.program_words.specs.Words.{Form, ServiceNumbers}
 use Rattle.compress_server.proofs.ServiceFacts.{none_asked}
 
 -- what can't be true is false
@@ -123,6 +123,7 @@ journal_answered clock rows before after files input output Limit status no_inpu
     let runs : is_stopped w ≡ false = held_false (is_stopped w) (λ stops. no_disk (housed.stopped stops)) in
     inr (inl (told.0, (v, w, housed, limit_answered v w runs before.input.flow after.input.flow before.seen.output.taken after.seen.output.taken limit)))
 journal_answered clock rows before after files input output Memory status no_input no_output no_disk r counted told = inr (inr (inr told.0))
+journal_answered clock rows before after files input output (Unrolled obstacle) status no_input no_output no_disk r counted told = absurd r
 
 with_roster : (before after : World) (roster : List ℕ) (status : ℕ) (faulty : Type 0) (rows : Rows) → SaysRoster before.files.folder roster rows → IsRoster rows →
     ((status ≡ 0) × OverIt rows before after false) ⊎ (((status ≡ 8) × OverIt rows before after true) ⊎ ((status ≡ 7) ⊎ (status ≡ 9))) →
@@ -172,6 +173,7 @@ opening_status rows disk left begun taken errors then_errors status SourceFault 
 opening_status rows disk left begun taken errors then_errors status SinkFault r told held = absurd r
 opening_status rows disk left begun taken errors then_errors status Limit r told held = absurd r
 opening_status rows disk left begun taken errors then_errors status Memory r told held = inr told.0
+opening_status rows disk left begun taken errors then_errors status (Unrolled obstacle) r told held = absurd r
 
 -- why the seats did not begin, where the listener did not fail
 unbegun_status : (rose : Type 0) (begun taken : Option (List ℕ)) (errors then_errors status : ℕ) (end : End) → (end ≡ Memory) ⊎ ((end ≡ ListenerFault) × rose) → TellsEnd begun taken errors then_errors end status → (rose → ⊥) → status ≡ 9

@@ -1,5 +1,6 @@
 -- What is answered where nothing outside fails: first the ends that are left, and then their statuses.
 use Rattle.std.proofs.Common.{◌≡◌, ◌⊎◌, ℕ, Bool, true, false, List, Option, Some, refl, sym, subst, inl, inr, ◌∙◌}
+use Rattle.units_core.specs.Day.{DayParts}
 use Rattle.doors.specs.Visits.{Visits}
 use Rattle.outside.specs.Faults.{Rose}
 use Rattle.outside.specs.Files.{Folder}
@@ -11,16 +12,17 @@ use Rattle.compress_server.specs.declared.load.FileRole.{FileRole}
 use Rattle.compress_server.specs.declared.load.LoadFault.{LoadFault}
 use Rattle.compress_server.specs.declared.load.LoadFault.TheVariants.{Files, Faulty, Memory as NoMemory}
 use Rattle.compress_server.specs.declared.ending.End.{End}
-use Rattle.compress_server.specs.declared.ending.End.TheVariants.{Done, No, BadWords, Unloaded, Damaged, DiskFault, Stopped, ListenerFault, SourceFault, SinkFault, Limit, Memory}
-use Rattle.compress_server.specs.Complete.{IsUndisturbed, IsCheck, IsScript, HasJournal, IsAnswered, IsFormFault, AnswersWhatItCan}
-use Rattle.compress_server.specs.Files.{ReadBeforeRoster, ReadBeforeMarket, ReadBeforeCheck}
+use Rattle.compress_server.specs.declared.ending.End.TheVariants.{Done, No, BadWords, Unloaded, Damaged, DiskFault, Stopped, ListenerFault, SourceFault, SinkFault, Limit, Memory, Unrolled}
+use Rattle.compress_server.specs.Complete.{IsUndisturbed, IsCheck, IsScript, IsRoll, HasJournal, IsAnswered, IsFormFault, AnswersWhatItCan}
+use Rattle.compress_server.specs.Files.{ReadBeforeRoster, ReadBeforeMarket, ReadBeforeCheck, ReadBeforeRoll}
 use Rattle.compress_server.specs.Ending.{IsFault, JournalRuns, CheckRuns, SolveRuns, GenRuns, Runs, IsCounted}
 use Rattle.compress_server.specs.Housed.{DiskState, OpeningFails}
 use Rattle.compress_server.specs.Replay.{ReplayEnds}
+use Rattle.compress_server.specs.Roll.{RollEnds}
 use Rattle.compress_server.specs.Seen.{OutputState, ListenerState, World}
 use Rattle.compress_server.specs.Serve.{ServicePlan, HouseServes, IsWritten, history_line, service_end}
 use Rattle.compress_server.specs.Telling.{TellsEnd}
-use Rattle.compress_server.specs.Words.{Market, Form, ServiceNumbers}
+use Rattle.program_words.specs.Words.{Market, Form, ServiceNumbers}
 
 -- the ends that are left
 IsAnswer : Option Folder → Form → End → Type 0
@@ -38,6 +40,7 @@ IsAnswer folder form SourceFault = ⊥
 IsAnswer folder form SinkFault = ⊥
 IsAnswer folder form Limit = IsScript form
 IsAnswer folder form Memory = Unit {0}
+IsAnswer folder form (Unrolled obstacle) = IsRoll form
 
 -- a status of an end that is left
 status_answered : (folder : Option Folder) (form : Form) (told then_told : Option (List ℕ)) (errors then_errors : ℕ) (end : End) (status : ℕ) → TellsEnd told then_told errors then_errors end status → IsAnswer folder form end → IsAnswered folder form status
@@ -47,17 +50,19 @@ status_answered folder form told then_told errors then_errors No status t a = in
 status_answered folder form told then_told errors then_errors BadWords status t a = absurd a
 status_answered folder form told then_told errors then_errors (Unloaded (Files role)) status t a = absurd a
 status_answered folder form told then_told errors then_errors (Unloaded (Faulty role fault)) status (inl t) a = inr (inr (inl (t.0, (role, fault, a))))
-status_answered folder form told then_told errors then_errors (Unloaded (Faulty role fault)) status (inr t) a = inr (inr (inr (inr (inr t.0))))
-status_answered folder form told then_told errors then_errors (Unloaded NoMemory) status t a = inr (inr (inr (inr (inr t.0))))
+status_answered folder form told then_told errors then_errors (Unloaded (Faulty role fault)) status (inr t) a = inr (inr (inr (inr (inr (inl t.0)))))
+status_answered folder form told then_told errors then_errors (Unloaded NoMemory) status t a = inr (inr (inr (inr (inr (inl t.0)))))
 status_answered folder form told then_told errors then_errors (Damaged place) status (inl t) a = inr (inr (inr (inl (t.0, a))))
-status_answered folder form told then_told errors then_errors (Damaged place) status (inr t) a = inr (inr (inr (inr (inr t.0))))
+status_answered folder form told then_told errors then_errors (Damaged place) status (inr t) a = inr (inr (inr (inr (inr (inl t.0)))))
 status_answered folder form told then_told errors then_errors DiskFault status t a = absurd a
 status_answered folder form told then_told errors then_errors Stopped status t a = absurd a
 status_answered folder form told then_told errors then_errors ListenerFault status t a = absurd a
 status_answered folder form told then_told errors then_errors SourceFault status t a = absurd a
 status_answered folder form told then_told errors then_errors SinkFault status t a = absurd a
 status_answered folder form told then_told errors then_errors Limit status t a = inr (inr (inr (inr (inl (t.0, a)))))
-status_answered folder form told then_told errors then_errors Memory status t a = inr (inr (inr (inr (inr t.0))))
+status_answered folder form told then_told errors then_errors Memory status t a = inr (inr (inr (inr (inr (inl t.0)))))
+status_answered folder form told then_told errors then_errors (Unrolled obstacle) status (inl t) a = inr (inr (inr (inr (inr (inr (t.0, a))))))
+status_answered folder form told then_told errors then_errors (Unrolled obstacle) status (inr t) a = inr (inr (inr (inr (inr (inl t.0)))))
 
 -- a file that could not be had: what is left is its fault and want of memory
 load_answered : (folder : Option Folder) (form : Form) (Q : FileRole → Type 0) (files input output : Type 0) (fault : LoadFault) →
@@ -91,6 +96,7 @@ journal_answered clock folder roster journal workers rows opened flow begun take
 journal_answered clock folder roster journal workers rows opened flow begun taken disk left files input output SinkFault r counted no_input no_output no_disk = absurd (no_output counted)
 journal_answered clock folder roster journal workers rows opened flow begun taken disk left files input output Limit r counted no_input no_output no_disk = tt
 journal_answered clock folder roster journal workers rows opened flow begun taken disk left files input output Memory r counted no_input no_output no_disk = tt
+journal_answered clock folder roster journal workers rows opened flow begun taken disk left files input output (Unrolled obstacle) r counted no_input no_output no_disk = absurd r
 
 -- a check
 check_answered : (folder : Option Folder) (market : Market) (proposal : List ℕ) (begun taken : Option (List ℕ)) (files input output : Type 0) (end : End) →
@@ -108,6 +114,7 @@ check_answered folder market proposal begun taken files input output SourceFault
 check_answered folder market proposal begun taken files input output SinkFault r counted no_files no_output = absurd (no_output counted)
 check_answered folder market proposal begun taken files input output Limit r counted no_files no_output = absurd r
 check_answered folder market proposal begun taken files input output Memory r counted no_files no_output = tt
+check_answered folder market proposal begun taken files input output (Unrolled obstacle) r counted no_files no_output = absurd r
 
 -- a solve
 solve_answered : (folder : Option Folder) (market : Market) (workers : ℕ) (begun taken : Option (List ℕ)) (files input output : Type 0) (end : End) →
@@ -125,6 +132,7 @@ solve_answered folder market workers begun taken files input output SourceFault 
 solve_answered folder market workers begun taken files input output SinkFault r counted no_files no_output = absurd (no_output counted)
 solve_answered folder market workers begun taken files input output Limit r counted no_files no_output = absurd r
 solve_answered folder market workers begun taken files input output Memory r counted no_files no_output = tt
+solve_answered folder market workers begun taken files input output (Unrolled obstacle) r counted no_files no_output = absurd r
 
 -- a gen, which reads nothing
 gen_answered : (folder : Option Folder) (number workers : ℕ) (begun taken : Option (List ℕ)) (files input output : Type 0) (end : End) → GenRuns number begun taken end → IsCounted files input output end → (output → ⊥) → IsAnswer folder (Form.Gen number workers) end
@@ -141,6 +149,7 @@ gen_answered folder number workers begun taken files input output SourceFault r 
 gen_answered folder number workers begun taken files input output SinkFault r counted no_output = absurd (no_output counted)
 gen_answered folder number workers begun taken files input output Limit r counted no_output = absurd r
 gen_answered folder number workers begun taken files input output Memory r counted no_output = tt
+gen_answered folder number workers begun taken files input output (Unrolled obstacle) r counted no_output = absurd r
 
 -- a replay over its disk
 replay_answered : (folder : Option Folder) (roster journal : List ℕ) (rows : Rows) (begun taken : Option (List ℕ)) (disk left : DiskState) (files input output : Type 0) (end : End) →
@@ -158,6 +167,25 @@ replay_answered folder roster journal rows begun taken disk left files input out
 replay_answered folder roster journal rows begun taken disk left files input output SinkFault r counted no_output no_disk = absurd (no_output counted)
 replay_answered folder roster journal rows begun taken disk left files input output Limit r counted no_output no_disk = absurd r
 replay_answered folder roster journal rows begun taken disk left files input output Memory r counted no_output no_disk = tt
+replay_answered folder roster journal rows begun taken disk left files input output (Unrolled obstacle) r counted no_output no_disk = absurd r
+
+-- a roll over its disk
+roll_answered : (folder : Option Folder) (roster journal new_roster : List ℕ) (matured : Option DayParts) (old new : Rows) (begun taken : Option (List ℕ)) (disk left : DiskState) (files input output : Type 0) (end : End) →
+    RollEnds old new matured disk left begun taken end → IsCounted files input output end → (output → ⊥) → (Rose disk.faults left.faults → ⊥) → IsAnswer folder (Form.Roll roster journal new_roster matured) end
+unfolding IsAnswer
+roll_answered folder roster journal new_roster matured old new begun taken disk left files input output Done r counted no_output no_disk = tt
+roll_answered folder roster journal new_roster matured old new begun taken disk left files input output No r counted no_output no_disk = absurd r
+roll_answered folder roster journal new_roster matured old new begun taken disk left files input output BadWords r counted no_output no_disk = absurd r
+roll_answered folder roster journal new_roster matured old new begun taken disk left files input output (Unloaded fault) r counted no_output no_disk = absurd r
+roll_answered folder roster journal new_roster matured old new begun taken disk left files input output (Damaged place) r counted no_output no_disk = tt
+roll_answered folder roster journal new_roster matured old new begun taken disk left files input output DiskFault (kept, rose) counted no_output no_disk = absurd (no_disk rose)
+roll_answered folder roster journal new_roster matured old new begun taken disk left files input output Stopped r counted no_output no_disk = absurd r
+roll_answered folder roster journal new_roster matured old new begun taken disk left files input output ListenerFault r counted no_output no_disk = absurd r
+roll_answered folder roster journal new_roster matured old new begun taken disk left files input output SourceFault r counted no_output no_disk = absurd r
+roll_answered folder roster journal new_roster matured old new begun taken disk left files input output SinkFault r counted no_output no_disk = absurd (no_output counted)
+roll_answered folder roster journal new_roster matured old new begun taken disk left files input output Limit r counted no_output no_disk = absurd r
+roll_answered folder roster journal new_roster matured old new begun taken disk left files input output Memory r counted no_output no_disk = tt
+roll_answered folder roster journal new_roster matured old new begun taken disk left files input output (Unrolled obstacle) r counted no_output no_disk = tt
 
 -- a service whose house was not opened
 unhoused_answered : (folder : Option Folder) (roster journal address : List ℕ) (numbers : ServiceNumbers) (rows : Rows) (disk left : DiskState) (end : End) → OpeningFails rows disk left end → (Rose disk.faults left.faults → ⊥) → IsAnswer folder (Form.Serve roster journal address numbers) end
@@ -174,6 +202,7 @@ unhoused_answered folder roster journal address numbers rows disk left SourceFau
 unhoused_answered folder roster journal address numbers rows disk left SinkFault r no_disk = absurd r
 unhoused_answered folder roster journal address numbers rows disk left Limit r no_disk = absurd r
 unhoused_answered folder roster journal address numbers rows disk left Memory r no_disk = tt
+unhoused_answered folder roster journal address numbers rows disk left (Unrolled obstacle) r no_disk = absurd r
 
 -- the output's count rose where the line was not written whole
 count_rose : (before after : OutputState) (line : List ℕ) (written : Bool) → IsWritten before after line written → written ≡ false → Rose before.faults after.faults
@@ -253,6 +282,10 @@ end_answered clock visits (Form.Replay roster journal) before after end (unread,
     unloaded_answered before.files.folder (Form.Replay roster journal) ReadBeforeRoster _ _ _ end fault e is counted held.files_held
 end_answered clock visits (Form.Replay roster journal) before after end (unread, same, inr (rows, says, are, (kept, ends))) counted held =
     replay_answered before.files.folder roster journal rows before.seen.output.taken after.seen.output.taken before.seen.disk after.seen.disk (Rose before.files.faults after.files.faults) (Rose before.input.faults after.input.faults) (Rose before.seen.output.faults after.seen.output.faults) end ends counted held.output_held held.disk_held
+end_answered clock visits (Form.Roll roster journal new_roster matured) before after end (unread, same, inl (fault, e, unwritten, kept, is)) counted held =
+    unloaded_answered before.files.folder (Form.Roll roster journal new_roster matured) (ReadBeforeRoll before.files.folder roster) _ _ _ end fault e is counted held.files_held
+end_answered clock visits (Form.Roll roster journal new_roster matured) before after end (unread, same, inr (old, says, are, (new, says_new, are_new, (kept, ends)))) counted held =
+    roll_answered before.files.folder roster journal new_roster matured old new before.seen.output.taken after.seen.output.taken before.seen.disk after.seen.disk (Rose before.files.faults after.files.faults) (Rose before.input.faults after.input.faults) (Rose before.seen.output.faults after.seen.output.faults) end ends counted held.output_held held.disk_held
 
 pub answers_what_it_can : {D : Type 0} (visits : D → Option Visits) → AnswersWhatItCan visits
 answers_what_it_can visits clock form before after status ends held =

@@ -4,7 +4,7 @@ use Rattle.outside.specs.Faults.{Rose}
 use Rattle.compress_server.specs.declared.load.FileRole.{FileRole}
 use Rattle.compress_server.specs.declared.load.LoadFault.TheVariants.{Files, Faulty, Memory as NoMemory}
 use Rattle.compress_server.specs.declared.ending.End.{End}
-use Rattle.compress_server.specs.declared.ending.End.TheVariants.{Done, No, BadWords, Unloaded, Damaged, DiskFault, Stopped, ListenerFault, SourceFault, SinkFault, Limit, Memory}
+use Rattle.compress_server.specs.declared.ending.End.TheVariants.{Done, No, BadWords, Unloaded, Damaged, DiskFault, Stopped, ListenerFault, SourceFault, SinkFault, Limit, Memory, Unrolled}
 use Rattle.compress_server.specs.Ending.{IsCounted}
 
 -- a count that never fell rose where it rose later
@@ -28,3 +28,4 @@ counted files input output SourceFault f i o = i refl
 counted files input output SinkFault f i o = o refl
 counted files input output Limit f i o = tt
 counted files input output Memory f i o = tt
+counted files input output (Unrolled obstacle) f i o = tt

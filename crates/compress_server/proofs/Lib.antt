@@ -1,4 +1,3 @@
-pub mod PartingFacts
 pub mod OnlyFacts
 pub mod RunFacts
 pub mod EndFacts
@@ -11,5 +10,6 @@ pub mod StatusFacts
 pub mod CompleteFacts
 pub mod StatementFacts
 pub mod ReplayFacts
+pub mod RollFacts
 pub mod AnsweredFacts
 pub mod IdleFacts

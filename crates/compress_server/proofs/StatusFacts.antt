@@ -1,7 +1,7 @@
 -- A status is the end's, or 9.
 use Rattle.std.proofs.Common.{inl, inr, refl}
 use Rattle.compress_server.specs.declared.load.LoadFault.TheVariants.{Files, Faulty, Memory as NoMemory}
-use Rattle.compress_server.specs.declared.ending.End.TheVariants.{Done, No, BadWords, Unloaded, Damaged, DiskFault, Stopped, ListenerFault, SourceFault, SinkFault, Limit, Memory}
+use Rattle.compress_server.specs.declared.ending.End.TheVariants.{Done, No, BadWords, Unloaded, Damaged, DiskFault, Stopped, ListenerFault, SourceFault, SinkFault, Limit, Memory, Unrolled}
 use Rattle.compress_server.specs.Statuses.{StatusesTellTheEnd}
 
 pub statuses_tell_the_end : StatusesTellTheEnd
@@ -9,6 +9,8 @@ statuses_tell_the_end begun taken before after (Unloaded (Faulty role fault)) st
 statuses_tell_the_end begun taken before after (Unloaded (Faulty role fault)) status (inr told) = inr (refl, told.0)
 statuses_tell_the_end begun taken before after (Damaged place) status (inl told) = inl told.0
 statuses_tell_the_end begun taken before after (Damaged place) status (inr told) = inr (refl, told.0)
+statuses_tell_the_end begun taken before after (Unrolled obstacle) status (inl told) = inl told.0
+statuses_tell_the_end begun taken before after (Unrolled obstacle) status (inr told) = inr (refl, told.0)
 statuses_tell_the_end begun taken before after (Unloaded (Files role)) status told = inl told.0
 statuses_tell_the_end begun taken before after (Unloaded NoMemory) status told = inl told.0
 statuses_tell_the_end begun taken before after Done status told = inl told.0

@@ -13,7 +13,7 @@ use Rattle.compress_server.specs.Housed.{OverHouse}
 use Rattle.compress_server.specs.Seen.{World}
 use Rattle.compress_server.specs.Serve.{ServicePlan, SeatRun, HaveServed, HaveGiven, IsUnasked, Returned}
 use Rattle.compress_server.specs.Telling.{Ends}
-use Rattle.compress_server.specs.Words.{Form, ServiceNumbers}
+use Rattle.program_words.specs.Words.{Form, ServiceNumbers}
 
 -- The house that was opened on the script's journal, whose history is the one for which the disk stands, answered the script's input; the last value tells whether the session's limit ended it.
 abbrev pub AnswersInput : List ℕ → World → World → Bool → Type 0

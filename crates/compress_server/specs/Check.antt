@@ -10,7 +10,7 @@ use Rattle.dual_certificate.specs.Parts.{AreParts}
 use Rattle.file_market.specs.declared.failing.Failing.{Failing}
 use Rattle.file_market.specs.Check.{IsChecked}
 use Rattle.file_market.specs.Verdict.{verdict_text}
-use Rattle.compress_server.specs.Words.{Market}
+use Rattle.program_words.specs.Words.{Market}
 use Rattle.compress_server.specs.Files.{SaysMarket, SaysProposal}
 
 -- a check of what the three files say finds this, and the text tells it

@@ -5,10 +5,10 @@ use Rattle.outside.specs.Faults.{Rose}
 use Rattle.outside.specs.Files.{Folder}
 use Rattle.command_types.specs.declared.file_fault.FileFault.{FileFault}
 use Rattle.compress_server.specs.declared.load.FileRole.{FileRole}
-use Rattle.compress_server.specs.Files.{IsRosterFault, IsMarketFault, IsCheckFault}
+use Rattle.compress_server.specs.Files.{IsRosterFault, IsMarketFault, IsCheckFault, IsRollFault}
 use Rattle.compress_server.specs.Seen.{World}
 use Rattle.compress_server.specs.Telling.{Ends}
-use Rattle.compress_server.specs.Words.{Form}
+use Rattle.program_words.specs.Words.{Form}
 
 -- of the files that a form reads, the first that has a fault has this one
 abbrev pub IsFormFault : Option Folder → Form → FileRole → FileFault → Type 0
@@ -18,6 +18,7 @@ IsFormFault folder (Form.Check market proposal) = IsCheckFault folder market pro
 IsFormFault folder (Form.Solve market workers) = IsMarketFault folder market
 IsFormFault folder (Form.Gen number workers) = λ role fault. ⊥
 IsFormFault folder (Form.Replay roster journal) = IsRosterFault folder roster
+IsFormFault folder (Form.Roll roster journal new_roster matured) = IsRollFault folder roster new_roster
 
 -- a file of the form has a fault, and those that are read before it have none
 abbrev pub HasFault : Option Folder → Form → Type 0
@@ -43,13 +44,18 @@ abbrev pub HasJournal : Form → Type 0
 HasJournal (Form.Script roster journal workers) = Unit {0}
 HasJournal (Form.Serve roster journal address numbers) = Unit {0}
 HasJournal (Form.Replay roster journal) = Unit {0}
+HasJournal (Form.Roll roster journal new_roster matured) = Unit {0}
 HasJournal other = ⊥
 
--- The work was done, or a check said no; or a file has a fault, a journal is damaged, a script is at its limit, or there was no memory.
+abbrev pub IsRoll : Form → Type 0
+IsRoll (Form.Roll roster journal new_roster matured) = Unit {0}
+IsRoll other = ⊥
+
+-- The work was done, or a check said no; or a file has a fault, a journal is damaged, a script is at its limit, there was no memory, or a roll is refused.
 abbrev pub IsAnswered : Option Folder → Form → ℕ → Type 0
 IsAnswered folder form status =
     (status ≡ 0) ⊎ (((status ≡ 1) × IsCheck form) ⊎ (((status ≡ 3) × HasFault folder form)
-    ⊎ (((status ≡ 7) × HasJournal form) ⊎ (((status ≡ 8) × IsScript form) ⊎ (status ≡ 9)))))
+    ⊎ (((status ≡ 7) × HasJournal form) ⊎ (((status ≡ 8) × IsScript form) ⊎ ((status ≡ 9) ⊎ ((status ≡ 15) × IsRoll form))))))
 
 -- a call whose words are in form, and that nothing outside disturbs, is answered
 abbrev pub AnswersWhatItCan : {D : Type 0} → (D → Option Visits) → Type 0

@@ -1,5 +1,6 @@
 -- What was read and what was written, by the end of a form.
 use Rattle.std.specs.Prelude.{◌≡◌, ◌⊎◌, ℕ, Bool, true, false, List, Option, Some, None}
+use Rattle.units_core.specs.Day.{DayParts}
 use Rattle.doors.specs.Visits.{Visits}
 use Rattle.outside.specs.Files.{Folder}
 use Rattle.outside.specs.Faults.{Rose}
@@ -16,16 +17,17 @@ use Rattle.compress_server.specs.declared.load.FileRole.{FileRole}
 use Rattle.compress_server.specs.declared.load.LoadFault.{LoadFault}
 use Rattle.compress_server.specs.declared.load.LoadFault.TheVariants.{Files, Faulty, Memory as NoMemory}
 use Rattle.compress_server.specs.declared.ending.End.{End}
-use Rattle.compress_server.specs.declared.ending.End.TheVariants.{Done, No, BadWords, Unloaded, Damaged, DiskFault, Stopped, ListenerFault, SourceFault, SinkFault, Limit, Memory}
-use Rattle.compress_server.specs.Words.{Market, Form}
+use Rattle.compress_server.specs.declared.ending.End.TheVariants.{Done, No, BadWords, Unloaded, Damaged, DiskFault, Stopped, ListenerFault, SourceFault, SinkFault, Limit, Memory, Unrolled}
+use Rattle.program_words.specs.Words.{Market, Form}
 use Rattle.house.specs.House.{is_stopped}
 use Rattle.compress_server.specs.Housed.{DiskState, OverHouse, IsDamaged, IsUnopened}
-use Rattle.compress_server.specs.Files.{SaysRoster, IsRosterFault, IsMarketFault, IsCheckFault, ReadBeforeRoster, ReadBeforeMarket, ReadBeforeCheck}
+use Rattle.compress_server.specs.Files.{SaysRoster, IsRosterFault, IsMarketFault, IsCheckFault, IsRollFault, ReadBeforeRoster, ReadBeforeMarket, ReadBeforeCheck, ReadBeforeRoll}
 use Rattle.compress_server.specs.Run.{IsWhole, IsBrokenOff, IsAtLimit, IsUnwritten}
 use Rattle.compress_server.specs.Check.{SaysYes, SaysNo, SaysFront}
 use Rattle.compress_server.specs.Solve.{Proposes, ProposesFront}
 use Rattle.compress_server.specs.Gen.{Summarizes, SummarizesFront}
 use Rattle.compress_server.specs.Replay.{JournalReplays}
+use Rattle.compress_server.specs.Roll.{JournalRolls}
 use Rattle.compress_server.specs.Seen.{Seen, IsOnlyOutput}
 use Rattle.compress_server.specs.Serve.{ServicePlan, ServiceRuns}
 
@@ -64,6 +66,12 @@ abbrev pub ReplayRuns : Option Folder → List ℕ → Option (List ℕ) → Opt
 ReplayRuns folder roster begun taken disk left end =
     ((fault : LoadFault) × (end ≡ Unloaded fault) × (taken ≡ begun) × (left ≡ disk) × IsFault (IsRosterFault folder roster) ReadBeforeRoster fault)
     ⊎ OverRoster folder roster (λ rows. JournalReplays rows disk left begun taken end)
+
+-- by the end of a roll: one of the rosters could not be had, and the disk was left alone; or what came over their rows
+abbrev pub RollRuns : Option Folder → List ℕ → List ℕ → Option DayParts → Option (List ℕ) → Option (List ℕ) → DiskState → DiskState → End → Type 0
+RollRuns folder roster new_roster matured begun taken disk left end =
+    ((fault : LoadFault) × (end ≡ Unloaded fault) × (taken ≡ begun) × (left ≡ disk) × IsFault (IsRollFault folder roster new_roster) (ReadBeforeRoll folder roster) fault)
+    ⊎ OverRoster folder roster (λ old. OverRoster folder new_roster (λ new. JournalRolls old new matured disk left begun taken end))
 
 -- by the end of a check of parts that were read: the line that was written
 abbrev pub IsVerdictTold : Rows → Mode → List FileTrade → List ProposalPart → Option (List ℕ) → Option (List ℕ) → End → Type 0
@@ -120,6 +128,8 @@ Runs clock visits folder (Some (Form.Gen number workers)) opened flow before aft
     (flow ≡ opened) × IsOnlyOutput before after × GenRuns number before.output.taken after.output.taken end
 Runs clock visits folder (Some (Form.Replay roster journal)) opened flow before after end =
     (flow ≡ opened) × (after.listener ≡ before.listener) × ReplayRuns folder roster before.output.taken after.output.taken before.disk after.disk end
+Runs clock visits folder (Some (Form.Roll roster journal new_roster matured)) opened flow before after end =
+    (flow ≡ opened) × (after.listener ≡ before.listener) × RollRuns folder roster new_roster matured before.output.taken after.output.taken before.disk after.disk end
 
 -- where the files, the input or the output failed, its count rose; a fault of the disk or of the listener is counted in what a script or a service comes to
 abbrev pub IsCounted : Type 0 → Type 0 → Type 0 → End → Type 0
@@ -137,3 +147,4 @@ IsCounted files input output SourceFault = input
 IsCounted files input output SinkFault = output
 IsCounted files input output Limit = Unit {0}
 IsCounted files input output Memory = Unit {0}
+IsCounted files input output (Unrolled obstacle) = Unit {0}

@@ -1,14 +1,19 @@
--- The lines that tell a file's fault.
+-- The lines that tell a file's fault, a journal's damage, and what keeps a market from going on.
 use Rattle.std.specs.Prelude.{ℕ, List, ◌++◌, codes, decimal}
 use Rattle.command_types.specs.declared.file_fault.FileFault.{FileFault}
 use Rattle.command_types.specs.declared.file_fault.FileFault.TheVariants.{TooLong, Columns, BadName, BadRole, BadAmount, BadDay, Twice, UnknownName, SameParty, GrossLimit, RowLimit, BadLine, Memory}
+use Rattle.period_roll.specs.declared.cause.Cause.{Cause}
+use Rattle.period_roll.specs.declared.cause.Cause.TheVariants.{CycleOpen, MemberGone, RoleChanged, ProductGone, MaturesEarly, PositionsFull}
+use Rattle.compress_server.specs.declared.ending.Obstacle.{Obstacle}
+use Rattle.compress_server.specs.declared.ending.Obstacle.TheVariants.{Market, Misfit, TooLong as OverMost}
 use Rattle.compress_server.specs.declared.load.FileRole.{FileRole}
-use Rattle.compress_server.specs.declared.load.FileRole.TheVariants.{Roster, Trades, Proposal}
+use Rattle.compress_server.specs.declared.load.FileRole.TheVariants.{Roster, Trades, Proposal, NewRoster}
 
 abbrev pub role_name : FileRole → List ℕ
 role_name Roster = codes "roster"
 role_name Trades = codes "trades"
 role_name Proposal = codes "proposal"
+role_name NewRoster = codes "new-roster"
 
 -- a fault at a row
 abbrev pub row_line : FileRole → ℕ → List ℕ → List ℕ
@@ -33,3 +38,25 @@ fault_line role Memory = codes "memory\n"
 -- the line of a journal that is damaged at this place
 abbrev pub damage_line : ℕ → List ℕ
 damage_line place = codes "damaged at " ++ decimal place ++ codes "\n"
+
+-- a cause with the number of a trade in it
+abbrev pub trade_text : List ℕ → ℕ → List ℕ → List ℕ
+trade_text before trade behind = before ++ decimal trade ++ behind
+
+-- what keeps a market from going on over a new roster; a trade has its number from before
+abbrev pub cause_text : Cause → List ℕ
+cause_text CycleOpen = codes "a cycle is open"
+cause_text (MemberGone trade) = trade_text (codes "a member of trade ") trade (codes " is gone")
+cause_text (RoleChanged trade) = trade_text (codes "a member of trade ") trade (codes " has another role")
+cause_text (ProductGone trade) = trade_text (codes "the product of trade ") trade (codes " is gone")
+cause_text (MaturesEarly trade) = trade_text (codes "the product of trade ") trade (codes " matures too early")
+cause_text PositionsFull = codes "no position is left"
+
+abbrev pub obstacle_text : Obstacle → List ℕ
+obstacle_text (Market cause) = cause_text cause
+obstacle_text Misfit = codes "a number is above 10^18"
+obstacle_text OverMost = codes "the new journal would be too long"
+
+-- the line of a roll that is refused
+abbrev pub obstacle_line : Obstacle → List ℕ
+obstacle_line obstacle = codes "cannot roll: " ++ obstacle_text obstacle ++ codes "\n"

@@ -9,10 +9,10 @@ use Rattle.trade_file.specs.TradeFile.{trade_file}
 use Rattle.dual_certificate.specs.declared.proposal_part.ProposalPart.{ProposalPart}
 use Rattle.dual_certificate.specs.Proposal.{proposal_of}
 use Rattle.compress_server.specs.declared.load.FileRole.{FileRole}
-use Rattle.compress_server.specs.declared.load.FileRole.TheVariants.{Roster, Trades, Proposal}
+use Rattle.compress_server.specs.declared.load.FileRole.TheVariants.{Roster, Trades, Proposal, NewRoster}
 use Rattle.compress_server.specs.declared.load.LoadFault.{LoadFault}
 use Rattle.compress_server.specs.declared.load.LoadFault.TheVariants.{Files, Faulty, Memory}
-use Rattle.compress_server.specs.Words.{Market}
+use Rattle.program_words.specs.Words.{Market}
 
 -- as many bytes of a file as are read: one more than a file may have
 abbrev pub file_front : ℕ
@@ -40,6 +40,7 @@ abbrev pub IsRosterFault : Option Folder → List ℕ → FileRole → FileFault
 IsRosterFault folder name Roster fault = Reads folder name roster_file (Err fault)
 IsRosterFault folder name Trades fault = ⊥
 IsRosterFault folder name Proposal fault = ⊥
+IsRosterFault folder name NewRoster fault = ⊥
 
 -- of a market's two files, the first that has a fault has this one
 abbrev pub IsMarketFault : Option Folder → Market → FileRole → FileFault → Type 0
@@ -47,6 +48,7 @@ IsMarketFault folder market Roster fault = Reads folder market.roster roster_fil
 IsMarketFault folder market Trades fault =
     (rows : Rows) × SaysRoster folder market.roster rows × Reads folder market.trades (trade_file rows) (Err fault)
 IsMarketFault folder market Proposal fault = ⊥
+IsMarketFault folder market NewRoster fault = ⊥
 
 -- of a market's two files and a proposal, the first that has a fault has this one
 abbrev pub IsCheckFault : Option Folder → Market → List ℕ → FileRole → FileFault → Type 0
@@ -54,24 +56,42 @@ IsCheckFault folder market proposal Roster fault = IsMarketFault folder market R
 IsCheckFault folder market proposal Trades fault = IsMarketFault folder market Trades fault
 IsCheckFault folder market proposal Proposal fault =
     (rows : Rows) × (trades : List FileTrade) × SaysMarket folder market rows trades × Reads folder proposal (proposal_of rows) (Err fault)
+IsCheckFault folder market proposal NewRoster fault = ⊥
+
+-- of an old and a new roster, the first that has a fault has this one
+abbrev pub IsRollFault : Option Folder → List ℕ → List ℕ → FileRole → FileFault → Type 0
+IsRollFault folder roster new_roster Roster fault = Reads folder roster roster_file (Err fault)
+IsRollFault folder roster new_roster Trades fault = ⊥
+IsRollFault folder roster new_roster Proposal fault = ⊥
+IsRollFault folder roster new_roster NewRoster fault = (rows : Rows) × SaysRoster folder roster rows × Reads folder new_roster roster_file (Err fault)
 
 -- a script and a service read their roster first
 abbrev pub ReadBeforeRoster : FileRole → Type 0
 ReadBeforeRoster Roster = Unit {0}
 ReadBeforeRoster Trades = ⊥
 ReadBeforeRoster Proposal = ⊥
+ReadBeforeRoster NewRoster = ⊥
 
 -- of a market's two files, those before the one in this role say what they should
 abbrev pub ReadBeforeMarket : Option Folder → Market → FileRole → Type 0
 ReadBeforeMarket folder market Roster = Unit {0}
 ReadBeforeMarket folder market Trades = (rows : Rows) × SaysRoster folder market.roster rows
 ReadBeforeMarket folder market Proposal = ⊥
+ReadBeforeMarket folder market NewRoster = ⊥
 
 -- of a market's two files and a proposal, those before the one in this role say what they should
 abbrev pub ReadBeforeCheck : Option Folder → Market → FileRole → Type 0
 ReadBeforeCheck folder market Roster = ReadBeforeMarket folder market Roster
 ReadBeforeCheck folder market Trades = ReadBeforeMarket folder market Trades
 ReadBeforeCheck folder market Proposal = (rows : Rows) × (trades : List FileTrade) × SaysMarket folder market rows trades
+ReadBeforeCheck folder market NewRoster = ⊥
+
+-- a roll reads the old roster before the new one
+abbrev pub ReadBeforeRoll : Option Folder → List ℕ → FileRole → Type 0
+ReadBeforeRoll folder roster Roster = Unit {0}
+ReadBeforeRoll folder roster Trades = ⊥
+ReadBeforeRoll folder roster Proposal = ⊥
+ReadBeforeRoll folder roster NewRoster = (rows : Rows) × SaysRoster folder roster rows
 
 -- why the file in this role could not be had: its first fault, or the files, or memory
 abbrev pub IsLoadFault : {A : Type 0} → Option Folder → List ℕ → FileRole → (List ℕ → Result A FileFault) → LoadFault → Type 0

@@ -1,5 +1,3 @@
-pub mod Parting
-pub mod Words
 pub mod Files
 pub mod Faults
 pub mod Cycles
@@ -14,6 +12,7 @@ pub mod Solve
 pub mod Gen
 pub mod Told
 pub mod Replay
+pub mod Roll
 pub mod Ending
 pub mod Telling
 pub mod Statuses

@@ -85,7 +85,7 @@ IsUnwritten clock v w opened flow begun taken =
     × (((length bytes ≤ session_limit) × IsCutOff clock v w begun taken bytes (cut_of bytes).whole)
     ⊎ (IsAtEnd flow × (length bytes < session_limit) × IsCutOff clock v w begun taken bytes (lines_of bytes)))
 
--- the line that tells a status on the errors; statuses 0 and 1 have none, and statuses 3 and 7 the fault's
+-- the line that tells a status on the errors; statuses 0 and 1 have none, and statuses 3, 7 and 15 the fault's
 abbrev pub status_line : ℕ → List ℕ
 status_line status =
     if status == 2 then codes "bad words\n"

@@ -5,7 +5,7 @@ use Rattle.outside.specs.Flow.{Takes, TakesFront}
 use Rattle.command_types.specs.Roster.{Rows, IsRoster}
 use Rattle.trade_file.specs.declared.file_trade.FileTrade.{FileTrade}
 use Rattle.file_market.specs.Solve.{IsSolvedText}
-use Rattle.compress_server.specs.Words.{Market}
+use Rattle.program_words.specs.Words.{Market}
 use Rattle.compress_server.specs.Files.{SaysMarket}
 
 -- the text is a proposal of certified solutions for what the two files say

@@ -2,7 +2,7 @@
 use Rattle.std.specs.Prelude.{◌≡◌, ◌⊎◌, ℕ, Bool, true, false, List, Option}
 use Rattle.compress_server.specs.declared.load.LoadFault.TheVariants.{Files, Faulty, Memory as NoMemory}
 use Rattle.compress_server.specs.declared.ending.End.{End}
-use Rattle.compress_server.specs.declared.ending.End.TheVariants.{Done, No, BadWords, Unloaded, Damaged, DiskFault, Stopped, ListenerFault, SourceFault, SinkFault, Limit, Memory}
+use Rattle.compress_server.specs.declared.ending.End.TheVariants.{Done, No, BadWords, Unloaded, Damaged, DiskFault, Stopped, ListenerFault, SourceFault, SinkFault, Limit, Memory, Unrolled}
 use Rattle.compress_server.specs.Telling.{TellsEnd}
 
 -- the status of an end
@@ -21,11 +21,13 @@ status_of Memory = 9
 status_of (Unloaded NoMemory) = 9
 status_of ListenerFault = 10
 status_of (Unloaded (Files role)) = 11
+status_of (Unrolled obstacle) = 15
 
--- the end's line has a place or a fault in it, and so wants memory
+-- the end's line has a place, a fault or a cause in it, and so wants memory
 abbrev pub wants_memory : End → Bool
 wants_memory (Unloaded (Faulty role fault)) = true
 wants_memory (Damaged place) = true
+wants_memory (Unrolled obstacle) = true
 wants_memory end = false
 
 -- the status that is told of an end is the end's, or 9 where there was no memory for its line

@@ -2,14 +2,14 @@
 use Rattle.std.specs.Prelude.{◌≡◌, ◌⊎◌, ℕ, Bool, List, Option}
 use Rattle.compress_server.specs.declared.load.LoadFault.TheVariants.{Files, Faulty, Memory as NoMemory}
 use Rattle.compress_server.specs.declared.ending.End.{End}
-use Rattle.compress_server.specs.declared.ending.End.TheVariants.{Done, No, BadWords, Unloaded, Damaged, DiskFault, Stopped, ListenerFault, SourceFault, SinkFault, Limit, Memory}
+use Rattle.compress_server.specs.declared.ending.End.TheVariants.{Done, No, BadWords, Unloaded, Damaged, DiskFault, Stopped, ListenerFault, SourceFault, SinkFault, Limit, Memory, Unrolled}
 use Rattle.doors.specs.Visits.{Visits}
 use Rattle.outside.specs.Faults.{Rose}
 use Rattle.compress_server.specs.Ending.{Runs, IsCounted}
-use Rattle.compress_server.specs.Faults.{fault_line, damage_line}
+use Rattle.compress_server.specs.Faults.{fault_line, damage_line, obstacle_line}
 use Rattle.compress_server.specs.Run.{status_line, IsReported}
 use Rattle.compress_server.specs.Seen.{World}
-use Rattle.compress_server.specs.Words.{Form}
+use Rattle.program_words.specs.Words.{Form}
 
 -- this status, with this line; or 9, where there was no memory for the line
 abbrev pub IsLine : Option (List ℕ) → Option (List ℕ) → ℕ → ℕ → ℕ → List ℕ → ℕ → Type 0
@@ -36,6 +36,7 @@ TellsEnd begun taken before after SourceFault status = IsStatus begun taken befo
 TellsEnd begun taken before after SinkFault status = IsStatus begun taken before after 5 status
 TellsEnd begun taken before after Limit status = IsStatus begun taken before after 8 status
 TellsEnd begun taken before after Memory status = IsStatus begun taken before after 9 status
+TellsEnd begun taken before after (Unrolled obstacle) status = IsLine begun taken before after 15 (obstacle_line obstacle) status
 
 -- From before to after the program did what its words ask for, up to an end whose status this is.
 pub record Ends {D : Type 0} (clock : ℕ → Bool) (visits : D → Option Visits) (form : Option Form) (before after : World) (status : ℕ) : Type 0 where

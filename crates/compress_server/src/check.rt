@@ -4,17 +4,17 @@ ghost use Rattle.std.specs.Prelude.{◌≡◌, Err};
 ghost use Rattle.outside.specs.Faults.{Rose};
 ghost use Rattle.trade_file.specs.TradeFile.{AreFileTrades};
 ghost use Rattle.dual_certificate.specs.Parts.{AreParts};
-ghost use Rattle.compress_server.specs.Words.{read_market};
+ghost use Rattle.program_words.specs.Words.{read_market};
 ghost use Rattle.compress_server.specs.declared.load.FileRole.{FileRole as Role};
 ghost use Rattle.compress_server.specs.Ending.{IsVerdictTold, CheckRuns};
 
 use crate::ending::End;
 use crate::load::{LoadFault, load_proposal, load_roster, load_trades};
-use crate::words::MarketFiles;
 use command_types::{Mode, Roster};
 use dual_certificate::ProposalPart;
 use file_market::{check, verdict};
 use outside::{Files, Sink, write_all};
+use program_words::MarketFiles;
 use std::alloc::Global;
 use trade_file::FileTrade;
 

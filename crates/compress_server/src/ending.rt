@@ -1,6 +1,18 @@
 //! How a call of the program ends.
 
 use crate::load::LoadFault;
+use period_roll::Cause;
+
+/// What keeps the market of a journal from going on over a new roster.
+#[derive(Clone, Copy)]
+pub enum Obstacle {
+    /// A cause of the roll.
+    Market(Cause),
+    /// The position, or the number of the cycle or of its version, is above 10^18.
+    Misfit,
+    /// The new journal would not end before its most.
+    TooLong,
+}
 
 /// The end of a call.
 #[derive(Clone, Copy)]
@@ -29,4 +41,6 @@ pub enum End {
     Limit,
     /// The memory that was needed was not to be had.
     Memory,
+    /// The market of the journal can't go on over the new roster.
+    Unrolled(Obstacle),
 }

@@ -15,6 +15,7 @@ fn role_name(role: FileRole) -> &'static [u8]
         FileRole::Roster => b"roster",
         FileRole::Trades => b"trades",
         FileRole::Proposal => b"proposal",
+        FileRole::NewRoster => b"new-roster",
     }
 }
 

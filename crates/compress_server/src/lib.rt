@@ -2,22 +2,21 @@
 #![tactic(auto)]
 
 mod check;
-mod count;
 mod ending;
 mod faults;
 mod generated;
 mod laws;
 mod load;
+mod obstacles;
 mod opening;
-mod parting;
 mod places;
 mod replay;
 mod resources;
+mod rolling;
 mod script;
 mod serve;
 mod solve;
 mod top;
-mod words;
 
 pub use laws::{answers_what_it_can, every_line_is_answered, statuses_tell_the_end};
 pub use top::run;

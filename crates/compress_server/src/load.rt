@@ -26,6 +26,7 @@ pub enum FileRole {
     Roster,
     Trades,
     Proposal,
+    NewRoster,
 }
 
 /// Why a file could not be had.
@@ -58,7 +59,29 @@ fn read_front<F: Files>(
     }
 }
 
-/// The roster of the file with this name. No file changes.
+/// The roster of the file with this name, which is read in this role. No file changes.
+pub fn load_roster_as<F: Files>(
+    alloc: Global,
+    files: &mut F,
+    role: FileRole,
+    name: &str,
+) -> Result<Roster, LoadFault>
+    ensures says { IfOk result (λ roster. SaysRoster (F.folder files.old) name.now roster) }
+    ensures roster { IfOk result (λ roster. IsRoster roster) }
+    ensures fault { IfErr result (IsLoadFault (F.folder files.old) name.now role roster_file) }
+    ensures stays { F.folder files.new ≡ F.folder files.old }
+    ensures never_falls { F.faults files.old ≤ F.faults files.new }
+    ensures failed { (at : FileRole) → result ≡ Err (LoadFault.Files at) → Rose (F.faults files.old) (F.faults files.new) }
+{
+    let bytes = read_front(alloc, files, role, name)?;
+    match read_roster(alloc, &bytes) {
+        Ok(roster) => Ok(roster),
+        Err(FileFault::Memory) => Err(LoadFault::Memory),
+        Err(fault) => Err(LoadFault::Faulty(role, fault)),
+    }
+}
+
+/// The roster of the file with this name, which is read first. No file changes.
 pub fn load_roster<F: Files>(alloc: Global, files: &mut F, name: &str) -> Result<Roster, LoadFault>
     ensures says { IfOk result (λ roster. SaysRoster (F.folder files.old) name.now roster) }
     ensures roster { IfOk result (λ roster. IsRoster roster) }
@@ -67,12 +90,7 @@ pub fn load_roster<F: Files>(alloc: Global, files: &mut F, name: &str) -> Result
     ensures never_falls { F.faults files.old ≤ F.faults files.new }
     ensures failed { (at : FileRole) → result ≡ Err (LoadFault.Files at) → Rose (F.faults files.old) (F.faults files.new) }
 {
-    let bytes = read_front(alloc, files, FileRole::Roster, name)?;
-    match read_roster(alloc, &bytes) {
-        Ok(roster) => Ok(roster),
-        Err(FileFault::Memory) => Err(LoadFault::Memory),
-        Err(fault) => Err(LoadFault::Faulty(FileRole::Roster, fault)),
-    }
+    load_roster_as(alloc, files, FileRole::Roster, name)
 }
 
 /// The trades of the file with this name, over the roster. No file changes.

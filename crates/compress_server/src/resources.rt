@@ -1,9 +1,9 @@
 //! What a form runs with.
 
-use crate::count::Count;
 use network_laws::Solver;
 use outside::{Clock, Gate};
 use parallel_solver::Workers;
+use program_words::Count;
 use std::alloc::Global;
 use std::sync::Wait;
 use std::thread::Threads;

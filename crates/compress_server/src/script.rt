@@ -11,7 +11,6 @@ ghost use Rattle.compress_server.specs.declared.load.FileRole.{FileRole as Role}
 ghost use Rattle.compress_server.specs.Housed.{disk_by};
 ghost use Rattle.compress_server.specs.Ending.{JournalRuns, ScriptRuns};
 
-use crate::count::Count;
 use crate::ending::End;
 use crate::load::{LoadFault, load_roster};
 use crate::opening::open_house;
@@ -21,6 +20,7 @@ use cycle_lock::Turns;
 use house::House;
 use network_laws::Solver;
 use outside::{Clock, Disk, Files, Gate, Sink, Source};
+use program_words::Count;
 use session::{Host, SessionEnd};
 use std::sync::Wait;
 use std::thread::Threads;

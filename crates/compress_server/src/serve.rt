@@ -19,7 +19,6 @@ ghost use Rattle.compress_server.specs.Serve.{HasGivenSince, IsWritten, history_
 ghost use Rattle.compress_server.specs.Ending.{ServeRuns};
 ghost use Rattle.compress_server.specs.Runs.{runs_of, plan_of};
 
-use crate::count::Count;
 use crate::ending::End;
 use crate::load::{LoadFault, load_roster};
 use crate::opening::open_house;
@@ -32,6 +31,7 @@ use house::House;
 use itoa::Buffer;
 use network_laws::Solver;
 use outside::{Clock, Disk, Files, Gate, Sink, Trouble, write_all};
+use program_words::Count;
 use seats::{Place, SeatEnd, Service};
 use session::Host;
 use std::sync::Wait;

@@ -2,17 +2,17 @@
 
 ghost use Rattle.std.specs.Prelude.{◌≡◌, Err};
 ghost use Rattle.outside.specs.Faults.{Rose};
-ghost use Rattle.compress_server.specs.Words.{read_market};
+ghost use Rattle.program_words.specs.Words.{read_market};
 ghost use Rattle.compress_server.specs.declared.load.FileRole.{FileRole as Role};
 ghost use Rattle.compress_server.specs.Ending.{SolveRuns};
 
 use crate::ending::End;
 use crate::load::{LoadFault, load_roster, load_trades};
-use crate::words::MarketFiles;
 use file_market::solve;
 use network_laws::Solver;
 use outside::{Files, Gate, Sink, write_all};
 use parallel_solver::Workers;
+use program_words::MarketFiles;
 use std::alloc::Global;
 use std::thread::Threads;
 

@@ -4,29 +4,31 @@ ghost use Rattle.std.specs.Prelude.{◌≡◌, map, string_bytes};
 ghost use Rattle.outside.specs.Disk.{IsSettled};
 ghost use Rattle.outside.specs.Faults.{Rose};
 ghost use Rattle.compress_server.specs.declared.load.FileRole.{FileRole as Role};
-ghost use Rattle.compress_server.specs.Words.{form_of, idle_after};
-ghost use Rattle.compress_server.specs.Faults.{fault_line, damage_line};
+ghost use Rattle.program_words.specs.Words.{form_of, idle_after};
+ghost use Rattle.compress_server.specs.Faults.{fault_line, damage_line, obstacle_line};
 ghost use Rattle.compress_server.specs.Run.{IsReported};
 ghost use Rattle.compress_server.specs.Seen.{seen_by, world_by};
 ghost use Rattle.compress_server.specs.Ending.{Runs};
 ghost use Rattle.compress_server.specs.Telling.{IsLine, TellsEnd, Ends};
 
 use crate::check::run_check;
-use crate::ending::End;
+use crate::ending::{End, Obstacle};
 use crate::faults::{damage_line, fault_line};
 use crate::generated::run_gen;
 use crate::load::{FileRole, LoadFault};
+use crate::obstacles::obstacle_line;
 use crate::replay::{ReplayWords, run_replay};
 use crate::resources::Resources;
+use crate::rolling::{RollWords, run_roll};
 use crate::script::{ScriptWords, run_script};
 use crate::serve::{ServiceWords, run_serve};
 use crate::solve::run_solve;
-use crate::words::{Form, read_words};
 use command_types::FileFault;
 use doors::Listener;
 use network_laws::Solver;
 use outside::{Clock, Disk, Files, Gate, Sink, Source, write_all};
 use path_solver::PathSolver;
+use program_words::{Form, read_words};
 use std::alloc::Global;
 use std::sync::Wait;
 use std::thread::Threads;
@@ -60,6 +62,16 @@ fn tell_damage<E: Sink>(alloc: Global, errors: &mut E, place: u64) -> u8
     }
 }
 
+// Writes the line of a roll that is refused, and answers its status; where there is no memory for the line, that is told.
+fn tell_obstacle<E: Sink>(alloc: Global, errors: &mut E, obstacle: Obstacle) -> u8
+    ensures { IsLine (E.taken errors.old) (E.taken errors.new) (E.faults errors.old) (E.faults errors.new) 15 (obstacle_line obstacle) result }
+{
+    match obstacle_line(alloc, obstacle) {
+        Ok(line) => tell(errors, 15, &line),
+        Err(_) => tell(errors, 9, b"memory\n"),
+    }
+}
+
 // Writes the line of an end, if it has one, and answers its status.
 fn tell_end<E: Sink>(alloc: Global, errors: &mut E, end: End) -> u8
     ensures { TellsEnd (E.taken errors.old) (E.taken errors.new) (E.faults errors.old) (E.faults errors.new) end result }
@@ -79,6 +91,7 @@ fn tell_end<E: Sink>(alloc: Global, errors: &mut E, end: End) -> u8
         End::SinkFault => tell(errors, 5, b"sink fault\n"),
         End::Limit => tell(errors, 8, b"session limit\n"),
         End::Memory => tell(errors, 9, b"memory\n"),
+        End::Unrolled(obstacle) => tell_obstacle(alloc, errors, obstacle),
     }
 }
 
@@ -173,6 +186,24 @@ fn run_form<
             let end = run_replay(with.alloc, files, &words, output, &mut disk);
             (end, disk)
         }
+        Some(
+            Form::Roll {
+                roster,
+                journal,
+                new_roster,
+                matured,
+            },
+        ) => {
+            let words = RollWords {
+                roster,
+                journal,
+                new_roster,
+                matured,
+            };
+            let mut disk = disk;
+            let end = run_roll(with.alloc, files, &words, output, &mut disk);
+            (end, disk)
+        }
     }
 }
 
@@ -190,13 +221,16 @@ fn run_form<
 /// - `gen NUMBER [--workers W]`: the summary of the market of a number from 1 to 10^18, solved in the hybrid mode.
 /// - `replay ROSTER JOURNAL`: what the journal stands for: each member and the trades in which it has a side, each
 ///   execution, and how many changes there are. Nothing is written to the disk.
+/// - `roll ROSTER JOURNAL NEW-ROSTER [--matured DAY]`: a journal over the new roster, with which the market of this one goes
+///   on: one position further, with its open trades, numbered from 1, and the settings of members and products that are
+///   there. With DAY the trades of products that mature by it are left out. Nothing is written to the disk.
 ///
 /// MODE is `conservative`, `hybrid` or `free`. W workers solve, from 1 to 64; N is from 1 to 64, C from 1 to 1,000,000,
 /// and SECONDS from 1 to 86,400. Where the option is not given, W and N are 4, C is 1,000,000, and a call may wait without
-/// end. An option is `--name V` or `--name=V`, at any place behind the form's name, at most once; `--` ends the options.
+/// end. DAY is `YYYY-MM-DD`. An option is `--name V` or `--name=V`, at any place behind the form's name, at most once; `--` ends the options.
 ///
-/// The files are read in the order of the words of the form, the proposal last, and the first that can't be had ends the
-/// call. The disk, which a script attaches to its journal, has to be settled: a crash now would leave what a read gives. It is
+/// The files are read in the order of the words of the form, the proposal last, a roll's journal behind both rosters, and the
+/// first that can't be had ends the call. The disk, which a script attaches to its journal, has to be settled: a crash now would leave what a read gives. It is
 /// handed back in each case. A worker passes the gate before it solves a piece. It answers the status:
 ///
 /// - 0: all was done and written: a script's input was read to its end, or a BYE was accepted; a check says yes;
@@ -212,10 +246,11 @@ fn run_form<
 /// - 8: a script's session took 2^30 bytes; its whole lines up to there are replied to;
 /// - 9: memory was not to be had; where a seat found none, the others served on;
 /// - 10: the listener failed, and no seat began; or the door of a seat, and the others served on;
-/// - 11: the files failed at one of them, and the files before it have no fault.
+/// - 11: the files failed at one of them, and the files before it have no fault;
+/// - 15: the market of a roll can't go on over the new roster, for the cause that is told.
 ///
-/// At 2, 3, 7, 9 and 11 nothing was read from the input or written to the output. A check, a solve, a gen and a replay read
-/// no input; the first three leave the disk alone. For each status but 0 and 1 one line goes to the errors. The moment of each
+/// At 2, 3, 7, 9, 11 and 15 nothing was read from the input or written to the output. A check, a solve, a gen, a replay and a
+/// roll read no input; the first three leave the disk alone. For each status but 0 and 1 one line goes to the errors. The moment of each
 /// command is one that the clock tells.
 pub fn run<
     R: Threads + Wait + Sync,

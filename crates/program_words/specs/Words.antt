@@ -1,11 +1,12 @@
 -- The words that the program is called with, and what they ask for.
 use Rattle.std.specs.Prelude.{ℕ, ◌&&◌, Bool, List, [], ◌∷◌, Option, Some, None, option_map, option_and_then, unwrap_or, is_none, codes, bytes_eq, if◌then◌else◌}
+use Rattle.units_core.specs.Day.{DayParts}
 use Rattle.command_types.specs.declared.cycle.Mode.{Mode}
 use Rattle.command_types.specs.Grammar.{mode_word}
-use Rattle.compress_server.specs.Parting.{Options, Parts, most_connections, count_of, parts_of}
-use Rattle.compress_server.specs.declared.words.MarketFiles.{MarketFiles}
-use Rattle.compress_server.specs.declared.words.Form.{Form as ReadForm}
-use Rattle.compress_server.specs.declared.words.Form.TheVariants as read
+use Rattle.program_words.specs.Parting.{Options, Parts, most_connections, count_of, parts_of}
+use Rattle.program_words.specs.declared.words.MarketFiles.{MarketFiles}
+use Rattle.program_words.specs.declared.words.Form.{Form as ReadForm}
+use Rattle.program_words.specs.declared.words.Form.TheVariants as read
 use Rattle.units_core.specs.declared.limits.TheConstants.{MOST_NUMBER}
 
 -- the names of a market's two files, and the mode in which it is compressed
@@ -29,6 +30,7 @@ pub data Form : Type 0 where
   Solve : (market : Market) (workers : ℕ) → Form
   Gen : (number workers : ℕ) → Form
   Replay : (roster journal : List ℕ) → Form
+  Roll : (roster journal new_roster : List ℕ) (matured : Option DayParts) → Form
 
 -- the numbers where the option is not given
 abbrev pub workers_of : Options → ℕ
@@ -43,9 +45,17 @@ connections_of options = unwrap_or options.connections most_connections
 abbrev pub numbers_of : Options → ServiceNumbers
 numbers_of options = record { seats = seats_of options; connections = connections_of options; workers = workers_of options; idle = options.idle }
 
+-- no option of a service alone is given
+abbrev pub has_no_service : Options → Bool
+has_no_service options = (is_none options.seats && is_none options.connections) && is_none options.idle
+
 -- no option is given, but perhaps the workers
 abbrev pub has_workers_alone : Options → Bool
-has_workers_alone options = (is_none options.seats && is_none options.connections) && is_none options.idle
+has_workers_alone options = is_none options.matured && has_no_service options
+
+-- no option is given, but perhaps the day of a roll
+abbrev pub has_matured_alone : Options → Bool
+has_matured_alone options = is_none options.workers && has_no_service options
 
 abbrev pub has_none : Options → Bool
 has_none options = is_none options.workers && has_workers_alone options
@@ -61,7 +71,7 @@ script_of options plain = None
 
 -- `serve ROSTER JOURNAL ADDRESS [--seats N] [--connections C] [--workers W] [--idle SECONDS]`
 abbrev pub serve_of : Options → List (List ℕ) → Option Form
-serve_of options (roster ∷ journal ∷ address ∷ []) = Some (Form.Serve roster journal address (numbers_of options))
+serve_of options (roster ∷ journal ∷ address ∷ []) = if is_none options.matured then Some (Form.Serve roster journal address (numbers_of options)) else None
 serve_of options plain = None
 
 -- `check ROSTER TRADES MODE PROPOSAL`
@@ -91,6 +101,12 @@ abbrev pub replay_of : Options → List (List ℕ) → Option Form
 replay_of options (roster ∷ journal ∷ []) = if has_none options then Some (Form.Replay roster journal) else None
 replay_of options plain = None
 
+-- `roll ROSTER JOURNAL NEW-ROSTER [--matured DAY]`
+abbrev pub roll_of : Options → List (List ℕ) → Option Form
+roll_of options (roster ∷ journal ∷ new_roster ∷ []) =
+    if has_matured_alone options then Some (Form.Roll roster journal new_roster options.matured) else None
+roll_of options plain = None
+
 -- the form of this name, with these words behind it
 abbrev pub form_named : List ℕ → Parts → Option Form
 form_named name parts =
@@ -100,7 +116,8 @@ form_named name parts =
     else (if bytes_eq name (codes "solve") then solve_of parts.options parts.plain
     else (if bytes_eq name (codes "gen") then gen_of parts.options parts.plain
     else (if bytes_eq name (codes "replay") then replay_of parts.options parts.plain
-    else None)))))
+    else (if bytes_eq name (codes "roll") then roll_of parts.options parts.plain
+    else None))))))
 
 -- what the words ask for; none where they are out of form
 abbrev pub form_of : List (List ℕ) → Option Form
@@ -126,3 +143,4 @@ read_form (read.Check market proposal) = Form.Check (read_market market) proposa
 read_form (read.Solve market workers) = Form.Solve (read_market market) workers.value
 read_form (read.Gen number workers) = Form.Gen number workers.value
 read_form (read.Replay roster journal) = Form.Replay roster.now journal.now
+read_form (read.Roll roster journal new_roster matured) = Form.Roll roster.now journal.now new_roster.now matured

@@ -1,7 +1,7 @@
 -- Words that are parted one after another.
 use Rattle.std.proofs.Common.{◌≡◌, ◌∙◌, refl, sym, ap, ℕ, ◌<◌, suc, List, [], ◌∷◌, length, map, drop, fold, get_or, Some, None, drop-cons}
 use Rattle.std.specs.Prelude.{option_and_then}
-use Rattle.compress_server.specs.Parting.{Parts, no_parts, with_word, parted_with, has_values, parts_of}
+use Rattle.program_words.specs.Parting.{Parts, no_parts, with_word, parted_with, has_values, parts_of}
 
 -- where one word can't stand, none are parted
 none_stays : (words : List (List ℕ)) → fold parted_with None words ≡ None

@@ -2,13 +2,13 @@
 //! `specs/Words` has them.
 
 ghost use Rattle.std.specs.Prelude.{◌≡◌, map, string_bytes, option_map};
-ghost use Rattle.compress_server.specs.Words.{market_of, script_of, serve_of, check_of, solve_of, gen_of, replay_of, workers_of, seats_of, connections_of, has_none, has_workers_alone, form_named, form_of, read_market, read_form};
-ghost use Rattle.compress_server.specs.Parting.{read_options, read_parts};
+ghost use Rattle.program_words.specs.Words.{market_of, script_of, serve_of, check_of, solve_of, gen_of, replay_of, roll_of, workers_of, seats_of, connections_of, has_none, has_no_service, has_matured_alone, has_workers_alone, form_named, form_of, read_market, read_form};
+ghost use Rattle.program_words.specs.Parting.{read_options, read_parts};
 
 use crate::count::Count;
 use crate::parting::{Options, Parts, count_of, parts_of};
 use command_types::Mode;
-use units_core::{MOST_CONNECTIONS, MOST_NUMBER};
+use units_core::{Day, MOST_CONNECTIONS, MOST_NUMBER};
 
 /// The names of a market's two files, and the mode in which it is compressed.
 #[derive(Clone, Copy)]
@@ -57,6 +57,13 @@ pub enum Form<'a> {
         roster: &'a str,
         journal: &'a str,
     },
+    /// A journal with which the market of another goes on over a new roster.
+    Roll {
+        roster: &'a str,
+        journal: &'a str,
+        new_roster: &'a str,
+        matured: Option<Day>,
+    },
 }
 
 impl Options {
@@ -78,11 +85,25 @@ impl Options {
         self.connections.unwrap_or(MOST_CONNECTIONS)
     }
 
+    // Whether no option of a service alone is given.
+    fn has_no_service(&self) -> bool
+        ensures { result ≡ has_no_service (read_options self.now) }
+    {
+        self.seats.is_none() && self.connections.is_none() && self.idle.is_none()
+    }
+
     // Whether no option is given, but perhaps the workers.
     fn has_workers_alone(&self) -> bool
         ensures { result ≡ has_workers_alone (read_options self.now) }
     {
-        self.seats.is_none() && self.connections.is_none() && self.idle.is_none()
+        self.matured.is_none() && self.has_no_service()
+    }
+
+    // Whether no option is given, but perhaps the day of a roll.
+    fn has_matured_alone(&self) -> bool
+        ensures { result ≡ has_matured_alone (read_options self.now) }
+    {
+        self.workers.is_none() && self.has_no_service()
     }
 
     fn has_none(&self) -> bool
@@ -123,7 +144,7 @@ fn read_serve<'a>(options: &Options, plain: &[&'a str]) -> Option<Form<'a>>
     ensures { option_map read_form result ≡ serve_of (read_options options.now) (map (λ word. word.now) plain.now) }
 {
     match plain {
-        [roster, journal, address] => {
+        [roster, journal, address] if options.matured.is_none() => {
             Some(Form::Serve {
                 roster,
                 journal,
@@ -187,6 +208,22 @@ fn read_replay<'a>(options: &Options, plain: &[&'a str]) -> Option<Form<'a>>
     }
 }
 
+fn read_roll<'a>(options: &Options, plain: &[&'a str]) -> Option<Form<'a>>
+    ensures { option_map read_form result ≡ roll_of (read_options options.now) (map (λ word. word.now) plain.now) }
+{
+    match plain {
+        [roster, journal, new_roster] if options.has_matured_alone() => {
+            Some(Form::Roll {
+                roster,
+                journal,
+                new_roster,
+                matured: options.matured,
+            })
+        }
+        _ => None,
+    }
+}
+
 // The form of this name, with these words behind it.
 fn form_named<'a>(name: &str, parts: &Parts<'a>) -> Option<Form<'a>>
     ensures { option_map read_form result ≡ form_named name.now (read_parts parts.now) }
@@ -204,6 +241,8 @@ fn form_named<'a>(name: &str, parts: &Parts<'a>) -> Option<Form<'a>>
         read_gen(&parts.options, plain)
     } else if name == "replay" {
         read_replay(&parts.options, plain)
+    } else if name == "roll" {
+        read_roll(&parts.options, plain)
     } else {
         None
     }

@@ -1,20 +1,22 @@
 -- The words behind a form's name: the plain ones, and the options.
 use Rattle.std.specs.Prelude.{ℕ, ◌+◌, ◌==◌, not, ◌&&◌, ◌||◌, Bool, true, false, List, [], ◌∷◌, ◌++◌, length, map, take, drop, fold, position, Option, Some, None, option_map, option_and_then, is_none, Result, Ok, Err, codes, bytes_eq, if◌then◌else◌}
+use Rattle.units_core.specs.Day.{DayParts, day_of}
 use Rattle.units_core.specs.Number.{number_of}
 use Rattle.units_core.specs.declared.number.NumberFault.{NumberFault}
-use Rattle.compress_server.specs.declared.parting.OptionName.{OptionName}
-use Rattle.compress_server.specs.declared.parting.OptionName.TheVariants.{Workers, Seats, Connections, Idle}
-use Rattle.compress_server.specs.declared.parting.Options.{Options as ReadOptions}
-use Rattle.compress_server.specs.declared.parting.Parts.{Parts as ReadParts}
-use Rattle.compress_server.specs.declared.parting.TheConstants.{MOST_IDLE}
+use Rattle.program_words.specs.declared.parting.OptionName.{OptionName}
+use Rattle.program_words.specs.declared.parting.OptionName.TheVariants.{Workers, Seats, Connections, Idle, Matured}
+use Rattle.program_words.specs.declared.parting.Options.{Options as ReadOptions}
+use Rattle.program_words.specs.declared.parting.Parts.{Parts as ReadParts}
+use Rattle.program_words.specs.declared.parting.TheConstants.{MOST_IDLE}
 use Rattle.units_core.specs.declared.limits.TheConstants.{MOST_CONNECTIONS, MOST_SEATS, MOST_WORKERS}
 
--- the options that are given, each with its number
+-- the options that are given, each with its number or its day
 pub record Options : Type 0 where
   pub workers : Option ℕ
   pub seats : Option ℕ
   pub connections : Option ℕ
   pub idle : Option ℕ
+  pub matured : Option DayParts
 
 -- Some words, parted: the plain ones and the options. A name may wait for its value, which is the next word; where the options have ended, all others are plain.
 pub record Parts : Type 0 where
@@ -25,7 +27,7 @@ pub record Parts : Type 0 where
 
 -- no words
 abbrev pub no_parts : Parts
-no_parts = record { plain = []; options = record { workers = None; seats = None; connections = None; idle = None }; waiting = None; ended = false }
+no_parts = record { plain = []; options = record { workers = None; seats = None; connections = None; idle = None; matured = None }; waiting = None; ended = false }
 
 -- a number that was read, but 0
 abbrev pub of_count : Result ℕ NumberFault → Option ℕ
@@ -48,24 +50,26 @@ most_connections = MOST_CONNECTIONS
 abbrev pub most_idle : ℕ
 most_idle = MOST_IDLE
 
--- a number for an option; none where it had one
-abbrev pub once : Option ℕ → Option ℕ → Option ℕ
-once None number = number
-once (Some before) number = None
+-- a value for an option; none where it had one
+abbrev pub once : {A : Type 0} → Option A → Option A → Option A
+once None value = value
+once (Some before) value = None
 
--- the options with this one, which they have not had, and whose value is a number in its range
+-- the options with this one, which they have not had, and whose value is a number in its range, or a day
 abbrev pub with_option : Options → OptionName → List ℕ → Option Options
 with_option options Workers value = option_map (λ n. record options { workers = Some n }) (once options.workers (count_of most_workers value))
 with_option options Seats value = option_map (λ n. record options { seats = Some n }) (once options.seats (count_of most_seats value))
 with_option options Connections value = option_map (λ n. record options { connections = Some n }) (once options.connections (count_of most_connections value))
 with_option options Idle value = option_map (λ n. record options { idle = Some n }) (once options.idle (count_of most_idle value))
+with_option options Matured value = option_map (λ d. record options { matured = Some d }) (once options.matured (day_of value))
 
 abbrev pub option_word : List ℕ → Option OptionName
 option_word word =
     if bytes_eq word (codes "--workers") then Some Workers
     else (if bytes_eq word (codes "--seats") then Some Seats
     else (if bytes_eq word (codes "--connections") then Some Connections
-    else (if bytes_eq word (codes "--idle") then Some Idle else None)))
+    else (if bytes_eq word (codes "--idle") then Some Idle
+    else (if bytes_eq word (codes "--matured") then Some Matured else None))))
 
 -- whether a word begins with a dash and has more behind it
 abbrev pub is_dashed : List ℕ → Bool
@@ -115,7 +119,7 @@ parts_of words = option_and_then has_values (fold parted_with (Some no_parts) wo
 
 -- the options of the code's
 abbrev pub read_options : ReadOptions → Options
-read_options o = record { workers = option_map (λ count. count.value) o.workers; seats = option_map (λ count. count.value) o.seats; connections = o.connections; idle = o.idle }
+read_options o = record { workers = option_map (λ count. count.value) o.workers; seats = option_map (λ count. count.value) o.seats; connections = o.connections; idle = o.idle; matured = o.matured }
 
 -- the parts of the code's
 abbrev pub read_parts : ReadParts → Parts

@@ -1,8 +1,8 @@
 use Rattle.std.proofs.Common.{◌∙◌, sym, ap, map, drop, string_bytes, suc, arith}
 use Rattle.std.specs.Prelude.{option_map}
-use Rattle.compress_server.specs.Parting.{read_parts, with_word}
-use Rattle.compress_server.proofs.PartingFacts.{refused, next_word}
-use Rattle.compress_server.proofs.parting.parts_of.Goals as goal
+use Rattle.program_words.specs.Parting.{read_parts, with_word}
+use Rattle.program_words.proofs.PartingFacts.{refused, next_word}
+use Rattle.program_words.proofs.parting.parts_of.Goals as goal
 
 pub returns-in_err-put : goal.returns-in_err-put
 returns-in_err-put c =

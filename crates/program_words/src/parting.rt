@@ -1,15 +1,16 @@
 //! The words behind a form's name: the plain ones, and the options.
 //!
-//!     --name V, --name=V       an option with its value, a number
+//!     --name V, --name=V       an option with its value, a number or a day
 //!     --                       ends the options: all words behind it are plain
 //!     -, words without a dash  plain
 
 ghost use Rattle.std.specs.Prelude.{◌≡◌, ◌≤◌, ◌<◌, ◌==◌, Some, IfSome, map, take, drop, position, option_map, string_bytes, length};
-ghost use Rattle.compress_server.specs.Parting.{most_workers, most_seats, most_connections, most_idle, count_of, once, with_option, option_word, is_dashed, with_plain, with_value, with_dashed, with_next, with_word, no_parts, parts_of, read_options, read_parts};
+ghost use Rattle.units_core.specs.Day.{day_of};
+ghost use Rattle.program_words.specs.Parting.{most_workers, most_seats, most_connections, most_idle, count_of, once, with_option, option_word, is_dashed, with_plain, with_value, with_dashed, with_next, with_word, no_parts, parts_of, read_options, read_parts};
 
 use crate::count::Count;
 use arrayvec::ArrayVec;
-use units_core::{MOST_CONNECTIONS, MOST_SEATS, MOST_WORKERS, read_number};
+use units_core::{Day, MOST_CONNECTIONS, MOST_SEATS, MOST_WORKERS, read_number};
 
 /// An option that a form may have.
 #[derive(Clone, Copy)]
@@ -18,6 +19,7 @@ pub enum OptionName {
     Seats,
     Connections,
     Idle,
+    Matured,
 }
 
 /// The options that are given.
@@ -27,6 +29,7 @@ pub struct Options {
     pub seats: Option<Count>,
     pub connections: Option<u64>,
     pub idle: Option<u64>,
+    pub matured: Option<Day>,
 }
 
 /// The most seconds that a connection of a service may be silent: a day.
@@ -79,6 +82,16 @@ fn number_once(before: Option<u64>, most: u64, text: &[u8]) -> Option<u64>
     }
 }
 
+// The day that a text names, for an option that had the one before.
+fn day_once(before: Option<Day>, text: &[u8]) -> Option<Day>
+    ensures { result ≡ once before (day_of text.now) }
+{
+    match before {
+        Some(_) => None,
+        None => Day::read(text),
+    }
+}
+
 impl Options {
     // The options with this one too.
     fn with(self, name: OptionName, value: &[u8]) -> Option<Options>
@@ -104,6 +117,10 @@ impl Options {
                 let idle = Some(number_once(self.idle, MOST_IDLE, value)?);
                 Some(Options { idle, ..self })
             }
+            OptionName::Matured => {
+                let matured = Some(day_once(self.matured, value)?);
+                Some(Options { matured, ..self })
+            }
         }
     }
 }
@@ -119,6 +136,8 @@ fn option_word(word: &[u8]) -> Option<OptionName>
         Some(OptionName::Connections)
     } else if word == b"--idle".as_slice() {
         Some(OptionName::Idle)
+    } else if word == b"--matured".as_slice() {
+        Some(OptionName::Matured)
     } else {
         None
     }
@@ -153,6 +172,7 @@ impl<'a> Parts<'a> {
                 seats: None,
                 connections: None,
                 idle: None,
+                matured: None,
             },
             waiting: None,
             ended: false,
@@ -170,9 +190,14 @@ impl<'a> Parts<'a> {
     fn put_value(&mut self, name: OptionName, value: &[u8]) -> Option<()>
         ensures { option_map (λ done. read_parts self.new) result ≡ with_value (read_parts self.old) (Some name) value.now }
     {
-        self.options = self.options.with(name, value)?;
-        self.waiting = None;
-        Some(())
+        match self.options.with(name, value) {
+            None => None,
+            Some(options) => {
+                self.options = options;
+                self.waiting = None;
+                Some(())
+            }
+        }
     }
 
     // Puts a word with dashes; none where it is no option.

@@ -1,0 +1,193 @@
+-- What a roll writes, and why it does not: what was read of a disk, over the new rows.
+use Rattle.std.proofs.Common.{◌≡◌, ◌∙◌, refl, sym, subst, ap, ℕ, Bool, false, List, Option, Some, None}
+use Rattle.std.specs.Prelude.{◌↔◌, Result, Ok, Err, IfSome, IsTrue, if◌then◌else◌}
+use Rattle.units_core.specs.Day.{DayParts}
+use Rattle.outside.specs.Disk as disks
+use Rattle.outside.specs.Files.{Folder}
+use Rattle.outside.specs.Flow.{Takes, TakesFront}
+use Rattle.command_types.specs.declared.base.Base.{Base}
+use Rattle.command_types.specs.declared.cycle.Phase.{Phase}
+use Rattle.command_types.specs.declared.cycle.Phase.TheVariants.{None as NoPhase, Frozen, Solving, Proposed, Broken}
+use Rattle.command_types.specs.declared.figures.State.{State}
+use Rattle.command_types.specs.declared.spelling.Spelling.TheVariants.{Second}
+use Rattle.command_types.specs.Bases.{CanBeWritten, Fits, base_spelling, written}
+use Rattle.command_types.specs.Cycles.{is_open}
+use Rattle.command_types.specs.Folds.{IsAtRest, folded}
+use Rattle.command_types.specs.History.{History, end_of, replayed}
+use Rattle.command_types.specs.Roster.{Rows, IsRoster}
+use Rattle.cycle_laws.specs.Bases.{IsWritable}
+use Rattle.cycle_laws.proofs.Bases.{folds_are_writable}
+use Rattle.cycle_laws.proofs.Written.{writable_can_be_written, fitting_is_writable}
+use Rattle.cycle_states.specs.BaseOf.{base_of}
+use Rattle.cycle_states.specs.Replayed.{IsReplayed, base_at}
+use Rattle.cycle_states.proofs.DeskFacts.{roster_replayed}
+use Rattle.period_roll.specs.declared.cause.Cause.{Cause}
+use Rattle.period_roll.specs.Laws.{KeepsPosition}
+use Rattle.period_roll.specs.Rolls.{rolled, rolled_base}
+use Rattle.period_roll.proofs.Fitting.{rolled_fits}
+use Rattle.period_roll.proofs.Nets.{rolled_keeps}
+use Rattle.period_roll.proofs.Written.{can_be_written}
+use Rattle.journal_core.specs.declared.fault.JournalFault.{JournalFault}
+use Rattle.journal_core.specs.declared.fault.JournalFault.TheVariants as faults
+use Rattle.recovery.specs.StandsFor.{StandsFor}
+use Rattle.trade_file.specs.RosterFile.{roster_file}
+use Rattle.fresh_journal.specs.Journals.{begun_history, journal_of}
+use Rattle.house.specs.declared.recovering.Recovered.{Recovered}
+use Rattle.house.specs.Opening.{FindsFault}
+use Rattle.house.specs.Storing.{ContentStandsFor}
+use Rattle.compress_server.specs.declared.ending.End.{End}
+use Rattle.compress_server.specs.declared.ending.End.TheVariants.{Done, No, BadWords, Unloaded, Damaged, DiskFault, Stopped, ListenerFault, SourceFault, SinkFault, Limit, Memory, Unrolled}
+use Rattle.compress_server.specs.declared.ending.Obstacle.TheVariants.{Misfit}
+use Rattle.compress_server.specs.declared.load.FileRole.TheVariants as roles
+use Rattle.compress_server.specs.declared.load.LoadFault.{LoadFault}
+use Rattle.compress_server.specs.declared.load.LoadFault.TheVariants.{Files, Faulty, Memory as NoMemory}
+use Rattle.compress_server.specs.Ending.{IsFault}
+use Rattle.compress_server.specs.Files.{SaysRoster, IsLoadFault, IsRollFault, ReadBeforeRoll}
+use Rattle.compress_server.specs.Housed.{disk_of}
+use Rattle.compress_server.specs.Replay.{IsKept}
+use Rattle.compress_server.specs.Roll.{last_base, rolled_history, IsObstacle, IsRolled, IsUnrolled, JournalRolls}
+
+-- ---- the base at the end of a history
+
+-- what is written where a cycle is open is nothing
+written_at : (p : Phase) (w b : Base) → (if is_open p then None else Some w) ≡ Some b → (p ≡ NoPhase) × (w ≡ b)
+written_at NoPhase w b is = (refl, cc)
+written_at Frozen w b is = absurd (cc)
+written_at Solving w b is = absurd (cc)
+written_at Proposed w b is = absurd (cc)
+written_at Broken w b is = absurd (cc)
+
+-- so what is written is that of the fold, at rest
+last_at_rest : (h : History) (b : Base) → last_base h ≡ Some b → IsAtRest h × (written (folded h).base ≡ b)
+last_at_rest h b is = written_at (replayed h).cycle.phase (written (base_at (end_of h) (replayed h))) b is
+
+-- what a machine that made the changes writes
+pub last_of : (s : State) (h : History) → IsReplayed s h → base_of (end_of h) s ≡ last_base h
+last_of s h there = ap (λ (t : State). base_of (end_of h) t) there.same
+
+-- a market goes on only from a base
+rolled_some : (old new : Rows) (matured : Option DayParts) (o : Option Base) (made : Base) → rolled old new matured o ≡ Ok made → (b : Base) × (o ≡ Some b) × (rolled_base old new matured b ≡ Ok made)
+rolled_some old new matured None made is = absurd (cc)
+rolled_some old new matured (Some b) made is = (b, refl, is)
+
+-- a base that is there and does not fit
+pub misfit : (old : Rows) (o : Option Base) → (IfSome o (Fits old) → ⊥) → (b : Base) × (o ≡ Some b) × (¬ Fits old b)
+misfit old None none = absurd (none tt)
+misfit old (Some b) none = (b, refl, none)
+
+module _ (s : State) (h : History) (there : IsReplayed s h) (o : Option Base) (is : o ≡ base_of (end_of h) s) where
+  last_is : last_base h ≡ o
+  last_is = sym (last_of s h there) ∙ sym is
+
+  -- what a machine's base comes to is what the history's does
+  pub rolled_there : (old new : Rows) (matured : Option DayParts) (r : Result Base Cause) → rolled old new matured o ≡ r → rolled_history old new matured h ≡ r
+  rolled_there old new matured r comes = ap (λ (x : Option Base). rolled old new matured x) last_is ∙ comes
+
+  pub fits_there : (old : Rows) → IfSome o (Fits old) → IfSome (last_base h) (Fits old)
+  fits_there old fits = subst (λ (x : Option Base). IfSome x (Fits old)) (sym last_is) fits
+
+  pub misfit_there : (old new : Rows) (matured : Option DayParts) (result : Bool) → (IsTrue result ↔ IfSome o (Fits old)) → result ≡ false → IsObstacle old new matured h Misfit
+  misfit_there old new matured result tells fails =
+      let found = misfit old o (λ fits. subst (λ (b : Bool). IsTrue b) fails (tells.1 fits)) in
+      (found.0, last_is ∙ found.1, found.2)
+
+-- ---- the base over the new rows
+
+module _ (old new : Rows) (matured : Option DayParts) (h : History) (writable : IsWritable old h.base.state) (s : State) (there : IsReplayed s h) (is_old : IsRoster old) (is_new : IsRoster new) where
+  module _ (made : Base) (goes_on : rolled_history old new matured h ≡ Ok made) where
+    abbrev found : (b : Base) × (last_base h ≡ Some b) × (rolled_base old new matured b ≡ Ok made)
+    found = rolled_some old new matured (last_base h) made goes_on
+
+    abbrev base : Base
+    base = found.0
+
+    at_end : IsAtRest h × (written (folded h).base ≡ base)
+    at_end = last_at_rest h base found.1
+
+    base_written : CanBeWritten base
+    base_written = subst CanBeWritten at_end.1 (writable_can_be_written old (folded h).base (folds_are_writable old h writable there.legal at_end.0))
+
+    pub made_can_be_written : CanBeWritten made
+    made_can_be_written = can_be_written old new matured base made is_new base_written found.2
+
+    module _ (fits : IfSome (last_base h) (Fits old)) where
+      base_fits : Fits old base
+      base_fits = subst (λ (o : Option Base). IfSome o (Fits old)) found.1 fits
+
+      pub made_fits : Fits new made
+      made_fits = rolled_fits old new matured base made is_old is_new base_fits found.2
+
+      pub is_rolled : (text : List ℕ) → text ≡ journal_of (base_spelling Second made) → ((roster : Rows) → Fits roster made → StandsFor text (begun_history roster made)) → IsRolled old new matured h text
+      is_rolled text spelled stands = record {
+        base = made;
+        goes_on = goes_on;
+        nets = λ product member.
+            let trades = ap (λ (b : Base). b.trades) at_end.1 in
+            subst (λ ts. KeepsPosition old new matured ts made.trades product member) (sym trades) (rolled_keeps old new matured base made is_old found.2 product member);
+        writable = fitting_is_writable new made is_new.few_members is_new.few_products made_can_be_written made_fits;
+        spelled = spelled;
+        stands = stands new made_fits;
+      }
+
+-- ---- why a roster could not be had
+
+module _ (folder : Option Folder) (roster new_roster : List ℕ) where
+  abbrev IsUnread : LoadFault → Type 0
+  IsUnread fault = IsFault (IsRollFault folder roster new_roster) (ReadBeforeRoll folder roster) fault
+
+  pub old_unread : (fault : LoadFault) → IsLoadFault folder roster roles.Roster roster_file fault → IsUnread fault
+  old_unread (Faulty role f) (is, reads) = subst (λ r. IsRollFault folder roster new_roster r f) (sym is) reads
+  old_unread (Files role) is = subst (λ r. ReadBeforeRoll folder roster r) (sym is) tt
+  old_unread NoMemory is = tt
+
+  pub new_unread : (rows : Rows) (fault : LoadFault) → SaysRoster folder roster rows → IsLoadFault folder new_roster roles.NewRoster roster_file fault → IsUnread fault
+  new_unread rows (Faulty role f) says (is, reads) = subst (λ r. IsRollFault folder roster new_roster r f) (sym is) (rows, says, reads)
+  new_unread rows (Files role) says is = subst (λ r. ReadBeforeRoll folder roster r) (sym is) (rows, says)
+  new_unread rows NoMemory says is = tt
+
+-- the machine that made the changes has the old rows
+pub same_rows : (old : Rows) (read : Recovered) → IsReplayed read.machine.state read.past → IsWritable old read.past.base.state → read.machine.state.roster ≡ old
+same_rows old read there base = roster_replayed read.machine.state read.past there ∙ base.market.same
+
+-- ---- how a roll ends, over a disk that was attached, which changes nothing
+
+module _ (old new : Rows) (matured : Option DayParts) (o mid now : Option disks.History) (before after : ℕ) (same : mid ≡ o) (stays : now ≡ mid) (begun taken : Option (List ℕ)) where
+  module _ (read : Recovered) (stands : ContentStandsFor mid read.past) (replayed_there : IsReplayed read.machine.state read.past) (base : IsWritable old read.past.base.state) where
+    kept : IsKept old o read.past
+    kept = record { base = base; legal = replayed_there.legal; stands = subst (λ (d : Option disks.History). ContentStandsFor d read.past) same stands }
+
+    rows_same : read.machine.state.roster ≡ old
+    rows_same = same_rows old read replayed_there base
+
+    module _ (text : List ℕ) (is : IsRolled read.machine.state.roster new matured read.past text) where
+      is_there : IsRolled old new matured read.past text
+      is_there = subst (λ (rows : Rows). IsRolled rows new matured read.past text) rows_same is
+
+      pub rolls : Takes begun taken text → JournalRolls old new matured (disk_of o before) (disk_of now after) begun taken Done
+      rolls takes = (stays ∙ same, (read.past, text, kept, is_there, takes))
+
+      pub rolls_front : TakesFront begun taken text → JournalRolls old new matured (disk_of o before) (disk_of now after) begun taken SinkFault
+      rolls_front takes = (stays ∙ same, (read.past, text, kept, is_there, takes))
+
+    -- by the end that tells why there is no text
+    ends : (end : End) → IsUnrolled old new matured read.past end → taken ≡ begun → JournalRolls old new matured (disk_of o before) (disk_of now after) begun taken end
+    ends Done is none = absurd is
+    ends No is none = absurd is
+    ends BadWords is none = absurd is
+    ends (Unloaded fault) is none = absurd is
+    ends (Damaged place) is none = absurd is
+    ends DiskFault is none = absurd is
+    ends Stopped is none = absurd is
+    ends ListenerFault is none = absurd is
+    ends SourceFault is none = absurd is
+    ends SinkFault is none = absurd is
+    ends Limit is none = absurd is
+    ends Memory is none = (stays ∙ same, none)
+    ends (Unrolled obstacle) is none = (stays ∙ same, (none, (read.past, kept, is)))
+
+    pub unrolled : (end : End) → IsUnrolled read.machine.state.roster new matured read.past end → taken ≡ begun → JournalRolls old new matured (disk_of o before) (disk_of now after) begun taken end
+    unrolled end is none = ends end (subst (λ (rows : Rows). IsUnrolled rows new matured read.past end) rows_same is) none
+
+  pub roll_damaged : (fault : JournalFault) (place : ℕ) → fault ≡ faults.Damaged place → FindsFault old mid fault → taken ≡ begun → JournalRolls old new matured (disk_of o before) (disk_of now after) begun taken (Damaged place)
+  roll_damaged fault place is found none =
+      (stays ∙ same, (none, subst (λ (d : Option disks.History). FindsFault old d (faults.Damaged place)) same (subst (λ (f : JournalFault). FindsFault old mid f) is found)))

@@ -1,0 +1,18 @@
+use Rattle.std.proofs.Common.{◌≡◌, List, ℕ}
+use Rattle.compress_server.proofs.RollFacts.{made_can_be_written, is_rolled}
+use Rattle.compress_server.proofs.rolling.text_of.Goals as goal
+
+pub fresh_journal-requires : goal.fresh_journal-requires
+fresh_journal-requires c =
+    let read = c.args.read.now in
+    let period = c.args.period.now in
+    let r = c.requires in
+    made_can_be_written read.machine.state.roster period.roster.now period.matured read.past r.base read.machine.state r.replayed r.old r.new c.in_ok-made.made c.in_ok-made.ensures.rolled
+
+pub returns-in-Ok-Some-clause-text : goal.returns-in-Ok-Some-clause-text
+returns-in-Ok-Some-clause-text c =
+    let read = c.args.read.now in
+    let period = c.args.period.now in
+    let r = c.requires in
+    let e = c.in_ok-made.ensures in
+    is_rolled read.machine.state.roster period.roster.now period.matured read.past r.base read.machine.state r.replayed r.old r.new c.in_ok-made.made e.rolled e.fits c.in-Ok-Some.text.items c.in-Ok-Some.ensures.bytes c.in-Ok-Some.ensures.stands
