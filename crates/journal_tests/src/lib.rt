@@ -29,6 +29,8 @@ mod folded_houses;
 #[cfg(test)]
 mod folds;
 #[cfg(test)]
+mod fresh_journals;
+#[cfg(test)]
 mod house_lives;
 #[cfg(test)]
 mod houses;

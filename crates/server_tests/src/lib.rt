@@ -34,6 +34,8 @@ mod program;
 #[cfg(test)]
 mod replays;
 #[cfg(test)]
+mod rolls;
+#[cfg(test)]
 mod served;
 #[cfg(test)]
 mod served_seats;

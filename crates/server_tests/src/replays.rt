@@ -19,9 +19,9 @@ const BEGUN_BY_SEVEN: &[u8] =
 const REFUSED: &[u8] =
     b"OTCJRNL1\x01\x19\0\0\0\0\0\0\0\x01C\x01\x01A\x01B\x01P\x0a\0\0\0\0\0\0\0\xea\x07\x03\x02\0";
 
-// A base at 33, which slot 1 has: position 7, two cycles, three versions, the roster's names, A's setting of at least 5 and at most
-// 9 that it sells to C, and a live trade of A and B that B holds. Slot 0 names a place that has none.
-const BASED: &[u8] =
+/// A base at 33, which slot 1 has: position 7, two cycles, three versions, the roster's names, A's setting of at least 5 and at most
+/// 9 that it sells to C, and a live trade of A and B that B holds. Slot 0 names a place that has none.
+pub const BASED: &[u8] =
     b"OTCJRNLC\x01\x19\0\0\0\0\0\0\0\x21\0\0\0\0\0\0\0\xff\xff\xff\xff\xff\xff\xff\xff\x63\0\0\0\x01\x07\0\0\0\0\0\0\0\x02\0\0\0\0\0\0\0\x03\0\0\0\0\0\0\0\x03\0\x01A\x01B\x01C\x01\0\x01P\x01\0\0\0\0\0\0\0\0\0\0\0\x02\0\0\x05\0\0\0\0\0\0\0\x01\x09\0\0\0\0\0\0\0\x01\0\0\0\0\0\0\0\0\0\x01\0\0\0\x0a\0\0\0\0\0\0\0\xea\x07\x03\x02\x01\x01\0\x02\0";
 
 const BASED_TEXT: &[u8] =

@@ -22,6 +22,10 @@ const REFUSED: Trial<'static> = Trial {
 
 const WORDS: &[Trial<'static>] = &[
     NAMED,
+    Trial {
+        words: &["roll", "", "", ""],
+        ..NAMED
+    },
     REFUSED,
     Trial {
         words: &[""],
@@ -37,6 +41,10 @@ const WORDS: &[Trial<'static>] = &[
     },
     Trial {
         words: &["gen", ""],
+        ..REFUSED
+    },
+    Trial {
+        words: &["roll", "T", "j", "N", "--matured", ""],
         ..REFUSED
     },
 ];
