@@ -2,9 +2,10 @@
 
     compress-roll ROSTER JOURNAL NEW-ROSTER NEW-JOURNAL [--matured DAY] [--map FILE] [--program FILE]
 
-The old journal is replayed as `compress-audit` does. The new one is written into a file beside its name, synced, read again, and
-compared with the old one: by names, and by what `compress_cli replay` tells of both. Then it gets its name, which no file may have. The
-old journal is only read, and nobody else has it meanwhile. A tool that is killed leaves it as it was, and the new one whole or absent.
+The old journal is replayed as `compress-audit` does, and the new one made of what that finds: `compress_cli roll` has to write the same
+bytes. They go into a file beside the new name, are synced, read again, and compared with the old journal: by names, and by what
+`compress_cli replay` tells of both. Then the file gets its name, which no other may have. The old journal is only read, and nobody else
+has it meanwhile. A tool that is killed leaves it as it was, and the new one whole or absent.
 """
 
 import fcntl
@@ -51,7 +52,7 @@ def words() -> Words:
     matured = "leave out the trades of products that mature by this day in ROSTER"
     parser.add_argument("--matured", metavar="DAY", action=Once, type=day, help=matured)
     parser.add_argument("--map", metavar="FILE", action=Once, type=text, help="write the old and the new number of each trade, as CSV")
-    parser.add_argument("--program", metavar="FILE", action=Once, help="the program that replays both")
+    parser.add_argument("--program", metavar="FILE", action=Once, help="the program that rolls, and replays both")
     return parser
 
 
@@ -80,17 +81,28 @@ def locked(name: str) -> BinaryIO:
     return file
 
 
-def replay_of(program: str, roster: str, journal: str) -> Told:
-    """What the program replays; stops with its status and line where it has one."""
+def written_by(program: str, *words: str) -> bytes:
+    """What the program writes; stops with its status and line where it has one."""
     try:
-        done = subprocess.run([program, "replay", "--", roster, journal], stdin=subprocess.DEVNULL, capture_output=True)
+        done = subprocess.run([program, *words], stdin=subprocess.DEVNULL, capture_output=True)
     except (OSError, ValueError):
         raise Stop(11, "the program could not be started") from None
     if done.returncode:
         told = done.stderr.decode(errors="replace").rstrip("\n")
         raise Stop(done.returncode if done.returncode in STATUSES else 20, told or f"the program ended with status {done.returncode}")
+    return done.stdout
+
+
+def rolled_by(program: str, given: Namespace) -> bytes:
+    """The journal that the program rolls."""
+    matured = [] if given.matured is None else ["--matured", given.matured]
+    return written_by(program, "roll", *matured, "--", given.roster, given.journal, given.new_roster)
+
+
+def replay_of(program: str, roster: str, journal: str) -> Told:
+    """What the program replays."""
     try:
-        return told_of(done.stdout)
+        return told_of(written_by(program, "replay", "--", roster, journal))
     except ValueError:
         raise Stop(20, "the program told no replay") from None
 
@@ -171,6 +183,8 @@ def roll(given: Namespace, program: str, status: os.stat_result) -> Rolled:
         content = journal_of(period.base())
     except Obstacle as obstacle:
         raise Stop(15, f"cannot roll: {obstacle}") from None
+    if rolled_by(program, given) != content:
+        raise Stop(20, "the program rolls another journal")
     try:
         place, part = tempfile.mkstemp(prefix=f"{new.name}.", suffix=".part", dir=new.parent)
     except OSError:

@@ -82,6 +82,13 @@ class OfRolls(OfJournals):
         self.assertEqual(self.journal.read_bytes(), content)
         return ran
 
+    def assert_refused(self, roster: Path, status: int, told: bytes, *matured: str) -> None:
+        """The tool and the form refuse alike, and write nothing."""
+        self.assertEqual(self.roll(roster, *matured), Ran(status, b"", told))
+        self.assertEqual(run([self.program, "roll", *matured, ROSTER, self.journal, roster]), Ran(status, b"", told))
+        self.assertFalse(self.new.exists())
+        self.assertEqual(self.parts(), [])
+
     def parts(self) -> list[Path]:
         """What a tool that was killed may leave beside the new journal's name."""
         return list(self.folder.glob("new.*"))
@@ -92,6 +99,7 @@ class Rolls(OfRolls):
         self.written(OLD)
         self.assertEqual(self.roll(self.grown), Ran(0, TOLD, b""))
         self.assertEqual(self.new.read_bytes(), NEW)
+        self.assertEqual(run([self.program, "roll", ROSTER, self.journal, self.grown]), Ran(0, NEW, b""))
         self.assertEqual(self.parts(), [])
         self.assertEqual(stat.S_IMODE(self.new.stat().st_mode), stat.S_IMODE(self.journal.stat().st_mode))
 
@@ -114,8 +122,9 @@ class Rolls(OfRolls):
     def test_products_that_mature(self) -> None:
         self.written(OLD)
         without = self.file("without.csv", GROWN.replace(b"P,product,2032-06-30\n", b""))
-        self.assertEqual(self.roll(without), Ran(15, b"", b"cannot roll: the product of trade 1 is gone\n"))
-        self.assertEqual(self.roll(without, "--matured", "2031-06-29").status, 15)
+        gone = b"cannot roll: the product of trade 1 is gone\n"
+        self.assert_refused(without, 15, gone)
+        self.assert_refused(without, 15, gone, "--matured", "2031-06-29")
         left = b"position 14: trades 0, settings 0; trades left out 4\n"
         self.assertEqual(self.roll(without, "--matured", "2031-06-30"), Ran(0, left, b""))
 
@@ -166,19 +175,17 @@ class Rolls(OfRolls):
 class Refusals(OfRolls):
     def test_an_open_cycle(self) -> None:
         self.written(OLD + b"HELLO OPS KO\nFREEZE 2026-03-31\n")
-        self.assertEqual(self.roll(self.grown), Ran(15, b"", b"cannot roll: a cycle is open\n"))
-        self.assertFalse(self.new.exists())
-        self.assertEqual(self.parts(), [])
+        self.assert_refused(self.grown, 15, b"cannot roll: a cycle is open\n")
 
     def test_members_that_are_gone_or_have_another_role(self) -> None:
         """C has the trades 2 and 4 that are open; a member without one may go, come and change."""
         self.written(OLD)
         without = self.file("without.csv", GROWN.replace(b"C,dealer,KC\n", b""))
-        self.assertEqual(self.roll(without), Ran(15, b"", b"cannot roll: a member of trade 2 is gone\n"))
+        self.assert_refused(without, 15, b"cannot roll: a member of trade 2 is gone\n")
         other = self.file("other.csv", GROWN.replace(b"C,dealer", b"C,customer"))
-        self.assertEqual(self.roll(other), Ran(15, b"", b"cannot roll: a member of trade 2 has another role\n"))
+        self.assert_refused(other, 15, b"cannot roll: a member of trade 2 has another role\n")
         renamed = self.file("renamed.csv", GROWN.replace(b"C,dealer", b"C-2,dealer"))
-        self.assertEqual(self.roll(renamed), Ran(15, b"", b"cannot roll: a member of trade 2 is gone\n"))
+        self.assert_refused(renamed, 15, b"cannot roll: a member of trade 2 is gone\n")
         self.written(b"HELLO A KA\nEND 2\nEND 4\n")
         ran = self.roll(renamed)
         self.assertEqual(ran, Ran(0, b"position 16: trades 1, settings 1; trades left out 3\n", b""))
@@ -187,28 +194,25 @@ class Refusals(OfRolls):
         """The day behind it is late enough."""
         self.written(OLD)
         early = self.file("early.csv", GROWN.replace(b"2032-06-30", b"2026-03-02"))
-        self.assertEqual(self.roll(early), Ran(15, b"", b"cannot roll: the product of trade 1 matures too early\n"))
+        self.assert_refused(early, 15, b"cannot roll: the product of trade 1 matures too early\n")
         behind = self.file("behind.csv", GROWN.replace(b"2032-06-30", b"2026-03-03"))
         self.assertEqual(self.roll(behind), Ran(0, TOLD, b""))
 
     def test_the_last_position(self) -> None:
         """A history of 10^18 changes has no position behind it; one that is a change shorter has one."""
-        for position, due in ((10**18, Ran(15, b"", b"cannot roll: no position is left\n")), (10**18 - 1, None)):
-            base = Base(position, 0, 0, "ABC", "P")
-            self.journal.write_bytes(slotted(base.spelled(), []))
-            told = Ran(0, f"position {position + 1}: trades 0, settings 0; trades left out 0\n".encode(), b"")
-            with self.subTest(position=position):
-                self.assertEqual(self.roll(self.grown), due or told)
+        self.journal.write_bytes(slotted(Base(10**18, 0, 0, "ABC", "P").spelled(), []))
+        self.assert_refused(self.grown, 15, b"cannot roll: no position is left\n")
+        self.journal.write_bytes(slotted(Base(10**18 - 1, 0, 0, "ABC", "P").spelled(), []))
+        told = f"position {10**18}: trades 0, settings 0; trades left out 0\n".encode()
+        self.assertEqual(self.roll(self.grown), Ran(0, told, b""))
 
     def test_faults_of_the_files(self) -> None:
         self.written(OLD)
         twice = self.file("twice.csv", GROWN + b"A,dealer,KA\n")
-        self.assertEqual(self.roll(twice), Ran(3, b"", b"new-roster row 9: twice\n"))
-        self.assertEqual(self.roll(self.folder / "none.csv"), Ran(11, b"", b"file fault\n"))
+        self.assert_refused(twice, 3, b"new-roster row 9: twice\n")
+        self.assert_refused(self.folder / "none.csv", 11, b"file fault\n")
         self.journal.write_bytes(self.journal.read_bytes()[:-1])
-        ran = self.roll(self.grown)
-        self.assertEqual((ran.status, ran.output), (7, b""))
-        self.assertEqual(self.parts(), [])
+        self.assert_refused(self.grown, 7, f"damaged at {self.journal.stat().st_size}\n".encode())
 
     def test_a_name_that_is_taken(self) -> None:
         self.written(OLD)
@@ -281,9 +285,9 @@ command()
 
 class Killed(OfPrograms):
     def test_a_tool_that_is_killed_at_each_call(self) -> None:
-        """Before the program is called, and when it has written a part of a replay."""
+        """Before the program is called, and when it has written a part of a journal or of a replay."""
         self.written(OLD)
-        for call in (1, 2):
+        for call in (1, 2, 3):
             for is_before in (True, False):
                 with self.subTest(call=call, is_before=is_before):
                     part = "true" if is_before else f"head -c 40 '{self.folder}/written'"
@@ -353,11 +357,19 @@ class Compared(OfPrograms):
         self.written(OLD)
         for due, other, told in TELLS:
             with self.subTest(told=told):
-                behind = f"if test $calls = 2; then sed 's/{due}/{other}/' '{self.folder}/written'; else cat '{self.folder}/written'; fi"
+                behind = f"if test $calls = 3; then sed 's/{due}/{other}/' '{self.folder}/written'; else cat '{self.folder}/written'; fi"
                 ran = self.roll(self.grown, program=self.wrapped("", behind))
                 self.assertEqual(ran, Ran(20, b"", f"the new journal has another {told}\n".encode()))
                 self.assertFalse(self.new.exists())
                 self.assertEqual(self.parts(), [])
+
+    def test_a_program_that_rolls_otherwise(self) -> None:
+        self.written(OLD)
+        behind = f"if test $calls = 1; then head -c -1 '{self.folder}/written'; else cat '{self.folder}/written'; fi"
+        ran = self.roll(self.grown, program=self.wrapped("", behind))
+        self.assertEqual(ran, Ran(20, b"", b"the program rolls another journal\n"))
+        self.assertFalse(self.new.exists())
+        self.assertEqual(self.parts(), [])
 
     def test_a_program_that_fails(self) -> None:
         self.written(OLD)

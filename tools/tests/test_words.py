@@ -15,6 +15,7 @@ FORMS: dict[str, list[str]] = {
     "solve": ["T", "t", "hybrid"],
     "gen": ["1"],
     "replay": ["T", "j"],
+    "roll": ["T", "j", "N"],
 }
 OPTIONS: dict[str, dict[str, int]] = {
     "script": {"workers": 64},
@@ -23,6 +24,7 @@ OPTIONS: dict[str, dict[str, int]] = {
     "solve": {"workers": 64},
     "gen": {"workers": 64},
     "replay": {},
+    "roll": {},
 }
 """The options of each form, and the most that each may be."""
 
@@ -63,6 +65,16 @@ class Words(unittest.TestCase):
             for name in {"workers", "seats", "connections", "idle", "worker", ""} - OPTIONS[form].keys():
                 self.assert_out_of_form(form, *words, f"--{name}", "1")
                 self.assert_out_of_form(form, f"--{name}=1", *words)
+            if form != "roll":
+                self.assert_out_of_form(form, *words, "--matured", "2027-03-01")
+
+    def test_days_of_a_roll(self) -> None:
+        words = ["roll", *FORMS["roll"]]
+        self.assert_out_of_form(*words, "--matured")
+        for day in ["", "1", "2027-02-29", "2027-3-1", "20270301", "2027-13-01", "10000-01-01", " 2027-03-01", "--"]:
+            self.assert_out_of_form(*words, "--matured", day)
+            self.assert_out_of_form(*words, f"--matured={day}")
+        self.assert_out_of_form(*words, "--matured", "2027-03-01", "--matured=2027-03-01")
 
     def test_a_word_that_is_no_text(self) -> None:
         for form, words in FORMS.items():
