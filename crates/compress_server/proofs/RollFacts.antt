@@ -1,6 +1,6 @@
 -- What a roll writes, and why it does not: what was read of a disk, over the new rows.
-use Rattle.std.proofs.Common.{◌≡◌, ◌∙◌, refl, sym, subst, ap, ℕ, Bool, false, List, Option, Some, None}
-use Rattle.std.specs.Prelude.{◌↔◌, Result, Ok, Err, IfSome, IsTrue, if◌then◌else◌}
+use Rattle.std.proofs.Common.{◌≡◌, ◌∙◌, refl, sym, subst, ap, ℕ, Bool, true, false, List, Option, Some, None}
+use Rattle.std.specs.Prelude.{◌↔◌, Result, Ok, IfSome, IsTrue, if◌then◌else◌}
 use Rattle.units_core.specs.Day.{DayParts}
 use Rattle.outside.specs.Disk as disks
 use Rattle.outside.specs.Files.{Folder}
@@ -70,6 +70,10 @@ rolled_some : (old new : Rows) (matured : Option DayParts) (o : Option Base) (ma
 rolled_some old new matured None made is = absurd (cc)
 rolled_some old new matured (Some b) made is = (b, refl, is)
 
+-- what is false is not true
+not_both : (b : Bool) → b ≡ true → b ≡ false → ⊥
+not_both b is fails = cc
+
 -- a base that is there and does not fit
 pub misfit : (old : Rows) (o : Option Base) → (IfSome o (Fits old) → ⊥) → (b : Base) × (o ≡ Some b) × (¬ Fits old b)
 misfit old None none = absurd (none tt)
@@ -88,7 +92,7 @@ module _ (s : State) (h : History) (there : IsReplayed s h) (o : Option Base) (i
 
   pub misfit_there : (old new : Rows) (matured : Option DayParts) (result : Bool) → (IsTrue result ↔ IfSome o (Fits old)) → result ≡ false → IsObstacle old new matured h Misfit
   misfit_there old new matured result tells fails =
-      let found = misfit old o (λ fits. subst (λ (b : Bool). IsTrue b) fails (tells.1 fits)) in
+      let found = misfit old o (λ fits. not_both result (tells.1 fits) fails) in
       (found.0, last_is ∙ found.1, found.2)
 
 -- ---- the base over the new rows

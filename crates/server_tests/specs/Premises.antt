@@ -13,7 +13,7 @@ use Rattle.seats.specs.Final.{Final}
 use Rattle.compress_server.specs.Housed.{disk_of}
 use Rattle.compress_server.specs.Seen.{OutputState, World, output_of, listener_of, seen_of}
 use Rattle.compress_server.specs.Serve.{ServicePlan, history_line, seat_at, final_of}
-use Rattle.compress_server.specs.Words.{Form}
+use Rattle.program_words.specs.Words.{Form}
 
 -- the bytes of the roster's file, and its rows
 abbrev pub header : List ℕ

@@ -1,4 +1,3 @@
-use Rattle.std.proofs.Common.{◌≡◌, List, ℕ}
 use Rattle.compress_server.proofs.RollFacts.{made_can_be_written, is_rolled}
 use Rattle.compress_server.proofs.rolling.text_of.Goals as goal
 
@@ -15,4 +14,7 @@ returns-in-Ok-Some-clause-text c =
     let period = c.args.period.now in
     let r = c.requires in
     let e = c.in_ok-made.ensures in
-    is_rolled read.machine.state.roster period.roster.now period.matured read.past r.base read.machine.state r.replayed r.old r.new c.in_ok-made.made e.rolled e.fits c.in-Ok-Some.text.items c.in-Ok-Some.ensures.bytes c.in-Ok-Some.ensures.stands
+    let now = c.in-Ok-Some in
+    let bytes = rw now.field-0-is at now.ensures.bytes in
+    let stands = rw now.field-0-is at now.ensures.stands in
+    is_rolled read.machine.state.roster period.roster.now period.matured read.past r.base read.machine.state r.replayed r.old r.new c.in_ok-made.made e.rolled e.fits now.text.items bytes stands
