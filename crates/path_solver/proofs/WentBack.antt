@@ -33,10 +33,10 @@ still_priced levels p v is =
     kept
 
 -- a search that starts at the members that have to receive
-pub searched_start : (w : Work) (p levels : List ℕ) (layers : List MemberSet) (s : Search) (receivers : MemberSet) → IsResidual w.residual → IsWork w → length levels ≡ w.residual.members → HaveSome w.balance.lack.items receivers
+pub searched_start : (w : Work) (p levels : List ℕ) (layers : List MemberSet) (s : Search) (receivers : MemberSet) → IsWork w → length levels ≡ w.residual.members → HaveSome w.balance.lack.items receivers
     → s.level ≡ 0 → s.now ≡ receivers → ((v : ℕ) → has s.seen v ≡ false) → ((v : ℕ) → v < length levels → get_or levels v 0 ≡ 65535) → IsSearched w p levels layers s
-searched_start w p levels layers s receivers residual work len some zero same empty none = record {
-  spread = rw (zero, same) (spread_none w.residual p w.balance.surplus.items w.balance.lack.items levels receivers s.seen len (sym work.lack) none some empty residual);
+searched_start w p levels layers s receivers work len some zero same empty none = record {
+  spread = rw (zero, same) (spread_none w.residual p w.balance.surplus.items w.balance.lack.items levels receivers s.seen len (sym work.lack) none some empty work.residual);
   passed = λ k v l. absurd (omega (arith, l, zero));
   whole = λ k v l. absurd (omega (arith, l, zero));
 }

@@ -1,6 +1,7 @@
 -- What changes as amounts are sent.
 use Rattle.std.specs.Prelude.{◌≡◌, ℕ, ◌+◌, List, length}
 use Rattle.member_set.specs.declared.set.MemberSet.{MemberSet}
+use Rattle.residual_graph.specs.Residual.{IsResidual}
 use Rattle.path_solver.specs.declared.prices.Prices.{Prices}
 use Rattle.path_solver.specs.declared.room.Room.{Room}
 use Rattle.path_solver.specs.declared.search.Search.{Search}
@@ -11,8 +12,9 @@ use Rattle.path_solver.specs.Phases.{IsPhase}
 use Rattle.path_solver.specs.Rests.{IsFeasible}
 use Rattle.path_solver.specs.Searches.{IsSpread}
 
--- the neighbours are those of the graph, and each member has something or nothing to send, and to receive
+-- a graph and its neighbours, and each member has something or nothing to send, and to receive
 pub record IsWork (w : Work) : Type 0 where
+  pub residual : IsResidual w.residual
   pub neighbours : AreNeighbours w.residual w.neighbours
   pub surplus : w.residual.members ≡ length w.balance.surplus.items
   pub lack : w.residual.members ≡ length w.balance.lack.items

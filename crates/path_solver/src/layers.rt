@@ -46,7 +46,6 @@ pub fn layer(
     ensures low { IfSome result (λ s. slice_index levels.new s ≤ work.now.residual.members) }
     ensures searched { IsNone result → IsSearched work.now aim.now.prices.now levels.new layers.new search.new }
 {
-    let _members = work.residual.members();
     let entries: &[Entry] = &work.neighbours.entries;
     let mut seen = search.seen;
     let mut now = search.now;

@@ -48,7 +48,6 @@ pub fn settle_phases<L: Ledger>(
     ensures settled { IsSettled work.old.residual work.new.residual work.old.balance.surplus.items work.old.balance.lack.items prices.new.by_member.items }
     ensures counted { steps.new ≤ steps.old + path_steps work.old.residual }
 {
-    let _members = work.residual.members();
     let levels: &mut [u16] = &mut room.levels;
     let layers: &mut [MemberSet] = &mut room.layers;
     let path: &mut [u32] = &mut room.path;

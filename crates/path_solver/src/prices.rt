@@ -87,7 +87,6 @@ impl Prices {
         ensures later { self.old.top < self.new.top }
         ensures searched { IsSearched work.now self.new.by_member.items levels.new layers.now search.new }
     {
-        let _members = work.residual.members();
         let others = around(&work.neighbours.entries, &search.seen).without(&search.seen);
         let mut entered = MemberSet::new();
         'raises: while entered.is_empty() {

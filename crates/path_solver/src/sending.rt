@@ -36,7 +36,6 @@ pub fn send_phase<L: Ledger>(
     ensures few { steps.new + still_to_do trip.now.labels.now work.new ≤ steps.old + still_to_do trip.now.labels.now work.old }
     ensures deeper { NoneIsShorterIn work.new trip.now.labels.now (top_of trip.now + 1) }
 {
-    let _members = work.residual.members();
     let mut left = layers[trip.labels.levels[trip.from as usize] as usize];
     send_once(work, layers, path, trip, steps);
     'senders: while let Some(member) = left.take_lowest() {
@@ -68,7 +67,6 @@ fn send_once<L: Ledger>(
     ensures shortest { IsSome result → NoneIsShorterIn work.old trip.now.labels.now (top_of trip.now) }
     ensures fresh { AreLevelsIn work.old trip.now.labels.now → AreWholeFrom trip.now layers.old → 0 < surplus_in work.old trip.now.from → IsSome result }
 {
-    let _members = work.residual.members();
     let from = trip.from;
     if work.balance.surplus_of(from) == 0 {
         return None;

@@ -24,7 +24,6 @@ pub fn walk(work: &Work, layers: &mut [MemberSet], path: &mut [u32], trip: &Trip
     ensures gone { IsNone result → has (layer_at layers.new (top_of trip.now)) trip.now.from ≡ false }
     ensures fresh { AreLevelsIn work.now trip.now.labels.now → AreWholeFrom trip.now layers.old → IsSome result }
 {
-    let _members = work.residual.members();
     let top = trip.labels.levels[trip.from as usize] as usize;
     let mut level = top - trip.stand.done;
     let mut here = trip.stand.here;

@@ -10,6 +10,7 @@ use Rattle.path_solver.specs.Labels.{top_of}
 use Rattle.path_solver.proofs.Walks.{all_same}
 use Rattle.path_solver.proofs.Resumed.{trail_behind}
 use Rattle.path_solver.specs.Counts.{left_to_do}
+use Rattle.path_solver.proofs.Phased.{residual_kept}
 use Rattle.path_solver.proofs.SentAlong.{plain_path, sent}
 use Rattle.path_solver.proofs.Shortest.{path_steps, shortest_sent, none_is_shorter}
 use Rattle.path_solver.proofs.Pruned.{pruned_walk, pruned_less}
@@ -17,7 +18,7 @@ use Rattle.path_solver.proofs.Measured.{Fills, less_to_do}
 use Rattle.path_solver.proofs.sending.send_once.Goals as goal
 
 pub bottleneck_of-found-requires-clause-few : goal.bottleneck_of-found-requires-clause-few
-bottleneck_of-found-requires-clause-few g c = omega (arith, c.in-Some.ensures.path.long, c.requires.trip.top, c.members-members.ensures.residual.few)
+bottleneck_of-found-requires-clause-few g c = omega (arith, c.in-Some.ensures.path.long, c.requires.trip.top, c.requires.trip.work.residual.few)
 
 pub bottleneck_of-found-requires-clause-some : goal.bottleneck_of-found-requires-clause-some
 bottleneck_of-found-requires-clause-some g c = omega (arith, c.between-most.ensures, c.in-Some.ensures.path.receives, c.if-surplus_of-eq0.false, c.surplus_of.ensures)
@@ -44,6 +45,7 @@ returns-clause-over g c =
     members pushed) in
     record {
       work = record {
+        residual = residual_kept c.args.work.now.residual c.push_noting-filled.new.residual along.members along.pairs c.requires.trip.work.residual;
         neighbours = c.push_noting-filled.ensures.neighbours;
         surplus = omega (arith, along.members, along.surplus_each, c.requires.trip.work.surplus);
         lack = omega (arith, along.members, along.lack_each, c.requires.trip.work.lack);
@@ -117,7 +119,7 @@ returns-clause-begun g c =
     let same = all_same c.bottleneck_of-found.result.amount c.args.work.now.residual.flows (take top path) (path_can c.bottleneck_of-found.result.amount c.args.work.now.residual.flows (take top path) plain.along) in
     record {
       done = within;
-      trail = trail_behind c.args.work.now.residual new c.args.trip.now.labels.now.prices.now c.args.trip.now.labels.now.levels.now c.walk.new.layers path top c.in-Some.end c.args.trip.now.from n c.behind.result.here c.members-members.ensures.residual
+      trail = trail_behind c.args.work.now.residual new c.args.trip.now.labels.now.prices.now c.args.trip.now.labels.now.levels.now c.walk.new.layers path top c.in-Some.end c.args.trip.now.from n c.behind.result.here c.requires.trip.work.residual
           (ap (λ (r : ResidualData). r.members) c.push_noting-filled.ensures.pushed)
           (subst (AreSamePairs c.args.work.now.residual.flows) (sym (ap (λ (r : ResidualData). r.flows) c.push_noting-filled.ensures.pushed)) same)
           trail within

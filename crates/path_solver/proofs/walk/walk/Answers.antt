@@ -19,7 +19,7 @@ returns-then-lack_of-gt0-clause-trail c =
     rw c.if-level-eq0.true at c.steps.invariant.trail
 
 pub way_into-requires-clause-few : goal.way_into-requires-clause-few
-way_into-requires-clause-few c = omega (arith, c.requires.trip.work.neighbours.exits.one_each, c.members-members.ensures.residual.few)
+way_into-requires-clause-few c = omega (arith, c.requires.trip.work.neighbours.exits.one_each, c.requires.trip.work.residual.few)
 
 pub way_into-requires-clause-set : goal.way_into-requires-clause-set
 way_into-requires-clause-set c u on =
@@ -30,12 +30,12 @@ steps-preserved-in-Some c =
     let inv = c.steps.invariant in
     let way = c.in-Some.ensures.way in
     let leads =
-    way_leads c.steps.here c.members-members.ensures.residual c.requires.trip.work.neighbours c.requires.trip.labels.sorted c.steps.invariant.trail.member (layer_at c.steps.layers (c.steps.level - 1)) c.in-Some.exit way in
+    way_leads c.steps.here c.requires.trip.work.residual c.requires.trip.work.neighbours c.requires.trip.labels.sorted c.steps.invariant.trail.member (layer_at c.steps.layers (c.steps.level - 1)) c.in-Some.exit way in
     let above : c.steps.level ≡ c.steps.level - 1 + 1 = omega (arith, c.if-level-eq0.false) in
     let at = (inv.layers (c.steps.level - 1) c.in-Some.exit.head (omega (arith, inv.trail.within)) way.inside).1 in
     record {
       trail = subst (λ n. IsTrailFrom c.args.work.now c.args.trip.now c.steps.layers (set c.steps.path (top_of c.args.trip.now - n) c.in-Some.exit.arc) (c.steps.level - 1) c.in-Some.exit.head) (sym above)
-          (trail_down c.members-members.ensures.residual (c.steps.level - 1)
+          (trail_down c.requires.trip.work.residual (c.steps.level - 1)
           (subst (λ n. IsTrailFrom c.args.work.now c.args.trip.now c.steps.layers c.steps.path n c.steps.here) above inv.trail)
           leads (omega (arith, c.if-level-eq0.false, inv.trail.within, c.requires.trip.top, c.requires.trip.path, c.steps.auto.path)) at way.inside);
       layers = inv.layers;
@@ -45,7 +45,7 @@ steps-preserved-in-Some c =
     }
 
 pub drop_member-requires : goal.drop_member-requires
-drop_member-requires c = omega (arith, c.steps.invariant.trail.member, c.members-members.ensures.residual.few)
+drop_member-requires c = omega (arith, c.steps.invariant.trail.member, c.requires.trip.work.residual.few)
 
 pub returns-then-level-top-clause-fresh : goal.returns-then-level-top-clause-fresh
 returns-then-level-top-clause-fresh c levels whole =
@@ -54,9 +54,9 @@ returns-then-level-top-clause-fresh c levels whole =
       | then-level-eq0+else-lack_of-gt0 w ↦
           omega (arith, levels.lowest c.steps.here (omega (arith, c.steps.invariant.trail.member, c.requires.trip.labels.levels)) (c.steps.invariant.trail.level ∙ w.if-level-eq0.true), w.if-lack_of-gt0.false, w.lack_of.ensures)
       | else-level-eq0+in_default w ↦
-          some_way c.steps.here c.members-members.ensures.residual c.requires.trip.work.neighbours c.requires.trip.labels.sorted c.steps.invariant.trail.member
+          some_way c.steps.here c.requires.trip.work.residual c.requires.trip.work.neighbours c.requires.trip.labels.sorted c.steps.invariant.trail.member
           c.steps.layers c.steps.level (top_of c.args.trip.now + 1) levels (rw (c.steps.invariant.whole levels whole) whole)
-          c.requires.trip.labels.levels c.steps.invariant.trail.level (omega (arith, w.if-level-eq0.false)) (omega (arith, c.steps.invariant.trail.within, c.requires.trip.top, c.members-members.ensures.residual.few)) (omega (arith, c.steps.invariant.trail.within))
+          c.requires.trip.labels.levels c.steps.invariant.trail.level (omega (arith, w.if-level-eq0.false)) (omega (arith, c.steps.invariant.trail.within, c.requires.trip.top, c.requires.trip.work.residual.few)) (omega (arith, c.steps.invariant.trail.within))
           (w.in_default.ensures.none refl)
     ] in
     absurd stuck
@@ -67,7 +67,7 @@ steps-smaller c =
     omega (
       arith,
       in_layers_less c.steps.layers c.steps.level c.drop_member.new.self c.steps.here (omega (arith, less, c.requires.trip.top, c.requires.trip.room, c.steps.auto.layers)) c.drop_member.ensures
-          (omega (arith, c.steps.invariant.trail.member, c.members-members.ensures.residual.few))
+          (omega (arith, c.steps.invariant.trail.member, c.requires.trip.work.residual.few))
           (subst (λ v. has (layer_at c.steps.layers c.steps.level) v ≡ true) (c.steps.invariant.trail.start less) (c.steps.invariant.trail.kept c.steps.level (omega arith) less)),
     )
 
@@ -86,7 +86,7 @@ returns-then-level-top-clause-pruned c =
     let stuck_here : IsStuck c.args.work.now.residual.flows c.args.trip.now.labels.now.prices.now c.args.work.now.balance.lack.items c.steps.layers c.steps.level c.steps.here =
     elim c.if-level-eq0.branch [
       | then-level-eq0+else-lack_of-gt0 w ↦ (λ _. omega (arith, w.if-lack_of-gt0.false, w.lack_of.ensures), λ k a e. absurd (omega (arith, e, w.if-level-eq0.true)))
-      | else-level-eq0+in_default w ↦ stuck_above c.steps.here c.members-members.ensures.residual c.requires.trip.work.neighbours c.requires.trip.labels.sorted c.steps.invariant.trail.member c.args.work.now.balance.lack.items c.steps.layers c.steps.level w.if-level-eq0.false (w.in_default.ensures.none refl)
+      | else-level-eq0+in_default w ↦ stuck_above c.steps.here c.requires.trip.work.residual c.requires.trip.work.neighbours c.requires.trip.labels.sorted c.steps.invariant.trail.member c.args.work.now.balance.lack.items c.steps.layers c.steps.level w.if-level-eq0.false (w.in_default.ensures.none refl)
     ] in
     let inside : c.steps.level < length c.steps.layers = omega (arith, c.steps.invariant.trail.within, c.requires.trip.top, c.requires.trip.room, c.steps.auto.layers) in
     pruned_taken c.steps.layers c.steps.level c.steps.here c.drop_member.new.self inside c.drop_member.ensures c.steps.invariant.pruned stuck_here
@@ -114,7 +114,7 @@ returns-then-is_empty-clause-pruned c =
     let stuck_here : IsStuck c.args.work.now.residual.flows c.args.trip.now.labels.now.prices.now c.args.work.now.balance.lack.items c.steps.layers c.steps.level c.steps.here =
     elim c.if-level-eq0.branch [
       | then-level-eq0+else-lack_of-gt0 w ↦ (λ _. omega (arith, w.if-lack_of-gt0.false, w.lack_of.ensures), λ k a e. absurd (omega (arith, e, w.if-level-eq0.true)))
-      | else-level-eq0+in_default w ↦ stuck_above c.steps.here c.members-members.ensures.residual c.requires.trip.work.neighbours c.requires.trip.labels.sorted c.steps.invariant.trail.member c.args.work.now.balance.lack.items c.steps.layers c.steps.level w.if-level-eq0.false (w.in_default.ensures.none refl)
+      | else-level-eq0+in_default w ↦ stuck_above c.steps.here c.requires.trip.work.residual c.requires.trip.work.neighbours c.requires.trip.labels.sorted c.steps.invariant.trail.member c.args.work.now.balance.lack.items c.steps.layers c.steps.level w.if-level-eq0.false (w.in_default.ensures.none refl)
     ] in
     let inside : c.steps.level < length c.steps.layers = omega (arith, c.steps.invariant.trail.within, c.requires.trip.top, c.requires.trip.room, c.steps.auto.layers) in
     pruned_emptied (set c.steps.layers c.steps.level c.drop_member.new.self) c.empty_above.new.layers c.steps.level (top_of c.args.trip.now) c.steps.invariant.trail.within (c.is_empty.ensures.none.0 c.if-is_empty.true) c.empty_above.ensures.above c.empty_above.ensures.below
@@ -138,9 +138,9 @@ returns-then-is_empty-clause-fresh c levels whole =
       | then-level-eq0+else-lack_of-gt0 w ↦
           omega (arith, levels.lowest c.steps.here (omega (arith, c.steps.invariant.trail.member, c.requires.trip.labels.levels)) (c.steps.invariant.trail.level ∙ w.if-level-eq0.true), w.if-lack_of-gt0.false, w.lack_of.ensures)
       | else-level-eq0+in_default w ↦
-          some_way c.steps.here c.members-members.ensures.residual c.requires.trip.work.neighbours c.requires.trip.labels.sorted c.steps.invariant.trail.member
+          some_way c.steps.here c.requires.trip.work.residual c.requires.trip.work.neighbours c.requires.trip.labels.sorted c.steps.invariant.trail.member
           c.steps.layers c.steps.level (top_of c.args.trip.now + 1) levels (rw (c.steps.invariant.whole levels whole) whole)
-          c.requires.trip.labels.levels c.steps.invariant.trail.level (omega (arith, w.if-level-eq0.false)) (omega (arith, c.steps.invariant.trail.within, c.requires.trip.top, c.members-members.ensures.residual.few)) (omega (arith, c.steps.invariant.trail.within))
+          c.requires.trip.labels.levels c.steps.invariant.trail.level (omega (arith, w.if-level-eq0.false)) (omega (arith, c.steps.invariant.trail.within, c.requires.trip.top, c.requires.trip.work.residual.few)) (omega (arith, c.steps.invariant.trail.within))
           (w.in_default.ensures.none refl)
     ] in
     absurd stuck
@@ -152,12 +152,12 @@ steps-preserved c =
     let stuck_here : IsStuck c.args.work.now.residual.flows c.args.trip.now.labels.now.prices.now c.args.work.now.balance.lack.items c.steps.layers c.steps.level c.steps.here =
     elim c.if-level-eq0.branch [
       | then-level-eq0+else-lack_of-gt0 w ↦ (λ _. omega (arith, w.if-lack_of-gt0.false, w.lack_of.ensures), λ k a e. absurd (omega (arith, e, w.if-level-eq0.true)))
-      | else-level-eq0+in_default w ↦ stuck_above c.steps.here c.members-members.ensures.residual c.requires.trip.work.neighbours c.requires.trip.labels.sorted c.steps.invariant.trail.member c.args.work.now.balance.lack.items c.steps.layers c.steps.level w.if-level-eq0.false (w.in_default.ensures.none refl)
+      | else-level-eq0+in_default w ↦ stuck_above c.steps.here c.requires.trip.work.residual c.requires.trip.work.neighbours c.requires.trip.labels.sorted c.steps.invariant.trail.member c.args.work.now.balance.lack.items c.steps.layers c.steps.level w.if-level-eq0.false (w.in_default.ensures.none refl)
     ] in
     let inside : c.steps.level < length c.steps.layers = omega (arith, c.steps.invariant.trail.within, c.requires.trip.top, c.requires.trip.room, c.steps.auto.layers) in
     record {
       trail = subst (λ v. IsTrailFrom c.args.work.now c.args.trip.now (set c.steps.layers c.steps.level c.drop_member.new.self) c.steps.path (c.steps.level + 1) v) (sym c.tail-here.ensures.value)
-          (trail_up c.members-members.ensures.residual c.drop_member.new.self inv.trail less);
+          (trail_up c.requires.trip.work.residual c.drop_member.new.self inv.trail less);
       layers = layers_less c.args.trip.now.labels.now.levels.now c.steps.layers (top_of c.args.trip.now + 1) c.steps.level c.drop_member.new.self c.steps.here (omega (arith, less, c.requires.trip.top, c.requires.trip.room, c.steps.auto.layers)) c.drop_member.ensures inv.layers;
       pruned = pruned_taken c.steps.layers c.steps.level c.steps.here c.drop_member.new.self inside c.drop_member.ensures c.steps.invariant.pruned stuck_here;
       fewer = fewer_more c.args.layers.now c.steps.layers (set c.steps.layers c.steps.level c.drop_member.new.self) c.steps.invariant.fewer (fewer_taken c.steps.layers c.steps.level c.steps.here c.drop_member.new.self inside c.drop_member.ensures);
@@ -167,9 +167,9 @@ steps-preserved c =
             | then-level-eq0+else-lack_of-gt0 w ↦
                 omega (arith, levels.lowest c.steps.here (omega (arith, c.steps.invariant.trail.member, c.requires.trip.labels.levels)) (c.steps.invariant.trail.level ∙ w.if-level-eq0.true), w.if-lack_of-gt0.false, w.lack_of.ensures)
             | else-level-eq0+in_default w ↦
-                some_way c.steps.here c.members-members.ensures.residual c.requires.trip.work.neighbours c.requires.trip.labels.sorted c.steps.invariant.trail.member
+                some_way c.steps.here c.requires.trip.work.residual c.requires.trip.work.neighbours c.requires.trip.labels.sorted c.steps.invariant.trail.member
                 c.steps.layers c.steps.level (top_of c.args.trip.now + 1) levels (rw (c.steps.invariant.whole levels whole) whole)
-                c.requires.trip.labels.levels c.steps.invariant.trail.level (omega (arith, w.if-level-eq0.false)) (omega (arith, c.steps.invariant.trail.within, c.requires.trip.top, c.members-members.ensures.residual.few)) (omega (arith, c.steps.invariant.trail.within))
+                c.requires.trip.labels.levels c.steps.invariant.trail.level (omega (arith, w.if-level-eq0.false)) (omega (arith, c.steps.invariant.trail.within, c.requires.trip.top, c.requires.trip.work.residual.few)) (omega (arith, c.steps.invariant.trail.within))
                 (w.in_default.ensures.none refl)
           ] in
           absurd stuck;
