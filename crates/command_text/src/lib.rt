@@ -3,6 +3,7 @@
 
 mod answer_text;
 mod bad_line;
+mod clash_text;
 mod commands;
 mod fields;
 mod head;
@@ -13,5 +14,6 @@ mod refusal_text;
 mod words;
 
 pub use bad_line::BadLine;
+pub use clash_text::put_clash;
 pub use head::write_head;
 pub use line_reader::read_line;

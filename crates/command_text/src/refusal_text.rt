@@ -1,12 +1,13 @@
 //! The texts of refusals: a number, a name and, where there is one, a value.
 
 ghost use Rattle.std.specs.Prelude.{◌≡◌, ◌+◌, ◌≤◌, ◌++◌, length, take};
-ghost use Rattle.command_types.specs.Text.{phase_text, clash_text, post_text, refusal_text};
+ghost use Rattle.command_types.specs.Text.{phase_text, post_text, refusal_text};
 ghost use Rattle.command_text.specs.declared.put.TheConstants.{PAIR};
 ghost use Rattle.units_core.specs.declared.limits.TheConstants.{MOST_NAME};
 
-use crate::put::{put, put_member, put_pair, put_product, put_state, put_told};
-use command_types::{BadPost, Clash, Phase, Refusal, Roster};
+use crate::clash_text::put_clash;
+use crate::put::{put, put_product, put_state, put_told};
+use command_types::{BadPost, Phase, Refusal, Roster};
 
 // The word of a cycle's phase.
 fn put_phase(into: &mut [u8], at: usize, phase: Phase) -> usize
@@ -20,36 +21,6 @@ fn put_phase(into: &mut [u8], at: usize, phase: Phase) -> usize
         Phase::Solving => put(into, at, b"solving"),
         Phase::Proposed => put(into, at, b"proposed"),
         Phase::Broken => put(into, at, b"broken"),
-    }
-}
-
-// What clashes, with the names of the members.
-fn put_clash(into: &mut [u8], at: usize, roster: &Roster, clash: Clash) -> usize
-    requires { at + (PAIR + 6) ≤ length into.old }
-    ensures end { result ≤ at + (PAIR + 6) }
-    ensures text { take result into.new ≡ take at into.old ++ clash_text roster.now clash }
-{
-    match clash {
-        Clash::Below { seller, buyer } => {
-            let end = put(into, at, b"below");
-            put_pair(into, end, roster, seller, buyer)
-        }
-        Clash::Above { seller, buyer } => {
-            let end = put(into, at, b"above");
-            put_pair(into, end, roster, seller, buyer)
-        }
-        Clash::Net { member } => {
-            let end = put(into, at, b"net ");
-            put_member(into, end, roster, member)
-        }
-        Clash::Open { seller, buyer } => {
-            let end = put(into, at, b"open");
-            put_pair(into, end, roster, seller, buyer)
-        }
-        Clash::Slack { seller, buyer } => {
-            let end = put(into, at, b"slack");
-            put_pair(into, end, roster, seller, buyer)
-        }
     }
 }
 
