@@ -12,7 +12,6 @@ from argparse import Namespace
 from contextlib import ExitStack
 from functools import partial
 from pathlib import Path
-from types import FrameType
 from typing import Callable, Iterator, NoReturn
 
 from .. import checker
@@ -22,7 +21,7 @@ from ..words import Once, Words, plain
 from .folder import Folder
 from .markets import Market, markets_of
 from .pieces import Cutter
-from .processes import checking, connected
+from .processes import INTERRUPTS, checking, connected, interrupt, quiet
 from .tables import Figures, head_of_figures, head_of_trades, names_of, results_of, trades_of
 from .trades import Trades, read_members, read_trades
 from .workers import Distribution, Job, Sent
@@ -64,10 +63,6 @@ def need(*modules: str) -> None:
             raise Stop(11, f"no {module}: install python3-{module}")
 
 
-def stop(number: int, _: FrameType | None) -> None:
-    raise SystemExit(128 + number)
-
-
 def pages_of(link: str) -> str:
     """Dask's own pages of a run on this machine: its dashboard, or without bokeh, which that wants, the page of workers."""
     return link if importlib.util.find_spec("bokeh") else link.removesuffix("status") + "info/main/workers.html"
@@ -76,19 +71,20 @@ def pages_of(link: str) -> str:
 class Progress:
     """One line on a terminal that tells how far a run is."""
 
-    def __init__(self, markets: int, dashboard: str) -> None:
+    def __init__(self, errors: int, markets: int, dashboard: str) -> None:
+        self.errors = errors
         self.markets = markets
         self.start = time.monotonic()
-        if os.isatty(2):
-            os.write(2, f"dashboard: {dashboard}\n".encode())
+        if os.isatty(errors):
+            os.write(errors, f"dashboard: {dashboard}\n".encode())
 
     def show(self, done: int, again: int) -> None:
-        if not os.isatty(2) or not done:
+        if not os.isatty(self.errors) or not done:
             return
         left = (time.monotonic() - self.start) * (self.markets - done) / done
         bar = "#" * (20 * done // self.markets)
         told = f"[{bar:<20}] {done:,} of {self.markets:,} markets, {again} solved again, about {left:.0f} s left"
-        os.write(2, f"\r\x1b[K{told}{'' if done < self.markets else chr(10)}".encode())
+        os.write(self.errors, f"\r\x1b[K{told}{'' if done < self.markets else chr(10)}".encode())
 
 
 def beginnings(distribution: Distribution, folder: Folder, markets: list[Market]) -> Iterator[Callable[[], None]]:
@@ -111,10 +107,11 @@ def solve_all(given: Namespace, folder: Folder, markets: list[Market]) -> int:
         folder.keep(sent.market, sent.roster, sent.trades, proposal)
 
     with ExitStack() as ending:
+        errors = quiet(ending)
         client = connected(given.scheduler, processes, ending)
         checks = checking(processes, ending)
         distribution = Distribution(client, checks, job, program, keep)
-        progress = Progress(len(markets), client.dashboard_link if given.scheduler else pages_of(client.dashboard_link))
+        progress = Progress(errors, len(markets), client.dashboard_link if given.scheduler else pages_of(client.dashboard_link))
         for done in distribution.run(beginnings(distribution, folder, markets)):
             progress.show(done, len(distribution.again))
     return len(distribution.again)
@@ -153,8 +150,8 @@ def told(figures: list[Figures], markets: int, again: int) -> str:
 def main(line: list[str]) -> int:
     given = words().parse_args(line)
     need("scipy", "distributed")
-    signal.signal(signal.SIGINT, signal.default_int_handler)
-    signal.signal(signal.SIGTERM, stop)
+    for it in INTERRUPTS:
+        signal.signal(it, interrupt)
     roles = None if given.members is None else read_members(Path(given.members))
     trades = read_trades(Path(given.markets), roles)
     markets = list(markets_of(Cutter(trades, roles).pieces()))

@@ -4,6 +4,7 @@ import logging
 import multiprocessing
 import os
 import signal
+import sys
 import tempfile
 import threading
 import time
@@ -11,6 +12,7 @@ import warnings
 from concurrent.futures import Executor, Future, ProcessPoolExecutor
 from contextlib import ExitStack, contextmanager
 from multiprocessing import resource_tracker
+from types import FrameType
 from typing import Any, Callable, Iterator, ParamSpec, TypeVar
 
 from ..ending import Stop
@@ -26,9 +28,16 @@ SELDOM = {
 """How often Dask's processes look at themselves: by its own settings so often that five of them take a fifth of a processor."""
 
 
+INTERRUPTS = (signal.SIGINT, signal.SIGTERM)
+"""What ends a run, also where a terminal or a unit sends it to all of its processes."""
+LONGEST_END = 60
+"""The seconds that a run which was interrupted may take to end its processes. Those that are left end by themselves where it is gone."""
+
+
 def begin_check() -> None:
-    """In a process that checks: leaves an interrupt to the run, and ends where the run has."""
+    """In a process that checks: leaves an interrupt of the terminal to the run, and ends where the run has."""
     signal.signal(signal.SIGINT, signal.SIG_IGN)
+    signal.pthread_sigmask(signal.SIG_UNBLOCK, INTERRUPTS)
     parent = os.getppid()
 
     def watch() -> None:
@@ -39,15 +48,36 @@ def begin_check() -> None:
     threading.Thread(target=watch, daemon=True).start()
 
 
+def interrupt(number: int, _: FrameType | None) -> None:
+    """Ends the run in order, in which no further interrupt disturbs it; where that takes too long, ends it as it is."""
+    for it in INTERRUPTS:
+        signal.signal(it, signal.SIG_IGN)
+    signal.signal(signal.SIGALRM, lambda *_: os._exit(128 + number))
+    signal.alarm(LONGEST_END)
+    raise SystemExit(128 + number)
+
+
 @contextmanager
 def uninterrupted() -> Iterator[None]:
-    """An interrupt of the terminal is the run's: what is started meanwhile inherits that it is blocked."""
-    resource_tracker.ensure_running()  # it would unblock the interrupt
-    signal.pthread_sigmask(signal.SIG_BLOCK, {signal.SIGINT})
+    """An interrupt is the run's, which takes it behind this: what is started meanwhile inherits that it is blocked."""
+    resource_tracker.ensure_running()  # it would unblock the interrupts
+    signal.pthread_sigmask(signal.SIG_BLOCK, INTERRUPTS)
     try:
         yield
     finally:
-        signal.pthread_sigmask(signal.SIG_UNBLOCK, {signal.SIGINT})
+        signal.pthread_sigmask(signal.SIG_UNBLOCK, INTERRUPTS)
+
+
+def quiet(ending: ExitStack) -> int:
+    """Has what the processes of a run say while they end or are lost go nowhere, until its end; gives where the errors went before."""
+    if sys.stderr is None:
+        return 2  # it was closed from the start, and may be any file
+    errors, nowhere = os.dup(2), os.open(os.devnull, os.O_WRONLY)
+    ending.callback(os.close, errors)
+    ending.callback(os.dup2, errors, 2)
+    os.dup2(nowhere, 2)
+    os.close(nowhere)
+    return errors
 
 
 class Checks(ProcessPoolExecutor):
@@ -78,19 +108,21 @@ def connected(scheduler: str | None, count: int, ending: ExitStack) -> Any:
         except (OSError, ValueError):
             raise Stop(21, f"no scheduler at {scheduler}") from None
     dask.config.set(SELDOM)
-    room = ending.enter_context(tempfile.TemporaryDirectory())
+    room = ending.enter_context(tempfile.TemporaryDirectory(ignore_cleanup_errors=True))
     settings = {"n_workers": count, "threads_per_worker": 1, "memory_limit": 0, "local_directory": room}
     with uninterrupted():
         cluster = ending.enter_context(LocalCluster(**settings, dashboard_address="127.0.0.1:0", silence_logs=logging.CRITICAL))
-    client = ending.enter_context(Client(cluster))
-    client.register_worker_plugin(Quiet())
+        client = ending.enter_context(Client(cluster))
+        client.register_worker_plugin(Passing())
     return client
 
 
-class Quiet:
-    """A plugin of this machine's workers: what Dask's processes say while they end or are lost is told to nobody."""
+class Passing:
+    """A plugin of this machine's workers: an interrupt that all processes get ends what a worker runs, and not the worker."""
 
-    name = "quiet"
+    name = "passing"
 
     def setup(self, worker: Any) -> None:
-        os.dup2(os.open(os.devnull, os.O_WRONLY), 2)
+        for it in INTERRUPTS:
+            signal.signal(it, lambda *_: None)
+        signal.pthread_sigmask(signal.SIG_UNBLOCK, INTERRUPTS)
