@@ -2,7 +2,6 @@
 
 import socket
 import threading
-import time
 
 
 class Relay:
@@ -35,8 +34,8 @@ class Relay:
         except OSError:
             near.close()
             return
-        silent = threading.Event()
-        threading.Thread(target=self.reply, args=[far, near, silent], daemon=True).start()
+        silent, ended = threading.Event(), threading.Event()
+        threading.Thread(target=self.reply, args=[far, near, silent, ended], daemon=True).start()
         try:
             for line in near.makefile("rb"):
                 if self.losing and line.decode().startswith(self.losing):
@@ -44,7 +43,8 @@ class Relay:
                     silent.set()
                     if self.is_sent:
                         far.sendall(line)
-                        time.sleep(0.3)
+                        far.shutdown(socket.SHUT_WR)
+                        ended.wait()  # the service ends a session whose text has ended once it has answered all of it
                     self.lost.set()
                     if self.is_closing:
                         break
@@ -55,14 +55,16 @@ class Relay:
         for end in (near, far):
             self.shut(end)
 
-    def reply(self, far: socket.socket, near: socket.socket, silent: threading.Event) -> None:
+    def reply(self, far: socket.socket, near: socket.socket, silent: threading.Event, ended: threading.Event) -> None:
         try:
             while piece := far.recv(65_536):
                 if not silent.is_set():
                     near.sendall(piece)
         except OSError:
             pass
-        self.shut(near)
+        if not silent.is_set():
+            self.shut(near)
+        ended.set()
 
     def shut(self, end: socket.socket) -> None:
         try:

@@ -8,7 +8,7 @@ import sys
 import time
 from email.message import Message
 from pathlib import Path
-from typing import Any, NamedTuple
+from typing import Any, Callable, NamedTuple
 
 from running import PATIENCE, TOOLS
 from serving import ROSTER, InService, free_port
@@ -114,8 +114,8 @@ class InGateway(InService):
         return self.address
 
     def open(self, *options: str | Path) -> None:
-        """Starts a gateway, which ends no silent peer on a slow machine unless it is told, and waits until a call gets a seat."""
-        given = {"--seats": "4", "--patience": str(PATIENCE)}
+        """Starts a gateway, which gives up no peer and no call on a slow machine unless it is told, and waits until a call gets a seat."""
+        given = {"--seats": "4", "--patience": str(PATIENCE), "--wait": str(PATIENCE)}
         absent = [word for option in given if option not in options for word in (option, given[option])]
         words: list[str | Path] = [self.python, TOOLS / "gateway", *absent, *options, self.service_address, f"127.0.0.1:{self.gate}", self.folder / "calls"]
         self.errors = open(self.folder / "errors", "ab")
@@ -134,6 +134,13 @@ class InGateway(InService):
             assert self.gateway is not None
             self.assertTrue(self.gateway.poll() is None and time.monotonic() < end, self.logged())
             time.sleep(0.05)
+
+    def seated(self, ask: Callable[[], Answered]) -> Answered:
+        """What is answered over a seat: it is asked again where none was free in the time that the gateway was given."""
+        end = time.monotonic() + PATIENCE
+        while (answered := ask()).status == 503:
+            self.assertLess(time.monotonic(), end, answered)
+        return answered
 
     def shut(self) -> None:
         if self.gateway is not None:

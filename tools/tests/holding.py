@@ -69,14 +69,14 @@ class Holder:
                 self.trades[self.position] = line.text
 
     def hold(self, port: int, greeted: threading.Barrier, seconds: float, pause: float) -> None:
-        """One session, which begins when all have greeted, with pauses of at most so many seconds."""
+        """One session, which begins when all have greeted, with pauses of at most so many seconds, and has a trade at least."""
         try:
             with socket.create_connection(("127.0.0.1", port), PATIENCE) as connection:
                 file = connection.makefile("rwb")
                 self.ask(file, [Line(f"HELLO {self.speaker} K{self.speaker}", f"ok {NUMBER} hello {self.speaker}")])
                 greeted.wait(PATIENCE)
                 end = time.monotonic() + seconds
-                while time.monotonic() < end:
+                while time.monotonic() < end or not self.trades:
                     self.ask(file, [self.line() for _ in range(self.chance.randint(1, 16))])
                     time.sleep(self.chance.uniform(0, pause))
                 self.ask(file, [Line("BYE", f"ok {NUMBER} bye")])

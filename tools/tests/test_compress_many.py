@@ -330,7 +330,7 @@ class Scheduler(Many):
         self.address = f"tcp://127.0.0.1:{free_port()}"
         place = ["--host", "127.0.0.1", "--port", self.address.rpartition(":")[2]]
         self.scheduler = self.start("dask_scheduler", *place, "--no-dashboard", "--no-show")
-        options = [self.address, "--nthreads", "1", "--no-nanny", "--no-dashboard"]
+        options = [self.address, "--nthreads", "1", "--no-nanny", "--no-dashboard", "--local-directory", str(self.folder)]
         self.workers = [self.start("dask_worker", *options) for _ in range(2)]
 
     def start(self, module: str, *words: str) -> subprocess.Popen[bytes]:

@@ -7,8 +7,10 @@ import unittest
 
 from gateway_relay import Relay
 from gateways import Answered, Caller, InGateway
+from running import PATIENCE
 
 TERMS = "TRADE A B P 10 2026-03-02"
+FEW = 4
 
 
 class Keyed:
@@ -45,21 +47,31 @@ class Keyed:
 
 
 class Kills(InGateway):
+    def go_on(self, keyed: list[Keyed]) -> None:
+        """A while of calls, in which each caller is answered at least a few times."""
+        due, end = [len(it.outcomes) + FEW for it in keyed], time.monotonic() + PATIENCE
+        time.sleep(0.4)
+        while any(len(it.outcomes) < count for it, count in zip(keyed, due)):
+            self.assertLess(time.monotonic(), end, "a caller is answered no more")
+            time.sleep(0.02)
+
     def outcomes(self, end: int) -> dict[str, Answered]:
         """What callers are answered while the gateway or the service is killed and started again."""
         keyed = [Keyed(self.gate, name, place) for place, name in enumerate("ABC")]
-        threads = [threading.Thread(target=it.run) for it in keyed]
+        threads = [threading.Thread(target=it.run, daemon=True) for it in keyed]
         for thread in threads:
             thread.start()
-        for _ in range(end):
-            time.sleep(0.4)
-            self.shut()
-            self.open()
-            time.sleep(0.4)
-            self.kill()
-            self.start("--seats", "5")
-        for it in keyed:
-            it.is_over = True
+        try:
+            for _ in range(end):
+                self.go_on(keyed)
+                self.shut()
+                self.open()
+                self.go_on(keyed)
+                self.kill()
+                self.start("--seats", "5")
+        finally:
+            for it in keyed:
+                it.is_over = True
         for thread in threads:
             thread.join()
         return {line: answered for it in keyed for line, answered in it.outcomes.items()}
@@ -130,7 +142,7 @@ class LostReplies(InGateway):
         self.relay.lose("TRADE", is_sent=True, is_closing=False)
         calling = threading.Thread(target=self.assertRaises, args=[(OSError, http.client.HTTPException), caller.say, TERMS, "k"])
         calling.start()
-        self.assertTrue(self.relay.lost.wait(30))
+        self.assertTrue(self.relay.lost.wait(PATIENCE))
         self.shut()
         calling.join()
         self.open()

@@ -5,7 +5,7 @@ import sys
 import unittest
 from unittest import mock
 
-from running import TOOLS
+from running import PATIENCE, TOOLS
 
 sys.path.insert(0, str(TOOLS))
 
@@ -120,7 +120,7 @@ class InPieces(unittest.TestCase):
             asked = asyncio.create_task(connection.ask(["X"]))
             await asyncio.sleep(0)
             connection.connection_lost(None) if end is None else connection.data_received(end)
-            await asyncio.wait_for(asked, 5)
+            await asyncio.wait_for(asked, PATIENCE)
 
         for end in (None, b"what is this\n", b"ok x statement y\n", b"\n", b"\xff\n"):
             with self.assertRaises(Lost, msg=end), mock.patch("delkwoan.gateway.connection.log"):
@@ -150,8 +150,8 @@ class InPieces(unittest.TestCase):
 class WhoGetsASeat(unittest.TestCase):
     """Connections that answer nothing, of which calls take seats."""
 
-    def seats(self, count: int) -> Seats:
-        seats = Seats(Address("127.0.0.1", 1), count, 0.2)
+    def seats(self, count: int, wait: float = 0.2) -> Seats:
+        seats = Seats(Address("127.0.0.1", 1), count, wait)
         for _ in range(count):
             connection = Connection()
             connection.connection_made(mock.Mock(is_closing=lambda: False))
@@ -190,7 +190,7 @@ class WhoGetsASeat(unittest.TestCase):
 
     def test_a_call_that_waits_gets_the_next(self) -> None:
         async def spend() -> Connection:
-            seats = self.seats(1)
+            seats = self.seats(1, PATIENCE)
 
             async def wait() -> Connection:
                 async with seats.seat() as connection:

@@ -7,8 +7,11 @@ import time
 import unittest
 
 from gateways import Caller, InGateway
+from running import PATIENCE
 
 SILENT = 1_000
+PATIENT = 2
+"""The seconds of a gateway's patience: more than a busy machine takes for what is not silent."""
 HALVES = [b"G", b"GET /healthz HTTP/1.1\r\nHost: x\r\n", b"POST /api/session HTTP/1.1\r\nHost: x\r\nContent-Length: 40\r\n\r\n{"]
 """What is sent of a request: its first byte, a part of its head, and its head with a part of its body."""
 
@@ -23,7 +26,7 @@ def many_files() -> None:
 
 class Silence(InGateway):
     def connect(self, text: bytes = b"") -> socket.socket:
-        connection = socket.create_connection(("127.0.0.1", self.gate), 60)
+        connection = socket.create_connection(("127.0.0.1", self.gate), PATIENCE)
         self.addCleanup(connection.close)
         connection.sendall(text)
         return connection
@@ -58,7 +61,7 @@ class Silence(InGateway):
     def test_each_is_ended_in_its_time(self) -> None:
         """Those that say nothing, or half of a request; a body that does not come is told so. One that is served is not ended."""
         self.start("--seats", "5")
-        self.open("--patience", "1")
+        self.open("--patience", str(PATIENT))
         caller = self.caller("A")
         self.assertEqual(self.connect().recv(64), b"")
         self.assertEqual([self.connect(half).recv(12) for half in HALVES], [b"", b"", b"HTTP/1.1 408"])
@@ -66,14 +69,14 @@ class Silence(InGateway):
         time.sleep(0.1)
         assert self.service is not None
         waiting = self.connect(f"GET /api/nets/P HTTP/1.1\r\nHost: x\r\nAuthorization: Bearer {caller.token}\r\n\r\n".encode())
-        time.sleep(4)
+        time.sleep(4 * PATIENT)
         self.service.send_signal(18)
         self.assertEqual(waiting.recv(12), b"HTTP/1.1 200")
 
     def test_one_that_takes_nothing_of_an_answer(self) -> None:
         """Its answers fill all room. It has no seat meanwhile, and is ended."""
         self.start("--seats", "5")
-        self.open("--patience", "1")
+        self.open("--patience", str(PATIENT))
         caller = self.caller("A")
         for number in range(1, 401):
             caller.say(f"TRADE A B P {number} 2026-03-02")
@@ -84,7 +87,7 @@ class Silence(InGateway):
         greedy.settimeout(1)
         asked = f"GET /api/statement HTTP/1.1\r\nHost: x\r\nAuthorization: Bearer {caller.token}\r\n\r\n".encode()
         greedy.sendall(asked * 200)
-        end = time.monotonic() + 30
+        end = time.monotonic() + PATIENCE
         while self.busy():
             self.assertLess(time.monotonic(), end)
         caller.close()

@@ -14,6 +14,10 @@ from running import PATIENCE, ROOT, run
 from serving import free_port
 
 FILE = ROOT / "packaging/haproxy.cfg"
+SILENCE = 30
+"""The seconds of the file's `timeout client`."""
+MOST_ASKED = 50
+"""How many requests are made until two came within the proxy's ten seconds."""
 HAPROXY = shutil.which("haproxy", path=f"{os.environ.get('PATH', '')}:/usr/sbin")
 
 
@@ -71,7 +75,7 @@ class Secured(InGateway):
         end = time.monotonic() + PATIENCE
         while time.monotonic() < end:
             try:
-                socket.create_connection(("127.0.0.1", port), 5).close()
+                socket.create_connection(("127.0.0.1", port), PATIENCE).close()
                 return
             except OSError:
                 time.sleep(0.05)
@@ -84,7 +88,7 @@ class Itself(Secured):
         self.context = self.certificates.context("client")
         self.open(*words, "--clients", self.certificates["authority.pem"])
         self.assertEqual([self.is_let_in(self.gate, client) for client in ("client", "", "stranger")], [True, False, False])
-        with socket.create_connection(("127.0.0.1", self.gate), 30) as plain:
+        with socket.create_connection(("127.0.0.1", self.gate), PATIENCE) as plain:
             plain.sendall(b"GET /healthz HTTP/1.1\r\nHost: x\r\n\r\n")
             self.assertNotIn(b"position", plain.recv(4096))
 
@@ -103,7 +107,7 @@ class Proxied(Secured):
         both = self.certificates["server.both"]
         both.write_bytes(self.certificates["server.pem"].read_bytes() + self.certificates["server.key"].read_bytes())
         settings = {"LISTEN": f"127.0.0.1:{port}", "GATEWAY": f"127.0.0.1:{self.gate}", "CERTIFICATE": str(both)}
-        settings |= {"CLIENTS": str(self.certificates["authority.pem"]), "PATH": os.environ.get("PATH", ""), **more}
+        settings |= {"CLIENTS": str(self.certificates["authority.pem"]), "PATH": os.environ.get("PATH", ""), "PATIENCE": f"{PATIENCE}s", **more}
         proxy = subprocess.Popen([HAPROXY, "-f", FILE], env=settings, stdout=subprocess.DEVNULL, stderr=subprocess.DEVNULL)
         self.addCleanup(proxy.wait)
         self.addCleanup(proxy.kill)
@@ -131,30 +135,52 @@ class Proxied(Secured):
         self.assertEqual(caller.http.getresponse().status, 401)
         self.assertNotIn("10.1.2.3", self.logged())
 
-    def test_its_limits(self) -> None:
-        """A peer that is slow with its head, one connection too many of an address, and too many requests in ten seconds."""
+    def connected(self, port: int) -> ssl.SSLSocket:
+        """A connection through the proxy, over which nothing has gone yet."""
+        plain = socket.create_connection(("127.0.0.1", port), PATIENCE)
+        self.addCleanup(plain.close)
+        secured = self.certificates.context("client").wrap_socket(plain, server_hostname="127.0.0.1")
+        self.addCleanup(secured.close)
+        return secured
+
+    def test_a_peer_that_is_slow_with_its_head(self) -> None:
+        """It is ended long before one that is silent at all."""
         self.open()
-        context = self.certificates.context("client")
-        port = self.proxy(PATIENCE="1s", MOST_CONNECTIONS="3", MOST_REQUESTS="5")
-
-        def connect() -> ssl.SSLSocket:
-            plain = socket.create_connection(("127.0.0.1", port), 30)
-            self.addCleanup(plain.close)
-            secured = context.wrap_socket(plain, server_hostname="127.0.0.1")
-            self.addCleanup(secured.close)
-            return secured
-
-        slow = connect()
+        slow = self.connected(self.proxy(PATIENCE="1s"))
+        slow.settimeout(SILENCE - 5)
         slow.sendall(b"GET /healthz HTTP/1.1\r\n")
         self.assertEqual(slow.recv(12), b"HTTP/1.1 408")
-        peers = [connect() for _ in range(3)]
-        with self.assertRaises(OSError):
-            connect()
-        answers = []
-        for _ in range(7):
-            peers[0].sendall(b"GET /healthz HTTP/1.1\r\nHost: x\r\n\r\n")
-            answers.append(peers[0].recv(4096)[9:12])
-        self.assertEqual((answers[0], answers[-1]), (b"200", b"429"))
+
+    def test_one_connection_of_an_address_too_many(self) -> None:
+        """Three are let in, as soon as the one that looked for the proxy is gone, and then none until one of them is gone."""
+        self.open()
+        port = self.proxy(MOST_CONNECTIONS="3")
+        peers = [self.let_in(port) for _ in range(3)]
+        for _ in range(3):
+            with self.assertRaises(OSError):
+                self.connected(port)
+        peers[0].close()
+        self.let_in(port)
+
+    def let_in(self, port: int) -> ssl.SSLSocket:
+        """A connection, once the proxy has seen that earlier ones are gone."""
+        end = time.monotonic() + PATIENCE
+        while True:
+            try:
+                return self.connected(port)
+            except OSError:
+                self.assertLess(time.monotonic(), end)
+                time.sleep(0.05)
+
+    def test_too_many_requests(self) -> None:
+        """Of two in ten seconds the second is denied, however slow this machine is: it is asked until two came so."""
+        self.open()
+        caller = Caller(self.proxy(MOST_REQUESTS="1"), self.certificates.context("client"))
+        self.addCleanup(caller.close)
+        answers = [caller.ask("GET", "/healthz").status]
+        while answers[-1] == 200 and len(answers) < MOST_ASKED:
+            answers.append(caller.ask("GET", "/healthz").status)
+        self.assertEqual((answers[0], answers[-1]), (200, 429))
 
 
 if __name__ == "__main__":

@@ -18,7 +18,7 @@ FAR_BASE = SLOTTED[:9] + b"\xff" * 8 + SLOTTED[17:]
 SPARSE_SIZE = 3_000_000_000
 MOST_KILOBYTES = 300_000
 """A journal's limit of 268,435,456 bytes, and what the program takes besides."""
-MOST_SECONDS = 60
+MOST_SECONDS = 600
 
 
 class Measured(NamedTuple):
@@ -27,7 +27,7 @@ class Measured(NamedTuple):
 
 
 def measured(words: list[str | Path]) -> Measured:
-    """Runs a program without input, and tells the most memory that it had. One that goes on is killed after a minute."""
+    """Runs a program without input, and tells the most memory that it had. One that goes on is killed after ten minutes."""
     with tempfile.TemporaryFile() as output, tempfile.TemporaryFile() as errors:
         limited = ["timeout", "-s", "KILL", str(MOST_SECONDS), *words]
         begun = subprocess.Popen(limited, stdin=subprocess.DEVNULL, stdout=output, stderr=errors)

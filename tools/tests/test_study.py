@@ -10,7 +10,7 @@ import unittest
 from pathlib import Path
 from typing import Any
 
-from running import ROOT, TOOLS, program
+from running import PATIENCE, ROOT, TOOLS, program
 from test_packaging import python_with
 
 STUDIES, DOCS = ROOT / "studies", ROOT / "docs"
@@ -179,7 +179,7 @@ class Notebook(unittest.TestCase):
         with tempfile.TemporaryDirectory() as room:
             environ = {**os.environ, "COMPRESS_CLI": str(program()), "STUDY_OUT": room, "IPYTHONDIR": room, "JUPYTER_RUNTIME_DIR": room}
             words = [python, "-m", "nbconvert", "--to", "notebook", "--execute", "--ExecutePreprocessor.timeout=1800"]
-            words += ["--output-dir", room, str(STUDIES / "compression.ipynb")]
+            words += [f"--ExecutePreprocessor.startup_timeout={PATIENCE}", "--output-dir", room, str(STUDIES / "compression.ipynb")]
             done = subprocess.run(words, env=environ, capture_output=True, timeout=1900)
             self.assertEqual(done.returncode, 0, done.stderr[-2000:])
             self.assertEqual(Path(room, "figures.csv").read_text(), (STUDIES / "figures.csv").read_text())
