@@ -49,13 +49,9 @@ impl Outbox {
         ensures never_falls { K.faults sink.old ≤ K.faults sink.new }
         ensures failed { OnErr result (Rose (K.faults sink.old) (K.faults sink.new)) }
     {
-        match write_all(sink, &self.bytes) {
-            Ok(()) => {
-                self.bytes.clear();
-                Ok(())
-            }
-            Err(fault) => Err(fault),
-        }
+        write_all(sink, &self.bytes)?;
+        self.bytes.clear();
+        Ok(())
     }
 
     // Puts a text behind what waits, for which there is room.
@@ -81,13 +77,9 @@ impl Outbox {
             self.append(text);
             return Ok(());
         }
-        match self.flush(sink) {
-            Ok(()) => {
-                self.append(text);
-                Ok(())
-            }
-            Err(fault) => Err(fault),
-        }
+        self.flush(sink)?;
+        self.append(text);
+        Ok(())
     }
 
     /// Puts a text of any length behind what waits, piece by piece.
@@ -100,15 +92,9 @@ impl Outbox {
         let mut rest = text;
         while rest.len() > MOST_LINE {
             let (piece, others) = rest.split_at(MOST_LINE);
-            match self.put(piece, sink) {
-                Ok(()) => {}
-                Err(fault) => return Err(fault),
-            }
+            self.put(piece, sink)?;
             rest = others;
         }
-        match self.put(rest, sink) {
-            Ok(()) => Ok(()),
-            Err(fault) => Err(fault),
-        }
+        self.put(rest, sink)
     }
 }

@@ -46,22 +46,13 @@ impl ReplyWriter {
         ensures failed { OnErr result (Rose (K.faults sink.old) (K.faults sink.new)) }
     {
         let end = write_head(given.reply, roster, &mut self.line);
-        match self.outbox.put(&self.line[..end], sink) {
-            Ok(()) => {}
-            Err(fault) => return Err(fault),
-        }
+        self.outbox.put(&self.line[..end], sink)?;
         for index in 0..detail_count(&given.reply.answer) {
             let row = detail_row(&given.reply.answer, index);
             let end = write_row(&row, roster, &mut self.line);
-            match self.outbox.put(&self.line[..end], sink) {
-                Ok(()) => {}
-                Err(fault) => return Err(fault),
-            }
+            self.outbox.put(&self.line[..end], sink)?;
         }
-        match self.write_raw(&given.reply.answer, sink) {
-            Ok(()) => Ok(()),
-            Err(fault) => Err(fault),
-        }
+        self.write_raw(&given.reply.answer, sink)
     }
 
     // Puts the bytes of an entry and a line feed behind what waits, if the answer tells an entry.
@@ -74,14 +65,8 @@ impl ReplyWriter {
         let Answer::EntryBytes { bytes, .. } = answer else {
             return Ok(());
         };
-        match self.outbox.put_long(bytes.rows(), sink) {
-            Ok(()) => {}
-            Err(fault) => return Err(fault),
-        }
-        match self.outbox.put(b"\n", sink) {
-            Ok(()) => Ok(()),
-            Err(fault) => Err(fault),
-        }
+        self.outbox.put_long(bytes.rows(), sink)?;
+        self.outbox.put(b"\n", sink)
     }
 
     /// Gives the sink all that waits. Where the sink fails, it took a front.
