@@ -95,6 +95,19 @@ def checking(count: int, ending: ExitStack) -> Executor:
     return checks
 
 
+@contextmanager
+def own_room() -> Iterator[str]:
+    """A folder for temporary files of the processes that are started meanwhile, so that what a killed one leaves goes with it."""
+    before = os.environ.get("TMPDIR")
+    with tempfile.TemporaryDirectory(ignore_cleanup_errors=True) as room:
+        os.environ["TMPDIR"] = room
+        try:
+            yield room
+        finally:
+            os.environ.pop("TMPDIR")
+            os.environ |= {} if before is None else {"TMPDIR": before}
+
+
 def connected(scheduler: str | None, count: int, ending: ExitStack) -> Any:
     """A client of the scheduler that is named, or of so many workers that are processes of this machine."""
     import dask
@@ -102,13 +115,13 @@ def connected(scheduler: str | None, count: int, ending: ExitStack) -> Any:
 
     logging.disable(logging.CRITICAL)  # what is lost or ends is the run's to tell
     warnings.filterwarnings("ignore", "Large object", UserWarning)  # a market's files go to one worker alone
+    room = ending.enter_context(own_room())
     if scheduler:
         try:
             return ending.enter_context(Client(scheduler))
         except (OSError, ValueError):
             raise Stop(21, f"no scheduler at {scheduler}") from None
     dask.config.set(SELDOM)
-    room = ending.enter_context(tempfile.TemporaryDirectory(ignore_cleanup_errors=True))
     settings = {"n_workers": count, "threads_per_worker": 1, "memory_limit": 0, "local_directory": room}
     with uninterrupted():
         cluster = ending.enter_context(LocalCluster(**settings, dashboard_address="127.0.0.1:0", silence_logs=logging.CRITICAL))
