@@ -1,8 +1,10 @@
 """A headless Chromium over the gateway's page, for the tests."""
 
 import importlib.util
+import os
 import shutil
 import sys
+import tempfile
 import time
 import unittest
 from pathlib import Path
@@ -31,7 +33,8 @@ def need_chromium() -> None:
         raise unittest.SkipTest("no python3-selenium")
 
 
-def driver_of(size: tuple[int, int], is_dark: bool = False) -> Any:
+def driver_of(size: tuple[int, int], is_dark: bool, room: str) -> Any:
+    """A browser that leaves its files in a folder."""
     from selenium import webdriver
     from selenium.webdriver.chrome.service import Service
 
@@ -41,7 +44,8 @@ def driver_of(size: tuple[int, int], is_dark: bool = False) -> Any:
     if is_dark:
         options.add_argument("--force-dark-mode")
     options.set_capability("goog:loggingPrefs", {"browser": "ALL"})
-    driver = webdriver.Chrome(service=Service(shutil.which("chromedriver") or "chromedriver"), options=options)
+    service = Service(shutil.which("chromedriver") or "chromedriver", env={**os.environ, "TMPDIR": room})
+    driver = webdriver.Chrome(service=service, options=options)
     driver.set_script_timeout(PATIENCE)
     driver.set_page_load_timeout(PATIENCE)
     features = [{"name": "prefers-color-scheme", "value": "dark" if is_dark else "light"}]
@@ -135,7 +139,9 @@ class InBrowser(InGateway):
         self.open("--roster", ROSTER, "--journal", self.journal, *options)
 
     def page(self, name: str = "", size: tuple[int, int] = WIDE, is_dark: bool = False, before: str = "") -> Page:
-        driver = driver_of(size, is_dark)
+        room = tempfile.mkdtemp()
+        self.addCleanup(shutil.rmtree, room, ignore_errors=True)
+        driver = driver_of(size, is_dark, room)
         self.addCleanup(driver.quit)
         driver.execute_cdp_cmd("Page.addScriptToEvaluateOnNewDocument", {"source": before})
         page = Page(driver, f"http://127.0.0.1:{self.gate}/")
