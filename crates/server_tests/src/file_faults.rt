@@ -9,12 +9,12 @@ use std::test::Fail;
 use std::thread::Threads;
 
 // That these trades and this proposal have a fault, which this line tells.
-fn is_told<R: Threads + Wait + Sync + AllocGlobal>(
+fn is_told<'a, R: Threads + Wait + Sync + AllocGlobal>(
     rt: &R,
-    form: &Trial<'_>,
-    trades: &[u8],
-    proposal: &[u8],
-    line: &[u8],
+    form: &Trial<'a>,
+    trades: &'a [u8],
+    proposal: &'a [u8],
+    line: &'a [u8],
 ) -> Result<(), Fail> {
     let told = Trial {
         files: &[("T", DEALERS), ("t", trades), ("p", proposal)],

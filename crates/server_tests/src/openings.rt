@@ -48,9 +48,9 @@ fn has_what_it_had<R: Threads + Wait + Sync + AllocGlobal>(
 
 // That a form whose disk fails at that call tells it, and leaves what it had, where a crash keeps all that was written and where
 // it loses what no sync followed.
-fn survives<R: Threads + Wait + Sync + AllocGlobal>(
+fn survives<'a, R: Threads + Wait + Sync + AllocGlobal>(
     rt: &R,
-    words: &[&str],
+    words: &'a [&'a str],
     call: u64,
 ) -> Result<(), Fail> {
     let form = Trial {

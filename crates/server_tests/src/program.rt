@@ -102,11 +102,11 @@ impl Left {
 }
 
 /// That a script of these lines over a disk with these bytes gets these replies.
-pub fn finds<R: Threads + Wait + Sync + AllocGlobal>(
+pub fn finds<'a, R: Threads + Wait + Sync + AllocGlobal>(
     rt: &R,
-    disk: &[u8],
-    lines: &[u8],
-    replies: &[u8],
+    disk: &'a [u8],
+    lines: &'a [u8],
+    replies: &'a [u8],
 ) -> Result<(), Fail> {
     let script = Trial {
         input: lines,

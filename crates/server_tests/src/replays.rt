@@ -41,12 +41,12 @@ const REPLAY: Trial<'static> = Trial {
 };
 
 // That a replay of these bytes ends so, and leaves them. A script is told the same damage, and leaves them too.
-fn is_told<R: Threads + Wait + Sync + AllocGlobal>(
+fn is_told<'a, R: Threads + Wait + Sync + AllocGlobal>(
     rt: &R,
-    disk: &[u8],
+    disk: &'a [u8],
     status: u8,
-    text: &[u8],
-    told: &[u8],
+    text: &'a [u8],
+    told: &'a [u8],
 ) -> Result<(), Fail> {
     let replay = Trial {
         disk,
