@@ -4,3 +4,4 @@ pub mod HeldFacts
 pub mod FollowFacts
 pub mod LeftFacts
 pub mod TurnFacts
+pub mod EndFacts

@@ -1,10 +1,11 @@
 //! A standby asks for one entry after another, and keeps each before it asks for the next.
-ghost use Rattle.std.specs.Prelude.{◌≡◌, ◌≢◌, ◌+◌, ◌<◌, ◌^◌, None, IsTrue, IfNone, is_none, not, Some, true, false};
+ghost use Rattle.std.specs.Prelude.{◌≡◌, ◌≢◌, ◌+◌, ◌<◌, ◌^◌, None, IsTrue, IfSome, IfNone, is_none, not, Some, true, false};
 ghost use Rattle.command_types.specs.History.{end_of};
 ghost use Rattle.command_types.specs.Machine.{changes, is_refusal};
 ghost use Rattle.house.specs.House.{is_stopped};
 ghost use Rattle.house.specs.Calling.{is_disk_fault};
 ghost use Rattle.standby.specs.Following.{FollowsTo, TakesEntry, EndsSo, SaysSo, IsSayEnd, tells_disk_fault, is_whole};
+ghost use Rattle.standby.specs.Ending.{SaysLines, EndsBy, Tells, Declines, is_cut_by};
 
 use crate::peer::{Heard, Peer, Said, SayFault};
 use command_types::{Answer, Entry, Refusal};
@@ -37,6 +38,7 @@ fn untaken(due: u64, answer: &Answer) -> Option<FollowEnd>
     ensures made { is_none result ≡ not (is_refusal answer.now) }
     ensures fault { tells_disk_fault result ≡ is_disk_fault answer.now }
     ensures caught { is_whole result ≡ true → is_none result ≢ false }
+    ensures tells { IfSome result (Tells due answer.now) }
 {
     match answer {
         Answer::No(Refusal::JournalFull { size }) => Some(FollowEnd::Full { size: *size }),
@@ -51,6 +53,7 @@ fn untaken(due: u64, answer: &Answer) -> Option<FollowEnd>
 fn take<D: Disk>(house: &mut House<D>, due: u64, entry: Entry) -> Option<FollowEnd>
     requires change { IsTrue (changes entry.ask.what) }
     ensures takes { TakesEntry house.old house.new entry result }
+    ensures declines { IfSome result (Declines house.old house.new due entry) }
     ensures short { end_of house.new.history < 2 ^ 63 }
 {
     let Entry { seat, ask } = entry;
@@ -63,6 +66,8 @@ fn say<D: Disk, P: Peer<D>>(house: &House<D>, peer: &mut P, line: Said) -> Optio
     ensures says { SaysSo house.now line (P.said peer.old) (P.said peer.new) result }
     ensures why { IsSayEnd result }
     ensures hears { P.heard peer.new ≡ P.heard peer.old }
+    ensures cuts { P.cut peer.new ≡ is_cut_by (P.cut peer.old) result }
+    ensures stays { (P.last peer.new ≡ P.last peer.old) × (P.start peer.new ≡ P.start peer.old) }
 {
     match peer.say(house, line) {
         Ok(()) => None,
@@ -76,6 +81,10 @@ fn turn<D: Disk, P: Peer<D>>(house: &mut House<D>, peer: &mut P) -> Option<Follo
     requires runs { house.old.kept ≡ None }
     ensures follows { FollowsTo house.old house.new (P.said peer.old) (P.said peer.new) (P.heard peer.old) (P.heard peer.new) result }
     ensures ends { EndsSo house.old house.new result }
+    ensures lines { SaysLines house.old house.new (P.said peer.old) (P.said peer.new) result }
+    ensures because { IfSome result (EndsBy house.new (P.last peer.new)) }
+    ensures cuts { P.cut peer.new ≡ is_cut_by (P.cut peer.old) result }
+    ensures stays { P.start peer.new ≡ P.start peer.old }
     ensures goes_on { IfNone result ((house.new.kept ≡ None) × (end_of house.new.history ≡ end_of house.old.history + 1)) }
     ensures short { end_of house.new.history < 2 ^ 63 }
 {
@@ -111,11 +120,16 @@ fn turn<D: Disk, P: Peer<D>>(house: &mut House<D>, peer: &mut P) -> Option<Follo
 /// Asks for one entry after another, from the end of the house's history on, and makes the change of each before it asks for the
 /// next; it goes on until there is none, and then says goodbye. Where it ends otherwise, the entries taken so far stay. A fault of
 /// the disk is told exactly where it stopped the house. `FollowsTo` has what was said, heard and taken, and what a crash left at
-/// each moment since each line was said.
+/// each moment since each line was said; `SaysLines` has the lines in their order, and `EndsBy` why it ended.
 pub fn follow_over<D: Disk, P: Peer<D>>(house: &mut House<D>, peer: &mut P) -> FollowEnd
     requires runs { is_stopped house.old ≡ false }
     ensures follows { FollowsTo house.old house.new (P.said peer.old) (P.said peer.new) (P.heard peer.old) (P.heard peer.new) (Some result) }
     ensures ends { EndsSo house.old house.new (Some result) }
+    ensures lines { SaysLines house.old house.new (P.said peer.old) (P.said peer.new) (Some result) }
+    ensures because { EndsBy house.new (P.last peer.new) result }
+    ensures cuts { P.cut peer.new ≡ is_cut_by (P.cut peer.old) (Some result) }
+    ensures stays { P.start peer.new ≡ P.start peer.old }
+    ensures short { end_of house.new.history < 2 ^ 63 }
 {
     // What a house keeps, of which its length tells.
     let _length = house.length();

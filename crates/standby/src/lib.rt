@@ -22,6 +22,6 @@ pub use laws::{
     crashes_keep_worlds_sound, folds_keep_the_list, journal_holds_a_prefix, primary_grows,
     standby_holds_a_prefix, worlds_stay_sound,
 };
-pub use log::{Offered, Shown, note_heard, note_said};
+pub use log::{Offered, Outcome, Shown, note_heard, note_said};
 pub use memory_peer::MemoryPeer;
 pub use peer::{Heard, Peer, Said, SayFault};

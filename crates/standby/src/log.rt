@@ -1,11 +1,11 @@
 //! What was said and heard, for contracts alone: lists whose items have no bytes.
 ghost use Rattle.std.specs.Prelude.{◌≡◌, [], ◌∷◌, ◌++◌, map, OnOk, OnErr};
-ghost use Rattle.standby.specs.Log.{sent_of, offer_of};
+ghost use Rattle.standby.specs.Log.{sent_of, offer_of, came};
 
-use crate::peer::Said;
+use crate::peer::{Heard, Said};
 use command_types::Entry;
 use house::House;
-use outside::Disk;
+use outside::{Disk, Failed};
 use std::alloc::AllocError;
 use std::snapshot::Snapshot;
 
@@ -21,6 +21,25 @@ pub struct Shown<D: Disk> {
 pub struct Offered {
     pub(crate) position: Snapshot<u64>,
     pub(crate) entry: Snapshot<Entry>,
+}
+
+/// What a NEXT of a position came to.
+#[derive(Drop)]
+pub struct Outcome {
+    position: Snapshot<u64>,
+    heard: Snapshot<Result<Heard, Failed>>,
+}
+
+impl Outcome {
+    /// A NEXT of this position came to this.
+    pub fn of(position: u64, heard: &Result<Heard, Failed>) -> Outcome
+        ensures { came result ≡ record { position = position; heard = heard.now } }
+    {
+        Outcome {
+            position: Snapshot::of(&position),
+            heard: Snapshot::of(heard),
+        }
+    }
 }
 
 /// Puts a line behind the others. The only error is want of memory.

@@ -1,8 +1,9 @@
 //! A peer in memory, which has some entries to give.
-ghost use Rattle.std.specs.Prelude.{◌≡◌, ◌++◌, [], map, IfOk};
-ghost use Rattle.standby.specs.Log.{sent_of, offer_of};
+ghost use Rattle.std.specs.Prelude.{◌≡◌, ◌++◌, [], false, map};
+ghost use Rattle.standby.specs.Log.{sent_of, offer_of, came_of};
+ghost use Rattle.standby.specs.Sent.{offer_in, IsOfChange};
 
-use crate::log::{Offered, Shown, note_heard, note_said};
+use crate::log::{Offered, Outcome, Shown, note_heard, note_said};
 use crate::peer::{Heard, Peer, Said, SayFault};
 use command_types::{Answer, Entry};
 use cycle_states::is_recorded;
@@ -17,6 +18,7 @@ pub struct MemoryPeer<D: Disk> {
     entries: VecDeque<Entry>,
     said: Vec<Shown<D>>,
     heard: Vec<Offered>,
+    last: Option<Outcome>,
 }
 
 impl<D: Disk> MemoryPeer<D> {
@@ -29,6 +31,30 @@ impl<D: Disk> MemoryPeer<D> {
             entries,
             said: Vec::new(alloc),
             heard: Vec::new(alloc),
+            last: None,
+        }
+    }
+
+    // Gives the next entry, if there is one.
+    fn give(&mut self, position: u64) -> Heard
+        ensures change { IsOfChange result }
+        ensures said { self.new.said ≡ self.old.said }
+        ensures heard { map offer_of self.new.heard.items ≡ map offer_of self.old.heard.items ++ offer_in result }
+    {
+        let Some(entry) = self.entries.pop_front() else {
+            return Heard::Nothing;
+        };
+        if !is_recorded(&entry.ask.what, &Answer::Bye) {
+            return Heard::Broken { at: 0 };
+        }
+        let next = position.saturating_add(1);
+        match note_heard(&mut self.heard, next, &entry) {
+            Ok(()) => Heard::Entry {
+                due: 0,
+                position: next,
+                entry,
+            },
+            Err(_) => Heard::Memory,
         }
     }
 }
@@ -38,6 +64,14 @@ impl<D: Disk> Peer<D> for MemoryPeer<D> {
 
     ghost heard = { λ p. map offer_of p.heard.items };
 
+    ghost last = { λ p. came_of p.last };
+
+    ghost cut = { λ p. false };
+
+    ghost Start = { Unit {0} };
+
+    ghost start = { λ p. tt };
+
     fn say(&mut self, house: &House<D>, line: Said) -> Result<(), SayFault> {
         match note_said(&mut self.said, house, line) {
             Ok(()) => Ok(()),
@@ -46,20 +80,8 @@ impl<D: Disk> Peer<D> for MemoryPeer<D> {
     }
 
     fn hear(&mut self, position: u64) -> Result<Heard, Failed> {
-        let Some(entry) = self.entries.pop_front() else {
-            return Ok(Heard::Nothing);
-        };
-        if !is_recorded(&entry.ask.what, &Answer::Bye) {
-            return Ok(Heard::Broken { at: 0 });
-        }
-        let next = position.saturating_add(1);
-        match note_heard(&mut self.heard, next, &entry) {
-            Ok(()) => Ok(Heard::Entry {
-                due: 0,
-                position: next,
-                entry,
-            }),
-            Err(_) => Ok(Heard::Memory),
-        }
+        let heard = Ok(self.give(position));
+        self.last = Some(Outcome::of(position, &heard));
+        heard
     }
 }

@@ -1,5 +1,6 @@
 //! What a standby talks to.
-ghost use Rattle.std.specs.Prelude.{◌≡◌, List, [], ◌∷◌, ◌++◌, IfOk, OnOk, Err};
+ghost use Rattle.std.specs.Prelude.{◌≡◌, Bool, List, [], ◌∷◌, ◌++◌, Option, Some, IfOk, OnOk, Err};
+ghost use Rattle.standby.specs.Ending.{Came, is_cut_after};
 ghost use Rattle.standby.specs.Link.{Offer};
 ghost use Rattle.standby.specs.Sent.{Sent, offers_in, IsOfChange};
 
@@ -58,16 +59,31 @@ pub trait Peer<D: Disk> {
     // The entries that were heard.
     ghost heard: { Self → List Offer };
 
+    // What the last NEXT came to.
+    ghost last: { Self → Option Came };
+
+    // Whether a line was said in part.
+    ghost cut: { Self → Bool };
+
+    // What the link was when following began, as each link sees that. It stays.
+    ghost Start: { Type 0 };
+
+    ghost start: { Self → Start };
+
     /// Says a line, and is shown the house as it is. What was said in part counts as said; where there is no memory, nothing was.
     fn say(&mut self, house: &House<D>, line: Said) -> Result<(), SayFault>
         ensures says { OnOk result (said self.new ≡ said self.old ++ record { house = house.now; line = line } ∷ []) }
         ensures says_in_part { result ≡ Err SayFault.Failed → said self.new ≡ said self.old ++ record { house = house.now; line = line } ∷ [] }
         ensures unsaid { result ≡ Err SayFault.Memory → said self.new ≡ said self.old }
-        ensures hears { heard self.new ≡ heard self.old };
+        ensures hears { heard self.new ≡ heard self.old }
+        ensures cuts { cut self.new ≡ is_cut_after (cut self.old) result }
+        ensures stays { (last self.new ≡ last self.old) × (start self.new ≡ start self.old) };
 
     /// Waits for the reply to a NEXT of this position. An entry that it gives is a change. The only error is that the way in failed.
     fn hear(&mut self, position: u64) -> Result<Heard, Failed>
         ensures change { IfOk result IsOfChange }
         ensures says { said self.new ≡ said self.old }
-        ensures hears { heard self.new ≡ heard self.old ++ offers_in result };
+        ensures hears { heard self.new ≡ heard self.old ++ offers_in result }
+        ensures came { last self.new ≡ Some (record { position = position; heard = result }) }
+        ensures stays { (cut self.new ≡ cut self.old) × (start self.new ≡ start self.old) };
 }
