@@ -1,7 +1,9 @@
-//! A standby over a peer in memory.
+//! A standby over a peer in memory, and over bytes.
 #![tactic(auto)]
 
 #[cfg(test)]
 mod follows;
 #[cfg(test)]
 mod houses;
+#[cfg(test)]
+mod streams;

@@ -1,12 +1,11 @@
 -- How hearing goes on, from what was replied to the next reply.
-use Rattle.std.proofs.Common.{◌≡◌, ℕ, ◌-◌, ◌≤◌, List, [], ◌∷◌, ◌++◌, length, map, Option, Ok, Err, refl, sym, ap, subst, ◌∙◌, arith, append-nil, length-append}
-use Rattle.outside.specs.Faults.{Rose}
+use Rattle.std.proofs.Common.{◌≡◌, ℕ, ◌-◌, ◌≤◌, List, [], ◌∷◌, ◌++◌, length, map, Option, Ok, Err, refl, sym, ap, subst, ◌∙◌, arith, length-append}
 use Rattle.outside.specs.Flow.{Flow, Gives}
 use Rattle.outside.proofs.FlowFacts.{gives_both}
 use Rattle.standby_wire.specs.Replies.{reply_to}
 use Rattle.standby_wire.specs.Taking.{Pending, moved_on, IsWaiting, Waits}
 use Rattle.standby_wire.specs.Noted.{replied_of}
-use Rattle.standby_wire.specs.Replied.{Replied, AreRead, HearingView, IsHearing, Hears}
+use Rattle.standby_wire.specs.Replied.{Replied, AreRead, HearingView, IsHearing}
 use Rattle.standby_wire.specs.declared.hearing.Noted.{Noted}
 use Rattle.standby_wire.specs.declared.reply.Question.{Question}
 use Rattle.standby_wire.specs.declared.reply.Reply.{Reply}

@@ -1,7 +1,6 @@
 use Rattle.house.proofs.CallingFacts.{none_of}
-use Rattle.std.proofs.Common.{Some, refl, sym, ap, ◌∙◌}
+use Rattle.std.proofs.Common.{Some, refl, ap, ◌∙◌}
 use Rattle.standby.specs.Ending.{is_cut_by}
-use Rattle.standby.specs.declared.follow.FollowEnd.{FollowEnd}
 use Rattle.standby.proofs.EndFacts.{lines_first, lines_on}
 use Rattle.standby.proofs.FollowFacts.{follows_start}
 use Rattle.standby.proofs.TurnFacts.{goes_to, ends_later}

@@ -1,0 +1,2 @@
+pub mod WireFacts
+pub mod FollowedFacts

@@ -1,0 +1,5 @@
+pub mod Written
+pub mod Read
+pub mod Wire
+pub mod Wired
+pub mod Followed

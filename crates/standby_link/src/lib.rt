@@ -1,0 +1,15 @@
+//! A standby over bytes: its primary is at the other end of a source and a sink.
+//!
+//! ```text
+//! house       follow_over         Wire               sink, source
+//!   |  <- call -- |   -- say, hear -> |  -- HELLO, NEXT, BYE ->  |
+//!   |             |                   |  <- replies, as they come |
+//! ```
+#![tactic(auto)]
+
+mod following;
+mod login;
+mod wire;
+
+pub use following::{Followed, follow};
+pub use login::Login;
