@@ -47,113 +47,130 @@ const MATURED_JOURNAL: &[u8] =
 const NONE_JOURNAL: &[u8] =
     b"OTCJRNLC\0\x19\0\0\0\0\0\0\0\0\0\0\0\0\0\0\0\x35\0\0\0\x02\x01\0\0\0\0\0\0\0\0\0\0\0\0\0\0\0\0\0\0\0\0\0\0\0\x03\0\x01A\x01B\x01C\x01\0\x01P\0\0\0\0\0\0\0\0\0\0\0\0\0\0\0\0\0";
 
-// A roll of that base over the same roster. The first read of an input would fail, but there is none.
+// The words of a roll; with the day before that on which P matures in `ROSTER`; with that day.
+const PLAIN: &[&str] = &["roll", "T", "j", "N"];
+
+const BEFORE: &[&str] = &["roll", "T", "j", "N", "--matured", "2031-06-29"];
+
+const MATURED: &[&str] = &["roll", "T", "j", "N", "--matured", "2031-06-30"];
+
+// A roll of `BASED` over the same roster. The first read of an input would fail, but there is none.
 const ROLL: Trial<'static> = Trial {
-    words: &["roll", "T", "j", "N"],
+    words: PLAIN,
     files: &[("T", ROSTER), ("N", ROSTER)],
     disk: BASED,
     failing_read: 1,
     ..SCRIPT
 };
 
-// What a roll ends with: its status, the new journal, and what is told.
-type Ending = (u8, &'static [u8], &'static [u8]);
+// A roll that is refused.
+const REFUSED: Trial<'static> = Trial { status: 15, ..ROLL };
 
-// That a roll with these words, of a journal to a new roster, ends so, and leaves the journal.
-fn is_rolled<R: Threads + Wait + Sync + AllocGlobal>(
-    rt: &R,
-    words: &[&str],
-    disk: &[u8],
-    new: &[u8],
-    ending: Ending,
-) -> Result<(), Fail> {
-    let (status, text, told) = ending;
-    let roll = Trial {
-        words,
-        files: &[("T", ROSTER), ("N", new)],
-        disk,
-        status,
-        output: Text::Is(text),
-        errors: told,
+const PERIODS: &[Trial<'static>] = &[
+    Trial {
+        files: &[("T", ROSTER), ("N", GROWN)],
+        output: Text::Is(GROWN_JOURNAL),
         ..ROLL
-    };
-    roll.leaves(rt, disk)
-}
-
-// The day before that on which P matures in `ROSTER`, and that day.
-const BEFORE: &[&str] = &["roll", "T", "j", "N", "--matured", "2031-06-29"];
-
-const MATURED: &[&str] = &["roll", "T", "j", "N", "--matured", "2031-06-30"];
-
-// A roll's words, a new roster, and what a roll of `BASED` ends with.
-const PERIODS: &[(&[&str], &[u8], Ending)] = &[
-    (ROLL.words, GROWN, (0, GROWN_JOURNAL, b"")),
-    (ROLL.words, ROSTER, (0, SAME_JOURNAL, b"")),
-    (BEFORE, ROSTER, (0, SAME_JOURNAL, b"")),
-    (MATURED, ROSTER, (0, MATURED_JOURNAL, b"")),
-    (ROLL.words, NEXT_P, (0, SAME_JOURNAL, b"")),
-    (
-        ROLL.words,
-        WITHOUT_B,
-        (15, b"", b"cannot roll: a member of trade 1 is gone\n"),
-    ),
-    (
-        ROLL.words,
-        CUSTOMER_B,
-        (
-            15,
-            b"",
-            b"cannot roll: a member of trade 1 has another role\n",
-        ),
-    ),
-    (
-        ROLL.words,
-        WITHOUT_P,
-        (15, b"", b"cannot roll: the product of trade 1 is gone\n"),
-    ),
-    (
-        ROLL.words,
-        EARLY_P,
-        (
-            15,
-            b"",
-            b"cannot roll: the product of trade 1 matures too early\n",
-        ),
-    ),
-    (MATURED, CUSTOMER_B, (0, MATURED_JOURNAL, b"")),
-    (ROLL.words, TWICE, (3, b"", b"new-roster row 3: twice\n")),
-    (ROLL.words, b"", (3, b"", b"new-roster row 1: columns\n")),
+    },
+    Trial {
+        output: Text::Is(SAME_JOURNAL),
+        ..ROLL
+    },
+    Trial {
+        words: BEFORE,
+        output: Text::Is(SAME_JOURNAL),
+        ..ROLL
+    },
+    Trial {
+        words: MATURED,
+        output: Text::Is(MATURED_JOURNAL),
+        ..ROLL
+    },
+    Trial {
+        files: &[("T", ROSTER), ("N", NEXT_P)],
+        output: Text::Is(SAME_JOURNAL),
+        ..ROLL
+    },
+    Trial {
+        files: &[("T", ROSTER), ("N", WITHOUT_B)],
+        errors: b"cannot roll: a member of trade 1 is gone\n",
+        ..REFUSED
+    },
+    Trial {
+        files: &[("T", ROSTER), ("N", CUSTOMER_B)],
+        errors: b"cannot roll: a member of trade 1 has another role\n",
+        ..REFUSED
+    },
+    Trial {
+        files: &[("T", ROSTER), ("N", WITHOUT_P)],
+        errors: b"cannot roll: the product of trade 1 is gone\n",
+        ..REFUSED
+    },
+    Trial {
+        files: &[("T", ROSTER), ("N", EARLY_P)],
+        errors: b"cannot roll: the product of trade 1 matures too early\n",
+        ..REFUSED
+    },
+    Trial {
+        words: MATURED,
+        files: &[("T", ROSTER), ("N", CUSTOMER_B)],
+        output: Text::Is(MATURED_JOURNAL),
+        ..ROLL
+    },
+    Trial {
+        files: &[("T", ROSTER), ("N", TWICE)],
+        status: 3,
+        errors: b"new-roster row 3: twice\n",
+        ..ROLL
+    },
+    Trial {
+        files: &[("T", ROSTER), ("N", b"")],
+        status: 3,
+        errors: b"new-roster row 1: columns\n",
+        ..ROLL
+    },
 ];
 
-fn periods_are_rolled<R: Threads + Wait + Sync + AllocGlobal>(rt: &R) -> Result<(), Fail> {
-    for &(words, new, ending) in PERIODS {
-        is_rolled(rt, words, BASED, new, ending)?;
+// That each of these rolls of `BASED` ends as it is to, and leaves it.
+fn all_end_so<R: Threads + Wait + Sync + AllocGlobal>(
+    rt: &R,
+    rolls: &[Trial<'_>],
+) -> Result<(), Fail> {
+    for roll in rolls {
+        roll.leaves(rt, BASED)?;
     }
     Ok(())
 }
 
 #[test]
 fn a_market_goes_on_over_a_new_roster_or_its_cause_is_told(rt: HostRuntime) -> Result<(), Fail> {
-    periods_are_rolled(&rt)
+    all_end_so(&rt, PERIODS)
 }
 
-// A journal's first bytes, so many of them, and what a roll of them to the same roster ends with.
-const JOURNALS: &[(&[u8], usize, Ending)] = &[
-    (b"", 0, (0, NONE_JOURNAL, b"")),
-    (BEGUN_ONE, 30, (0, NONE_JOURNAL, b"")),
-    (BEGUN_ONE, 31, (7, b"", b"damaged at 29\n")),
-    (BEGUN_ONE, 59, (7, b"", b"damaged at 59\n")),
-    (BASED, 136, (7, b"", b"damaged at 136\n")),
-    (BASED, 135, (7, b"", b"damaged at 33\n")),
-    (b"OTCJRNL2\0\0", 10, (7, b"", b"damaged at 0\n")),
-    (NONE_JOURNAL, 82, (7, b"", b"damaged at 82\n")),
-    (SAME_JOURNAL, 129, (0, NEXT_JOURNAL, b"")),
+// A journal's first bytes, so many of them; a roll's status, the new journal, and what is told.
+const JOURNALS: &[(&[u8], usize, u8, &[u8], &[u8])] = &[
+    (b"", 0, 0, NONE_JOURNAL, b""),
+    (BEGUN_ONE, 30, 0, NONE_JOURNAL, b""),
+    (BEGUN_ONE, 31, 7, b"", b"damaged at 29\n"),
+    (BEGUN_ONE, 59, 7, b"", b"damaged at 59\n"),
+    (BASED, 136, 7, b"", b"damaged at 136\n"),
+    (BASED, 135, 7, b"", b"damaged at 33\n"),
+    (b"OTCJRNL2\0\0", 10, 7, b"", b"damaged at 0\n"),
+    (NONE_JOURNAL, 82, 7, b"", b"damaged at 82\n"),
+    (SAME_JOURNAL, 129, 0, NEXT_JOURNAL, b""),
 ];
 
 fn journals_are_rolled<R: Threads + Wait + Sync + AllocGlobal>(rt: &R) -> Result<(), Fail> {
-    for &(bytes, size, ending) in JOURNALS {
+    for &(bytes, size, status, text, told) in JOURNALS {
         let front = bytes.get(..size).unwrap_or(bytes);
-        is_rolled(rt, ROLL.words, front, ROSTER, ending)?;
+        let roll = Trial {
+            disk: front,
+            status,
+            output: Text::Is(text),
+            errors: told,
+            ..ROLL
+        };
+        roll.leaves(rt, front)?;
     }
     Ok(())
 }
@@ -190,8 +207,14 @@ fn are_refused<R: Threads + Wait + Sync + AllocGlobal>(rt: &R) -> Result<(), Fai
             output: Text::Ends(b""),
             ..SCRIPT
         };
-        let left = script.left(rt)?;
-        is_rolled(rt, ROLL.words, &left.written, ROSTER, (15, b"", told))?;
+        let left = script.left(rt)?.written;
+        let roll = Trial {
+            disk: &left,
+            status: 15,
+            errors: told,
+            ..ROLL
+        };
+        roll.leaves(rt, &left)?;
     }
     Ok(())
 }
@@ -231,16 +254,9 @@ const FAULTS: &[Trial<'static>] = &[
     },
 ];
 
-fn faults_are_told<R: Threads + Wait + Sync + AllocGlobal>(rt: &R) -> Result<(), Fail> {
-    for fault in FAULTS {
-        fault.leaves(rt, BASED)?;
-    }
-    Ok(())
-}
-
 #[test]
 fn a_disk_or_an_output_that_fails_is_told_and_the_journal_stays(
     rt: HostRuntime,
 ) -> Result<(), Fail> {
-    faults_are_told(&rt)
+    all_end_so(&rt, FAULTS)
 }

@@ -1,7 +1,7 @@
 //! Solves: the proposal that is written, and that a check says yes to it.
 
 use crate::market_files::{CHECK, DEALERS, SOLVE};
-use crate::program::{ROSTER, Text, Trial, so};
+use crate::program::{Left, ROSTER, Text, Trial, so};
 use std::alloc::AllocGlobal;
 use std::sync::Wait;
 use std::test::Fail;
@@ -15,25 +15,33 @@ const RING: &[u8] = b"seller,buyer,product,amount\nA,B,P,10\nB,C,P,10\nC,A,P,10\
 
 const CHAIN: &[u8] = b"seller,buyer,product,amount\nA,B,P,10\nB,C,P,7\n";
 
-// A mode, a roster and trades, and how the proposal begins and ends.
-type Case = (
-    &'static str,
-    &'static [u8],
-    &'static [u8],
-    &'static [u8],
-    &'static [u8],
+// The words of a solve and of a check, in each mode.
+const CONSERVATIVE: (&[&str], &[&str]) = (
+    &["solve", "T", "t", "conservative"],
+    &["check", "T", "t", "conservative", "p"],
 );
 
-const MARKETS: &[Case] = &[
+const HYBRID: (&[&str], &[&str]) = (
+    &["solve", "T", "t", "hybrid"],
+    &["check", "T", "t", "hybrid", "p"],
+);
+
+const FREE: (&[&str], &[&str]) = (
+    &["solve", "T", "t", "free"],
+    &["check", "T", "t", "free", "p"],
+);
+
+// The words, a roster and trades, and how the proposal begins and ends.
+const MARKETS: &[((&[&str], &[&str]), &[u8], &[u8], &[u8], &[u8])] = &[
     (
-        "conservative",
+        CONSERVATIVE,
         ROSTER,
         RING,
         b"product P 30 0 0 30\npot A ",
         b"\nbound 0\nend 1\n",
     ),
     (
-        "hybrid",
+        HYBRID,
         ROSTER,
         RING,
         b"product P 30 0 0 30\npot A ",
@@ -41,14 +49,14 @@ const MARKETS: &[Case] = &[
     ),
     // In a chain the middle steps out where its neighbours may trade with each other.
     (
-        "hybrid",
+        HYBRID,
         ROSTER,
         CHAIN,
         b"product P 17 10 10 17\nrow A B 3\nrow A C 7\npot A ",
         b"\nbound 10\nend 1\n",
     ),
     (
-        "conservative",
+        CONSERVATIVE,
         ROSTER,
         CHAIN,
         b"product P 17 17 10 17\nrow A B 10\nrow B C 7\npot A ",
@@ -56,21 +64,21 @@ const MARKETS: &[Case] = &[
     ),
     // Where a neighbour is a customer, it does so in free mode alone.
     (
-        "hybrid",
+        HYBRID,
         CUSTOMER,
         CHAIN,
         b"product P 17 17 10 17\nrow A B 10\nrow B C 7\npot A ",
         b"\nbound 17\nend 1\n",
     ),
     (
-        "free",
+        FREE,
         CUSTOMER,
         CHAIN,
         b"product P 17 10 10 17\nrow A B 3\nrow A C 7\npot A ",
         b"\nbound 10\nend 1\n",
     ),
     (
-        "hybrid",
+        HYBRID,
         DEALERS,
         b"seller,buyer,product,amount\n",
         b"product P 0 0 0 0\npot A ",
@@ -78,29 +86,37 @@ const MARKETS: &[Case] = &[
     ),
 ];
 
-// That the proposal for a market is as it is to be, and a check says yes to it.
-fn is_solved<R: Threads + Wait + Sync + AllocGlobal>(rt: &R, of: &Case) -> Result<(), Fail> {
-    let &(mode, roster, trades, front, end) = of;
-    let solve = Trial {
-        words: &["solve", "T", "t", mode],
-        files: &[("T", roster), ("t", trades)],
-        output: Text::Ends(end),
-        ..SOLVE
+// What a form over these files leaves.
+fn left_of<'a, R: Threads + Wait + Sync + AllocGlobal>(
+    rt: &R,
+    form: &Trial<'a>,
+    roster: &'a [u8],
+    trades: &'a [u8],
+    proposal: &'a [u8],
+) -> Result<Left, Fail> {
+    let whole = Trial {
+        files: &[("T", roster), ("t", trades), ("p", proposal)],
+        ..*form
     };
-    let proposal = solve.left(rt)?.output;
-    so(proposal.starts_with(front), "the proposal begins otherwise")?;
-    let check = Trial {
-        words: &["check", "T", "t", mode, "p"],
-        files: &[("T", roster), ("t", trades), ("p", proposal.as_slice())],
-        output: Text::Is(b"yes\n"),
-        ..CHECK
-    };
-    check.ends(rt)
+    whole.left(rt)
 }
 
+// That the proposal for each market is as it is to be, and a check says yes to it.
 fn all_are_solved<R: Threads + Wait + Sync + AllocGlobal>(rt: &R) -> Result<(), Fail> {
-    for of in MARKETS {
-        is_solved(rt, of)?;
+    for &((solve, check), roster, trades, front, end) in MARKETS {
+        let solve = Trial {
+            words: solve,
+            output: Text::Ends(end),
+            ..SOLVE
+        };
+        let proposal = left_of(rt, &solve, roster, trades, b"")?.output;
+        so(proposal.starts_with(front), "the proposal begins otherwise")?;
+        let check = Trial {
+            words: check,
+            output: Text::Is(b"yes\n"),
+            ..CHECK
+        };
+        let _left = left_of(rt, &check, roster, trades, &proposal)?;
     }
     Ok(())
 }

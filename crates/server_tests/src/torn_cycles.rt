@@ -43,23 +43,23 @@ fn with_others(
 }
 
 // That a file with others at these places has this market.
-fn finds_changed<R: Threads + Wait + Sync + AllocGlobal>(
+fn finds_changed<'a, R: Threads + Wait + Sync + AllocGlobal>(
     rt: &R,
-    file: &[u8],
+    file: &'a [u8],
     places: (usize, usize),
     other: u8,
-    market: &[u8],
+    market: &'a [u8],
 ) -> Result<(), Fail> {
     let changed = with_others(rt.alloc(), file, places, other)?;
     finds(rt, &changed, MARKET, market)
 }
 
 // That what a crash may leave of a write behind the old file's end has this market, where the whole write makes the new one.
-fn finds_torn<R: Threads + Wait + Sync + AllocGlobal>(
+fn finds_torn<'a, R: Threads + Wait + Sync + AllocGlobal>(
     rt: &R,
-    old: &[u8],
-    new: &[u8],
-    market: &[u8],
+    old: &'a [u8],
+    new: &'a [u8],
+    market: &'a [u8],
 ) -> Result<(), Fail> {
     so(old.len() < new.len(), "nothing was written")?;
     for place in old.len()..new.len() {
@@ -72,12 +72,12 @@ fn finds_torn<R: Threads + Wait + Sync + AllocGlobal>(
 }
 
 // That of a gate that opens only what has it open has the change.
-fn finds_gate<R: Threads + Wait + Sync + AllocGlobal>(
+fn finds_gate<'a, R: Threads + Wait + Sync + AllocGlobal>(
     rt: &R,
-    old: &[u8],
-    new: &[u8],
-    before: &[u8],
-    after: &[u8],
+    old: &'a [u8],
+    new: &'a [u8],
+    before: &'a [u8],
+    after: &'a [u8],
 ) -> Result<(), Fail> {
     so(old != new, "nothing was written")?;
     finds(rt, old, MARKET, before)?;
