@@ -15,6 +15,7 @@ import time
 import unittest
 import urllib.request
 from pathlib import Path
+from typing import Callable
 
 from many import HEAD, TABLES, Many, Trade, ring, rows_of, text_of
 from running import PATIENCE, TOOLS, Ran, run
@@ -242,6 +243,19 @@ def shown(terminal: int, last: bytes) -> bytes:
     return text
 
 
+def group_of(stat: Path) -> int:
+    """The group of a process that /proc tells of, or 0 where it has ended meanwhile."""
+    try:
+        return int(stat.read_text().rpartition(")")[2].split()[2])
+    except OSError:
+        return 0
+
+
+def count_of(group: int) -> int:
+    """How many processes a group has."""
+    return sum(group_of(stat) == group for stat in Path("/proc").glob("[0-9]*/stat"))
+
+
 class Workers(Many):
     """Each market has 60 members of its own, all of them dealers, so that no two have room in one."""
 
@@ -317,6 +331,26 @@ class Workers(Many):
         (state / "go").touch()
         self.assert_done(self.compress(program=slow))
         self.assertEqual(self.solved(), 6 - len(kept) + 1)
+
+
+    def test_interrupts_again_and_again(self) -> None:
+        """All processes get them, from when the run has begun a second one, or has sent markets to its workers, until it has ended. It is
+        as if there had been one."""
+        slow = self.stand_in(WAITING)
+        solved = self.folder / "state/solved"
+        begun: list[Callable[[int], bool]] = [lambda group: count_of(group) > 1, lambda _: solved.exists()]
+        for number, is_begun in itertools.product((signal.SIGINT, signal.SIGTERM), begun):
+            words = self.tool("--workers", "2", "--program", slow)
+            ran = subprocess.Popen(words, stdout=subprocess.PIPE, stderr=subprocess.PIPE, start_new_session=True)
+            while not is_begun(ran.pid):
+                self.assertIsNone(ran.poll(), "ended early")
+                time.sleep(0.02)
+            while ran.poll() is None:
+                os.killpg(ran.pid, number)
+                time.sleep(0.1)
+            self.assertEqual((ran.communicate(timeout=PATIENCE), ran.returncode), ((b"", b""), 128 + number))
+            self.assertEqual((os.listdir(self.out), self.kept()), (["markets"], []))
+            solved.unlink(missing_ok=True)
 
 
 class Scheduler(Many):

@@ -32,7 +32,7 @@ class SignIn(InGateway):
             begun = [self.wrong(caller) for _ in range(count)][-1]
             answered, pause = caller.sign_in("A", "KA"), 2 ** (count - 1)
             if time.monotonic() < begun + pause:
-                self.assertEqual((answered.status, answered.error), (429, "slowed"))
+                self.assertEqual((answered.status, answered.content.get("error")), (429, "slowed"))
                 self.assertIn(int(answered.headers["Retry-After"]), range(1, pause + 1))
                 return
         self.fail("this machine is too slow")
