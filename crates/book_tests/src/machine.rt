@@ -11,6 +11,7 @@ mod rests;
 mod sheets;
 mod standing;
 mod starts;
+mod taking_back;
 mod unsaid;
 mod words;
 mod writable;

@@ -8,8 +8,8 @@ use command_types::{Roster, Side, TradeState};
 use std::alloc::Global;
 use std::test::Fail;
 
-// Each kind of trade, and settings of both sides, with and without a ceiling.
-const MIXED: Sheet = Sheet {
+/// Each kind of trade, and settings of both sides, with and without a ceiling.
+pub const MIXED: Sheet = Sheet {
     position: 40,
     cycle: 3,
     version: 2,

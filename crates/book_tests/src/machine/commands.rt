@@ -15,6 +15,7 @@ pub enum Said {
     Affirm(u64),
     End(u64),
     Hold(u64),
+    Free(u64),
     /// The other member and the floor of what the asker owes it in the product P.
     Tol(Word, u64),
     Nets(Word),
@@ -85,6 +86,7 @@ fn plain(said: Said) -> Option<What> {
         Said::Affirm(trade) => Some(What::Affirm { trade }),
         Said::End(trade) => Some(What::End { trade }),
         Said::Hold(trade) => Some(What::Hold { trade }),
+        Said::Free(trade) => Some(What::Free { trade }),
         Said::Tol(other, floor) => tol(other, floor),
         Said::Nets(product) => Some(What::Nets {
             product: product.name(),

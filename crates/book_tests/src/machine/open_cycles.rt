@@ -51,7 +51,8 @@ const COMPRESSED: [Turn; 9] = [
     (C, Accept(1, 2), false),
 ];
 
-const AFTER: Sheet = Sheet {
+/// What the compressed chain comes to.
+pub const AFTER: Sheet = Sheet {
     position: 13,
     cycle: 1,
     version: 2,
@@ -103,13 +104,14 @@ const UNCHANGED: Sheet = Sheet {
     ..EMPTY
 };
 
-fn entry_of(alloc: Global, by: Word, said: Said) -> Result<Entry, Fail> {
+/// The command of this party, under seat 7.
+pub fn entry_of(alloc: Global, by: Word, said: Said) -> Result<Entry, Fail> {
     let ask = ask_of(alloc, by, said)?;
     Ok(Entry { seat: 7, ask })
 }
 
-// Has the machine make the change, and says whether it accepted it.
-fn makes(machine: &mut Machine, entry: Entry) -> Result<bool, AllocError>
+/// Has the machine make the change, and says whether it accepted it.
+pub fn makes(machine: &mut Machine, entry: Entry) -> Result<bool, AllocError>
     requires { IsYoung machine.old.state.cycle }
     ensures { OnOk result (LeadTo 1 machine.old.state machine.new.state) }
 {
@@ -168,7 +170,8 @@ fn ends_so(
     Ok(stands_so(alloc, machine, sheet)?)
 }
 
-fn chain(alloc: Global) -> Result<Machine, Fail>
+/// A machine over the chain.
+pub fn chain(alloc: Global) -> Result<Machine, Fail>
     ensures { IfOk result (λ machine. IsSmall (base_at 0 machine.state)) }
 {
     machine_of(alloc, three_dealers(alloc)?, &CHAIN)

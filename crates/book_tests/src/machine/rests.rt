@@ -99,8 +99,8 @@ fn is_answered(machine: &Machine, ask: &Ask, told: Told) -> Result<bool, AllocEr
     Ok(is_told(&answer, told))
 }
 
-// Whether the machine answers each of these so now.
-fn answers(alloc: Global, machine: &Machine, rows: &[Row]) -> Result<bool, Fail>
+/// Whether the machine answers each of these so now.
+pub fn answers(alloc: Global, machine: &Machine, rows: &[Row]) -> Result<bool, Fail>
     requires { IsYoung machine.now.state.cycle }
 {
     for (by, said, _, told) in rows {
