@@ -332,7 +332,6 @@ class Workers(Many):
         self.assert_done(self.compress(program=slow))
         self.assertEqual(self.solved(), 6 - len(kept) + 1)
 
-
     def test_interrupts_again_and_again(self) -> None:
         """All processes get them, from when the run has begun a second one, or has sent markets to its workers, until it has ended. It is
         as if there had been one."""
