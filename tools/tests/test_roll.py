@@ -212,7 +212,11 @@ class Refusals(OfRolls):
         self.assert_refused(twice, 3, b"new-roster row 9: twice\n")
         self.assert_refused(self.folder / "none.csv", 11, b"file fault\n")
         self.journal.write_bytes(self.journal.read_bytes()[:-1])
-        self.assert_refused(self.grown, 7, f"damaged at {self.journal.stat().st_size}\n".encode())
+        damaged = f"damaged at {self.journal.stat().st_size}".encode()
+        self.assertEqual(run([self.program, "roll", ROSTER, self.journal, self.grown]), Ran(7, b"", damaged + b"\n"))
+        ran = self.roll(self.grown)
+        self.assertEqual((ran.status, ran.output, ran.errors.partition(b":")[0]), (7, b"", damaged))
+        self.assertEqual(self.parts(), [])
 
     def test_a_name_that_is_taken(self) -> None:
         self.written(OLD)
@@ -291,7 +295,7 @@ class Killed(OfPrograms):
             for is_before in (True, False):
                 with self.subTest(call=call, is_before=is_before):
                     part = "true" if is_before else f"head -c 40 '{self.folder}/written'"
-                    kill = f"if test $calls = {call}; then {part}; kill -KILL $PPID; fi"
+                    kill = f"if test $calls = {call}; then {part}; kill -KILL $PPID; exit; fi"
                     program = self.wrapped(kill) if is_before else self.wrapped("", f"{kill}; cat '{self.folder}/written'")
                     self.assertEqual(self.roll(self.grown, program=program).status, -9)
                     self.assertFalse(self.new.exists())
