@@ -62,14 +62,20 @@ fn take<D: Disk>(house: &mut House<D>, due: u64, entry: Entry) -> Option<FollowE
 }
 
 // Says a line. Where it was not said whole, it tells why.
-fn say<D: Disk, P: Peer<D>>(house: &House<D>, peer: &mut P, line: Said) -> Option<FollowEnd>
+fn say<D: Disk, S, K, P: Peer<D, S, K>>(
+    house: &House<D>,
+    peer: &mut P,
+    sink: &mut K,
+    line: Said,
+) -> Option<FollowEnd>
     ensures says { SaysSo house.now line (P.said peer.old) (P.said peer.new) result }
     ensures why { IsSayEnd result }
     ensures hears { P.heard peer.new ≡ P.heard peer.old }
     ensures cuts { P.cut peer.new ≡ is_cut_by (P.cut peer.old) result }
     ensures stays { (P.last peer.new ≡ P.last peer.old) × (P.start peer.new ≡ P.start peer.old) }
+    ensures holds { (source : S) → P.Holds peer.old source sink.old → P.Holds peer.new source sink.new }
 {
-    match peer.say(house, line) {
+    match peer.say(sink, house, line) {
         Ok(()) => None,
         Err(SayFault::Failed) => Some(FollowEnd::SinkFault),
         Err(SayFault::Memory) => Some(FollowEnd::Memory),
@@ -77,7 +83,12 @@ fn say<D: Disk, P: Peer<D>>(house: &House<D>, peer: &mut P, line: Said) -> Optio
 }
 
 // Asks for the next entry, and takes it. Where it does not, it tells why.
-fn turn<D: Disk, P: Peer<D>>(house: &mut House<D>, peer: &mut P) -> Option<FollowEnd>
+fn turn<D: Disk, S, K, P: Peer<D, S, K>>(
+    house: &mut House<D>,
+    peer: &mut P,
+    source: &mut S,
+    sink: &mut K,
+) -> Option<FollowEnd>
     requires runs { house.old.kept ≡ None }
     ensures follows { FollowsTo house.old house.new (P.said peer.old) (P.said peer.new) (P.heard peer.old) (P.heard peer.new) result }
     ensures ends { EndsSo house.old house.new result }
@@ -85,15 +96,16 @@ fn turn<D: Disk, P: Peer<D>>(house: &mut House<D>, peer: &mut P) -> Option<Follo
     ensures because { IfSome result (EndsBy house.new (P.last peer.new)) }
     ensures cuts { P.cut peer.new ≡ is_cut_by (P.cut peer.old) result }
     ensures stays { P.start peer.new ≡ P.start peer.old }
+    ensures holds { P.Holds peer.old source.old sink.old → P.Holds peer.new source.new sink.new }
     ensures goes_on { IfNone result ((house.new.kept ≡ None) × (end_of house.new.history ≡ end_of house.old.history + 1)) }
     ensures short { end_of house.new.history < 2 ^ 63 }
 {
     let position = house.length();
-    match say(house, peer, Said::Next { position }) {
+    match say(house, peer, sink, Said::Next { position }) {
         None => {}
         Some(end) => return Some(end),
     }
-    match peer.hear(position) {
+    match peer.hear(source, position) {
         Err(_) => Some(FollowEnd::SourceFault),
         Ok(
             Heard::Entry {
@@ -107,7 +119,7 @@ fn turn<D: Disk, P: Peer<D>>(house: &mut House<D>, peer: &mut P) -> Option<Follo
             }
             take(house, due, entry)
         }
-        Ok(Heard::Nothing) => match say(house, peer, Said::Bye) {
+        Ok(Heard::Nothing) => match say(house, peer, sink, Said::Bye) {
             None => Some(FollowEnd::Caught),
             Some(end) => Some(end),
         },
@@ -121,7 +133,12 @@ fn turn<D: Disk, P: Peer<D>>(house: &mut House<D>, peer: &mut P) -> Option<Follo
 /// next; it goes on until there is none, and then says goodbye. Where it ends otherwise, the entries taken so far stay. A fault of
 /// the disk is told exactly where it stopped the house. `FollowsTo` has what was said, heard and taken, and what a crash left at
 /// each moment since each line was said; `SaysLines` has the lines in their order, and `EndsBy` why it ended.
-pub fn follow_over<D: Disk, P: Peer<D>>(house: &mut House<D>, peer: &mut P) -> FollowEnd
+pub fn follow_over<D: Disk, S, K, P: Peer<D, S, K>>(
+    house: &mut House<D>,
+    peer: &mut P,
+    source: &mut S,
+    sink: &mut K,
+) -> FollowEnd
     requires runs { is_stopped house.old ≡ false }
     ensures follows { FollowsTo house.old house.new (P.said peer.old) (P.said peer.new) (P.heard peer.old) (P.heard peer.new) (Some result) }
     ensures ends { EndsSo house.old house.new (Some result) }
@@ -129,12 +146,13 @@ pub fn follow_over<D: Disk, P: Peer<D>>(house: &mut House<D>, peer: &mut P) -> F
     ensures because { EndsBy house.new (P.last peer.new) result }
     ensures cuts { P.cut peer.new ≡ is_cut_by (P.cut peer.old) (Some result) }
     ensures stays { P.start peer.new ≡ P.start peer.old }
+    ensures holds { P.Holds peer.old source.old sink.old → P.Holds peer.new source.new sink.new }
     ensures short { end_of house.new.history < 2 ^ 63 }
 {
     // What a house keeps, of which its length tells.
     let _length = house.length();
     loop {
-        match turn(house, peer) {
+        match turn(house, peer, source, sink) {
             None => {}
             Some(end) => return end,
         }

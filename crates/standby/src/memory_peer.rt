@@ -59,7 +59,7 @@ impl<D: Disk> MemoryPeer<D> {
     }
 }
 
-impl<D: Disk> Peer<D> for MemoryPeer<D> {
+impl<D: Disk, S, K> Peer<D, S, K> for MemoryPeer<D> {
     ghost said = { λ p. map sent_of p.said.items };
 
     ghost heard = { λ p. map offer_of p.heard.items };
@@ -72,14 +72,16 @@ impl<D: Disk> Peer<D> for MemoryPeer<D> {
 
     ghost start = { λ p. tt };
 
-    fn say(&mut self, house: &House<D>, line: Said) -> Result<(), SayFault> {
+    ghost Holds = { λ p source sink. Unit {0} };
+
+    fn say(&mut self, _sink: &mut K, house: &House<D>, line: Said) -> Result<(), SayFault> {
         match note_said(&mut self.said, house, line) {
             Ok(()) => Ok(()),
             Err(_) => Err(SayFault::Memory),
         }
     }
 
-    fn hear(&mut self, position: u64) -> Result<Heard, Failed> {
+    fn hear(&mut self, _source: &mut S, position: u64) -> Result<Heard, Failed> {
         let heard = Ok(self.give(position));
         self.last = Some(Outcome::of(position, &heard));
         heard

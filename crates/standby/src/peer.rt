@@ -51,8 +51,9 @@ pub enum SayFault {
     Memory,
 }
 
-/// The other end of a link. With each line it is shown the standby's house as it is at that moment.
-pub trait Peer<D: Disk> {
+/// The other end of a link, over a way in and a way out, which its calls are lent. With each line it is shown the standby's house as
+/// it is at that moment.
+pub trait Peer<D: Disk, S, K> {
     // What was said, each with the house as it was then.
     ghost said: { Self → List Sent };
 
@@ -70,20 +71,25 @@ pub trait Peer<D: Disk> {
 
     ghost start: { Self → Start };
 
+    // What holds of it and of the two ways, as they are at one moment.
+    ghost Holds: { Self → S → K → Type 0 };
+
     /// Says a line, and is shown the house as it is. What was said in part counts as said; where there is no memory, nothing was.
-    fn say(&mut self, house: &House<D>, line: Said) -> Result<(), SayFault>
+    fn say(&mut self, sink: &mut K, house: &House<D>, line: Said) -> Result<(), SayFault>
         ensures says { OnOk result (said self.new ≡ said self.old ++ record { house = house.now; line = line } ∷ []) }
         ensures says_in_part { result ≡ Err SayFault.Failed → said self.new ≡ said self.old ++ record { house = house.now; line = line } ∷ [] }
         ensures unsaid { result ≡ Err SayFault.Memory → said self.new ≡ said self.old }
         ensures hears { heard self.new ≡ heard self.old }
         ensures cuts { cut self.new ≡ is_cut_after (cut self.old) result }
-        ensures stays { (last self.new ≡ last self.old) × (start self.new ≡ start self.old) };
+        ensures stays { (last self.new ≡ last self.old) × (start self.new ≡ start self.old) }
+        ensures holds { (source : S) → Holds self.old source sink.old → Holds self.new source sink.new };
 
     /// Waits for the reply to a NEXT of this position. An entry that it gives is a change. The only error is that the way in failed.
-    fn hear(&mut self, position: u64) -> Result<Heard, Failed>
+    fn hear(&mut self, source: &mut S, position: u64) -> Result<Heard, Failed>
         ensures change { IfOk result IsOfChange }
         ensures says { said self.new ≡ said self.old }
         ensures hears { heard self.new ≡ heard self.old ++ offers_in result }
         ensures came { last self.new ≡ Some (record { position = position; heard = result }) }
-        ensures stays { (cut self.new ≡ cut self.old) × (start self.new ≡ start self.old) };
+        ensures stays { (cut self.new ≡ cut self.old) × (start self.new ≡ start self.old) }
+        ensures holds { (sink : K) → Holds self.old source.old sink → Holds self.new source.new sink };
 }

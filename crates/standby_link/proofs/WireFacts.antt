@@ -104,7 +104,7 @@ module _ (question : Question) (old new : HearingView) where
   pub heard_none : (fault : WaitFault) → Hears question old new (Err fault) → new.replied ≡ old.replied
   heard_none fault heard = heard.notes ∙ append-nil old.replied
 
-module _ (position due : ℕ) (old new : HearingView) (here : due ≡ old.pending.due) (same : IsSameSource old new) (h : IsHearing old) where
+module _ (position due : ℕ) (old new : HearingView) (here : due ≡ old.pending.due) (same : IsSameSource old new) where
   ended : (reply : Reply) → Hears (questions.Next position) old new (Ok reply) → EndWith new.replied position due reply
   ended reply heard = record {
     front = old.replied;
@@ -112,16 +112,16 @@ module _ (position due : ℕ) (old new : HearingView) (here : due ≡ old.pendin
   }
 
   -- what a NEXT came to has its cause
-  pub cause_of : (answer : Result Reply WaitFault) (came : Result Heard Failed) → Hears (questions.Next position) old new answer → IsToldBy position due answer came
+  pub cause_of : old.first_faults ≤ old.faults → (answer : Result Reply WaitFault) (came : Result Heard Failed) → Hears (questions.Next position) old new answer → IsToldBy position due answer came
       → IsCause new position came
-  cause_of (Ok (replies.Entry entry)) came heard told = subst (IsCause new position) (sym told) (ended (replies.Entry entry) heard, refl)
-  cause_of (Ok replies.Nothing) came heard told = subst (IsCause new position) (sym told) (due, ended replies.Nothing heard)
-  cause_of (Ok (replies.Refused number)) came heard told = subst (IsCause new position) (sym told) (due, ended (replies.Refused number) heard)
-  cause_of (Ok replies.Greeted) came heard told = absurd told
-  cause_of (Err (faults.Broken at)) came heard told = subst (IsCause new position) (sym told) (heard_broken (questions.Next position) old new at heard)
-  cause_of (Err faults.SourceFault) came heard (failed, told) =
-      subst (IsCause new position) (sym told) (heard_fault (questions.Next position) old new same h.never_falls heard)
-  cause_of (Err faults.Memory) came heard told = subst (IsCause new position) (sym told) tt
+  cause_of counted (Ok (replies.Entry entry)) came heard told = subst (IsCause new position) (sym told) (ended (replies.Entry entry) heard, refl)
+  cause_of counted (Ok replies.Nothing) came heard told = subst (IsCause new position) (sym told) (due, ended replies.Nothing heard)
+  cause_of counted (Ok (replies.Refused number)) came heard told = subst (IsCause new position) (sym told) (due, ended (replies.Refused number) heard)
+  cause_of counted (Ok replies.Greeted) came heard told = absurd told
+  cause_of counted (Err (faults.Broken at)) came heard told = subst (IsCause new position) (sym told) (heard_broken (questions.Next position) old new at heard)
+  cause_of counted (Err faults.SourceFault) came heard (failed, told) =
+      subst (IsCause new position) (sym told) (heard_fault (questions.Next position) old new same counted heard)
+  cause_of counted (Err faults.Memory) came heard told = subst (IsCause new position) (sym told) tt
 
   offers_none : (os : List Offer) → new.replied ≡ old.replied → os ≡ [] → offers_of new.replied ≡ offers_of old.replied ++ os
   offers_none os is none = ap offers_of is ∙ sym (append-nil (offers_of old.replied)) ∙ ap (λ v. offers_of old.replied ++ v) (sym none)

@@ -1,7 +1,8 @@
 -- A peer over a source and a sink: what was written, and what was read.
 use Rattle.std.specs.Prelude.{◌≡◌, ℕ, ◌≤◌, Bool, true, List, Option}
 use Rattle.outside.specs.Faults.{Rose}
-use Rattle.standby_wire.specs.Replied.{HearingView, IsHearing}
+use Rattle.outside.specs.Flow.{Flow}
+use Rattle.standby_wire.specs.Replied.{HeardView, HearingView, hearing_over, IsHearing}
 use Rattle.standby.specs.Ending.{Came}
 use Rattle.standby.specs.Sent.{Sent}
 use Rattle.standby_link.specs.Written.{Writes}
@@ -15,7 +16,19 @@ pub record WireStart : Type 0 where
   pub taken : Option (List ℕ)
   pub sink_faults : ℕ
 
--- what it was then, and what was said, heard and written by now
+abbrev pub start_of : Login → HeardView → Option Flow → ℕ → Option (List ℕ) → ℕ → WireStart
+start_of login heard flow faults taken sink_faults =
+    record { login = login; hearing = hearing_over heard flow faults; taken = taken; sink_faults = sink_faults }
+
+-- what it was then, and what was said and heard by now
+pub record WireParts : Type 0 where
+  pub start : WireStart
+  pub said : List Sent
+  pub cut : Bool
+  pub heard : HeardView
+  pub last : Option Came
+
+-- the same, with the source and the sink now
 pub record WireView : Type 0 where
   pub start : WireStart
   pub said : List Sent
@@ -24,6 +37,17 @@ pub record WireView : Type 0 where
   pub last : Option Came
   pub taken : Option (List ℕ)
   pub sink_faults : ℕ
+
+abbrev pub wire_over : WireParts → Option Flow → ℕ → Option (List ℕ) → ℕ → WireView
+wire_over parts flow faults taken sink_faults = record {
+  start = parts.start;
+  said = parts.said;
+  cut = parts.cut;
+  hearing = hearing_over parts.heard flow faults;
+  last = parts.last;
+  taken = taken;
+  sink_faults = sink_faults;
+}
 
 -- What was said is written, what was heard is read, and a line is cut only where a count rose.
 pub record IsWire (view : WireView) : Type 0 where

@@ -1,7 +1,8 @@
 -- A wire and what it heard, as contracts see them.
 use Rattle.std.specs.Prelude.{◌≡◌, ℕ, Bool, List, map, Option, Result, Ok, Err}
+use Rattle.outside.specs.Flow.{Flow}
 use Rattle.outside.specs.declared.failed.Failed.{Failed}
-use Rattle.standby_wire.specs.Replied.{HearingView}
+use Rattle.standby_wire.specs.Replied.{HeardView}
 use Rattle.standby_wire.specs.declared.reply.Reply.{Reply}
 use Rattle.standby_wire.specs.declared.reply.Reply.TheVariants as replies
 use Rattle.standby_wire.specs.declared.inbox.WaitFault.{WaitFault}
@@ -12,18 +13,17 @@ use Rattle.standby.specs.declared.log.Outcome.{Outcome}
 use Rattle.standby.specs.declared.peer.Heard.{Heard}
 use Rattle.standby.specs.declared.peer.Heard.TheVariants as hears
 use Rattle.standby_link.specs.Read.{place_behind}
-use Rattle.standby_link.specs.Wire.{WireStart, WireView}
+use Rattle.standby_link.specs.Wire.{start_of, WireParts}
+use Rattle.standby_link.specs.declared.login.Login.{Login}
 
--- what was said, heard and written since following began
-abbrev pub wire_of : {D : Type 0} → WireStart → List (Shown D) → Bool → HearingView → Option Outcome → Option (List ℕ) → ℕ → WireView
-wire_of start said cut hearing last taken faults = record {
-  start = start;
+-- what a wire was when following began, and what was said and heard since
+abbrev pub parts_of : {D : Type 0} → Login → HeardView → Option Flow → ℕ → Option (List ℕ) → ℕ → List (Shown D) → Bool → HeardView → Option Outcome → WireParts
+parts_of login first flow faults taken sink_faults said cut heard last = record {
+  start = start_of login first flow faults taken sink_faults;
   said = map sent_of said;
   cut = cut;
-  hearing = hearing;
+  heard = heard;
   last = came_of last;
-  taken = taken;
-  sink_faults = faults;
 }
 
 -- what a wait for the reply to a NEXT of this position tells, where the reply was due at this offset

@@ -2,6 +2,7 @@
 ghost use Rattle.std.specs.Prelude.{◌≡◌, ◌≤◌, [], Some, false};
 ghost use Rattle.house.specs.House.{is_stopped};
 ghost use Rattle.standby.specs.Following.{EndsSo};
+ghost use Rattle.standby_wire.specs.Replied.{hearing_over, IsHearing};
 ghost use Rattle.standby_link.specs.Followed.{streams_of, Greets, IsGreeting, FollowsOver, IsCounted};
 
 use crate::login::Login;
@@ -12,33 +13,27 @@ use standby::{FollowEnd, follow_over};
 use standby_wire::{Hearing, Question, Reply, WaitFault, write_hello};
 use std::alloc::Global;
 
-/// How following ended, with the source and the sink given back.
-#[derive(Drop)]
-pub struct Followed<S: Source + Drop, K: Sink + Drop> {
-    pub end: FollowEnd,
-    pub source: S,
-    pub sink: K,
-}
-
-// Greets a primary. Where it does not greet back, it tells why.
-fn greet<S: Source + Drop, K: Sink + Drop>(
+// Greets a primary, from which nothing was heard. Where it does not greet back, it tells why.
+fn greet<S: Source, K: Sink>(
     login: &Login,
     hearing: &mut Hearing<S>,
+    source: &mut S,
     sink: &mut K,
 ) -> Option<FollowEnd>
     requires fresh { hearing.old.replied ≡ [] }
     requires front { hearing.old.pending.due ≡ 0 }
-    requires counted { hearing.old.first_faults ≡ hearing.old.faults }
+    requires counted { hearing.old.first_faults ≡ S.faults source.old }
     ensures greets { Greets login.now (K.taken sink.old) (K.taken sink.new) result }
-    ensures why { IsGreeting login.now hearing.new (K.faults sink.old) (K.faults sink.new) result }
+    ensures why { IsGreeting login.now (hearing_over hearing.new (S.flow source.new) (S.faults source.new)) (K.faults sink.old) (K.faults sink.new) result }
     ensures same { (hearing.new.first ≡ hearing.old.first) × (hearing.new.first_faults ≡ hearing.old.first_faults) }
+    ensures heard { IsHearing (hearing_over hearing.old (S.flow source.old) (S.faults source.old)) → IsHearing (hearing_over hearing.new (S.flow source.new) (S.faults source.new)) }
     ensures never_falls { K.faults sink.old ≤ K.faults sink.new }
 {
     if write_hello(sink, &login.name, &login.key).is_err() {
         return Some(FollowEnd::SinkFault);
     }
     let name = login.name;
-    match hearing.ask(&Question::Hello { name }) {
+    match hearing.ask(source, &Question::Hello { name }) {
         Ok(Reply::Greeted) => None,
         Ok(Reply::Refused { number }) => Some(FollowEnd::Refused { number }),
         Ok(_) => unreachable!(),
@@ -49,29 +44,23 @@ fn greet<S: Source + Drop, K: Sink + Drop>(
 }
 
 /// Greets a primary with a name and a key, and follows it over a source and a sink as `follow_over` does.
-pub fn follow<D: Disk, S: Source + Drop, K: Sink + Drop>(
+pub fn follow<D: Disk, S: Source, K: Sink>(
     alloc: Global,
     house: &mut House<D>,
     login: Login,
-    source: S,
-    sink: K,
-) -> Followed<S, K>
+    source: &mut S,
+    sink: &mut K,
+) -> FollowEnd
     requires runs { is_stopped house.old ≡ false }
-    ensures follows { FollowsOver login (streams_of S.flow S.faults K.taken K.faults source sink) (streams_of S.flow S.faults K.taken K.faults result.source result.sink) house.old house.new result.end }
-    ensures counted { IsCounted (streams_of S.flow S.faults K.taken K.faults source sink) (streams_of S.flow S.faults K.taken K.faults result.source result.sink) result.end }
-    ensures ends { EndsSo house.old house.new (Some result.end) }
+    ensures follows { FollowsOver login (streams_of S.flow S.faults K.taken K.faults source.old sink.old) (streams_of S.flow S.faults K.taken K.faults source.new sink.new) house.old house.new result }
+    ensures counted { IsCounted (streams_of S.flow S.faults K.taken K.faults source.old sink.old) (streams_of S.flow S.faults K.taken K.faults source.new sink.new) result }
+    ensures ends { EndsSo house.old house.new (Some result) }
 {
     let mut hearing = Hearing::new(alloc, source);
-    let mut sink = sink;
-    match greet(&login, &mut hearing, &mut sink) {
+    match greet(&login, &mut hearing, source, sink) {
         None => {}
-        Some(end) => {
-            let source = hearing.end();
-            return Followed { end, source, sink };
-        }
+        Some(end) => return end,
     }
-    let mut wire: Wire<D, S, K> = Wire::new(alloc, login, hearing, sink);
-    let end = follow_over(house, &mut wire);
-    let (source, sink) = wire.end();
-    Followed { end, source, sink }
+    let mut wire: Wire<D, S, K> = Wire::new(alloc, login, hearing, source, sink);
+    follow_over(house, &mut wire, source, sink)
 }

@@ -11,5 +11,5 @@ mod following;
 mod login;
 mod wire;
 
-pub use following::{Followed, follow};
+pub use following::follow;
 pub use login::Login;

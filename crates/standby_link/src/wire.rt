@@ -6,7 +6,7 @@ ghost use Rattle.standby_wire.specs.Replies.{IsFor};
 ghost use Rattle.standby_wire.specs.declared.reply.Question.TheVariants.{Next};
 ghost use Rattle.standby.specs.Sent.{IsOfChange};
 ghost use Rattle.standby_link.specs.Written.{line_text};
-ghost use Rattle.standby_link.specs.Wire.{IsWire};
+ghost use Rattle.standby_link.specs.Wire.{start_of};
 ghost use Rattle.standby_link.specs.Wired.{IsToldBy};
 
 use crate::login::Login;
@@ -18,34 +18,29 @@ use std::alloc::Global;
 use std::marker::Model;
 use std::snapshot::Snapshot;
 
-/// The other end of a link that is greeted, with a source and a sink of its own. Contracts see what was said and heard since, and
-/// what the source and the sink tell.
+/// The other end of a link that is greeted, over a source and a sink. Contracts see what was said and heard since, and what the link
+/// was then.
 #[derive(Drop)]
-pub(crate) struct Wire<D: Disk, S: Source + Drop, K: Sink + Drop> {
+pub(crate) struct Wire<D: Disk, S: Source, K: Sink> {
     login: Login,
     hearing: Hearing<S>,
-    sink: K,
     cut: bool,
     said: Vec<Shown<D>>,
     last: Option<Outcome>,
-    // What was heard when the link was greeted, and the sink then, for contracts alone.
+    // What was heard when the link was greeted, and source and sink then, for contracts alone.
     first: Snapshot<Hearing<S>>,
+    first_source: Snapshot<S>,
     first_sink: Snapshot<K>,
 }
 
-impl<D: Disk, S: Source + Drop, K: Sink + Drop> Model for Wire<D, S, K> {
-    ghost use Rattle.standby_link.specs.Wire.{WireView, IsWire};
-    ghost use Rattle.standby_link.specs.Wired.{wire_of};
+impl<D: Disk, S: Source, K: Sink> Model for Wire<D, S, K> {
+    ghost use Rattle.standby_link.specs.Wire.{WireParts};
+    ghost use Rattle.standby_link.specs.Wired.{parts_of};
 
-    ghost Value = { WireView };
+    ghost Value = { WireParts };
 
-    ghost view = { λ w. wire_of
-        (record { login = w.login; hearing = w.first.value; taken = K.taken w.first_sink.value; sink_faults = K.faults w.first_sink.value })
-        w.said.items w.cut w.hearing w.last (K.taken w.sink) (K.faults w.sink) };
-
-    ghost invariant = { λ w. IsWire (wire_of
-        (record { login = w.login; hearing = w.first.value; taken = K.taken w.first_sink.value; sink_faults = K.faults w.first_sink.value })
-        w.said.items w.cut w.hearing w.last (K.taken w.sink) (K.faults w.sink)) };
+    ghost view = { λ w. parts_of w.login w.first.value (S.flow w.first_source.value) (S.faults w.first_source.value) (K.taken w.first_sink.value) (K.faults w.first_sink.value)
+        w.said.items w.cut w.hearing w.last };
 }
 
 // Writes the text of a line; where that fails, a front of it.
@@ -83,56 +78,41 @@ fn told(position: u64, due: u64, answer: Result<Reply, WaitFault>) -> Result<Hea
     }
 }
 
-impl<D: Disk, S: Source + Drop, K: Sink + Drop> Wire<D, S, K> {
+impl<D: Disk, S: Source, K: Sink> Wire<D, S, K> {
     /// A link that is greeted, over which nothing was said since. It takes no memory.
-    pub(crate) fn new(alloc: Global, login: Login, hearing: Hearing<S>, sink: K) -> Wire<D, S, K>
-        ensures start { result.start ≡ record { login = login; hearing = hearing; taken = K.taken sink; sink_faults = K.faults sink } }
+    pub(crate) fn new(
+        alloc: Global,
+        login: Login,
+        hearing: Hearing<S>,
+        source: &S,
+        sink: &K,
+    ) -> Wire<D, S, K>
+        ensures start { result.start ≡ start_of login hearing (S.flow source.now) (S.faults source.now) (K.taken sink.now) (K.faults sink.now) }
         ensures said { result.said ≡ [] }
         ensures cut { result.cut ≡ false }
-        ensures hearing { result.hearing ≡ hearing }
-        ensures wire { IsWire result }
+        ensures hearing { result.heard ≡ hearing }
+        ensures last { result.last ≡ None }
     {
-        // What was heard is read.
-        let _due = hearing.due();
         Wire {
             login,
             first: Snapshot::of(&hearing),
-            first_sink: Snapshot::of(&sink),
+            first_source: Snapshot::of(source),
+            first_sink: Snapshot::of(sink),
             hearing,
-            sink,
             cut: false,
             said: Vec::new(alloc),
             last: None,
         }
     }
-
-    /// The source and the sink, given back.
-    pub(crate) fn end(self) -> (S, K)
-        ensures flow { (S.flow result.0 ≡ self.hearing.flow) × (S.faults result.0 ≡ self.hearing.faults) }
-        ensures taken { (K.taken result.1 ≡ self.taken) × (K.faults result.1 ≡ self.sink_faults) }
-        ensures wire { IsWire self }
-    {
-        let Wire {
-            login: _,
-            hearing,
-            sink,
-            cut: _,
-            said: _,
-            last: _,
-            first: _,
-            first_sink: _,
-        } = self;
-        (hearing.end(), sink)
-    }
 }
 
-impl<D: Disk, S: Source + Drop, K: Sink + Drop> Peer<D> for Wire<D, S, K> {
+impl<D: Disk, S: Source, K: Sink> Peer<D, S, K> for Wire<D, S, K> {
     ghost use Rattle.standby_link.specs.Read.{offers_of};
-    ghost use Rattle.standby_link.specs.Wire.{WireStart};
+    ghost use Rattle.standby_link.specs.Wire.{WireStart, IsWire, wire_over};
 
     ghost said = { λ w. w.said };
 
-    ghost heard = { λ w. offers_of w.hearing.replied };
+    ghost heard = { λ w. offers_of w.heard.replied };
 
     ghost last = { λ w. w.last };
 
@@ -142,23 +122,25 @@ impl<D: Disk, S: Source + Drop, K: Sink + Drop> Peer<D> for Wire<D, S, K> {
 
     ghost start = { λ w. w.start };
 
-    fn say(&mut self, house: &House<D>, line: Said) -> Result<(), SayFault> {
+    ghost Holds = { λ w source sink. IsWire (wire_over w (S.flow source) (S.faults source) (K.taken sink) (K.faults sink)) };
+
+    fn say(&mut self, sink: &mut K, house: &House<D>, line: Said) -> Result<(), SayFault> {
         if note_said(&mut self.said, house, line).is_err() {
             return Err(SayFault::Memory);
         }
         if self.cut {
             return Err(SayFault::Failed);
         }
-        if write(&mut self.sink, &self.login, line).is_err() {
+        if write(sink, &self.login, line).is_err() {
             self.cut = true;
             return Err(SayFault::Failed);
         }
         Ok(())
     }
 
-    fn hear(&mut self, position: u64) -> Result<Heard, Failed> {
+    fn hear(&mut self, source: &mut S, position: u64) -> Result<Heard, Failed> {
         let due = self.hearing.due();
-        let answer = self.hearing.ask(&Question::Next { position });
+        let answer = self.hearing.ask(source, &Question::Next { position });
         let came = told(position, due, answer);
         self.last = Some(Outcome::of(position, &came));
         came

@@ -63,10 +63,11 @@ fn follows(
     }
     let mut peer: MemoryPeer<MemoryDisk> = MemoryPeer::new(alloc, entries);
     let (end, length, gross) = found;
-    let is_ended = follow_over(&mut house, &mut peer) == end && house.length() == length;
+    let is_ended = follow_over(&mut house, &mut peer, &mut (), &mut ()) == end;
+    let is_long = house.length() == length;
     let is_stopped = house.is_stopped() == (end == FollowEnd::DiskFault);
     let is_kept = is_found(rt, alloc, crashed(disk_below(house)), length, gross)?;
-    Ok(is_ended && is_stopped && is_kept)
+    Ok(is_ended && is_long && is_stopped && is_kept)
 }
 
 // B affirms, which A can't do for itself.
@@ -103,7 +104,7 @@ fn an_entry_is_kept_with_its_moment(rt: HostRuntime) -> Result<(), Fail> {
         return Err(Fail::new("the house is stopped"));
     }
     let mut peer: MemoryPeer<MemoryDisk> = MemoryPeer::new(alloc, two_entries(&rt, alloc, b"B")?);
-    assert!(rt; follow_over(&mut house, &mut peer) == FollowEnd::Caught);
+    assert!(rt; follow_over(&mut house, &mut peer, &mut (), &mut ()) == FollowEnd::Caught);
     let mut disk = disk_below(house);
     let mut moment = [0; 8];
     let is_read = disk.read(47, &mut moment)? == 8;

@@ -1,7 +1,11 @@
 //! A standby over bytes in memory: what it writes, how it ends, and what it has then.
 
+ghost use Rattle.std.specs.Prelude.{◌≡◌, false, IfOk};
+ghost use Rattle.house.specs.House.{is_stopped};
+
 use crate::houses::{crashed, disk_below, house_on, is_found, large_disk_of, named};
-use outside::{Disk, MemorySink, MemorySource};
+use house::House;
+use outside::{Disk, MemoryDisk, MemorySink, MemorySource};
 use standby::FollowEnd;
 use standby::FollowEnd::{Broken, Caught, DiskFault, Refused, SinkFault, SourceFault};
 use standby_link::{Login, follow};
@@ -9,71 +13,73 @@ use std::alloc::Global;
 use std::process::Abort;
 use std::test::Fail;
 
-const HELLO: &[u8] = b"ok 2 hello OPS\n";
+// What a primary replies: it greets, tells TRADE A B P 10 2026-03-02 by A, then AFFIRM 1 by B, or by A, and that there is no more.
+#[derive(Clone, Copy)]
+enum Told {
+    Hello,
+    Trade,
+    Affirm,
+    OwnAffirm,
+    Last,
+    // This text.
+    Text(&'static [u8]),
+}
 
-/// The reply that tells TRADE A B P 10 2026-03-02 by A from seat 0, of moment 0.
-const TRADE: &[u8] =
-    b"ok 2 entry 1 33\n\0\0\0\0\0\0\0\0\0\0\0\0\x01A\x01\x01A\x01B\x01P\x0a\0\0\0\0\0\0\0\xea\x07\x03\x02\n";
+fn text_of(told: Told) -> &'static [u8] {
+    match told {
+        Told::Hello => b"ok 2 hello OPS\n",
+        Told::Trade =>
+            b"ok 2 entry 1 33\n\0\0\0\0\0\0\0\0\0\0\0\0\x01A\x01\x01A\x01B\x01P\x0a\0\0\0\0\0\0\0\xea\x07\x03\x02\n",
+        Told::Affirm => b"ok 2 entry 2 23\n\0\0\0\0\0\0\0\0\0\0\0\0\x01B\x02\x01\0\0\0\0\0\0\0\n",
+        Told::OwnAffirm =>
+            b"ok 2 entry 2 23\n\0\0\0\0\0\0\0\0\0\0\0\0\x01A\x02\x01\0\0\0\0\0\0\0\n",
+        Told::Last => b"ok 2 none\n",
+        Told::Text(text) => text,
+    }
+}
 
-/// The reply that tells AFFIRM 1 by B from seat 0, of moment 0.
-const AFFIRM: &[u8] = b"ok 2 entry 2 23\n\0\0\0\0\0\0\0\0\0\0\0\0\x01B\x02\x01\0\0\0\0\0\0\0\n";
+// What a standby writes, and how much of it: so many bytes.
+const LINES: &[u8] = b"HELLO OPS KO\nNEXT 0\nNEXT 1\nNEXT 2\nBYE\n";
 
-/// The reply that tells AFFIRM 1 by A, which made the trade, from seat 0, of moment 0.
-const OWN_AFFIRM: &[u8] = b"ok 2 entry 2 23\n\0\0\0\0\0\0\0\0\0\0\0\0\x01A\x02\x01\0\0\0\0\0\0\0\n";
+const GREETED: usize = 13;
 
-const LAST: &[u8] = b"ok 2 none\n";
+const ASKED: usize = 20;
 
-// What is written before an entry is due, before the second, and in all.
-const GREETED: &[u8] = b"HELLO OPS KO\n";
+const ASKED_AGAIN: usize = 27;
 
-const ASKED: &[u8] = b"HELLO OPS KO\nNEXT 0\n";
+const ASKED_ALL: usize = 34;
 
-const ASKED_AGAIN: &[u8] = b"HELLO OPS KO\nNEXT 0\nNEXT 1\n";
+const ALL: usize = 38;
 
-const ASKED_ALL: &[u8] = b"HELLO OPS KO\nNEXT 0\nNEXT 1\nNEXT 2\n";
-
-const ALL: &[u8] = b"HELLO OPS KO\nNEXT 0\nNEXT 1\nNEXT 2\nBYE\n";
-
-// The replies that a standby on an empty disk reads, the read, the write and the call of the disk that fail (none where it is 0), what
-// it writes, how it ends, and how many entries it has after a crash.
-type Trial = (
-    &'static [&'static [u8]],
-    [u64; 3],
-    &'static [u8],
-    FollowEnd,
-    u64,
-);
+// The replies that a standby on an empty disk reads, the read, the write and the call of the disk that fail (none where it is 0), how
+// much it writes, how it ends, and how many entries it has after a crash.
+type Trial = (&'static [Told], [u64; 3], usize, FollowEnd, u64);
 
 // No call fails.
 const NONE: [u64; 3] = [0, 0, 0];
 
+const WHOLE: &[Told] = &[Told::Hello, Told::Trade, Told::Affirm, Told::Last];
+
 // Ends with a peer that says what may stand there.
 const ENDS: &[Trial] = &[
-    (&[HELLO, TRADE, AFFIRM, LAST], NONE, ALL, Caught, 2),
+    (WHOLE, NONE, ALL, Caught, 2),
     (&[], NONE, GREETED, Broken { at: 0 }, 0),
     (
-        &[b"no 0 2 bad-key\n"],
+        &[Told::Text(b"no 0 2 bad-key\n")],
         NONE,
         GREETED,
         Refused { number: 2 },
         0,
     ),
     (
-        &[HELLO, b"no 1000 31 gone 1000\n"],
+        &[Told::Hello, Told::Text(b"no 9 31 gone 9\n")],
         NONE,
         ASKED,
         Refused { number: 31 },
         0,
     ),
     (
-        &[HELLO, b"no 9 14 not-operator\n"],
-        NONE,
-        ASKED,
-        Refused { number: 14 },
-        0,
-    ),
-    (
-        &[HELLO, TRADE, b"no 0 32 ahead 0\n"],
+        &[Told::Hello, Told::Trade, Told::Text(b"no 0 32 ahead 0\n")],
         NONE,
         ASKED_AGAIN,
         Refused { number: 32 },
@@ -84,138 +90,136 @@ const ENDS: &[Trial] = &[
 // Replies that may not stand there, or come in part. The greeting has 15 bytes, the first entry's reply 50.
 const BROKEN: &[Trial] = &[
     (
-        &[HELLO, TRADE, TRADE],
+        &[Told::Hello, Told::Trade, Told::Trade],
         NONE,
         ASKED_AGAIN,
         Broken { at: 65 },
         1,
     ),
     (
-        &[HELLO, TRADE, OWN_AFFIRM],
+        &[Told::Hello, Told::Trade, Told::OwnAffirm],
         NONE,
         ASKED_AGAIN,
         Broken { at: 65 },
         1,
     ),
-    (&[HELLO, AFFIRM], NONE, ASKED, Broken { at: 15 }, 0),
-    (&[HELLO, b"ok 0 none"], NONE, ASKED, Broken { at: 15 }, 0),
-    (&[HELLO, b"ok 1 none\n"], NONE, ASKED, Broken { at: 15 }, 0),
     (
-        &[HELLO, b"ok 1 entry 1 268435457"],
+        &[Told::Hello, Told::Trade, Told::Hello],
+        NONE,
+        ASKED_AGAIN,
+        Broken { at: 65 },
+        1,
+    ),
+    (
+        &[Told::Hello, Told::Affirm],
         NONE,
         ASKED,
         Broken { at: 15 },
         0,
     ),
     (
-        &[HELLO, b"ok 1 entry 1 1\nx\n"],
+        &[Told::Hello, Told::Text(b"ok 0 none")],
         NONE,
         ASKED,
         Broken { at: 15 },
         0,
     ),
     (
-        &[HELLO, TRADE, HELLO],
+        &[Told::Hello, Told::Text(b"ok 1 none\n")],
         NONE,
-        ASKED_AGAIN,
-        Broken { at: 65 },
-        1,
+        ASKED,
+        Broken { at: 15 },
+        0,
+    ),
+    (
+        &[Told::Hello, Told::Text(b"ok 1 entry 1 1\nx\n")],
+        NONE,
+        ASKED,
+        Broken { at: 15 },
+        0,
     ),
 ];
 
 // The first read gives all that there is. Opening takes ten calls of the disk, and an entry four.
 const FAULTS: &[Trial] = &[
+    (WHOLE, [1, 0, 0], GREETED, SourceFault, 0),
     (
-        &[HELLO, TRADE, AFFIRM, LAST],
-        [1, 0, 0],
-        GREETED,
-        SourceFault,
-        0,
-    ),
-    (&[HELLO, TRADE], [2, 0, 0], ASKED_AGAIN, SourceFault, 1),
-    (&[HELLO, TRADE, AFFIRM, LAST], [0, 1, 0], b"", SinkFault, 0),
-    (
-        &[HELLO, TRADE, AFFIRM, LAST],
-        [0, 3, 0],
-        ASKED,
-        SinkFault,
-        1,
-    ),
-    (
-        &[HELLO, TRADE, AFFIRM, LAST],
-        [0, 5, 0],
-        ASKED_ALL,
-        SinkFault,
-        2,
-    ),
-    (
-        &[HELLO, TRADE, AFFIRM, LAST],
-        [0, 0, 15],
+        &[Told::Hello, Told::Trade],
+        [2, 0, 0],
         ASKED_AGAIN,
-        DiskFault,
+        SourceFault,
         1,
     ),
+    (WHOLE, [0, 1, 0], 0, SinkFault, 0),
+    (WHOLE, [0, 3, 0], ASKED, SinkFault, 1),
+    (WHOLE, [0, 5, 0], ASKED_ALL, SinkFault, 2),
+    (WHOLE, [0, 0, 15], ASKED_AGAIN, DiskFault, 1),
 ];
 
-fn source_of(alloc: Global, replies: &[&[u8]], read: u64) -> Result<MemorySource, Fail> {
+fn source_of(alloc: Global, replies: &[Told], read: u64) -> Result<MemorySource, Fail> {
     let mut input = Vec::new(alloc);
-    for reply in replies {
-        input.extend_from_slice(reply)?;
+    for &told in replies {
+        input.extend_from_slice(text_of(told))?;
     }
     let mut source = MemorySource::new(alloc, &input)?;
     source.fail_at(read)?;
     Ok(source)
 }
 
-// Whether a trial goes so. The trade has a gross of 10 once it is affirmed.
-fn goes(rt: &impl Abort, alloc: Global, trial: &Trial) -> Result<bool, Fail> {
-    let (replies, [read, write, call], text, end, length) = *trial;
-    let mut sink = MemorySink::new(alloc, 256)?;
-    sink.fail_at(write)?;
+// A house on an empty disk, whose call with this number fails.
+fn house_at(rt: &impl Abort, alloc: Global, call: u64) -> Result<House<MemoryDisk>, Fail>
+    ensures { IfOk result (λ house. is_stopped house ≡ false) }
+{
     let mut disk = large_disk_of(alloc, b"")?;
     disk.fail_at(call)?;
-    let mut house = house_on(rt, alloc, disk)?;
+    let house = house_on(rt, alloc, disk)?;
     if house.is_stopped() {
         return Err(Fail::new("the house is stopped"));
     }
+    Ok(house)
+}
+
+// Whether a trial goes so. The trade has a gross of 10 once it is affirmed.
+fn goes(rt: &impl Abort, alloc: Global, trial: &Trial) -> Result<bool, Fail> {
+    let &(replies, [read, write, call], written, end, length) = trial;
+    let mut source = source_of(alloc, replies, read)?;
+    let mut sink = MemorySink::new(alloc, 256)?;
+    sink.fail_at(write)?;
+    let mut house = house_at(rt, alloc, call)?;
     let login = Login {
         name: named(b"OPS"),
         key: named(b"KO"),
     };
-    let source = source_of(alloc, replies, read)?;
-    let followed = follow(alloc, &mut house, login, source, sink);
-    let is_ended = followed.end == end && followed.sink.bytes() == text;
+    let is_ended = follow(alloc, &mut house, login, &mut source, &mut sink) == end;
+    let is_written = Some(sink.bytes()) == LINES.get(..written);
     let gross = if length == 2 { 10 } else { 0 };
     let is_kept = is_found(rt, alloc, crashed(disk_below(house)), length, gross)?;
-    Ok(is_ended && is_kept)
+    Ok(is_ended && is_written && is_kept)
 }
 
-// The first trial that goes otherwise.
-fn otherwise(rt: &impl Abort, alloc: Global, trials: &[Trial]) -> Result<Option<usize>, Fail> {
-    let mut place = 0;
+fn all_go(rt: &impl Abort, alloc: Global, trials: &[Trial]) -> Result<bool, Fail> {
     for trial in trials {
         if !goes(rt, alloc, trial)? {
-            return Ok(Some(place));
+            return Ok(false);
         }
-        place += 1;
     }
-    Ok(None)
+    Ok(true)
 }
 
 #[test]
 fn a_standby_ends_with_its_peer(rt: HostRuntime) -> Result<(), Fail> {
-    assert!(rt; otherwise(&rt, rt.alloc(), ENDS)?.is_none());
+    assert!(rt; all_go(&rt, rt.alloc(), ENDS)?);
     Ok(())
 }
 
 #[test]
 fn a_reply_that_may_not_stand_there_ends_it(rt: HostRuntime) -> Result<(), Fail> {
-    assert!(rt; otherwise(&rt, rt.alloc(), BROKEN)?.is_none());
+    assert!(rt; all_go(&rt, rt.alloc(), BROKEN)?);
     Ok(())
 }
 
 #[test]
 fn a_fault_of_source_sink_or_disk_is_told(rt: HostRuntime) -> Result<(), Fail> {
-    assert!(rt; otherwise(&rt, rt.alloc(), FAULTS)?.is_none());
+    assert!(rt; all_go(&rt, rt.alloc(), FAULTS)?);
     Ok(())
 }

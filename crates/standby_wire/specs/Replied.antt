@@ -22,7 +22,14 @@ AreRead at (replied ∷ others) input left =
     (behind : List ℕ) × (replied.due ≡ at) × (reply_to replied.question input ≡ Ok (replied.reply, behind))
     × AreRead (moved_on at (length input - length behind)) others behind left
 
--- what was replied, what was taken and belongs to no reply yet, and the source at first and now
+-- what was replied, what was taken and belongs to no reply yet, and the source at first
+pub record HeardView : Type 0 where
+  pub replied : List Replied
+  pub pending : Pending
+  pub first : Option Flow
+  pub first_faults : ℕ
+
+-- the same, and the source now
 pub record HearingView : Type 0 where
   pub replied : List Replied
   pub pending : Pending
@@ -30,6 +37,16 @@ pub record HearingView : Type 0 where
   pub flow : Option Flow
   pub first_faults : ℕ
   pub faults : ℕ
+
+abbrev pub hearing_over : HeardView → Option Flow → ℕ → HearingView
+hearing_over heard flow faults = record {
+  replied = heard.replied;
+  pending = heard.pending;
+  first = heard.first;
+  flow = flow;
+  first_faults = heard.first_faults;
+  faults = faults;
+}
 
 -- The source gave the replies and what is pending, and nothing else.
 pub record IsHearing (view : HearingView) : Type 0 where

@@ -1,7 +1,7 @@
-//! What is replied to one question after another, from a source that is kept.
+//! What is replied to one question after another, from a source that is lent.
 ghost use Rattle.std.specs.Prelude.{◌≡◌, [], IfOk};
 ghost use Rattle.standby_wire.specs.Replies.{IsFor};
-ghost use Rattle.standby_wire.specs.Replied.{Hears, IsHearing, IsSameSource};
+ghost use Rattle.standby_wire.specs.Replied.{hearing_over, Hears, IsHearing, IsSameSource};
 
 use crate::inbox::{Inbox, WaitFault};
 use crate::reply::{Question, Reply};
@@ -18,98 +18,70 @@ pub(crate) struct Noted {
     reply: Snapshot<Reply>,
 }
 
-/// A source of replies. Contracts see what was replied to each question, what was taken beyond that, and the source.
+/// Replies, as they come from one source, which each call is lent. Contracts see what was replied to each question, what was taken
+/// beyond that, and the source at first.
 #[derive(Drop)]
-pub struct Hearing<S: Source + Drop> {
-    source: S,
+pub struct Hearing<S: Source> {
     inbox: Inbox,
     replied: Vec<Noted>,
-    // The source as it was handed in, for contracts alone.
+    // The source as it was at first, for contracts alone.
     first: Snapshot<S>,
 }
 
-impl<S: Source + Drop> Model for Hearing<S> {
+impl<S: Source> Model for Hearing<S> {
     ghost use Rattle.std.specs.Prelude.{map};
     ghost use Rattle.standby_wire.specs.Noted.{replied_of};
-    ghost use Rattle.standby_wire.specs.Replied.{HearingView, IsHearing};
+    ghost use Rattle.standby_wire.specs.Replied.{HeardView};
 
-    ghost Value = { HearingView };
+    ghost Value = { HeardView };
 
     ghost view = { λ h. record {
       replied = map replied_of h.replied.items;
       pending = h.inbox;
       first = S.flow h.first.value;
-      flow = S.flow h.source;
       first_faults = S.faults h.first.value;
-      faults = S.faults h.source;
     } };
-
-    ghost invariant = { λ h. IsHearing (record {
-      replied = map replied_of h.replied.items;
-      pending = h.inbox;
-      first = S.flow h.first.value;
-      flow = S.flow h.source;
-      first_faults = S.faults h.first.value;
-      faults = S.faults h.source;
-    }) };
 }
 
-impl<S: Source + Drop> Hearing<S> {
+impl<S: Source> Hearing<S> {
     /// Nothing was asked yet. It takes no memory.
-    pub fn new(alloc: Global, source: S) -> Hearing<S>
+    pub fn new(alloc: Global, source: &S) -> Hearing<S>
         ensures none { result.replied ≡ [] }
         ensures pending { result.pending ≡ record { bytes = []; due = 0 } }
-        ensures begins { (result.first ≡ S.flow source) × (result.flow ≡ S.flow source) }
-        ensures faults { (result.first_faults ≡ S.faults source) × (result.faults ≡ S.faults source) }
+        ensures first { (result.first ≡ S.flow source.now) × (result.first_faults ≡ S.faults source.now) }
+        ensures heard { IsHearing (hearing_over result (S.flow source.now) (S.faults source.now)) }
     {
         Hearing {
-            first: Snapshot::of(&source),
-            source,
             inbox: Inbox::new(alloc),
             replied: Vec::new(alloc),
+            first: Snapshot::of(source),
         }
     }
 
     /// The offset in the input at which the next reply is due.
     pub fn due(&self) -> u64
-        ensures due { result ≡ self.now.pending.due }
-        ensures heard { IsHearing self.now }
+        ensures { result ≡ self.now.pending.due }
     {
         self.inbox.due()
     }
 
-    /// Waits for the reply to a question.
-    pub fn ask(&mut self, question: &Question) -> Result<Reply, WaitFault>
-        ensures hears { Hears question.now self.old self.new result }
+    /// Waits for the reply to a question. The source is the one from the start, as each call left it.
+    pub fn ask(&mut self, source: &mut S, question: &Question) -> Result<Reply, WaitFault>
+        ensures hears { Hears question.now (hearing_over self.old (S.flow source.old) (S.faults source.old)) (hearing_over self.new (S.flow source.new) (S.faults source.new)) result }
         ensures fits { IfOk result (λ reply. IsFor reply question.now) }
-        ensures same { IsSameSource self.old self.new }
-        ensures heard { IsHearing self.new }
+        ensures same { IsSameSource (hearing_over self.old (S.flow source.old) (S.faults source.old)) (hearing_over self.new (S.flow source.new) (S.faults source.new)) }
+        ensures heard { IsHearing (hearing_over self.old (S.flow source.old) (S.faults source.old)) → IsHearing (hearing_over self.new (S.flow source.new) (S.faults source.new)) }
     {
         if self.replied.reserve(1).is_err() {
             return Err(WaitFault::Memory);
         }
         let due = self.inbox.due();
-        let reply = self.inbox.wait(&mut self.source, question)?;
+        let reply = self.inbox.wait(source, question)?;
         self.replied.push_reserved(Noted {
             question: Snapshot::of(question),
             due: Snapshot::of(&due),
             reply: Snapshot::of(&reply),
         });
         Ok(reply)
-    }
-
-    /// The source, given back.
-    pub fn end(self) -> S
-        ensures flow { S.flow result ≡ self.flow }
-        ensures faults { S.faults result ≡ self.faults }
-        ensures heard { IsHearing self }
-    {
-        let Hearing {
-            source,
-            inbox: _,
-            replied: _,
-            first: _,
-        } = self;
-        source
     }
 }

@@ -147,13 +147,14 @@ fn is_heard(alloc: Global) -> Result<bool, AllocError> {
         (Question::Next { position: 1 }, Outcome::Broken(65), 65),
     ];
     let input = a_session(alloc)?;
-    let mut hearing = Hearing::new(alloc, source_of(alloc, &input, 0)?);
+    let mut source = source_of(alloc, &input, 0)?;
+    let mut hearing = Hearing::new(alloc, &source);
     for (question, expected, due) in &cases {
-        if outcome_of(&hearing.ask(question)) != *expected || hearing.due() != *due {
+        if outcome_of(&hearing.ask(&mut source, question)) != *expected || hearing.due() != *due {
             return Ok(false);
         }
     }
-    Ok(hearing.end().read(&mut [0; 1]) == Ok(0))
+    Ok(source.read(&mut [0; 1]) == Ok(0))
 }
 
 #[test]

@@ -14,6 +14,7 @@ loop-end-init g c =
       lines = lines_first c.args.house.now _;
       cut = refl;
       start = refl;
+      holds = λ h. h;
       follows = record { follows = f.0; whole = λ is. f.1 };
     }
 
@@ -23,6 +24,7 @@ loop-end-preserved g c = record {
   lines = lines_on c.args.house.now c.loop-end.house c.turn.new.house _ _ _ _ c.loop-end.invariant.lines c.in-None.ensures.lines;
   cut = c.in-None.ensures.cuts ∙ c.loop-end.invariant.cut;
   start = c.turn.ensures.stays ∙ c.loop-end.invariant.start;
+  holds = λ h. c.turn.ensures.holds (c.loop-end.invariant.holds h);
   follows = goes_to c.args.house.now c.loop-end.house c.turn.new.house _ _ _ _ _ _ _ c.loop-end.invariant.follows c.in-None.ensures.follows;
 }
 
@@ -34,5 +36,6 @@ returns-in-Some g c = record {
   cuts = c.in-Some.ensures.cuts ∙ ap (λ b. is_cut_by b (Some c.in-Some.end)) c.loop-end.invariant.cut;
   stays = c.turn.ensures.stays ∙ c.loop-end.invariant.start;
   short = c.turn.ensures.short;
+  holds = λ h. c.turn.ensures.holds (c.loop-end.invariant.holds h);
   ends = ends_later c.args.house.now c.loop-end.house c.turn.new.house c.in-Some.end c.loop-end.invariant.follows.follows.counted c.in-Some.ensures.ends;
 }

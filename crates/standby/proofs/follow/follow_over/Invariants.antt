@@ -10,6 +10,7 @@ invariant-loop-end g l = record {
   lines : SaysLines l.fn.house l.house (g.P.Peer.said l.fn.peer) (g.P.Peer.said l.peer) None;
   cut : g.P.Peer.cut l.peer ≡ g.P.Peer.cut l.fn.peer;
   start : g.P.Peer.start l.peer ≡ g.P.Peer.start l.fn.peer;
+  holds : g.P.Peer.Holds l.fn.peer l.fn.source l.fn.sink → g.P.Peer.Holds l.peer l.source l.sink;
   follows : FollowsTo l.fn.house l.house (g.P.Peer.said l.fn.peer) (g.P.Peer.said l.peer) (g.P.Peer.heard l.fn.peer) (g.P.Peer.heard l.peer) None;
 }
 
