@@ -39,6 +39,8 @@ mod lives;
 #[cfg(test)]
 mod openings;
 #[cfg(test)]
+mod pools;
+#[cfg(test)]
 mod posts;
 #[cfg(test)]
 mod records;

@@ -1,0 +1,5 @@
+pub mod PageFacts
+pub mod PlaceFacts
+pub mod PartFacts
+pub mod AheadFacts
+pub mod Sends
