@@ -3,5 +3,6 @@ mod ReplyFacts
 mod ReaderFacts
 mod StayFacts
 mod WrittenFacts
+mod RefusedFacts
 mod InboxFacts
 mod HearingFacts

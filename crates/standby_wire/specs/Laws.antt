@@ -1,8 +1,10 @@
 -- The laws of what is read.
-use Rattle.std.specs.Prelude.{◌≡◌, ℕ, ◌+◌, ◌≤◌, List, ◌++◌, length, Ok, Err}
+use Rattle.std.specs.Prelude.{◌≡◌, ℕ, ◌+◌, ◌≤◌, List, ◌++◌, length, Option, Some, None, Ok, Err}
 use Rattle.units_core.specs.declared.limits.TheConstants.{MOST_NUMBER, MOST_JOURNAL}
 use Rattle.command_types.specs.declared.ask.Entry.{Entry}
 use Rattle.command_types.specs.declared.answer.Answer.TheVariants as answers
+use Rattle.command_types.specs.declared.refusal.Refusal.{Refusal}
+use Rattle.command_types.specs.declared.refusal.Refusal.TheVariants.{NotGreeted, BadKey, BadLine, NotOperator, Stopped, Memory, Gone, Ahead}
 use Rattle.command_types.specs.declared.spelling.Spelling.TheVariants.{Second}
 use Rattle.command_types.specs.Details.{reply_text}
 use Rattle.command_types.specs.Roster.{Rows}
@@ -35,3 +37,29 @@ pub record WritingIsRead : Type 0 where
   pub entry :
       (rows : Rows) (at position : ℕ) (bytes : List ℕ) (entry : Entry) (more : List ℕ) → at ≤ MOST_NUMBER → length bytes ≤ MOST_JOURNAL → Spells Second bytes entry
       → reply_to (Next position) (reply_text rows (record { at = at; answer = answers.EntryBytes (position + 1) bytes }) ++ more) ≡ Ok (replies.Entry entry, more)
+
+-- The number of a refusal that a primary may answer a HELLO or a NEXT with.
+abbrev pub number_of : Refusal → Option ℕ
+number_of NotGreeted = Some 1
+number_of BadKey = Some 2
+number_of (BadLine at) = Some 3
+number_of NotOperator = Some 14
+number_of (Stopped at) = Some 26
+number_of Memory = Some 28
+number_of (Gone from) = Some 31
+number_of (Ahead end) = Some 32
+number_of refusal = None
+
+-- its value, if it has one, is a number of the grammar
+abbrev pub IsSmall : Refusal → Type 0
+IsSmall (BadLine at) = at ≤ MOST_NUMBER
+IsSmall (Stopped at) = at ≤ MOST_NUMBER
+IsSmall (Gone from) = from ≤ MOST_NUMBER
+IsSmall (Ahead end) = end ≤ MOST_NUMBER
+IsSmall refusal = Unit {0}
+
+-- What a primary refuses them with is read as that number, whatever comes behind it.
+abbrev pub RefusalsAreRead : Type 0
+RefusalsAreRead =
+    (question : Question) (rows : Rows) (at : ℕ) (refusal : Refusal) (number : ℕ) (more : List ℕ) → at ≤ MOST_NUMBER → IsSmall refusal → number_of refusal ≡ Some number
+    → reply_to question (reply_text rows (record { at = at; answer = answers.No refusal }) ++ more) ≡ Ok (replies.Refused number, more)

@@ -1,5 +1,5 @@
 //! What is read of replies.
-ghost use Rattle.standby_wire.specs.Laws.{ReadingStays, WritingIsRead};
+ghost use Rattle.standby_wire.specs.Laws.{ReadingStays, WritingIsRead, RefusalsAreRead};
 
 /// What was read, or is bad, stays so, however the input goes on; and what is read is a front of the input.
 pub fn reading_stays()
@@ -9,4 +9,9 @@ pub fn reading_stays()
 /// What a primary writes is read, whatever comes behind it.
 pub fn writing_is_read()
     ensures { WritingIsRead }
+{}
+
+/// What a primary refuses a HELLO or a NEXT with is read as its number.
+pub fn refusals_are_read()
+    ensures { RefusalsAreRead }
 {}
