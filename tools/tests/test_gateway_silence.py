@@ -6,14 +6,18 @@ import socket
 import time
 import unittest
 
-from gateways import Caller, InGateway
+from gateways import MODULES, Caller, InGateway
 from running import PATIENCE
+from test_bad_input import reset
+from test_packaging import python_with
 
 SILENT = 1_000
 PATIENT = 2
 """The seconds of a gateway's patience: more than a busy machine takes for what is not silent."""
 HALVES = [b"G", b"GET /healthz HTTP/1.1\r\nHost: x\r\n", b"POST /api/session HTTP/1.1\r\nHost: x\r\nContent-Length: 40\r\n\r\n{"]
 """What is sent of a request: its first byte, a part of its head, and its head with a part of its body."""
+UPGRADE = b"GET /api/follow HTTP/1.1\r\nHost: x\r\nUpgrade: websocket\r\nConnection: Upgrade\r\n"
+UPGRADE += b"Sec-WebSocket-Version: 13\r\nSec-WebSocket-Key: dGhlIHNhbXBsZSBub25jZQ==\r\n\r\n"
 
 
 def many_files() -> None:
@@ -72,6 +76,20 @@ class Silence(InGateway):
         time.sleep(4 * PATIENT)
         self.service.send_signal(18)
         self.assertEqual(waiting.recv(12), b"HTTP/1.1 200")
+
+    def test_pages_that_are_gone_before_they_listen(self) -> None:
+        """Each asks for a WebSocket, and is gone at once or a moment later. Others are served, and no log is filled with it."""
+        python_with(*MODULES, "websockets")
+        self.start("--seats", "5")
+        self.open()
+        for count in range(300):
+            page = self.connect(UPGRADE)
+            time.sleep(count % 4 / 1000)
+            (reset if count % 3 else socket.socket.close)(page)
+        self.assertEqual(self.caller("A").say("NETS P").status, 200)
+        assert self.gateway is not None
+        self.gateway.terminate()
+        self.assertEqual((self.gateway.wait(PATIENCE), self.logged()), (0, ""))
 
     def test_one_that_takes_nothing_of_an_answer(self) -> None:
         """Its answers fill all room. It has no seat meanwhile, and is ended."""

@@ -84,11 +84,20 @@ async def tell(watch: Watch, sessions: Sessions, session: SignedIn, socket: WebS
                     pass
 
 
+async def token_of(socket: WebSocket, patience: float) -> str:
+    """A page's first message. Where a peer is gone before its handshake has ended, `websockets` has nothing to receive by, and fails for
+    want of it in place of telling so."""
+    try:
+        return await asyncio.wait_for(socket.receive_text(), patience)
+    except AttributeError:
+        raise WebSocketDisconnect from None
+
+
 async def follow(watch: Watch, sessions: Sessions, patience: float, socket: WebSocket) -> None:
     """A page that follows the history."""
     await socket.accept()
     try:
-        token = await asyncio.wait_for(socket.receive_text(), patience)
+        token = await token_of(socket, patience)
         session = sessions.find(token)
         if session is None:
             await socket.close(NOT_SIGNED_IN)
