@@ -1,7 +1,7 @@
 //! What gives connections.
 
-ghost use Rattle.std.specs.Prelude.{◌≡◌, ℕ, ◌≤◌, Option, None, IfOk, IfSome, OnErr, Ok, Err};
-ghost use Rattle.outside.specs.Faults.{Rose};
+ghost use Rattle.std.specs.Prelude.{◌≡◌, ℕ, Option, None, IfOk, IfSome, OnErr, Ok, Err};
+ghost use Rattle.outside.specs.Faults.{CountsWhere};
 ghost use Rattle.doors.specs.Visits.{Visits, IsOver, IsOut, Opens, Returns};
 
 use outside::{Sink, Source, Trouble};
@@ -26,8 +26,7 @@ pub trait Door: Send {
         ensures over { result ≡ Ok None → IsOver (visits self.old) }
         ensures same { result ≡ Ok None → visits self.new ≡ visits self.old }
         ensures nothing { OnErr result (visits self.new ≡ visits self.old) }
-        ensures never_falls { faults self.old ≤ faults self.new }
-        ensures failed { result ≡ Err Trouble.Failed → Rose (faults self.old) (faults self.new) };
+        ensures counts { CountsWhere (result ≡ Err Trouble.Failed) (faults self.old) (faults self.new) };
 
     /// Ends a connection that the door gave. It takes no memory.
     fn give_back(&mut self, input: Self::In, output: Self::Out)

@@ -1,7 +1,7 @@
 //! What makes doors.
 
-ghost use Rattle.std.specs.Prelude.{◌≡◌, ℕ, ◌≤◌, ◌<◌, Option, IfOk, OnOk, OnErr, Err};
-ghost use Rattle.outside.specs.Faults.{Rose};
+ghost use Rattle.std.specs.Prelude.{◌≡◌, ℕ, ◌<◌, Option, IfOk, OnOk, OnErr, Err};
+ghost use Rattle.outside.specs.Faults.{CountsWhere};
 ghost use Rattle.doors.specs.Visits.{Doors, Binds, IsNew, IsLent, Lends, TakesBack};
 
 use crate::door::Door;
@@ -25,8 +25,7 @@ pub trait Listener {
     fn bind(&mut self, address: &str) -> Result<(), Trouble>
         ensures binds { OnOk result (Binds address.now (doors self.old) (doors self.new)) }
         ensures nothing { OnErr result (doors self.new ≡ doors self.old) }
-        ensures never_falls { faults self.old ≤ faults self.new }
-        ensures failed { result ≡ Err Trouble.Failed → Rose (faults self.old) (faults self.new) }
+        ensures counts { CountsWhere (result ≡ Err Trouble.Failed) (faults self.old) (faults self.new) }
         ensures waits { idle self.new ≡ idle self.old };
 
     /// A new door for the connections to that address. It gave none yet, and no call of it failed.
@@ -34,16 +33,14 @@ pub trait Listener {
         ensures new { IfOk result (λ d. IsNew (Self.Door.visits d) × (Self.Door.faults d ≡ 0)) }
         ensures lends { IfOk result (λ d. Lends (doors self.old) (doors self.new) (Self.Door.visits d)) }
         ensures nothing { OnErr result (doors self.new ≡ doors self.old) }
-        ensures never_falls { faults self.old ≤ faults self.new }
-        ensures failed { result ≡ Err Trouble.Failed → Rose (faults self.old) (faults self.new) }
+        ensures counts { CountsWhere (result ≡ Err Trouble.Failed) (faults self.old) (faults self.new) }
         ensures waits { idle self.new ≡ idle self.old };
 
     /// Takes a door back that it handed out. It takes no memory.
     fn take_back(&mut self, door: Self::Door)
         requires lent { IsLent (doors self.old) }
         ensures returns { TakesBack (doors self.old) (doors self.new) (Self.Door.visits door) }
-        ensures never_falls { faults self.old ≤ faults self.new }
-        ensures failed { 0 < Self.Door.faults door → Rose (faults self.old) (faults self.new) }
+        ensures counts { CountsWhere (0 < Self.Door.faults door) (faults self.old) (faults self.new) }
         ensures waits { idle self.new ≡ idle self.old };
 
     /// Says for how many seconds a call of a connection's streams may wait before it fails, at the doors that are handed out

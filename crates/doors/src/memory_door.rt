@@ -1,7 +1,7 @@
 //! A door in memory.
 
 ghost use Rattle.std.specs.Prelude.{◌≡◌, ◌≤◌, ◌∷◌, nat_lt, IsErr, IsTrue, ◌↔◌, IfOk, IfSome, OnOk, OnErr, Ok, Err, Some, None};
-ghost use Rattle.outside.specs.Faults.{Rose};
+ghost use Rattle.outside.specs.Faults.{CountsWhere};
 ghost use Rattle.outside.specs.MemorySource.{input_flow};
 ghost use Rattle.doors.specs.Visits.{IsOver, IsOut, Opens, Returns};
 ghost use Rattle.doors.specs.MemoryDoor.{empty_door, IsFresh, visits_by, with_connection, with_failing, next_accept_fails, door_after_fault, door_after_look, door_after_accept, door_after_return};
@@ -114,8 +114,7 @@ impl Door for MemoryDoor {
         ensures over { result ≡ Ok None → IsOver (Some (visits_by self.old)) }
         ensures same { result ≡ Ok None → Some (visits_by self.new) ≡ Some (visits_by self.old) }
         ensures nothing { OnErr result (Some (visits_by self.new) ≡ Some (visits_by self.old)) }
-        ensures never_falls { self.old.faults ≤ self.new.faults }
-        ensures failed { result ≡ Err trouble.Failed → Rose self.old.faults self.new.faults }
+        ensures counts { CountsWhere (result ≡ Err trouble.Failed) self.old.faults self.new.faults }
 
         // Exactly this, besides what each door promises.
         ensures fails { IsErr result ↔ IsTrue (next_accept_fails self.old) }

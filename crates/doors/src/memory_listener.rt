@@ -1,7 +1,7 @@
 //! A listener in memory.
 
 ghost use Rattle.std.specs.Prelude.{◌≡◌, ◌≢◌, ℕ, ◌≤◌, ◌<◌, [], ◌∷◌, ◌++◌, length, slice_index_or, IsErr, IsTrue, ◌↔◌, IfOk, OnOk, OnErr, IfSome, Err, Some, None};
-ghost use Rattle.outside.specs.Faults.{Rose};
+ghost use Rattle.outside.specs.Faults.{CountsWhere};
 ghost use Rattle.doors.specs.Visits.{Binds, IsNew, IsLent, Lends, TakesBack};
 ghost use Rattle.doors.specs.MemoryDoor.{empty_door, IsFresh, visits_by, with_connection, with_failing};
 ghost use Rattle.doors.specs.MemoryListener.{IsPlaceOf, empty_hall, door_at, with_door, doors_by, next_call_fails, hall_after_fault, hall_after_call, hall_after_bind, hall_after_door, hall_after_return, hall_after_telling, ChangesDoor, KeepsDoors};
@@ -165,8 +165,7 @@ impl Listener for MemoryListener {
     fn bind(&mut self, address: &str) -> Result<(), Trouble>
         ensures binds { OnOk result (Binds address.now (Some (doors_by self.old)) (Some (doors_by self.new))) }
         ensures nothing { OnErr result (Some (doors_by self.new) ≡ Some (doors_by self.old)) }
-        ensures never_falls { self.old.faults ≤ self.new.faults }
-        ensures failed { result ≡ Err trouble.Failed → Rose self.old.faults self.new.faults }
+        ensures counts { CountsWhere (result ≡ Err trouble.Failed) self.old.faults self.new.faults }
         ensures waits { self.new.idle ≡ self.old.idle }
 
         // Exactly this, besides what each listener promises.
@@ -192,8 +191,7 @@ impl Listener for MemoryListener {
         ensures new { IfOk result (λ d. IsNew (Some (visits_by d)) × (d.faults ≡ 0)) }
         ensures lends { IfOk result (λ d. Lends (Some (doors_by self.old)) (Some (doors_by self.new)) (Some (visits_by d))) }
         ensures nothing { OnErr result (Some (doors_by self.new) ≡ Some (doors_by self.old)) }
-        ensures never_falls { self.old.faults ≤ self.new.faults }
-        ensures failed { result ≡ Err trouble.Failed → Rose self.old.faults self.new.faults }
+        ensures counts { CountsWhere (result ≡ Err trouble.Failed) self.old.faults self.new.faults }
         ensures waits { self.new.idle ≡ self.old.idle }
 
         // Exactly this, besides what each listener promises.
@@ -228,8 +226,7 @@ impl Listener for MemoryListener {
     fn take_back(&mut self, door: MemoryDoor)
         requires lent { IsLent (Some (doors_by self.old)) }
         ensures returns { TakesBack (Some (doors_by self.old)) (Some (doors_by self.new)) (Some (visits_by door)) }
-        ensures never_falls { self.old.faults ≤ self.new.faults }
-        ensures failed { 0 < door.faults → Rose self.old.faults self.new.faults }
+        ensures counts { CountsWhere (0 < door.faults) self.old.faults self.new.faults }
         ensures waits { self.new.idle ≡ self.old.idle }
 
         // Exactly this, besides what each listener promises.

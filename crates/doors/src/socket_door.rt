@@ -1,7 +1,7 @@
 //! A door at a socket.
 
-ghost use Rattle.std.specs.Prelude.{◌≡◌, ◌≤◌, nat_lt, IsSome, IfOk, IfSome, OnOk, OnErr, Ok, Err, Option, None};
-ghost use Rattle.outside.specs.Faults.{Rose, one_more};
+ghost use Rattle.std.specs.Prelude.{◌≡◌, nat_lt, IsSome, IfOk, IfSome, OnOk, OnErr, Ok, Err, Option, None};
+ghost use Rattle.outside.specs.Faults.{CountsWhere, one_more};
 ghost use Rattle.outside.specs.Streams.{read_faults, write_faults};
 ghost use Rattle.doors.specs.Visits.{Visits, IsOver, Opens};
 ghost use Rattle.doors.specs.Sockets.{accept_faults, door_idle};
@@ -126,8 +126,7 @@ impl<'a, R: Clock + Sync, L: OpenListener<Stream = TcpStream> + Drop + Send> Doo
         ensures over { result ≡ Ok None → IsOver None }
         ensures same { result ≡ Ok None → ◌≡◌ {A = Option Visits} None None }
         ensures nothing { OnErr result (◌≡◌ {A = Option Visits} None None) }
-        ensures never_falls { accept_faults self.old ≤ accept_faults self.new }
-        ensures failed { result ≡ Err trouble.Failed → Rose (accept_faults self.old) (accept_faults self.new) }
+        ensures counts { CountsWhere (result ≡ Err trouble.Failed) (accept_faults self.old) (accept_faults self.new) }
 
         ensures some { IfOk result (λ r. IsSome r) }
         ensures no_fault { OnOk result (accept_faults self.new ≡ accept_faults self.old) }

@@ -1,7 +1,7 @@
 //! A listener at a socket.
 
-ghost use Rattle.std.specs.Prelude.{◌≡◌, ◌≤◌, ◌<◌, IfOk, OnOk, OnErr, Err, Option, None};
-ghost use Rattle.outside.specs.Faults.{Rose, one_more};
+ghost use Rattle.std.specs.Prelude.{◌≡◌, ◌<◌, IfOk, OnOk, OnErr, Err, Option, None};
+ghost use Rattle.outside.specs.Faults.{CountsWhere, one_more};
 ghost use Rattle.doors.specs.Visits.{Doors, Binds, IsNew, Lends};
 ghost use Rattle.doors.specs.Sockets.{accept_faults, door_idle, listen_faults, listen_idle};
 ghost use Rattle.outside.specs.declared.trouble.Trouble.TheVariants as trouble;
@@ -72,8 +72,7 @@ impl<'a, R: Net<Listener = TcpListener, Stream = TcpStream> + Clock + AllocGloba
     fn bind(&mut self, address: &str) -> Result<(), Trouble>
         ensures binds { OnOk result (Binds address.now None None) }
         ensures nothing { OnErr result (◌≡◌ {A = Option Doors} None None) }
-        ensures never_falls { listen_faults self.old ≤ listen_faults self.new }
-        ensures failed { result ≡ Err trouble.Failed → Rose (listen_faults self.old) (listen_faults self.new) }
+        ensures counts { CountsWhere (result ≡ Err trouble.Failed) (listen_faults self.old) (listen_faults self.new) }
         ensures waits { listen_idle self.new ≡ listen_idle self.old }
 
         ensures no_fault { OnOk result (listen_faults self.new ≡ listen_faults self.old) }
@@ -100,8 +99,7 @@ impl<'a, R: Net<Listener = TcpListener, Stream = TcpStream> + Clock + AllocGloba
         ensures new { IfOk result (λ d. IsNew None × (accept_faults d ≡ 0)) }
         ensures lends { IfOk result (λ d. Lends None None None) }
         ensures nothing { OnErr result (◌≡◌ {A = Option Doors} None None) }
-        ensures never_falls { listen_faults self.old ≤ listen_faults self.new }
-        ensures failed { result ≡ Err trouble.Failed → Rose (listen_faults self.old) (listen_faults self.new) }
+        ensures counts { CountsWhere (result ≡ Err trouble.Failed) (listen_faults self.old) (listen_faults self.new) }
         ensures waits { listen_idle self.new ≡ listen_idle self.old }
 
         ensures no_fault { OnOk result (listen_faults self.new ≡ listen_faults self.old) }
@@ -120,8 +118,7 @@ impl<'a, R: Net<Listener = TcpListener, Stream = TcpStream> + Clock + AllocGloba
 
     /// Lets the door go. The socket listens on.
     fn take_back(&mut self, door: SocketDoor<'a, R, TcpListener>)
-        ensures never_falls { listen_faults self.old ≤ listen_faults self.new }
-        ensures failed { 0 < accept_faults door.entry → Rose (listen_faults self.old) (listen_faults self.new) }
+        ensures counts { CountsWhere (0 < accept_faults door.entry) (listen_faults self.old) (listen_faults self.new) }
         ensures waits { listen_idle self.new ≡ listen_idle self.old }
     {
         if door.has_failed() {

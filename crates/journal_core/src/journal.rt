@@ -15,7 +15,7 @@
 //! Each `put` is a write and a sync, so the second write of an append finds the records on the disk.
 ghost use Rattle.std.specs.Prelude.{◌≡◌, ◌≤◌, ◌<◌, ◌↔◌, ◌+◌, [], List, ℕ, length, true, false, Some, None, IsTrue, OnOk, OnErr, IfOk, IfErr, IfSome};
 ghost use Rattle.outside.specs.Disk.{IsSettled};
-ghost use Rattle.outside.specs.Faults.{Rose};
+ghost use Rattle.outside.specs.Faults.{CountsFault, Rose};
 ghost use Rattle.journal_core.specs.Holds.{limit};
 ghost use Rattle.journal_core.specs.Form.{IsSlots, begun_form, fold_end};
 ghost use Rattle.journal_core.specs.Journal.{disk_of, form_of, size_of, staged_of, form_staged, end_staged, is_sound, EndsAt, IsReady, IsStaged, IsReadyToSwitch};
@@ -116,8 +116,7 @@ impl<D: Disk> Journal<D> {
         ensures form { form_of self.new ≡ form_of self.old }
         ensures size { size_of self.new ≡ size_of self.old }
         ensures any_moment { IsStaging (D.history (disk_of self.old)) (D.history (disk_of self.new)) (form_of self.old) (size_of self.old) }
-        ensures never_falls { D.fault_count (disk_of self.old) ≤ D.fault_count (disk_of self.new) }
-        ensures failed { OnErr result (Rose (D.fault_count (disk_of self.old)) (D.fault_count (disk_of self.new))) }
+        ensures counts { CountsFault result (D.fault_count (disk_of self.old)) (D.fault_count (disk_of self.new)) }
     {
         self.staged = None;
         self.sound = false;
@@ -150,8 +149,7 @@ impl<D: Disk> Journal<D> {
         ensures sound { OnOk result (is_sound self.new ≡ true) }
         ensures poisoned { OnErr result (is_sound self.new ≡ false) }
         ensures any_moment { IfSome (staged_of self.old) (λ s. IsSwitching (D.history (disk_of self.old)) (D.history (disk_of self.new)) (form_of self.old) (size_of self.old) s) }
-        ensures never_falls { D.fault_count (disk_of self.old) ≤ D.fault_count (disk_of self.new) }
-        ensures failed { OnErr result (Rose (D.fault_count (disk_of self.old)) (D.fault_count (disk_of self.new))) }
+        ensures counts { CountsFault result (D.fault_count (disk_of self.old)) (D.fault_count (disk_of self.new)) }
     {
         let Some(staged) = self.staged else {
             return Ok(());

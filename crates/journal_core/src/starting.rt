@@ -1,7 +1,7 @@
 //! How a file that holds nothing is begun.
-ghost use Rattle.std.specs.Prelude.{◌≡◌, ◌≤◌, [], ℕ, OnOk, OnErr};
+ghost use Rattle.std.specs.Prelude.{◌≡◌, [], ℕ, OnOk};
 ghost use Rattle.outside.specs.Disk.{IsSettled};
-ghost use Rattle.outside.specs.Faults.{Rose};
+ghost use Rattle.outside.specs.Faults.{CountsFault};
 ghost use Rattle.journal_core.specs.declared.form.Form.TheVariants.{Slots};
 ghost use Rattle.journal_core.specs.Journal.{IsTiny, IsBare, IsShortAs, IsAtRest};
 ghost use Rattle.journal_core.specs.Calls.{IsStarted, IsStarting};
@@ -18,8 +18,7 @@ fn begin_slots<D: Disk>(disk: &mut D) -> Result<(), Failed>
     requires bare { IsBare (D.history disk.old) }
     ensures at_rest { OnOk result (IsAtRest (D.history disk.new) (Slots 0 25) 30 [] []) }
     ensures any_moment { IsStarting (D.history disk.old) (D.history disk.new) }
-    ensures never_falls { D.fault_count disk.old ≤ D.fault_count disk.new }
-    ensures failed { OnErr result (Rose (D.fault_count disk.old) (D.fault_count disk.new)) }
+    ensures counts { CountsFault result (D.fault_count disk.old) (D.fault_count disk.new) }
 {
     put(
         disk,
@@ -38,8 +37,7 @@ fn begin_short<D: Disk>(disk: &mut D) -> Result<(), Failed>
     requires tiny { IsTiny (D.history disk.old) }
     ensures at_rest { OnOk result (IsAtRest (D.history disk.new) (Slots 0 25) 30 [] []) }
     ensures any_moment { IsStarting (D.history disk.old) (D.history disk.new) }
-    ensures never_falls { D.fault_count disk.old ≤ D.fault_count disk.new }
-    ensures failed { OnErr result (Rose (D.fault_count disk.old) (D.fault_count disk.new)) }
+    ensures counts { CountsFault result (D.fault_count disk.old) (D.fault_count disk.new) }
 {
     put(disk, 0, b"OTCJRNLC\0")?;
     begin_slots(disk)?;
@@ -52,8 +50,7 @@ pub(crate) fn begin<D: Disk>(disk: &mut D, form: Form) -> Result<(), Failed>
     requires short { IsShortAs form (D.history disk.old) }
     ensures at_rest { OnOk result (IsStarted (D.history disk.old) (D.history disk.new) form) }
     ensures any_moment { IsStarting (D.history disk.old) (D.history disk.new) }
-    ensures never_falls { D.fault_count disk.old ≤ D.fault_count disk.new }
-    ensures failed { OnErr result (Rose (D.fault_count disk.old) (D.fault_count disk.new)) }
+    ensures counts { CountsFault result (D.fault_count disk.old) (D.fault_count disk.new) }
 {
     match form {
         Form::Short => {

@@ -1,7 +1,7 @@
 //! A walk over a journal's file.
 ghost use Rattle.std.specs.Prelude.{◌≡◌, ◌≢◌, ◌≤◌, ◌<◌, List, ℕ, length, take, get_or, IfOk, IfErr, Err};
 ghost use Rattle.std.specs.Int.{w64, to_le_bytes};
-ghost use Rattle.outside.specs.Faults.{Rose};
+ghost use Rattle.outside.specs.Faults.{CountsWhere};
 ghost use Rattle.journal_core.specs.Holds.{slots_header, limit, Selects};
 ghost use Rattle.journal_core.specs.Journal.{EndsAt, HasForm};
 ghost use Rattle.journal_core.specs.Lead.{IsLed, EndsLed, EndsBehind};
@@ -177,8 +177,7 @@ pub fn walk<D: Disk>(alloc: Global, disk: &mut D) -> Result<Walked, JournalFault
     ensures form { IfOk result (λ w. HasForm (D.history disk.old) w.form) }
     ensures fault { IfErr result (FindsFault (D.history disk.old)) }
     ensures same { D.history disk.new ≡ D.history disk.old }
-    ensures never_falls { D.fault_count disk.old ≤ D.fault_count disk.new }
-    ensures failed { result ≡ Err JournalFault.DiskFault → Rose (D.fault_count disk.old) (D.fault_count disk.new) }
+    ensures counts { CountsWhere (result ≡ Err JournalFault.DiskFault) (D.fault_count disk.old) (D.fault_count disk.new) }
 {
     let length = disk.length()?;
     let mut bytes = vec![in alloc; 0u8; length.min(LIMIT) as usize]?;

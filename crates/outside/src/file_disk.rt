@@ -1,6 +1,6 @@
 //! A disk over a file of the system. It tells nothing of what it holds: what the file does is trusted.
 ghost use Rattle.std.specs.Prelude.{◌≡◌, ℕ, ◌+◌, ◌≤◌, length, None, Ok, IfOk, OnOk, OnErr};
-ghost use Rattle.outside.specs.Faults.{Rose, one_more};
+ghost use Rattle.outside.specs.Faults.{CountsFault, one_more};
 
 use crate::system_file::{cut_to, length_of, make, open, read_from};
 use crate::{Access, Disk, Failed};
@@ -111,8 +111,7 @@ impl<R: Files<File = File> + AllocGlobal + Send + Drop> Disk for FileDisk<R> {
 
     /// Opens the file, if there is one; one that is to be written is locked and synced.
     fn attach(&mut self, name: &str) -> Result<(), Failed>
-        ensures never_falls { file_faults self.old ≤ file_faults self.new }
-        ensures failed { OnErr result (Rose (file_faults self.old) (file_faults self.new)) }
+        ensures counts { CountsFault result (file_faults self.old) (file_faults self.new) }
         ensures no_fault { OnOk result (file_faults self.new ≡ file_faults self.old) }
         ensures fault { OnErr result (file_faults self.new ≡ one_more (file_faults self.old)) }
     {
@@ -125,8 +124,7 @@ impl<R: Files<File = File> + AllocGlobal + Send + Drop> Disk for FileDisk<R> {
     }
 
     fn length(&mut self) -> Result<u64, Failed>
-        ensures never_falls { file_faults self.old ≤ file_faults self.new }
-        ensures failed { OnErr result (Rose (file_faults self.old) (file_faults self.new)) }
+        ensures counts { CountsFault result (file_faults self.old) (file_faults self.new) }
         ensures no_fault { OnOk result (file_faults self.new ≡ file_faults self.old) }
         ensures fault { OnErr result (file_faults self.new ≡ one_more (file_faults self.old)) }
     {
@@ -144,8 +142,7 @@ impl<R: Files<File = File> + AllocGlobal + Send + Drop> Disk for FileDisk<R> {
 
     fn read(&mut self, at: u64, into: &mut [u8]) -> Result<usize, Failed>
         ensures count { IfOk result (λ n. n ≤ length into.old) }
-        ensures never_falls { file_faults self.old ≤ file_faults self.new }
-        ensures failed { OnErr result (Rose (file_faults self.old) (file_faults self.new)) }
+        ensures counts { CountsFault result (file_faults self.old) (file_faults self.new) }
         ensures no_fault { OnOk result (file_faults self.new ≡ file_faults self.old) }
         ensures fault { OnErr result (file_faults self.new ≡ one_more (file_faults self.old)) }
     {
@@ -159,8 +156,7 @@ impl<R: Files<File = File> + AllocGlobal + Send + Drop> Disk for FileDisk<R> {
 
     /// Makes the file first, if it is missing.
     fn write_at(&mut self, at: u64, bytes: &[u8]) -> Result<(), Failed>
-        ensures never_falls { file_faults self.old ≤ file_faults self.new }
-        ensures failed { OnErr result (Rose (file_faults self.old) (file_faults self.new)) }
+        ensures counts { CountsFault result (file_faults self.old) (file_faults self.new) }
         ensures no_fault { OnOk result (file_faults self.new ≡ file_faults self.old) }
         ensures fault { OnErr result (file_faults self.new ≡ one_more (file_faults self.old)) }
     {
@@ -179,8 +175,7 @@ impl<R: Files<File = File> + AllocGlobal + Send + Drop> Disk for FileDisk<R> {
     }
 
     fn cut(&mut self, length: u64) -> Result<(), Failed>
-        ensures never_falls { file_faults self.old ≤ file_faults self.new }
-        ensures failed { OnErr result (Rose (file_faults self.old) (file_faults self.new)) }
+        ensures counts { CountsFault result (file_faults self.old) (file_faults self.new) }
         ensures no_fault { OnOk result (file_faults self.new ≡ file_faults self.old) }
         ensures fault { OnErr result (file_faults self.new ≡ one_more (file_faults self.old)) }
     {
@@ -194,8 +189,7 @@ impl<R: Files<File = File> + AllocGlobal + Send + Drop> Disk for FileDisk<R> {
     }
 
     fn sync(&mut self) -> Result<(), Failed>
-        ensures never_falls { file_faults self.old ≤ file_faults self.new }
-        ensures failed { OnErr result (Rose (file_faults self.old) (file_faults self.new)) }
+        ensures counts { CountsFault result (file_faults self.old) (file_faults self.new) }
         ensures no_fault { OnOk result (file_faults self.new ≡ file_faults self.old) }
         ensures fault { OnErr result (file_faults self.new ≡ one_more (file_faults self.old)) }
     {

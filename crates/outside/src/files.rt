@@ -1,6 +1,6 @@
 //! Files that are read by name.
 ghost use Rattle.std.specs.Prelude.{◌≡◌, ℕ, ◌≤◌, Option, List, length, Err, IfOk};
-ghost use Rattle.outside.specs.Faults.{Rose};
+ghost use Rattle.outside.specs.Faults.{CountsWhere};
 ghost use Rattle.outside.specs.Files.{Folder, IsFront};
 ghost use Rattle.outside.specs.declared.trouble.Trouble.TheVariants as trouble;
 
@@ -20,6 +20,5 @@ pub trait Files {
         ensures reads { IfOk result (λ bytes. IsFront (folder self.old) name.now most bytes.items) }
         ensures few { IfOk result (λ bytes. length bytes.items ≤ most) }
         ensures stays { folder self.new ≡ folder self.old }
-        ensures never_falls { faults self.old ≤ faults self.new }
-        ensures failed { result ≡ Err trouble.Failed → Rose (faults self.old) (faults self.new) };
+        ensures counts { CountsWhere (result ≡ Err trouble.Failed) (faults self.old) (faults self.new) };
 }

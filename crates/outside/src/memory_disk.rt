@@ -1,6 +1,6 @@
 //! A disk over memory.
 ghost use Rattle.std.specs.Prelude.{◌≡◌, ℕ, ◌+◌, ◌-◌, vec_len, vec_capacity, ◌≤◌, ◌<◌, min, take, drop, length, Some, [], ◌∷◌, ◌++◌, IsErr, IsTrue, ◌↔◌, IfOk, OnOk, OnErr};
-ghost use Rattle.outside.specs.Faults.{Rose};
+ghost use Rattle.outside.specs.Faults.{CountsFault};
 ghost use Rattle.outside.specs.Disk.{overwritten, Change, may_leave, IsPlace, HasLength, Reads, Steps, Breaks, after_write, after_cut, after_sync};
 ghost use Rattle.outside.specs.MemoryDisk.{fresh_store, next_call_fails, next_step_fails, store_after_fault, store_after_look, store_after_step};
 
@@ -210,8 +210,7 @@ impl Disk for MemoryDisk {
     /// Changes nothing, and fails exactly where this call is one of those that are to fail.
     fn attach(&mut self, name: &str) -> Result<(), Failed>
         ensures same { Some self.new.history ≡ Some self.old.history }
-        ensures never_falls { self.old.faults ≤ self.new.faults }
-        ensures failed { OnErr result (Rose self.old.faults self.new.faults) }
+        ensures counts { CountsFault result self.old.faults self.new.faults }
 
         // Exactly this, besides what each disk promises.
         ensures fails { IsErr result ↔ IsTrue (next_call_fails self.old) }
@@ -226,8 +225,7 @@ impl Disk for MemoryDisk {
     fn length(&mut self) -> Result<u64, Failed>
         ensures size { IfOk result (λ n. HasLength (Some self.old.history) n) }
         ensures same { Some self.new.history ≡ Some self.old.history }
-        ensures never_falls { self.old.faults ≤ self.new.faults }
-        ensures failed { OnErr result (Rose self.old.faults self.new.faults) }
+        ensures counts { CountsFault result self.old.faults self.new.faults }
 
         // Exactly this, besides what each disk promises.
         ensures fails { IsErr result ↔ IsTrue (next_call_fails self.old) }
@@ -243,8 +241,7 @@ impl Disk for MemoryDisk {
         ensures count { IfOk result (λ n. n ≤ length into.old) }
         ensures reads { IfOk result (λ n. Reads (Some self.old.history) at n into.old into.new) }
         ensures same { Some self.new.history ≡ Some self.old.history }
-        ensures never_falls { self.old.faults ≤ self.new.faults }
-        ensures failed { OnErr result (Rose self.old.faults self.new.faults) }
+        ensures counts { CountsFault result self.old.faults self.new.faults }
 
         // Exactly this, besides what each disk promises.
         ensures fails { IsErr result ↔ IsTrue (next_call_fails self.old) }
@@ -261,8 +258,7 @@ impl Disk for MemoryDisk {
         requires { IsPlace (Some self.old.history) at }
         ensures written { OnOk result (Steps (after_write at bytes.now) (Some self.old.history) (Some self.new.history)) }
         ensures broken { OnErr result (Breaks (Change.Write at (length bytes.now)) (Some self.old.history) (Some self.new.history)) }
-        ensures never_falls { self.old.faults ≤ self.new.faults }
-        ensures failed { OnErr result (Rose self.old.faults self.new.faults) }
+        ensures counts { CountsFault result self.old.faults self.new.faults }
 
         // Exactly this, besides what each disk promises.
         ensures fails { IsErr result ↔ IsTrue (next_step_fails self.old (length bytes.now)) }
@@ -281,8 +277,7 @@ impl Disk for MemoryDisk {
     fn cut(&mut self, length: u64) -> Result<(), Failed>
         ensures shortened { OnOk result (Steps (after_cut length) (Some self.old.history) (Some self.new.history)) }
         ensures broken { OnErr result (Breaks (Change.Cut length) (Some self.old.history) (Some self.new.history)) }
-        ensures never_falls { self.old.faults ≤ self.new.faults }
-        ensures failed { OnErr result (Rose self.old.faults self.new.faults) }
+        ensures counts { CountsFault result self.old.faults self.new.faults }
 
         // Exactly this, besides what each disk promises.
         ensures fails { IsErr result ↔ IsTrue (next_step_fails self.old 0) }
@@ -299,8 +294,7 @@ impl Disk for MemoryDisk {
     fn sync(&mut self) -> Result<(), Failed>
         ensures synced { OnOk result (Steps after_sync (Some self.old.history) (Some self.new.history)) }
         ensures same { OnErr result (Some self.new.history ≡ Some self.old.history) }
-        ensures never_falls { self.old.faults ≤ self.new.faults }
-        ensures failed { OnErr result (Rose self.old.faults self.new.faults) }
+        ensures counts { CountsFault result self.old.faults self.new.faults }
 
         // Exactly this, besides what each disk promises.
         ensures fails { IsErr result ↔ IsTrue (next_step_fails self.old 0) }

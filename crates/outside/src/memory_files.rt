@@ -1,7 +1,7 @@
 //! Files in memory.
 ghost use Rattle.std.specs.Prelude.{◌≡◌, ℕ, ◌≤◌, take, option_map, is_some, true, false, length, [], ◌∷◌, ◌++◌, IsTrue, ◌↔◌, IfOk, OnOk, OnErr, Err, Some};
 ghost use Rattle.std.specs.Str.{bytes_eq};
-ghost use Rattle.outside.specs.Faults.{Rose};
+ghost use Rattle.outside.specs.Faults.{CountsWhere};
 ghost use Rattle.outside.specs.Files.{Folder, IsFront};
 ghost use Rattle.outside.specs.MemoryFiles.{MemoryFolder, NamedBytes, bytes_named, fresh_folder, with_file, next_look_fails, folder_after_fault, folder_after_read};
 ghost use Rattle.outside.specs.declared.trouble.Trouble.TheVariants as trouble;
@@ -146,8 +146,7 @@ impl Files for MemoryFiles {
         ensures reads { IfOk result (λ bytes. IsFront (Some (bytes_named self.old.files)) name.now most bytes.items) }
         ensures few { IfOk result (λ bytes. length bytes.items ≤ most) }
         ensures stays { Some (bytes_named self.new.files) ≡ Some (bytes_named self.old.files) }
-        ensures never_falls { self.old.faults ≤ self.new.faults }
-        ensures failed { result ≡ Err trouble.Failed → Rose self.old.faults self.new.faults }
+        ensures counts { CountsWhere (result ≡ Err trouble.Failed) self.old.faults self.new.faults }
 
         // Exactly this, besides what all files promise.
         ensures fails { result ≡ Err trouble.Failed ↔ IsTrue (next_look_fails self.old name.now) }

@@ -1,7 +1,7 @@
 //! A sink over memory.
 ghost use Rattle.std.specs.Prelude.{◌≡◌, ℕ, ◌+◌, vec_len, vec_capacity, ◌≤◌, ◌<◌, min, take, length, [], ◌∷◌, ◌++◌, IsErr, IsTrue, ◌↔◌, IfOk, OnOk, OnErr};
 ghost use Rattle.outside.specs.Flow.{Takes};
-ghost use Rattle.outside.specs.Faults.{Rose};
+ghost use Rattle.outside.specs.Faults.{CountsFault};
 ghost use Rattle.outside.specs.MemorySink.{MemoryOutput, fresh_output, next_write_fails, output_after_fault, output_after_write};
 
 use crate::{Failed, Sink};
@@ -86,8 +86,7 @@ impl Sink for MemorySink {
         ensures some { IfOk result (λ n. 0 < length bytes.now → 0 < n) }
         ensures takes { IfOk result (λ n. Takes (Some self.old.taken) (Some self.new.taken) (take n bytes.now)) }
         ensures nothing { OnErr result (Some self.new.taken ≡ Some self.old.taken) }
-        ensures never_falls { self.old.faults ≤ self.new.faults }
-        ensures failed { OnErr result (Rose self.old.faults self.new.faults) }
+        ensures counts { CountsFault result self.old.faults self.new.faults }
 
         // Exactly this, besides what each sink promises.
         ensures fails { IsErr result ↔ IsTrue (next_write_fails self.old bytes.now) }

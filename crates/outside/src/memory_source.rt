@@ -1,7 +1,7 @@
 //! A source over bytes in memory.
 ghost use Rattle.std.specs.Prelude.{◌≡◌, ℕ, ◌+◌, ◌≤◌, ◌<◌, min, take, drop, length, [], ◌∷◌, ◌++◌, IsErr, IsTrue, ◌↔◌, IfOk, OnOk, OnErr, Ok};
 ghost use Rattle.outside.specs.Flow.{Flow, Gives, IsAtEnd};
-ghost use Rattle.outside.specs.Faults.{Rose};
+ghost use Rattle.outside.specs.Faults.{CountsFault};
 ghost use Rattle.outside.specs.MemorySource.{MemoryInput, fresh_input, next_read_fails, input_after_fault, input_after_read, input_flow};
 
 use crate::{Failed, Source};
@@ -80,8 +80,7 @@ impl Source for MemorySource {
         ensures gives { IfOk result (λ n. Gives (Some (input_flow self.old)) (Some (input_flow self.new)) (take n into.new)) }
         ensures end { result ≡ Ok 0 → 0 < length into.old → IsAtEnd (Some (input_flow self.new)) }
         ensures nothing { OnErr result (Some (input_flow self.new) ≡ Some (input_flow self.old)) }
-        ensures never_falls { self.old.faults ≤ self.new.faults }
-        ensures failed { OnErr result (Rose self.old.faults self.new.faults) }
+        ensures counts { CountsFault result self.old.faults self.new.faults }
 
         // Exactly this, besides what each source promises.
         ensures fails { IsErr result ↔ IsTrue (next_read_fails self.old) }

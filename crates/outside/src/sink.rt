@@ -1,6 +1,6 @@
 //! Sinks of bytes, and how a whole text goes into one.
 ghost use Rattle.std.specs.Prelude.{◌≡◌, ℕ, ◌<◌, ◌≤◌, Option, List, take, length, IfOk, OnOk, OnErr};
-ghost use Rattle.outside.specs.Faults.{Rose};
+ghost use Rattle.outside.specs.Faults.{CountsFault};
 ghost use Rattle.outside.specs.Flow.{Takes, TakesFront};
 
 use crate::Failed;
@@ -20,16 +20,14 @@ pub trait Sink {
         ensures some { IfOk result (λ n. 0 < length bytes.now → 0 < n) }
         ensures takes { IfOk result (λ n. Takes (taken self.old) (taken self.new) (take n bytes.now)) }
         ensures nothing { OnErr result (taken self.new ≡ taken self.old) }
-        ensures never_falls { faults self.old ≤ faults self.new }
-        ensures failed { OnErr result (Rose (faults self.old) (faults self.new)) };
+        ensures counts { CountsFault result (faults self.old) (faults self.new) };
 }
 
 /// Gives a sink all the bytes, or a front of them that leaves one out, and fails as the sink's call did.
 pub fn write_all<K: Sink>(sink: &mut K, bytes: &[u8]) -> Result<(), Failed>
     ensures takes { OnOk result (Takes (K.taken sink.old) (K.taken sink.new) bytes.now) }
     ensures front { OnErr result (TakesFront (K.taken sink.old) (K.taken sink.new) bytes.now) }
-    ensures never_falls { K.faults sink.old ≤ K.faults sink.new }
-    ensures failed { OnErr result (Rose (K.faults sink.old) (K.faults sink.new)) }
+    ensures counts { CountsFault result (K.faults sink.old) (K.faults sink.new) }
 {
     let mut done = 0;
     while done < bytes.len() {

@@ -1,6 +1,6 @@
 //! Sources of bytes.
 ghost use Rattle.std.specs.Prelude.{◌≡◌, ℕ, ◌<◌, ◌≤◌, Option, take, length, IfOk, OnErr, Ok};
-ghost use Rattle.outside.specs.Faults.{Rose};
+ghost use Rattle.outside.specs.Faults.{CountsFault};
 ghost use Rattle.outside.specs.Flow.{Flow, Gives, IsAtEnd};
 
 use crate::Failed;
@@ -20,6 +20,5 @@ pub trait Source {
         ensures gives { IfOk result (λ n. Gives (flow self.old) (flow self.new) (take n into.new)) }
         ensures end { result ≡ Ok 0 → 0 < length into.old → IsAtEnd (flow self.new) }
         ensures nothing { OnErr result (flow self.new ≡ flow self.old) }
-        ensures never_falls { faults self.old ≤ faults self.new }
-        ensures failed { OnErr result (Rose (faults self.old) (faults self.new)) };
+        ensures counts { CountsFault result (faults self.old) (faults self.new) };
 }

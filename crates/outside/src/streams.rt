@@ -3,7 +3,7 @@
 ghost use Rattle.std.specs.Prelude.{◌≡◌, ℕ, ◌≤◌, ◌<◌, take, length, Some, None, IfSome, IfNone, OnOk, OnErr, IfOk, Ok};
 ghost use Rattle.std.specs.Io.KnownBytes.{Consumes, Appends, Keeps};
 ghost use Rattle.std.specs.Io.KnownBytes as known;
-ghost use Rattle.outside.specs.Faults.{Rose, one_more};
+ghost use Rattle.outside.specs.Faults.{CountsFault, one_more};
 ghost use Rattle.outside.specs.Flow.{Flow, Gives, Takes};
 
 use crate::{Failed, Sink, Source};
@@ -84,8 +84,7 @@ impl<R: Read + Drop> Source for StreamSource<R> {
     fn read(&mut self, into: &mut [u8]) -> Result<usize, Failed>
         ensures count { IfOk result (λ n. n ≤ length into.old) }
         ensures gives { IfOk result (λ n. Gives None None (take n into.new)) }
-        ensures never_falls { read_faults self.old ≤ read_faults self.new }
-        ensures failed { OnErr result (Rose (read_faults self.old) (read_faults self.new)) }
+        ensures counts { CountsFault result (read_faults self.old) (read_faults self.new) }
 
         // Where the reader tells its bytes, they are passed on, and none is lost.
         ensures passes_on { IfOk result (λ n. Consumes (R.remaining (reader_of self.old)) (R.remaining (reader_of self.new)) (take n into.new)) }
@@ -135,8 +134,7 @@ impl<W: Write + Drop> Sink for StreamSink<W> {
         ensures count { IfOk result (λ n. n ≤ length bytes.now) }
         ensures some { IfOk result (λ n. 0 < length bytes.now → 0 < n) }
         ensures takes { IfOk result (λ n. Takes None None (take n bytes.now)) }
-        ensures never_falls { write_faults self.old ≤ write_faults self.new }
-        ensures failed { OnErr result (Rose (write_faults self.old) (write_faults self.new)) }
+        ensures counts { CountsFault result (write_faults self.old) (write_faults self.new) }
 
         // Where the writer tells its bytes, they are those that were taken.
         ensures passes_on { IfOk result (λ n. Appends (W.contents (writer_of self.old)) (W.contents (writer_of self.new)) (take n bytes.now)) }

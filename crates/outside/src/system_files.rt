@@ -1,6 +1,6 @@
 //! The files of the system.
 ghost use Rattle.std.specs.Prelude.{◌≡◌, ℕ, ◌≤◌, length, IfOk, OnOk, Err, None};
-ghost use Rattle.outside.specs.Faults.{Rose, one_more};
+ghost use Rattle.outside.specs.Faults.{CountsWhere, one_more};
 ghost use Rattle.outside.specs.Files.{IsFront};
 ghost use Rattle.outside.specs.declared.trouble.Trouble.TheVariants as trouble;
 
@@ -78,8 +78,7 @@ impl<'a, R: std::rt::Files> Files for SystemFiles<'a, R> {
     fn read_front(&mut self, alloc: Global, name: &str, most: u64) -> Result<Vec<u8>, Trouble>
         ensures reads { IfOk result (λ bytes. IsFront None name.now most bytes.items) }
         ensures few { IfOk result (λ bytes. length bytes.items ≤ most) }
-        ensures never_falls { file_faults self.old ≤ file_faults self.new }
-        ensures failed { result ≡ Err trouble.Failed → Rose (file_faults self.old) (file_faults self.new) }
+        ensures counts { CountsWhere (result ≡ Err trouble.Failed) (file_faults self.old) (file_faults self.new) }
 
         ensures no_fault { OnOk result (file_faults self.new ≡ file_faults self.old) }
         ensures fault { result ≡ Err trouble.Failed → file_faults self.new ≡ one_more (file_faults self.old) }

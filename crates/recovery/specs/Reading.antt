@@ -16,7 +16,7 @@ use Rattle.journal_core.specs.declared.form.Form.{Form}
 use Rattle.journal_core.specs.declared.form.Form.TheVariants.{Slots}
 use Rattle.journal_core.specs.declared.walked.Walked.{Walked}
 use Rattle.recovery.specs.Bodies.{Placed, changes_of, spelling_after}
-use Rattle.recovery.specs.StandsFor.{first_start, StandsFor, GoesOnIn, HoldsAt, changes_at, SpellsAs, SpellsSomeBase, IsBadBase, IsFirstBad, IsUnreadable}
+use Rattle.recovery.specs.StandsFor.{first_start, SpellAll, StandsFor, GoesOnIn, HoldsAt, changes_at, SpellsAs, SpellsSomeBase, IsBadBase, IsFirstBad, IsUnreadable}
 use Rattle.recovery.specs.declared.body.Body.{Body}
 use Rattle.recovery.specs.declared.contents.BaseAt.{BaseAt}
 use Rattle.recovery.specs.declared.contents.Contents.{Contents}
@@ -62,6 +62,10 @@ AreSpelled changes = (list : List EntryAt) × AllZip SpellsAt changes list
 abbrev pub IsRead : List ℕ → List EntryAt → Type 0
 IsRead file list =
     (base : List ℕ) × (records : List (List ℕ)) × (gate : ℕ) × HoldsAt file base records gate × AllZip SpellsAt (changes_at base gate records) list
+
+-- the records that the file holds, of a body that begins in this spelling, spell the entries
+abbrev pub TellAll : List ℕ → Spelling → List EntryAt → Type 0
+TellAll file spelling list = (base : List ℕ) (records : List (List ℕ)) → Holds file base records → SpellAll spelling records (entries_in list)
 
 -- some entries are read of the file, which a walk has found, with a body that begins in this spelling
 abbrev pub HasRead : Entries → Type 0

@@ -1,9 +1,9 @@
 //! One seat at its door.
 
-ghost use Rattle.std.specs.Prelude.{◌≡◌, ℕ, ◌≤◌, List};
+ghost use Rattle.std.specs.Prelude.{◌≡◌, ℕ, List};
 ghost use Rattle.command_types.specs.declared.ask.Entry.{Entry};
 ghost use Rattle.cycle_lock.specs.Passes.{IsPassOf, seen};
-ghost use Rattle.outside.specs.Faults.{Rose};
+ghost use Rattle.outside.specs.Faults.{CountsWhere};
 ghost use Rattle.session.specs.Serving.{of_pass, Grows};
 ghost use Rattle.seats.specs.Sessions.{SeatServes};
 
@@ -51,8 +51,7 @@ impl<'a, R: Threads + Wait + Sync, V: Solver, G: Gate, C: Clock> Service<'a, R, 
         ensures own { IsPassOf turns.now result.1 }
         ensures grows { (made : List Entry) × Grows (of_pass pass) (of_pass result.1) made }
         ensures serves { SeatServes (C.tells self.now.host.clock.now) (of_pass pass) (of_pass result.1) (D.visits door.old) (D.visits door.new) self.now.most result.0 }
-        ensures never_falls { D.faults door.old ≤ D.faults door.new }
-        ensures failed { result.0 ≡ SeatEnd.DoorFault → Rose (D.faults door.old) (D.faults door.new) }
+        ensures counts { CountsWhere (result.0 ≡ SeatEnd.DoorFault) (D.faults door.old) (D.faults door.new) }
     {
         let mut pass = pass;
         for _ in 0..self.most {

@@ -1,7 +1,7 @@
 //! What a session has said and its sink has not yet.
 
 ghost use Rattle.std.specs.Prelude.{◌≡◌, ◌+◌, ◌≤◌, [], ◌++◌, length, OnOk, OnErr, IfOk};
-ghost use Rattle.outside.specs.Faults.{Rose};
+ghost use Rattle.outside.specs.Faults.{CountsFault};
 ghost use Rattle.outside.specs.Flow.{Takes, TakesFront};
 ghost use Rattle.session.specs.Pending.{Says};
 ghost use Rattle.units_core.specs.declared.limits.TheConstants.{MOST_LINE};
@@ -46,8 +46,7 @@ impl Outbox {
         ensures empty { OnOk result (self.new ≡ []) }
         ensures front { OnErr result (TakesFront (K.taken sink.old) (K.taken sink.new) self.old) }
         ensures kept { OnErr result (self.new ≡ self.old) }
-        ensures never_falls { K.faults sink.old ≤ K.faults sink.new }
-        ensures failed { OnErr result (Rose (K.faults sink.old) (K.faults sink.new)) }
+        ensures counts { CountsFault result (K.faults sink.old) (K.faults sink.new) }
     {
         write_all(sink, &self.bytes)?;
         self.bytes.clear();
@@ -70,8 +69,7 @@ impl Outbox {
         ensures said { OnOk result (Says (K.taken sink.old) (K.taken sink.new) self.old self.new text.now) }
         ensures front { OnErr result (TakesFront (K.taken sink.old) (K.taken sink.new) self.old) }
         ensures kept { OnErr result (self.new ≡ self.old) }
-        ensures never_falls { K.faults sink.old ≤ K.faults sink.new }
-        ensures failed { OnErr result (Rose (K.faults sink.old) (K.faults sink.new)) }
+        ensures counts { CountsFault result (K.faults sink.old) (K.faults sink.new) }
     {
         if self.bytes.len() + text.len() <= ROOM {
             self.append(text);
@@ -86,8 +84,7 @@ impl Outbox {
     pub fn put_long<K: Sink>(&mut self, text: &[u8], sink: &mut K) -> Result<(), Failed>
         ensures said { OnOk result (Says (K.taken sink.old) (K.taken sink.new) self.old self.new text.now) }
         ensures front { OnErr result (TakesFront (K.taken sink.old) (K.taken sink.new) (self.old ++ text.now)) }
-        ensures never_falls { K.faults sink.old ≤ K.faults sink.new }
-        ensures failed { OnErr result (Rose (K.faults sink.old) (K.faults sink.new)) }
+        ensures counts { CountsFault result (K.faults sink.old) (K.faults sink.new) }
     {
         let mut rest = text;
         while rest.len() > MOST_LINE {

@@ -1,7 +1,7 @@
 //! How the text of a reply is written: its head line, its detail lines and an entry's bytes, each behind what waits for the sink.
 
-ghost use Rattle.std.specs.Prelude.{◌≡◌, ◌≤◌, ◌++◌, [], OnOk, OnErr, IfOk};
-ghost use Rattle.outside.specs.Faults.{Rose};
+ghost use Rattle.std.specs.Prelude.{◌≡◌, ◌++◌, [], OnOk, OnErr, IfOk};
+ghost use Rattle.outside.specs.Faults.{CountsFault};
 ghost use Rattle.outside.specs.Flow.{Takes, TakesFront};
 ghost use Rattle.command_types.specs.Details.{raw_text, reply_text};
 ghost use Rattle.session.specs.Pending.{Says};
@@ -42,8 +42,7 @@ impl ReplyWriter {
     ) -> Result<(), Failed>
         ensures said { OnOk result (Says (K.taken sink.old) (K.taken sink.new) self.old.outbox self.new.outbox (reply_text roster.now given.now.reply.now)) }
         ensures front { OnErr result (TakesFront (K.taken sink.old) (K.taken sink.new) (self.old.outbox ++ reply_text roster.now given.now.reply.now)) }
-        ensures never_falls { K.faults sink.old ≤ K.faults sink.new }
-        ensures failed { OnErr result (Rose (K.faults sink.old) (K.faults sink.new)) }
+        ensures counts { CountsFault result (K.faults sink.old) (K.faults sink.new) }
     {
         let end = write_head(given.reply, roster, &mut self.line);
         self.outbox.put(&self.line[..end], sink)?;
@@ -59,8 +58,7 @@ impl ReplyWriter {
     fn write_raw<K: Sink>(&mut self, answer: &Answer, sink: &mut K) -> Result<(), Failed>
         ensures said { OnOk result (Says (K.taken sink.old) (K.taken sink.new) self.old.outbox self.new.outbox (raw_text answer.now)) }
         ensures front { OnErr result (TakesFront (K.taken sink.old) (K.taken sink.new) (self.old.outbox ++ raw_text answer.now)) }
-        ensures never_falls { K.faults sink.old ≤ K.faults sink.new }
-        ensures failed { OnErr result (Rose (K.faults sink.old) (K.faults sink.new)) }
+        ensures counts { CountsFault result (K.faults sink.old) (K.faults sink.new) }
     {
         let Answer::EntryBytes { bytes, .. } = answer else {
             return Ok(());
@@ -74,8 +72,7 @@ impl ReplyWriter {
         ensures takes { OnOk result (Takes (K.taken sink.old) (K.taken sink.new) self.old.outbox) }
         ensures empty { OnOk result (self.new.outbox ≡ []) }
         ensures front { OnErr result (TakesFront (K.taken sink.old) (K.taken sink.new) self.old.outbox) }
-        ensures never_falls { K.faults sink.old ≤ K.faults sink.new }
-        ensures failed { OnErr result (Rose (K.faults sink.old) (K.faults sink.new)) }
+        ensures counts { CountsFault result (K.faults sink.old) (K.faults sink.new) }
     {
         self.outbox.flush(sink)
     }

@@ -2,7 +2,7 @@
 //! written, before more is read.
 
 ghost use Rattle.std.specs.Prelude.{◌≡◌, ℕ, ◌≤◌, ◌<◌, ◌≢◌, [], ◌∷◌, length, IfOk, OnOk, OnErr, Ok};
-ghost use Rattle.outside.specs.Faults.{Rose};
+ghost use Rattle.outside.specs.Faults.{CountsFault, Rose};
 ghost use Rattle.outside.specs.Flow.{TakesFront};
 ghost use Rattle.command_types.specs.Session.{nobody};
 ghost use Rattle.session.specs.Ending.{Ends, most_piece};
@@ -50,8 +50,7 @@ fn step_after(answer: &Answer) -> Step
 fn flush_before<K: Sink>(line: &[u8], writer: &mut ReplyWriter, sink: &mut K) -> Result<(), Failed>
     ensures said { OnOk result (Says (K.taken sink.old) (K.taken sink.new) writer.old.outbox writer.new.outbox []) }
     ensures front { OnErr result (TakesFront (K.taken sink.old) (K.taken sink.new) writer.old.outbox) }
-    ensures never_falls { K.faults sink.old ≤ K.faults sink.new }
-    ensures failed { OnErr result (Rose (K.faults sink.old) (K.faults sink.new)) }
+    ensures counts { CountsFault result (K.faults sink.old) (K.faults sink.new) }
 {
     if line.starts_with(b"PROPOSE ") {
         return writer.flush(sink);
@@ -69,8 +68,7 @@ impl<'a, T: Desk, R: Threads + Wait + Sync, V: Solver, G: Gate> Session<'a, T, R
     ) -> Result<Step, Failed>
         ensures whole { IfOk result (RepliesWhole (C.tells clock.now) (stand_of self.old) (stand_of self.new) line.now (K.taken sink.old) (K.taken sink.new)) }
         ensures in_part { OnErr result (RepliesInPart (C.tells clock.now) (stand_of self.old) (stand_of self.new) line.now (K.taken sink.old) (K.taken sink.new)) }
-        ensures never_falls { K.faults sink.old ≤ K.faults sink.new }
-        ensures failed { OnErr result (Rose (K.faults sink.old) (K.faults sink.new)) }
+        ensures counts { CountsFault result (K.faults sink.old) (K.faults sink.new) }
     {
         let reply = reply_to(
             self.alloc,
@@ -104,8 +102,7 @@ impl<'a, T: Desk, R: Threads + Wait + Sync, V: Solver, G: Gate> Session<'a, T, R
         ensures on { result ≡ Ok Step.On → GoesOn (C.tells clock.now) (stand_of self.old) (stand_of self.new) line.old line.new (K.taken sink.old) (K.taken sink.new) (byte ∷ []) }
         ensures over { result ≡ Ok Step.Over → IsLeft (C.tells clock.now) (stand_of self.old) (stand_of self.new) line.old (K.taken sink.old) (K.taken sink.new) (byte ∷ []) }
         ensures cut_off { OnErr result (IsCut (C.tells clock.now) (stand_of self.old) (stand_of self.new) line.old (K.taken sink.old) (K.taken sink.new) (byte ∷ [])) }
-        ensures never_falls { K.faults sink.old ≤ K.faults sink.new }
-        ensures failed { OnErr result (Rose (K.faults sink.old) (K.faults sink.new)) }
+        ensures counts { CountsFault result (K.faults sink.old) (K.faults sink.new) }
     {
         if byte != b'\n' {
             line.push(byte);
@@ -129,8 +126,7 @@ impl<'a, T: Desk, R: Threads + Wait + Sync, V: Solver, G: Gate> Session<'a, T, R
         ensures over { result ≡ Ok Step.Over → IsLeft (C.tells clock.now) (stand_of self.old) (stand_of self.new) line.old (K.taken sink.old) (K.taken sink.new) piece.now }
         ensures cut_off { OnErr result (IsCut (C.tells clock.now) (stand_of self.old) (stand_of self.new) line.old (K.taken sink.old) (K.taken sink.new) piece.now) }
         ensures none_waits { result ≡ Ok Step.On → self.new.writer.outbox ≡ [] }
-        ensures never_falls { K.faults sink.old ≤ K.faults sink.new }
-        ensures failed { OnErr result (Rose (K.faults sink.old) (K.faults sink.new)) }
+        ensures counts { CountsFault result (K.faults sink.old) (K.faults sink.new) }
     {
         for byte in piece {
             match self.take_byte(clock, line, *byte, sink)? {
@@ -152,8 +148,7 @@ impl<'a, T: Desk, R: Threads + Wait + Sync, V: Solver, G: Gate> Session<'a, T, R
         requires waits { self.old.writer.outbox ≡ [] }
         ensures written { OnOk result (EndsWritten (C.tells clock.now) (stand_of self.old) (stand_of self.new) line.now (K.taken sink.old) (K.taken sink.new)) }
         ensures cut_off { OnErr result (EndsCut (C.tells clock.now) (stand_of self.old) (stand_of self.new) line.now (K.taken sink.old) (K.taken sink.new)) }
-        ensures never_falls { K.faults sink.old ≤ K.faults sink.new }
-        ensures failed { OnErr result (Rose (K.faults sink.old) (K.faults sink.new)) }
+        ensures counts { CountsFault result (K.faults sink.old) (K.faults sink.new) }
     {
         if line.bytes().is_empty() {
             return Ok(());

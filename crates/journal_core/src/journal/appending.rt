@@ -1,6 +1,6 @@
 //! How records are appended.
 ghost use Rattle.std.specs.Prelude.{◌≡◌, ◌≤◌, ◌↔◌, ◌+◌, [], ◌∷◌, length, true, false, None, IsTrue, OnOk, OnErr};
-ghost use Rattle.outside.specs.Faults.{Rose};
+ghost use Rattle.outside.specs.Faults.{CountsFault};
 ghost use Rattle.journal_core.specs.Holds.{limit};
 ghost use Rattle.journal_core.specs.Frame.{framed, frames_length};
 ghost use Rattle.journal_core.specs.Journal.{disk_of, form_of, size_of, staged_of, is_sound, IsReady};
@@ -51,8 +51,7 @@ impl<D: Disk> Journal<D> {
         ensures same_size { OnErr result (size_of self.new ≡ size_of self.old) }
         ensures any_moment { AreAppending (D.history (disk_of self.old)) (D.history (disk_of self.new)) (form_of self.old) (size_of self.old) _records.now.items }
         ensures last { IsAppendedLast (D.history (disk_of self.old)) (D.history (disk_of self.new)) (form_of self.old) (size_of self.old) }
-        ensures never_falls { D.fault_count (disk_of self.old) ≤ D.fault_count (disk_of self.new) }
-        ensures failed { OnErr result (Rose (D.fault_count (disk_of self.old)) (D.fault_count (disk_of self.new))) }
+        ensures counts { CountsFault result (D.fault_count (disk_of self.old)) (D.fault_count (disk_of self.new)) }
     {
         self.staged = None;
         self.sound = false;
@@ -84,8 +83,7 @@ impl<D: Disk> Journal<D> {
         ensures any_moment { AreAppending (D.history (disk_of self.old)) (D.history (disk_of self.new)) (form_of self.old) (size_of self.old) frames.now }
         ensures last { IsAppendedLast (D.history (disk_of self.old)) (D.history (disk_of self.new)) (form_of self.old) (size_of self.old) }
         ensures none { frames.now ≡ [] → disk_of self.new ≡ disk_of self.old }
-        ensures never_falls { D.fault_count (disk_of self.old) ≤ D.fault_count (disk_of self.new) }
-        ensures failed { OnErr result (Rose (D.fault_count (disk_of self.old)) (D.fault_count (disk_of self.new))) }
+        ensures counts { CountsFault result (D.fault_count (disk_of self.old)) (D.fault_count (disk_of self.new)) }
     {
         if frames.is_empty() {
             self.staged = None;
@@ -111,8 +109,7 @@ impl<D: Disk> Journal<D> {
         ensures same_size { OnErr result (size_of self.new ≡ size_of self.old) }
         ensures any_moment { IsAppending (D.history (disk_of self.old)) (D.history (disk_of self.new)) (form_of self.old) (size_of self.old) frame.now }
         ensures last { IsAppendedLast (D.history (disk_of self.old)) (D.history (disk_of self.new)) (form_of self.old) (size_of self.old) }
-        ensures never_falls { D.fault_count (disk_of self.old) ≤ D.fault_count (disk_of self.new) }
-        ensures failed { OnErr result (Rose (D.fault_count (disk_of self.old)) (D.fault_count (disk_of self.new))) }
+        ensures counts { CountsFault result (D.fault_count (disk_of self.old)) (D.fault_count (disk_of self.new)) }
     {
         self.put_behind(frame.behind_gate(), &Log::one(frame))
     }

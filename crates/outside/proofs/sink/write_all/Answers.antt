@@ -12,5 +12,5 @@ loop-done-preserved g c =
     record {
       in_range = omega (arith, length-drop c.loop-done.done c.args.bytes.now, count);
       took = rw take-add (takes_both _ _ _ _ _ c.loop-done.invariant.took takes);
-      never_falls = omega (arith, c.in_ok-done.ensures.never_falls, c.loop-done.invariant.never_falls);
+      never_falls = omega (arith, c.in_ok-done.ensures.counts.0, c.loop-done.invariant.never_falls);
     }

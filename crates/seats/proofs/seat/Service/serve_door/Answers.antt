@@ -32,7 +32,7 @@ loop-preserved g c =
       roster = before.roster ∙ sym (same_roster _ _ came.0 came.1);
       grows = (before.grows.0 ++ came.0, grows_both _ _ _ before.grows.0 came.0 before.grows.1 came.1);
       serves = serves_on _ _ _ _ _ _ _ _ c.loop.counter _ seat_end.Most before.serves round (omega arith) (λ e. refl) not_over (λ e. absurd (false≢true (sym c.if-eq.false ∙ (c.eq.ensures ∙ ap (λ x. sameb the_type x session_end.Memory) e))));
-      faults = omega (arith, before.faults, c.accept.ensures.never_falls, c.give_back.ensures.same);
+      faults = omega (arith, before.faults, c.accept.ensures.counts.0, c.give_back.ensures.same);
     }
 
 pub returns-in-Ok-None-clause-serves : goal.returns-in-Ok-None-clause-serves

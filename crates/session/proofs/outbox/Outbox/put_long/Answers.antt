@@ -12,7 +12,7 @@ loop-rest-preserved g c =
     let s = c.loop-rest.invariant.said in
     record {
       said = says_piece _ _ _ _ _ _ s.0 _ _ _ _ s.1 c.split_at.ensures.by_index.0 s.2 c.in_ok-put.ensures.said;
-      never_falls = omega (arith, c.loop-rest.invariant.never_falls, c.in_ok-put.ensures.never_falls);
+      never_falls = omega (arith, c.loop-rest.invariant.never_falls, c.in_ok-put.ensures.counts.0);
     }
 
 pub loop-rest-smaller : goal.loop-rest-smaller

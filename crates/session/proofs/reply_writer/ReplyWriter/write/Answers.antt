@@ -14,7 +14,7 @@ pub loop-index-preserved : goal.loop-index-preserved
 loop-index-preserved g c = record {
   said = says_as _ _ _ _ _ _ (text_more c.args.roster.now c.args.given.now.reply.now c.loop-index.index c.detail_row-row.result c.detail_row-row.ensures)
       (says_both _ _ _ _ _ _ _ _ c.loop-index.invariant.said (says_as _ _ _ _ _ _ c.write_row-end.ensures.text c.in_ok-put-2.ensures.said));
-  never_falls = omega (arith, c.loop-index.invariant.never_falls, c.in_ok-put-2.ensures.never_falls);
+  never_falls = omega (arith, c.loop-index.invariant.never_falls, c.in_ok-put-2.ensures.counts.0);
 }
 
 pub returns-clause-said : goal.returns-clause-said

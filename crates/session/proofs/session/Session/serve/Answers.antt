@@ -111,6 +111,6 @@ loop-taken-preserved g c =
       within = omega (arith, c.in-Ok.ensures.count, length-take c.min-room.result c.loop-taken.piece, c.min-room.ensures);
       served = (before.0 ++ take c.in-Ok.n c.read.new.into, length_read before.0 c.read.new.into c.in-Ok.n c.loop-taken.taken before.1 fits, gives_both _ _ _ _ _ before.2 c.in-Ok.ensures.gives, served);
       none_waits = c.in-Ok-On.ensures.none_waits (ap Ok c.in-Ok-On.field-0-is);
-      source_faults = omega (arith, c.in-Ok.ensures.never_falls);
-      sink_faults = omega (arith, c.in-Ok-On.ensures.never_falls);
+      source_faults = omega (arith, c.in-Ok.ensures.counts.0);
+      sink_faults = omega (arith, c.in-Ok-On.ensures.counts.0);
     }

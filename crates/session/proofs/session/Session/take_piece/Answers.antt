@@ -34,7 +34,7 @@ loop-byte-preserved g c = record {
       let P : List ℕ → Type 0 = λ bs. Served (g.C.Clock.tells c.args.clock.now) start ahead begun (g.K.Sink.taken c.take_byte.new.sink) (stand_of c.take_byte.new.self) c.take_byte.new.line bs in
       subst P (piece_next bytes c.args.piece.now c.loop-byte.byte-index (omega arith))
       (c.in_ok-take_byte.ensures.on (ap Ok c.in-On.is) start ahead begun (bytes ++ take c.loop-byte.byte-index c.args.piece.now) (c.loop-byte.invariant.served start ahead begun bytes v));
-  never_falls = omega (arith, c.in_ok-take_byte.ensures.never_falls);
+  never_falls = omega (arith, c.in_ok-take_byte.ensures.counts.0);
 }
 
 pub returns-clause-on : goal.returns-clause-on
