@@ -14,6 +14,11 @@ pub listed_same : {T : Type 0} (n : ℕ) (f g : ℕ → List T) → ((k : ℕ) �
 listed_same zero f g each = refl
 listed_same (suc n) f g each = ap (λ xs. xs ++ f n) (listed_same n f g each) ∙ ap (λ xs. listed_below n g ++ xs) (each n)
 
+-- pieces that are the same below the end
+pub listed_alike : {T : Type 0} (n : ℕ) (f g : ℕ → List T) → ((k : ℕ) → k < n → f k ≡ g k) → listed_below n f ≡ listed_below n g
+listed_alike zero f g each = refl
+listed_alike (suc n) f g each = ap (λ xs. xs ++ f n) (listed_alike n f g (λ k l. each k (omega arith))) ∙ ap (λ xs. listed_below n g ++ xs) (each n (omega arith))
+
 pub filter_pairs : {T : Type 0} (q : T → Bool) (n : ℕ) (f : ℕ → ℕ → List T) → filter q (listed_pairs n f) ≡ listed_pairs n (λ i j. filter q (f i j))
 filter_pairs q n f =
     filter_listed q n (λ i. listed_below n (f i)) ∙ listed_same n (λ i. filter q (listed_below n (f i))) (λ i. listed_below n (λ j. filter q (f i j))) (λ i. filter_listed q n (f i))

@@ -1,12 +1,21 @@
 -- Trades whose pairs fall alike have the same plans.
-use Rattle.std.proofs.Common.{◌≡◌, ℕ, ◌+◌, ◌-◌, ◌++◌, nat_lt, List, [], ◌∷◌, refl, ap, ◌∙◌, if◌then◌else◌}
+use Rattle.std.proofs.Common.{◌≡◌, ℕ, ◌+◌, ◌-◌, ◌<◌, ◌++◌, nat_lt, List, [], ◌∷◌, refl, ap, ◌∙◌, if◌then◌else◌}
 use Rattle.units_core.specs.Day.{DayParts}
 use Rattle.network_laws.specs.Networks.{NetworkData, at}
 use Rattle.command_types.specs.declared.plan.PlanRow.TheVariants.{New}
 use Rattle.command_types.specs.declared.trade.TradeRow.{TradeRow}
 use Rattle.command_types.specs.Books.{listed_below}
 use Rattle.command_types.specs.Plans.{falling, free_rows, pair_plan, product_plan, plan_from, plan_of}
-use Rattle.acceptance.proofs.Pieces.{listed_same}
+use Rattle.acceptance.proofs.Pieces.{listed_alike, listed_same}
+
+-- the plan of a seller's pairs rests on the seller's free trades alone
+pub seller_same : (rows other : List TradeRow) (day : DayParts) (product : ℕ) (old new : NetworkData) (seller : ℕ) → ((buyer : ℕ) → buyer < old.members → free_rows rows product seller buyer ≡ free_rows other product seller buyer) →
+    listed_below old.members (pair_plan rows day product old new seller) ≡ listed_below old.members (pair_plan other day product old new seller)
+seller_same rows other day product old new seller alike =
+    listed_alike old.members (pair_plan rows day product old new seller) (pair_plan other day product old new seller) (λ buyer l.
+    let now = at old seller buyer in
+    let next = at new seller buyer in
+    ap (λ xs. if nat_lt next now then falling (now - next) xs else (if nat_lt now next then New product seller buyer (next - now) day ∷ [] else [])) (alike buyer l))
 
 module _ (rows other : List TradeRow) (falls : (fall product seller buyer : ℕ) → falling fall (free_rows rows product seller buyer) ≡ falling fall (free_rows other product seller buyer)) where
   pair_same : (day : DayParts) (product : ℕ) (old new : NetworkData) (seller buyer : ℕ) → pair_plan rows day product old new seller buyer ≡ pair_plan other day product old new seller buyer

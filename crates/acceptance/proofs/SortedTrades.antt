@@ -1,11 +1,11 @@
 -- Free trades that were sorted by pair: those of a pair are the same, in the same order, and stand side by side.
-use Rattle.std.proofs.Common.{◌≡◌, ◌≢◌, ℕ, suc, ◌+◌, ◌<◌, ◌≤◌, ◌++◌, ◌&&◌, not, Bool, true, false, cond, ltb, leb, List, [], ◌∷◌, length, get_or, take, drop, refl, sym, ap, ◌∙◌, arith}
+use Rattle.std.proofs.Common.{◌≡◌, ◌≢◌, ℕ, suc, ◌+◌, ◌<◌, ◌≤◌, ◌++◌, ◌&&◌, not, Bool, true, false, cond, ltb, List, [], ◌∷◌, length, get_or, take, drop, refl, sym, ap, ◌∙◌, arith}
 use Rattle.std.specs.Prelude.{filter}
 use Rattle.std.specs.List.Sorted.{IsStableByKey, IsPartitionPoint, ties}
 use Rattle.std.specs.Ordering.{is_lt, nat_cmp}
 use Rattle.std.specs.Cmp.{nat_cmp_is}
 use Rattle.std.specs.declared.cmp.Ordering.TheVariants.{Equal}
-use Rattle.std.proofs.lemmas.Bool.{ltb-true, leb-false, false_from_ne_true}
+use Rattle.std.proofs.lemmas.Bool.{ltb-true, ltb-false, false_from_ne_true}
 use Rattle.std.proofs.lemmas.List.{append-nil, take-append-drop, get_or-take, get_or-drop, length-take-le, length-drop}
 use Rattle.std.proofs.lemmas.List.Elements.{filter_agree, filter-append}
 use Rattle.command_types.specs.declared.trade.TradeRow.{TradeRow}
@@ -74,24 +74,23 @@ part_passes P rows first count before behind =
 other_place : (product seller buyer : ℕ) (row : TradeRow) → trade_place row ≢ pair_place product seller buyer → is_free_between product seller buyer row ≡ false
 other_place product seller buyer row ne = false_from_ne_true (is_free_between product seller buyer row) (λ e. ne (free_place product seller buyer row e))
 
--- the part between two searches for a pair's place
-pub run_is_all : (product seller buyer : ℕ) (rows later : List TradeRow) (first count : ℕ) → later ≡ drop first rows → first ≤ length rows →
-    IsPartitionPoint (λ row. ltb (trade_place row) (pair_place product seller buyer) ≡ true) (λ row. ltb (trade_place row) (pair_place product seller buyer) ≡ false) rows first →
-    IsPartitionPoint (λ row. leb (trade_place row) (pair_place product seller buyer) ≡ true) (λ row. leb (trade_place row) (pair_place product seller buyer) ≡ false) later count →
-    free_rows (take count later) product seller buyer ≡ free_rows rows product seller buyer
-run_is_all product seller buyer rows later first count e within below above =
+-- the part between the searches for two places that a pair's place is between
+pub part_is_all : (product seller buyer from to : ℕ) (rows later : List TradeRow) (first count : ℕ) → from ≤ pair_place product seller buyer → pair_place product seller buyer < to → later ≡ drop first rows → first ≤ length rows →
+    IsPartitionPoint (λ row. ltb (trade_place row) from ≡ true) (λ row. ltb (trade_place row) from ≡ false) rows first →
+    IsPartitionPoint (λ row. ltb (trade_place row) to ≡ true) (λ row. ltb (trade_place row) to ≡ false) later count → free_rows (take count later) product seller buyer ≡ free_rows rows product seller buyer
+part_is_all product seller buyer from to rows later first count low high e within below above =
     ap (λ xs. free_rows (take count xs) product seller buyer) e ∙ part_passes (is_free_between product seller buyer) rows first count before behind
   where
     before : (k : ℕ) (d : TradeRow) → k < length (take first rows) → is_free_between product seller buyer (get_or (take first rows) k d) ≡ false
     before k d l =
         let k_first : k < first = omega (arith, length-take-le first rows within) in
         let same = ap trade_place (get_or-take first rows k d k_first) in
-        let less = ltb-true (trade_place (get_or rows k d)) (pair_place product seller buyer) (below.0 k d (omega arith) k_first) in
-        other_place product seller buyer (get_or (take first rows) k d) (λ q. omega (arith, same, less, q))
+        let less = ltb-true (trade_place (get_or rows k d)) from (below.0 k d (omega arith) k_first) in
+        other_place product seller buyer (get_or (take first rows) k d) (λ q. omega (arith, same, less, q, low))
 
     behind : (k : ℕ) (d : TradeRow) → k < length (drop count (drop first rows)) → is_free_between product seller buyer (get_or (drop count (drop first rows)) k d) ≡ false
     behind k d l =
         let inside : count + k < length later = omega (arith, length-drop count (drop first rows), ap (λ xs. length xs) e) in
         let same = ap trade_place (get_or-drop count (drop first rows) k d ∙ ap (λ xs. get_or xs (count + k) d) (sym e)) in
-        let more = leb-false (trade_place (get_or later (count + k) d)) (pair_place product seller buyer) (above.1 (count + k) d (omega arith) inside) in
-        other_place product seller buyer (get_or (drop count (drop first rows)) k d) (λ q. omega (arith, same, more, q))
+        let more = ltb-false (trade_place (get_or later (count + k) d)) to (above.1 (count + k) d (omega arith) inside) in
+        other_place product seller buyer (get_or (drop count (drop first rows)) k d) (λ q. omega (arith, same, more, q, high))

@@ -1,7 +1,7 @@
 //! The frozen trades that nobody holds, sorted by product, seller and buyer: those of a pair stand side by side, and are
 //! found by search.
 
-ghost use Rattle.std.specs.Prelude.{◌≡◌, IfOk};
+ghost use Rattle.std.specs.Prelude.{◌≡◌, ℕ, ◌≤◌, ◌<◌, IfOk};
 ghost use Rattle.std.specs.List.Sorted.{IsNonDecreasingBy};
 ghost use Rattle.command_types.specs.Books.{is_between};
 ghost use Rattle.command_types.specs.Plans.{free_rows};
@@ -53,6 +53,37 @@ fn trade_place(row: TradeRow) -> u64
     pair_place(row.product.0, row.seller.0, row.buyer.0)
 }
 
+// The part of sorted trades in which those stand whose places are not below the one and below the other.
+fn part(rows: &[TradeRow], from: u64, to: u64) -> &[TradeRow]
+    requires { IsNonDecreasingBy trade_place rows.now }
+    ensures sorted { IsNonDecreasingBy trade_place result.now }
+    ensures free { (product seller buyer : ℕ) → from ≤ pair_place product seller buyer → pair_place product seller buyer < to → free_rows result.now product seller buyer ≡ free_rows rows.now product seller buyer }
+{
+    let first = rows.partition_point(|row| trade_place(*row) < from);
+    let behind = &rows[first..];
+    let count = behind.partition_point(|row| trade_place(*row) < to);
+    &behind[..count]
+}
+
+/// The part of a product's sorted trades in which those of a seller stand.
+pub(super) fn of_seller(rows: &[TradeRow], product: ProductNo, seller: u16) -> &[TradeRow]
+    requires { IsNonDecreasingBy trade_place rows.now }
+    ensures sorted { IsNonDecreasingBy trade_place result.now }
+    ensures free { (buyer : ℕ) → buyer < 65536 → free_rows result.now product seller buyer ≡ free_rows rows.now product seller buyer }
+{
+    let first = pair_place(product.0, seller, 0);
+    part(rows, first, first + 65536)
+}
+
+/// The part of sorted trades in which those of a pair stand.
+pub(super) fn of_pair<'a>(rows: &'a [TradeRow], pair: &Pair) -> &'a [TradeRow]
+    requires { IsNonDecreasingBy trade_place rows.now }
+    ensures { free_rows result.now pair.now.product pair.now.seller pair.now.buyer ≡ free_rows rows.now pair.now.product pair.now.seller pair.now.buyer }
+{
+    let place = pair_place(pair.product.0, pair.seller, pair.buyer);
+    part(rows, place, place + 1)
+}
+
 /// The frozen trades that nobody holds, in the order by product, seller and buyer, and then that of their numbers.
 #[derive(Drop)]
 pub struct FreeTrades {
@@ -87,14 +118,12 @@ impl FreeTrades {
         Ok(FreeTrades { rows })
     }
 
-    /// The part in which those of a pair stand.
-    pub(super) fn of_pair(&self, pair: &Pair) -> &[TradeRow]
-        ensures { free_rows result.now pair.now.product pair.now.seller pair.now.buyer ≡ free_rows self.now pair.now.product pair.now.seller pair.now.buyer }
+    /// The part in which those of a product stand.
+    pub(super) fn of_product(&self, product: ProductNo) -> &[TradeRow]
+        ensures sorted { IsNonDecreasingBy trade_place result.now }
+        ensures free { (seller buyer : ℕ) → seller < 65536 → buyer < 65536 → free_rows result.now product seller buyer ≡ free_rows self.now product seller buyer }
     {
-        let wanted = pair_place(pair.product.0, pair.seller, pair.buyer);
-        let first = self.rows.partition_point(|row| trade_place(*row) < wanted);
-        let behind = &self.rows[first..];
-        let count = behind.partition_point(|row| trade_place(*row) <= wanted);
-        &behind[..count]
+        let first = pair_place(product.0, 0, 0);
+        part(&self.rows, first, first + 65536 * 65536)
     }
 }

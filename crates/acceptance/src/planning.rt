@@ -1,15 +1,17 @@
 //! The plan: what new networks change in the frozen trades. The free ones are sorted once for all products; of each product
 //! the pairs are looked at that have a row in the old network or in the new one, and for a pair that falls its trades. So a
-//! plan costs a sort of the free trades, a search for each row, and one for each product and seller.
+//! plan costs a sort of the free trades, a search for each row, and one for each product and seller; a pair's trades are searched
+//! among its seller's in the product.
 
 ghost use Rattle.std.specs.Prelude.{◌≡◌, ℕ, ◌-◌, ◌+◌, ◌*◌, ◌<◌, ◌≤◌, ◌++◌, length, IfOk, OnOk, OnErr};
+ghost use Rattle.std.specs.List.Sorted.{IsNonDecreasingBy};
 ghost use Rattle.network_laws.specs.Networks.{IsCursor, IsRising};
 ghost use Rattle.command_types.specs.Books.{listed_below, listed_pairs};
 ghost use Rattle.command_types.specs.Plans.{falling, free_rows, pair_plan, product_plan, plan_of};
-ghost use Rattle.acceptance.specs.Planning.{is_free_between, row_fall, pair_steps};
+ghost use Rattle.acceptance.specs.Planning.{is_free_between, row_fall, pair_steps, trade_place};
 ghost use Rattle.units_core.specs.declared.limits.TheConstants.{MOST_GROSS};
 
-use crate::free_trades::{FreeTrades, Pair, is_free_between};
+use crate::free_trades::{FreeTrades, Pair, is_free_between, of_pair, of_seller};
 use command_types::{PlanRow, TradeRow};
 use network_laws::{Network, Row, amount_at, first_row, next_row};
 use std::alloc::{AllocError, Global};
@@ -86,14 +88,15 @@ fn amount_of(n: u64) -> Amount
     }
 }
 
-// Adds the steps of a pair.
+// Adds the steps of a pair, whose free trades are among these.
 fn add_pair(
     plan: &mut Vec<PlanRow>,
-    free: &FreeTrades,
+    free: &[TradeRow],
     change: &Change,
     pair: &PairChange,
 ) -> Result<(), AllocError>
-    requires { pair.now.after ≤ MOST_GROSS }
+    requires sorted { IsNonDecreasingBy trade_place free.now }
+    requires bound { pair.now.after ≤ MOST_GROSS }
     ensures { OnOk result (plan.new.items ≡ plan.old.items ++ pair_steps change.now.product change.now.day free.now pair.now.seller pair.now.buyer pair.now.before pair.now.after) }
 {
     let (before, after) = (pair.before, pair.after);
@@ -103,7 +106,7 @@ fn add_pair(
             seller: pair.seller,
             buyer: pair.buyer,
         };
-        add_fall(plan, free.of_pair(&trades), &trades, before - after)?;
+        add_fall(plan, of_pair(free, &trades), &trades, before - after)?;
     } else if before < after {
         plan.push(PlanRow::New {
             product: change.product,
@@ -131,13 +134,14 @@ fn buyer_at(rows: &[Row], at: usize, seller: u16, members: u16) -> u16
     ahead.min(members as u32) as u16
 }
 
-// Adds the steps of a seller's pairs: of those that have a row in one of the networks.
+// Adds the steps of a seller's pairs: of those that have a row in one of the networks. Their free trades are among these.
 fn add_seller(
     plan: &mut Vec<PlanRow>,
-    free: &FreeTrades,
+    free: &[TradeRow],
     change: &Change,
     seller: u16,
 ) -> Result<(), AllocError>
+    requires { IsNonDecreasingBy trade_place free.now }
     ensures { OnOk result (plan.new.items ≡ plan.old.items ++ listed_below change.now.old.now.members (pair_plan free.now change.now.day change.now.product change.now.old.now change.now.new.now seller)) }
 {
     let (old, new) = (change.old.rows(), change.new.rows());
@@ -173,8 +177,10 @@ fn add_product(
 ) -> Result<(), AllocError>
     ensures { OnOk result (plan.new.items ≡ plan.old.items ++ product_plan free.now change.now.day change.now.product change.now.old.now change.now.new.now) }
 {
+    let trades = free.of_product(change.product);
     for seller in 0..change.old.members() {
-        add_seller(plan, free, change, seller)?;
+        let own = of_seller(trades, change.product, seller);
+        add_seller(plan, own, change, seller)?;
     }
     Ok(())
 }

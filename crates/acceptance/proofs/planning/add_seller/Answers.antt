@@ -40,8 +40,11 @@ returns-then-buyer-members c =
     }) in
     inv.steps ∙ ap (λ xs. c.args.plan.now.items ++ xs) (sym same ∙ ap (λ n. listed_below n f) (c.if-buyer-members.true ∙ c.members-members.ensures.value))
 
-pub add_pair-requires : goal.add_pair-requires
-add_pair-requires c =
+pub add_pair-requires-clause-sorted : goal.add_pair-requires-clause-sorted
+add_pair-requires-clause-sorted c = c.requires
+
+pub add_pair-requires-clause-bound : goal.add_pair-requires-clause-bound
+add_pair-requires-clause-bound c =
     omega (arith, c.amount_at-in-loop-from.ensures, amount_le c.rows-new.result.now c.args.seller c.min-buyer.result, c.rows-new.ensures.rows.within)
 
 pub loop-from-preserved : goal.loop-from-preserved
