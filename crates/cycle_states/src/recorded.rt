@@ -1,31 +1,11 @@
 //! What a history keeps of a command.
 
 ghost use Rattle.std.specs.Prelude.{◌≡◌};
-ghost use Rattle.command_types.specs.Machine.{changes, is_refusal};
+ghost use Rattle.command_types.specs.Machine.{is_refusal};
 ghost use Rattle.command_types.specs.History.{is_recorded};
 
+use crate::machine::is_change;
 use command_types::{Answer, What};
-
-/// Whether the command is of a kind that changes the machine where it is accepted.
-pub(crate) fn is_change(what: &What) -> bool
-    ensures { result ≡ changes what.now }
-{
-    matches!(
-        what,
-        What::Trade { .. }
-            | What::Affirm { .. }
-            | What::End { .. }
-            | What::Hold { .. }
-            | What::Free { .. }
-            | What::Tol { .. }
-            | What::Freeze { .. }
-            | What::Begin { .. }
-            | What::Post { .. }
-            | What::Accept { .. }
-            | What::Decline { .. }
-            | What::Cancel { .. }
-    )
-}
 
 fn is_refusal(answer: &Answer) -> bool
     ensures { result ≡ is_refusal answer.now }

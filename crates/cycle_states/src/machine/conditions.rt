@@ -1,34 +1,25 @@
-//! The conditions of the refusals, in the words of their definitions: each refuses where its condition holds.
+//! The conditions that several commands share, in the words of their definitions: each refuses where its condition holds. A
+//! command asks them by `?`, and one of them by hand: the prover has no plan for a function that takes no refusal apart so.
 
 ghost use Rattle.std.specs.Prelude.{◌≡◌, ◌<◌, [], ◌∷◌, not, length, slice_get, IsTrue};
 ghost use Rattle.std.specs.Result.{result_err};
-ghost use Rattle.command_types.specs.CycleRefusals.{unless_operator, unless_member, unless_members, unless_product, unless_cycle, if_broken, unless_version, has_voted, unless_touched, if_voted, if_draft_full, if_bad_post, is_crossed};
-ghost use Rattle.command_types.specs.Cycles.{bad_post, is_proposed, is_solving};
+ghost use Rattle.command_types.specs.CycleRefusals.{unless_operator, unless_member, unless_members, unless_product, unless_cycle, if_broken, unless_version, unless_touched, is_crossed};
+ghost use Rattle.command_types.specs.Cycles.{is_proposed};
 ghost use Rattle.command_types.specs.Plans.{is_touched};
 ghost use Rattle.command_types.specs.Machine.{first_of, if_frozen, is_party_of, maturity_refusal};
 ghost use Rattle.cycle_states.specs.Party.{IsCaller};
 
 use super::Machine;
 use super::cycle::{is_broken, is_open};
-use super::parties::member_count;
 use super::party::Caller;
 use command_types::{Level, Refusal, TradeRow};
-use network_laws::{Problem, Solution};
-use posting::bad_post;
-use units_core::{Day, MOST_DRAFT, MemberNo, Name, ProductNo};
+use units_core::{Day, MemberNo, Name, ProductNo};
 
 /// Refuses where the condition holds.
 pub(super) fn refuse_if(condition: bool, refusal: Refusal) -> Result<(), Refusal>
     ensures { result_err result ≡ first_of ((condition, refusal) ∷ []) }
 {
     if condition { Err(refusal) } else { Ok(()) }
-}
-
-/// If a draft of this size is too large.
-pub(super) fn if_draft_full(size: u32) -> Result<(), Refusal>
-    ensures { result_err result ≡ first_of (if_draft_full size ∷ []) }
-{
-    refuse_if(size > MOST_DRAFT, Refusal::DraftFull)
 }
 
 /// Whether a ceiling is given that is below the floor.
@@ -39,13 +30,6 @@ pub(super) fn is_crossed(floor: Level, ceiling: Option<Level>) -> bool
         None => false,
         Some(most) => most.get() < floor.get(),
     }
-}
-
-// Whether the member is among those that have voted.
-fn has_voted(votes: &[MemberNo], member: MemberNo) -> bool
-    ensures { result ≡ has_voted votes.now member }
-{
-    votes.iter().any(|voter| *voter == member)
 }
 
 impl Machine {
@@ -137,36 +121,6 @@ impl Machine {
                 let touched = self.touches(member);
                 refuse_if(!touched, Refusal::NotTouched)
             }
-        }
-    }
-
-    /// If the party has voted.
-    pub(super) fn if_voted(&self, caller: &Caller) -> Result<(), Refusal>
-        requires { IsCaller self.now.state.roster caller.now }
-        ensures { result_err result ≡ first_of (if_voted self.now.state caller.now.name ∷ []) }
-    {
-        match self.member(caller) {
-            None => Ok(()),
-            Some(member) => {
-                let voted = has_voted(self.cycle.votes(), member);
-                refuse_if(voted, Refusal::AlreadyAccepted)
-            }
-        }
-    }
-
-    /// If the solutions are not certified for the begun problems.
-    pub(super) fn if_bad_post(
-        &self,
-        problems: &[Problem],
-        solutions: &[Solution],
-    ) -> Result<(), Refusal>
-        requires solving { IsTrue (is_solving self.now.state.cycle.phase) }
-        requires problems { problems.now ≡ self.now.state.cycle.begun }
-        ensures { result_err result ≡ first_of (if_bad_post (bad_post (length self.now.state.roster.members) self.now.state.cycle.begun solutions.now) ∷ []) }
-    {
-        match bad_post(member_count(&self.roster), problems, solutions) {
-            None => Ok(()),
-            Some(post) => Err(Refusal::BadCertificate { post }),
         }
     }
 

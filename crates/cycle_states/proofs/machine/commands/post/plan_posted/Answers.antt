@@ -2,7 +2,7 @@ use Rattle.std.proofs.Common.{◌≡◌, ◌∙◌, IfOk, List, ap, sym, subst}
 use Rattle.command_types.specs.declared.plan.PlanRow.{PlanRow}
 use Rattle.command_types.specs.Cycles.{old_networks, new_networks, plan_on, posted_plan}
 use Rattle.command_types.specs.Plans.{plan_of}
-use Rattle.cycle_states.proofs.machine.proposal.plan_posted.Goals as goal
+use Rattle.cycle_states.proofs.machine.commands.post.plan_posted.Goals as goal
 
 pub returns : goal.returns
 returns c =

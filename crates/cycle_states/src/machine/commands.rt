@@ -1,19 +1,41 @@
-//! Whether a command is refused: a line out of the grammar, then a party that is not known, then the command's own
-//! refusals, each kind in its order.
+//! The commands, each in a file of its own: why it is refused, what it is answered, and what it does. Here are all of them; an
+//! answer of one line stands here, and what a change does in `changes`.
 
-ghost use Rattle.std.specs.Prelude.{◌≡◌, [], ◌∷◌, not, unwrap_or, IfOk, IsOk, IsTrue};
+mod accept;
+mod affirm;
+mod begin;
+mod cancel;
+mod changes;
+mod decline;
+mod draft;
+mod end;
+mod fetch;
+mod freeze;
+mod hello;
+mod hold;
+mod limits;
+mod nets;
+mod next;
+mod plan;
+mod post;
+mod proof;
+mod statement;
+mod tol;
+mod trade;
+
+ghost use Rattle.std.specs.Prelude.{◌≡◌, IfOk, IsOk, IsTrue, None, Some};
 ghost use Rattle.std.specs.Result.{result_err};
-ghost use Rattle.command_types.specs.Roster.{is_party};
-ghost use Rattle.command_types.specs.Machine.{first_of, refusals, command_refusals};
+ghost use Rattle.command_types.specs.Machine.{command_refusals, first_of, party_answer, refusals};
 ghost use Rattle.cycle_states.specs.Begun.{AreCheckedBy};
 ghost use Rattle.cycle_states.specs.Effects.{is_accept};
-ghost use Rattle.cycle_states.specs.Party.{IsCaller, IsCallerOf};
+ghost use Rattle.cycle_states.specs.Machine.{IsYoung};
+ghost use Rattle.cycle_states.specs.Party.{IsCaller};
 
 use super::Machine;
-use super::conditions::refuse_if;
 use super::party::Caller;
 use super::terms::{DraftRow, Setting, Terms};
-use command_types::{Ask, Refusal, What};
+pub(crate) use changes::is_change;
+use command_types::{Answer, Refusal, What};
 use network_laws::Problem;
 use std::alloc::AllocError;
 
@@ -110,51 +132,45 @@ impl Machine {
         }
     }
 
-    // The first refusal of a command that wants a party of the roster.
-    fn check_greeted(
-        &self,
-        ask: &Ask,
-        caller: &Option<Caller>,
-        problems: &[Problem],
-    ) -> Result<(), Refusal>
-        requires problems { AreCheckedBy self.now.state ask.now.what problems.now }
-        requires caller { IsCallerOf self.now.state.roster ask.now.by caller.now }
-        ensures { result_err result ≡ first_of ((not (is_party self.now.state.roster ask.now.by), Refusal.NotGreeted) ∷ command_refusals self.now.state (unwrap_or ask.now.by []) ask.now.what) }
+    // What a party's command is answered that is not refused. The only error is want of memory.
+    fn party_answer(&self, caller: &Caller, what: &What) -> Result<Answer, AllocError>
+        requires young { IsYoung self.now.state.cycle }
+        requires caller { IsCaller self.now.state.roster caller.now }
+        requires accepted { first_of (refusals self.now.state (Some caller.now.name) what.now) ≡ None }
+        ensures told { IfOk result (λ answer. answer ≡ party_answer self.now.state caller.now.name what.now) }
+        ensures vote { IsTrue (is_accept what.now) → IsOk result }
     {
-        match caller {
-            None => Err(Refusal::NotGreeted),
-            Some(caller) => self.check_command(caller, &ask.what, problems),
+        match what {
+            What::Trade { .. } => Ok(Answer::Traded {
+                trade: self.book.count() + 1,
+            }),
+            What::Affirm { trade } => Ok(Answer::Affirmed { trade: *trade }),
+            What::End { trade } => Ok(self.end_answer(*trade)),
+            What::Hold { trade } => Ok(Answer::Held { trade: *trade }),
+            What::Free { trade } => Ok(Answer::Freed { trade: *trade }),
+            What::Tol { .. } => Ok(Answer::Tolerance),
+            What::Nets { product } => self.nets(caller, product),
+            What::Statement => self.statement(caller),
+            What::Freeze { day } => Ok(self.freezing(*day)),
+            What::Begin { cycle, .. } => Ok(Answer::Begun {
+                cycle: *cycle,
+                version: 1 + self.cycle.version(),
+            }),
+            What::Fetch { .. } => self.fetched(),
+            What::Limits { product } => self.limits(product),
+            What::Row { size, .. } => Ok(Answer::Noted { size: *size }),
+            What::Pot { size, .. } => Ok(Answer::Noted { size: *size }),
+            What::Post { solutions, .. } => self.post_answer(solutions.rows()),
+            What::Next { .. } => Ok(Answer::NoNext),
+            What::Plan { .. } => self.plan_rows(caller),
+            What::Proof { .. } => self.proof(caller),
+            What::Accept { .. } => Ok(self.vote_answer(self.place_of(caller))),
+            What::Decline { cycle, version } => Ok(Answer::Declined {
+                cycle: *cycle,
+                version: *version,
+            }),
+            What::Cancel { cycle } => Ok(Answer::Cancelled { cycle: *cycle }),
+            _ => Ok(Answer::No(Refusal::NotGreeted)),
         }
-    }
-
-    // The first refusal of a command whose condition holds, if there is one.
-    fn check(&self, ask: &Ask, caller: &Option<Caller>, problems: &[Problem]) -> Result<(), Refusal>
-        requires problems { AreCheckedBy self.now.state ask.now.what problems.now }
-        requires caller { IsCallerOf self.now.state.roster ask.now.by caller.now }
-        ensures { result_err result ≡ first_of (refusals self.now.state ask.now.by ask.now.what) }
-    {
-        match &ask.what {
-            What::Hello { name, key } => {
-                refuse_if(!self.roster.is_key(name, key), Refusal::BadKey)
-            }
-            What::Unreadable { at } => Err(Refusal::BadLine { at: *at }),
-            What::Bye => Ok(()),
-            _ => self.check_greeted(ask, caller, problems),
-        }
-    }
-
-    /// The first refusal of a command whose condition holds, if there is one. The only error is want of memory, and it never
-    /// comes for an ACCEPT.
-    pub(super) fn refusal(
-        &self,
-        ask: &Ask,
-        caller: &Option<Caller>,
-    ) -> Result<Option<Refusal>, AllocError>
-        requires { IsCallerOf self.now.state.roster ask.now.by caller.now }
-        ensures refused { IfOk result (λ refusal. refusal ≡ first_of (refusals self.now.state ask.now.by ask.now.what)) }
-        ensures vote { IsTrue (is_accept ask.now.what) → IsOk result }
-    {
-        let problems = self.problems_to_check(&ask.what)?;
-        Ok(self.check(ask, caller, problems.as_slice()).err())
     }
 }

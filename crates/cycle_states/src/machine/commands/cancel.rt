@@ -1,0 +1,27 @@
+//! CANCEL: the operator ends the cycle.
+
+ghost use Rattle.std.specs.Prelude.{◌≡◌};
+ghost use Rattle.std.specs.Result.{result_err};
+ghost use Rattle.command_types.specs.CycleRefusals.{cancel_refusals};
+ghost use Rattle.command_types.specs.Machine.{first_of};
+ghost use Rattle.cycle_states.specs.Party.{IsCaller};
+
+use crate::machine::Machine;
+use crate::machine::cycle::is_open;
+use crate::machine::party::Caller;
+use command_types::Refusal;
+
+impl Machine {
+    /// CANCEL: 14, 16, 17.
+    pub(super) fn check_cancel(&self, caller: &Caller, cycle: u64) -> Result<(), Refusal>
+        requires { IsCaller self.now.state.roster caller.now }
+        ensures { result_err result ≡ first_of (cancel_refusals self.now.state caller.now.name cycle) }
+    {
+        let phase = self.cycle.phase();
+        if let Err(refusal) = self.unless_operator(caller) {
+            return Err(refusal);
+        }
+        self.unless_cycle(cycle)?;
+        self.unless_phase(is_open(phase))
+    }
+}
