@@ -11,4 +11,5 @@ pub mod NameFacts
 pub mod PlainFacts
 pub mod PlainTradeFacts
 pub mod PlainReadFacts
+pub mod FoundFacts
 mod GeneratedFacts

@@ -10,7 +10,7 @@ use Rattle.csv.specs.Writing.{default_writer, field_text, needs_byte}
 use Rattle.csv.specs.declared.parser.State.{State}
 use Rattle.csv.specs.declared.parser.State.TheVariants as st
 use Rattle.csv.proofs.RoundTrip.{plain-run, start-same, record-same, field-run}
-use Rattle.trade_file.specs.PlainRow.{is_line_end, first_record, IsLine, IsCut, TakesRecord}
+use Rattle.trade_file.specs.PlainRow.{is_line_end, first_record, IsLine, TakesRecord}
 
 -- no byte of the text is a mark of the format
 abbrev pub IsPlain : List ℕ → Type 0
@@ -94,17 +94,16 @@ last : (before : List (List ℕ)) (line text rest : List ℕ) → IsPlain text �
 last before line text rest plain (inl whole) = rw (whole.0, whole.1) (by_end before text plain)
 last before line text rest plain (inr ended) = rw ended.2 (by_byte before text ended.0 rest plain (line_feed_or_return ended.0 ended.1))
 
--- the four fields are a record, where none has a mark
-pub takes_row : (text a b c d rest : List ℕ) → IsCut text a b c d rest → IsPlain a → IsPlain b → IsPlain c → IsPlain d → TakesRecord text (a ∷ b ∷ c ∷ d ∷ []) rest
-takes_row text a b c d rest cut plain_a plain_b plain_c plain_d =
-    let line = cut.line in
+-- four fields are a record, where none has a mark
+pub takes_row : (text a b c line d rest : List ℕ) → text ≡ a ++ (44 ∷ (b ++ (44 ∷ (c ++ (44 ∷ line))))) → IsLine line d rest → IsPlain a → IsPlain b → IsPlain c → IsPlain d
+    → TakesRecord text (a ∷ b ∷ c ∷ d ∷ []) rest
+takes_row text a b c line d rest whole ended plain_a plain_b plain_c plain_d =
     let third : List ℕ = c ++ (44 ∷ line) in
     let second : List ℕ = b ++ (44 ∷ third) in
-    let whole : text ≡ a ++ (44 ∷ second) = cut.fields in
     let one : first_record (a ++ (44 ∷ second)) ≡ next_record default_config st.StartField (a ∷ []) [] second = first a second plain_a in
     let two : next_record default_config st.StartField (a ∷ []) [] second ≡ next_record default_config st.StartField (a ∷ b ∷ []) [] third = next (a ∷ []) b third plain_b in
     let three : next_record default_config st.StartField (a ∷ b ∷ []) [] third ≡ next_record default_config st.StartField (a ∷ b ∷ c ∷ []) [] line = next (a ∷ b ∷ []) c line plain_c in
-    let end : Ends (a ∷ b ∷ c ∷ []) line (a ∷ b ∷ c ∷ d ∷ []) rest = last (a ∷ b ∷ c ∷ []) line d rest plain_d cut.ended in
+    let end : Ends (a ∷ b ∷ c ∷ []) line (a ∷ b ∷ c ∷ d ∷ []) rest = last (a ∷ b ∷ c ∷ []) line d rest plain_d ended in
     (end.0, ap first_record whole ∙ one ∙ two ∙ three ∙ end.1, end.2)
 
 -- a state between two records reads on as the first one does

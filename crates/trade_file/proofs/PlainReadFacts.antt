@@ -92,11 +92,19 @@ unmarked (a ∷ []) long h = absurd (omega arith)
 unmarked (a ∷ b ∷ []) long h = absurd (omega arith)
 unmarked (a ∷ b ∷ c ∷ text) long h = rw h refl
 
--- a text is cut at one of its commas
-pub cut_at : (text : List ℕ) (at : ℕ) → at < length text → get_or text at 0 ≡ 44 → text ≡ take at text ++ 44 ∷ take (length text - (at + 1)) (drop (at + 1) text)
-cut_at text at within e =
-    let rest : drop at text ≡ 44 ∷ drop (at + 1) text = drop_more text at 0 within ∙ ap (λ b. b ∷ drop (at + 1) text) e in
+-- the text behind one of its bytes
+abbrev pub behind : List ℕ → ℕ → List ℕ
+behind text at = take (length text - (at + 1)) (drop (at + 1) text)
+
+-- a text is cut at one of its bytes
+pub cut_behind : (text : List ℕ) (at : ℕ) → at < length text → text ≡ take at text ++ get_or text at 0 ∷ behind text at
+cut_behind text at within =
+    let rest : drop at text ≡ get_or text at 0 ∷ drop (at + 1) text = drop_more text at 0 within in
     rw (take_rest text (at + 1)) (sym (take-append-drop at text) ∙ ap (λ t. take at text ++ t) rest)
+
+-- a text is cut at one of its commas
+pub cut_at : (text : List ℕ) (at : ℕ) → at < length text → get_or text at 0 ≡ 44 → text ≡ take at text ++ 44 ∷ behind text at
+cut_at text at within e = cut_behind text at within ∙ ap (λ b. take at text ++ b ∷ behind text at) e
 
 pub none_left : (text : List ℕ) → length text ≡ 0 → text ≡ []
 none_left [] h = refl

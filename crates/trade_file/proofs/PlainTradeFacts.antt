@@ -1,21 +1,25 @@
 -- The fields of a trade have no mark of the format, nor have those of the header.
-use Rattle.std.proofs.Common.{◌≡◌, ◌≢◌, ◌≤◌, sym, subst, refl, ℕ, List, [], ◌∷◌, ◌+◌, length, Bool, true, false, not, ◌&&◌, cond, eqb, ltb, position, Option, Some, None, Result, Ok, Err, arith, codes}
-use Rattle.std.proofs.lemmas.Bool.{ltb-false, ne_eqb}
+use Rattle.std.proofs.Common.{◌≡◌, ◌≢◌, ◌<◌, ◌≤◌, ◌∙◌, sym, ap, subst, refl, inl, inr, ℕ, List, [], ◌∷◌, ◌++◌, ◌+◌, length, take, get_or, IfSome, if◌then◌else◌, Bool, true, false, not, ◌&&◌, cond, eqb, ltb, position, Option, Some, None, Result, Ok, Err, arith, codes}
+use Rattle.std.proofs.lemmas.Bool.{le-ltb, ltb-false, ne_eqb}
+use Rattle.std.proofs.lemmas.List.{get_or-take, length-take-le, take_all}
+use Rattle.units_core.proofs.AmountFacts.{amount_if}
 use Rattle.std.proofs.lemmas.Slice.Eq.{bytes_eq-Decides}
 use Rattle.std.specs.Prelude.{nat_le}
 use Rattle.std.specs.List.{list_all, position_or_len}
 use Rattle.std.specs.Str.{bytes_eq}
 use Rattle.units_core.specs.Name.{is_name, is_name_byte}
-use Rattle.units_core.specs.Number.{is_digit, of_first, of_amount, amount_of}
+use Rattle.units_core.specs.Number.{is_digit, value_of, of_first, is_amount, of_amount, amount_of}
 use Rattle.units_core.specs.declared.number.NumberFault.{NumberFault}
 use Rattle.units_core.specs.declared.number.NumberFault.TheVariants.{Empty}
-use Rattle.units_core.specs.declared.limits.TheConstants.{MOST_FILE_TRADES, MOST_GROSS, MOST_NAME}
+use Rattle.units_core.specs.declared.limits.TheConstants.{MOST_FILE_TRADES, MOST_GROSS, MOST_NAME, MOST_TRADE_AMOUNT}
 use Rattle.command_types.specs.Roster.{Rows, member_place, product_place}
 use Rattle.command_types.specs.declared.file_fault.FileFault.{FileFault}
 use Rattle.command_types.specs.declared.file_fault.FileFault.TheVariants.{SameParty}
 use Rattle.trade_file.specs.declared.file_trade.FileTrade.{FileTrade}
-use Rattle.trade_file.specs.TradeFile.{is_trade_header, with_amount, between, trade_of, with_trade}
-use Rattle.trade_file.specs.PlainRow.{IsCut, TakesRecord, TakesHeader, TakesTrade}
+use Rattle.trade_file.specs.TradeFile.{member_of, product_of, with_amount, between, trade_of, with_trade}
+use Rattle.trade_file.specs.PlainRow.{IsLine, EndsInAmount, TakesRecord, TakesHeader, TakesTrade, ReadsTrade}
+use Rattle.trade_file.specs.FoundNames.{IsNamed}
+use Rattle.trade_file.proofs.PlainReadFacts.{behind, cut_at}
 use Rattle.trade_file.proofs.PlainFacts.{IsPlain, plain_of, takes_row}
 
 name_bytes : (few most all : Bool) → (few && most && all) ≡ true → all ≡ true
@@ -82,40 +86,68 @@ named true place i h = refl
 named false place i h = absurd cc
 
 -- the row of a trade is a record of the text
-pub takes_trade_row : (rows : Rows) (n : ℕ) (text a b c d rest : List ℕ) (trade : FileTrade) → IsCut text a b c d rest → trade_of rows n (a ∷ b ∷ c ∷ d ∷ []) ≡ Ok trade
-    → TakesRecord text (a ∷ b ∷ c ∷ d ∷ []) rest
-takes_trade_row rows n text a b c d rest trade cut h =
+takes_trade_row : (rows : Rows) (n : ℕ) (text a b c line d rest : List ℕ) (trade : FileTrade) → text ≡ a ++ (44 ∷ (b ++ (44 ∷ (c ++ (44 ∷ line))))) → IsLine line d rest
+    → trade_of rows n (a ∷ b ∷ c ∷ d ∷ []) ≡ Ok trade → TakesRecord text (a ∷ b ∷ c ∷ d ∷ []) rest
+takes_trade_row rows n text a b c line d rest trade fields ended h =
     let spelled = between-spelled n _ _ _ d trade h in
-    takes_row text a b c d rest cut
+    takes_row text a b c line d rest fields ended
     (plain_name a (named (is_name a) (member_place rows a) spelled.seller_place spelled.seller_is))
     (plain_name b (named (is_name b) (member_place rows b) spelled.buyer_place spelled.buyer_is))
     (plain_name c (named (is_name c) (product_place rows c) spelled.product_place spelled.product_is))
     (plain_amount d spelled.amount spelled.amount_is)
 
-plain_word : (word text : List ℕ) → IsPlain word → bytes_eq text word ≡ true → IsPlain text
-plain_word word text plain h = subst IsPlain (sym ((bytes_eq-Decides text word).0 h)) plain
+header_row : (text line rest : List ℕ) → text ≡ codes "seller" ++ (44 ∷ (codes "buyer" ++ (44 ∷ (codes "product" ++ (44 ∷ line))))) → IsLine line (codes "amount") rest
+    → TakesHeader text rest
+header_row text line rest fields ended = (
+  (codes "seller" ∷ codes "buyer" ∷ codes "product" ∷ codes "amount" ∷ []),
+  takes_row text (codes "seller") (codes "buyer") (codes "product") line (codes "amount") rest fields ended refl refl refl refl,
+  refl,
+)
 
 -- the header is a record of the text
-pub takes_header : (text a b c d rest : List ℕ) → IsCut text a b c d rest → is_trade_header (a ∷ b ∷ c ∷ d ∷ []) ≡ true → TakesHeader text rest
-takes_header text a b c d rest cut h =
-    by (bytes_eq a (codes "seller")) (bytes_eq b (codes "buyer")) (bytes_eq c (codes "product")) (bytes_eq d (codes "amount")) refl refl refl refl h
-  where
-    by : (p q r s : Bool) → bytes_eq a (codes "seller") ≡ p → bytes_eq b (codes "buyer") ≡ q → bytes_eq c (codes "product") ≡ r → bytes_eq d (codes "amount") ≡ s
-        → (p && q && r && s) ≡ true → TakesHeader text rest
-    by false q r s ea eb ec ed f = absurd cc
-    by true false r s ea eb ec ed f = absurd cc
-    by true true false s ea eb ec ed f = absurd cc
-    by true true true false ea eb ec ed f = absurd cc
-    by true true true true ea eb ec ed f = (
-      (a ∷ b ∷ c ∷ d ∷ []),
-      takes_row text a b c d rest cut (plain_word (codes "seller") a refl ea) (plain_word (codes "buyer") b refl eb) (plain_word (codes "product") c refl ec)
-          (plain_word (codes "amount") d refl ed),
-      h,
-    )
+pub takes_header : (text line rest : List ℕ) → IsLine text line rest → bytes_eq line (codes "seller,buyer,product,amount") ≡ true → TakesHeader text rest
+takes_header text line rest (inl whole) h =
+    header_row text (codes "amount") rest (whole.0 ∙ (bytes_eq-Decides line (codes "seller,buyer,product,amount")).0 h) (inl (refl, whole.1))
+takes_header text line rest (inr ended) h =
+    let same = (bytes_eq-Decides line (codes "seller,buyer,product,amount")).0 h in
+    header_row text (codes "amount" ++ (ended.0 ∷ rest)) rest (ended.2 ∙ ap (λ l. l ++ (ended.0 ∷ rest)) same) (inr (ended.0, ended.1, refl))
 
--- a trade of the row goes to the trades
-pub takes_trade : (rows : Rows) (n : ℕ) (trades more : List FileTrade) (text a b c d rest : List ℕ) (trade : FileTrade)
-    → n ≢ 1 → nat_le MOST_FILE_TRADES (length trades) ≡ false → IsCut text a b c d rest → trade_of rows n (a ∷ b ∷ c ∷ d ∷ []) ≡ Ok trade
-    → with_trade n trades (Ok trade) ≡ Ok more → TakesTrade rows n trades text more rest
-takes_trade rows n trades more text a b c d rest trade later room cut h put =
-    ((a ∷ b ∷ c ∷ d ∷ []), takes_trade_row rows n text a b c d rest trade cut h, rw (ne_eqb n 1 later, room, h) put)
+-- what three names and an amount write
+written : (rows : Rows) (n : ℕ) (a b c d : List ℕ) (amount s p q : ℕ) → member_of rows a ≡ Some s → member_of rows b ≡ Some p → product_of rows c ≡ Some q
+    → s ≢ p → amount_of d ≡ Ok amount → amount ≤ MOST_TRADE_AMOUNT → trade_of rows n (a ∷ b ∷ c ∷ d ∷ []) ≡ Ok (record { seller = s; buyer = p; product = q; amount = amount })
+written rows n a b c d amount s p q seller buyer product apart read few =
+    rw (seller, buyer, product, ne_eqb s p apart, read, le-ltb MOST_TRADE_AMOUNT amount few) refl
+
+-- three names, each before a comma, and an amount up to the end of the line
+pub reads_trade : (rows : Rows) (text : List ℕ) (a b c amount s p q : ℕ) (rest : List ℕ) → IsNamed (member_of rows) text s a → IsNamed (member_of rows) (behind text a) p b
+    → IsNamed (product_of rows) (behind (behind text a) b) q c → EndsInAmount (behind (behind (behind text a) b) c) amount rest → s ≢ p → amount ≤ MOST_TRADE_AMOUNT
+    → ReadsTrade rows text (record { seller = s; buyer = p; product = q; amount = amount }) rest
+reads_trade rows text a b c amount s p q rest seller buyer product ended apart few = λ n.
+    let second = behind text a in
+    let third = behind second b in
+    let line = behind third c in
+    let from_third : third ≡ take c third ++ (44 ∷ line) = cut_at third c product.within product.ended in
+    let from_second : second ≡ take b second ++ (44 ∷ (take c third ++ (44 ∷ line))) = cut_at second b buyer.within buyer.ended ∙ ap (λ t. take b second ++ (44 ∷ t)) from_third in
+    let whole : text ≡ take a text ++ (44 ∷ (take b second ++ (44 ∷ (take c third ++ (44 ∷ line))))) = cut_at text a seller.within seller.ended ∙ ap (λ t. take a text ++ (44 ∷ t)) from_second in
+    let trade : FileTrade = record { seller = s; buyer = p; product = q; amount = amount } in
+    let h = written rows n (take a text) (take b second) (take c third) ended.0 amount s p q seller.named buyer.named product.named apart ended.1 few in
+    ((take a text ∷ take b second ∷ take c third ∷ ended.0 ∷ []), takes_trade_row rows n text (take a text) (take b second) (take c third) line ended.0 rest trade whole ended.2 h, h)
+
+-- the trade of a row goes to the trades
+pub takes_trade : (rows : Rows) (n : ℕ) (trades more : List FileTrade) (text rest : List ℕ) (trade : FileTrade)
+    → n ≢ 1 → nat_le MOST_FILE_TRADES (length trades) ≡ false → ReadsTrade rows text trade rest → with_trade n trades (Ok trade) ≡ Ok more → TakesTrade rows n trades text more rest
+takes_trade rows n trades more text rest trade later room reads put =
+    let read = reads n in
+    (read.0, read.1, rw (ne_eqb n 1 later, room, read.2) put)
+
+-- the amount of the digits at the front of a text
+pub front_amount : (text : List ℕ) (size v amount : ℕ) → 0 < size → size ≤ length text → get_or text 0 0 ≢ 48 → ((k : ℕ) → k < size → is_digit (get_or text k 0) ≡ true)
+    → v ≡ value_of (take size text) → Some amount ≡ (if is_amount v then Some v else None) → amount_of (take size text) ≡ Ok amount
+front_amount text size v amount some within first digits value is =
+    let front = take size text in
+    let sized : length front ≡ size = length-take-le size text within in
+    let same : (k : ℕ) → k < size → get_or front k 0 ≡ get_or text k 0 = λ k lt. get_or-take size text k 0 lt in
+    let all : take size front ≡ front = take_all size front (omega (arith, sized)) in
+    let read = amount_if front v size (omega (arith, sized, some)) (omega (arith, sized)) (λ e. first (sym (same 0 some) ∙ e))
+    (λ k lt. ap is_digit (same k lt) ∙ digits k lt) (value ∙ ap value_of (sym all)) in
+    subst (λ o. IfSome o (λ amount. amount_of front ≡ Ok amount)) (sym is) read

@@ -4,6 +4,7 @@ pub mod Draft
 pub mod TradeFile
 pub mod TradeDraft
 pub mod PlainRow
+pub mod FoundNames
 pub mod Networks
 pub mod Laws
 pub mod Piles

@@ -4,9 +4,10 @@ use Rattle.csv.specs.Machine.{Read, next_record, ends_at_end, carriage_return, l
 use Rattle.csv.specs.Reading.{default_config}
 use Rattle.csv.specs.declared.parser.State.{State}
 use Rattle.csv.specs.declared.parser.State.TheVariants as st
+use Rattle.units_core.specs.Number.{amount_of}
 use Rattle.command_types.specs.Roster.{Rows}
 use Rattle.trade_file.specs.declared.file_trade.FileTrade.{FileTrade}
-use Rattle.trade_file.specs.TradeFile.{is_trade_header, with_trade_record}
+use Rattle.trade_file.specs.TradeFile.{is_trade_header, trade_of, with_trade_record}
 
 -- the byte that ends a field behind which another one stands
 abbrev pub comma : ℕ
@@ -20,11 +21,9 @@ is_line_end byte = (byte == carriage_return) || (byte == line_feed)
 abbrev pub IsLine : List ℕ → List ℕ → List ℕ → Type 0
 IsLine text line rest = ((text ≡ line) × (rest ≡ [])) ⊎ ((byte : ℕ) × (is_line_end byte ≡ true) × (text ≡ line ++ byte ∷ rest))
 
--- four fields at the front of a text, each of the first three before a comma, the last a line's end
-pub record IsCut (text seller buyer product amount rest : List ℕ) : Type 0 where
-  pub line : List ℕ
-  pub fields : text ≡ seller ++ (comma ∷ (buyer ++ (comma ∷ (product ++ (comma ∷ line)))))
-  pub ended : IsLine line amount rest
+-- the rest of a line is this amount, in digits
+abbrev pub EndsInAmount : List ℕ → ℕ → List ℕ → Type 0
+EndsInAmount text amount rest = (digits : List ℕ) × (amount_of digits ≡ Ok amount) × IsLine text digits rest
 
 -- the record that a text between two records goes on with
 abbrev pub first_record : List ℕ → Option Read
@@ -41,3 +40,7 @@ TakesHeader text rest = (fields : List (List ℕ)) × TakesRecord text fields re
 -- the text's first record, which has this number, goes to the trades
 abbrev pub TakesTrade : Rows → ℕ → List FileTrade → List ℕ → List FileTrade → List ℕ → Type 0
 TakesTrade rows n trades text more rest = (fields : List (List ℕ)) × TakesRecord text fields rest × (with_trade_record rows n trades fields ≡ Ok more)
+
+-- the text's first record, whatever its number, writes this trade
+abbrev pub ReadsTrade : Rows → List ℕ → FileTrade → List ℕ → Type 0
+ReadsTrade rows text trade rest = (n : ℕ) → (fields : List (List ℕ)) × TakesRecord text fields rest × (trade_of rows n fields ≡ Ok trade)

@@ -5,6 +5,7 @@
 mod draft;
 mod draws;
 mod file_trade;
+mod found_names;
 mod generated;
 mod laws;
 mod names;

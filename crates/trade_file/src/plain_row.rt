@@ -1,18 +1,11 @@
-//! The rows of a trade file, cut at commas and line ends alone. Quotes mean nothing here, so that who takes a row has to
-//! see that it has none.
-ghost use Rattle.std.specs.Prelude.{◌≡◌, ◌<◌, ◌++◌, ◌∷◌, IfSome, length, get_or};
+//! What rows of a trade file are cut by: commas, line ends and digits alone. Quotes mean nothing here: who takes a row has
+//! to see that its names are such as have none.
+ghost use Rattle.std.specs.Prelude.{◌≡◌, ◌<◌, ◌≤◌, ℕ, IfSome, true, length, take, get_or};
 ghost use Rattle.csv.specs.Reading.{is_bom, strip_bom};
-ghost use Rattle.trade_file.specs.PlainRow.{comma, is_line_end, first_record, IsLine, IsCut};
+ghost use Rattle.units_core.specs.Number.{is_digit, value_of};
+ghost use Rattle.trade_file.specs.PlainRow.{comma, is_line_end, first_record, IsLine, EndsInAmount};
 
-/// Four fields, and the text behind the line end that follows them.
-#[derive(Clone, Copy)]
-pub(crate) struct PlainRow<'a> {
-    pub(crate) seller: &'a [u8],
-    pub(crate) buyer: &'a [u8],
-    pub(crate) product: &'a [u8],
-    pub(crate) amount: &'a [u8],
-    pub(crate) rest: &'a [u8],
-}
+use units_core::Amount;
 
 fn ends_line(byte: u8) -> bool
     ensures { result ≡ is_line_end byte }
@@ -20,9 +13,9 @@ fn ends_line(byte: u8) -> bool
     byte == b'\r' || byte == b'\n'
 }
 
-// Where the first comma stands.
+/// Where the first comma stands.
 #[inline(never)]
-fn comma_place(text: &[u8]) -> Option<usize>
+pub(crate) fn comma_place(text: &[u8]) -> Option<usize>
     ensures found { IfSome result (λ at. get_or text.now at 0 ≡ comma) }
     ensures within { IfSome result (λ at. at < length text.now) }
 {
@@ -34,20 +27,8 @@ fn comma_place(text: &[u8]) -> Option<usize>
     None
 }
 
-// What stands before a comma, and behind it.
-#[inline(always)]
-fn cut_field(text: &[u8]) -> Option<(&[u8], &[u8])>
-    ensures { IfSome result (λ cut. text.now ≡ cut.0.now ++ comma ∷ cut.1.now) }
-{
-    match comma_place(text) {
-        None => None,
-        Some(at) => Some((&text[..at], &text[at + 1..])),
-    }
-}
-
-// What stands before the first line end, and behind it.
-#[inline(always)]
-fn cut_line(text: &[u8]) -> (&[u8], &[u8])
+/// What stands before the first line end, and behind it.
+pub(crate) fn cut_line(text: &[u8]) -> (&[u8], &[u8])
     ensures { IsLine text.now result.0.now result.1.now }
 {
     for at in 0..text.len() {
@@ -58,22 +39,44 @@ fn cut_line(text: &[u8]) -> (&[u8], &[u8])
     (text, &text[text.len()..])
 }
 
-/// The row that a text starts with, where its line has the commas.
-#[inline(always)]
-pub(crate) fn cut_row(text: &[u8]) -> Option<PlainRow<'_>>
-    ensures { IfSome result (λ row. IsCut text.now row.seller.now row.buyer.now row.product.now row.amount.now row.rest.now) }
+// The number that digits at the front of a text write, and how many they are: sixteen at most.
+fn read_digits(text: &[u8]) -> (u64, usize)
+    ensures within { result.1 ≤ length text.now }
+    ensures value { result.0 ≡ value_of (take result.1 text.now) }
+    ensures digits { (k : ℕ) → k < result.1 → is_digit (get_or text.now k 0) ≡ true }
 {
-    let (seller, text) = cut_field(text)?;
-    let (buyer, text) = cut_field(text)?;
-    let (product, text) = cut_field(text)?;
-    let (amount, rest) = cut_line(text);
-    Some(PlainRow {
-        seller,
-        buyer,
-        product,
-        amount,
-        rest,
-    })
+    let most = text.len().min(16);
+    let mut value = 0u64;
+    for at in 0..most {
+        let byte = text[at];
+        if !byte.is_ascii_digit() {
+            return (value, at);
+        }
+        value = value * 10 + u64::from(byte - b'0');
+    }
+    (value, most)
+}
+
+/// The amount that is the rest of a line, and the text behind that line.
+#[inline(always)]
+pub(crate) fn cut_amount(text: &[u8]) -> Option<(Amount, &[u8])>
+    ensures { IfSome result (λ cut. EndsInAmount text.now cut.0 cut.1.now) }
+{
+    let digits = read_digits(text);
+    let size = digits.1;
+    if size == 0 || text[0] == b'0' {
+        return None;
+    }
+    let Some(amount) = Amount::new(digits.0) else {
+        return None;
+    };
+    if size == text.len() {
+        return Some((amount, &text[size..]));
+    }
+    if ends_line(text[size]) {
+        return Some((amount, &text[size + 1..]));
+    }
+    None
 }
 
 /// The text behind the line ends that it starts with. They belong to no record.

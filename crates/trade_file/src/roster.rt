@@ -49,10 +49,7 @@ fn read_records(alloc: Global, bytes: &[u8]) -> Result<Draft, FileFault>
             return Err(FileFault::Memory);
         };
         number += 1;
-        match take_record(&mut draft, number, &record) {
-            Ok(()) => {}
-            Err(fault) => return Err(fault),
-        }
+        take_record(&mut draft, number, &record)?;
     }
     if number == 0 {
         return Err(FileFault::Columns { row: 1 });

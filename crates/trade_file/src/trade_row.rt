@@ -10,7 +10,6 @@ use command_types::{FileFault, Roster};
 use csv::ByteRecord;
 use units_core::{Amount, MOST_TRADE_AMOUNT, MemberNo, ProductNo};
 
-#[inline(always)]
 fn read_amount(
     row: u64,
     seller: MemberNo,
@@ -35,9 +34,7 @@ fn read_amount(
     })
 }
 
-/// The trade that these fields of the record with this number write, or what is wrong with them.
-#[inline(always)]
-pub(crate) fn read_fields(
+fn read_fields(
     roster: &Roster,
     row: u64,
     seller: &[u8],
@@ -86,8 +83,7 @@ fn four_fields(record: &ByteRecord) -> Option<(&[u8], &[u8], &[u8], &[u8])>
     Some((first, second, third, fourth))
 }
 
-/// Whether these are the fields of a trade file's first record.
-pub(crate) fn are_header(first: &[u8], second: &[u8], third: &[u8], fourth: &[u8]) -> bool
+fn are_header(first: &[u8], second: &[u8], third: &[u8], fourth: &[u8]) -> bool
     ensures { result ≡ is_trade_header (first.now ∷ second.now ∷ third.now ∷ fourth.now ∷ []) }
 {
     first == b"seller".as_slice()

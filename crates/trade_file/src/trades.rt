@@ -71,10 +71,7 @@ fn read_records(alloc: Global, bytes: &[u8], roster: &Roster) -> Result<TradeDra
         if !found {
             return whole_draft(draft, number - 1);
         }
-        match take_record(&mut draft, roster, number, &record) {
-            Ok(()) => {}
-            Err(fault) => return Err(fault),
-        }
+        take_record(&mut draft, roster, number, &record)?;
     }
     unreachable!()
 }

@@ -13,6 +13,7 @@ loop-number-init c =
     let first = up_to_header rows text c.skip_line_ends.result.now c.in-Some.behind.now same c.in-Some.ensures in
     record {
       draft = c.new-draft.ensures.draft;
+      names = c.new-names.ensures rows;
       so_far = subst (λ trades. IsUpTo rows text 2 trades c.in-Some.behind.now) (sym c.new-draft.ensures.trades) first;
     }
 
@@ -21,11 +22,12 @@ loop-number-preserved c =
     let rows = c.args.roster.now in
     let text = strip_bom c.args.bytes.now in
     let trades = trades_of_draft c.loop-number.draft in
-    let step = rw c.in-Ok-Some.field-0-is at c.in-Ok-Some.ensures in
+    let step = rw c.in-Some-2.is at c.in_ok-behind.ensures.taken in
     let here = up_to_skipped rows text c.loop-number.number trades c.loop-number.rest.now c.skip_line_ends-text.result.now c.loop-number.invariant.so_far c.skip_line_ends-text.ensures in
     record {
       draft = step.0;
-      so_far = up_to_more rows text c.loop-number.number trades (trades_of_draft c.take_row.new.draft) c.skip_line_ends-text.result.now c.in-Ok-Some.behind.now here step.1;
+      names = c.take_row.ensures.names;
+      so_far = up_to_more rows text c.loop-number.number trades (trades_of_draft c.take_row.new.draft) c.skip_line_ends-text.result.now c.in-Some-2.behind.now here step.1;
     }
 
 pub returns-then-is_empty : goal.returns-then-is_empty

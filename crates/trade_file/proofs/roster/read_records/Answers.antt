@@ -1,8 +1,9 @@
-use Rattle.std.proofs.Common.{Bor, List, ℕ, ◌≡◌, ◌∙◌, ◌++◌, ◌+◌, sym, refl, ap, arith, inl, inr, length, Ok, Some, ◌∷◌, [], length-append}
+use Rattle.std.proofs.Common.{Bor, List, ℕ, ◌≡◌, ◌∙◌, ◌++◌, ◌+◌, sym, refl, ap, arith, inl, inr, length, Ok, Err, Some, ◌∷◌, [], length-append, rules, IfErr, subst, ◌⊎◌}
 use Rattle.csv.specs.Reading.{Reached, default_config, strip_bom}
 use Rattle.csv.specs.Records.{fields_of}
 use Rattle.csv.specs.declared.parser.State.TheVariants as st
 use Rattle.csv.proofs.ReadFacts.{rows-end, rows-more}
+use Rattle.command_types.specs.declared.file_fault.FileFault.TheVariants.{Memory}
 use Rattle.trade_file.specs.RosterFile.{records_of, roster_of, with_record, with_records}
 use Rattle.trade_file.specs.Draft.{rows_of}
 use Rattle.trade_file.proofs.CsvFacts.{reached-all, reached-front, reached-size, strip_bom-size}
@@ -44,7 +45,7 @@ loop-record-preserved c =
     let s = rw (c.in-Some.is, c.in-Ok.is) at ((c.next.ensures.steps inv.2 inv.0).0 inv.1) in
     let fields = fields_of c.in-Ok.record in
     let m = rows-more (λ (s : Bor (List ℕ)). Some s.now) c.loop-record.record-iterator.rdr c.next.new.self.rdr fields default_config st.StartRecord (strip_bom c.args.bytes.now) inv.4 inv.6 inv.3 inv.5 inv.7 s.0 in
-    let fine = c.in-Ok-take_record.ensures in
+    let fine = c.in_ok-take_record.ensures in
     let step : with_record (length inv.6 + 1) (rows_of c.loop-record.draft) fields ≡ Ok (rows_of c.take_record.new.draft) = rw inv.10 at fine.1 in (
       s.0.3 ∙ inv.0,
       inl s.1,
@@ -59,15 +60,17 @@ loop-record-preserved c =
       omega (arith, length-append inv.6 (fields ∷ []), inv.10),
     )
 
-pub returns-in-Err-clause-fault : goal.returns-in-Err-clause-fault
-returns-in-Err-clause-fault c =
+pub returns-in_err-take_record-clause-fault : goal.returns-in_err-take_record-clause-fault
+returns-in_err-take_record-clause-fault c =
     let inv = c.loop-record.invariant in
     let s = rw (c.in-Some.is, c.in-Ok.is) at ((c.next.ensures.steps inv.2 inv.0).0 inv.1) in
     let fields = fields_of c.in-Ok.record in
     let m = rows-more (λ (s : Bor (List ℕ)). Some s.now) c.loop-record.record-iterator.rdr c.next.new.self.rdr fields default_config st.StartRecord (strip_bom c.args.bytes.now) inv.4 inv.6 inv.3 inv.5 inv.7 s.0 in
-    let bad = rw inv.10 at c.in-Err.ensures in
+    let bad = rw inv.10 at c.in_err-take_record.ensures in
     let f = reached-front (strip_bom c.args.bytes.now) m.0 c.next.new.self.rdr.state (inv.6 ++ (fields ∷ [])) m.2 in
-    ends (records_of c.args.bytes.now) inv.6 f.0 fields (rows_of c.loop-record.draft) c.in-Err.fault f.1 inv.9 bad
+    let is : c.from_residual.result ≡ Err c.in_err-take_record.field-0.0 = search rules in
+    subst (λ r. IfErr r (λ fault. (fault ≡ Memory) ⊎ (roster_of (records_of c.args.bytes.now) ≡ Err fault))) (sym is)
+    (ends (records_of c.args.bytes.now) inv.6 f.0 fields (rows_of c.loop-record.draft) c.in_err-take_record.field-0.0 f.1 inv.9 bad)
 
 pub returns-then-number-eq0-clause-fault : goal.returns-then-number-eq0-clause-fault
 returns-then-number-eq0-clause-fault c =
