@@ -1,9 +1,12 @@
 -- The ways through a call that leave all as it was.
-use Rattle.std.proofs.Common.{◌≡◌, ℕ, ◌+◌, ◌≤◌, nat_lt, unwrap_or, cond, Bool, true, false, List, [], ◌∷◌, Option, Some, None, is_some, IsTrue, if◌then◌else◌, refl, sym, ◌∙◌, subst, ap, arith}
+use Rattle.std.proofs.Common.{◌≡◌, inl, inr, ℕ, ◌+◌, ◌-◌, ◌≤◌, nat_lt, cond, not, Bool, true, false, List, [], ◌∷◌, drop, length, Option, Some, None, is_some, IsTrue, if◌then◌else◌, refl, sym, ◌∙◌, subst, ap, arith}
 use Rattle.std.proofs.lemmas.Bool.{false≢true}
 use Rattle.std.proofs.lemmas.List.{append-nil}
 use Rattle.command_types.specs.declared.ask.Ask.{Ask}
 use Rattle.command_types.specs.declared.ask.Entry.{Entry}
+use Rattle.command_types.specs.declared.ask.What.{What}
+use Rattle.command_types.specs.declared.ask.What.TheVariants.{Next, Proof}
+use Rattle.command_types.specs.declared.figures.Start.{Start}
 use Rattle.command_types.specs.declared.answer.Answer.{Answer}
 use Rattle.command_types.specs.declared.answer.Answer.TheVariants.{No, NoNext, ProofRows}
 use Rattle.command_types.specs.declared.answer.Reply.{Reply}
@@ -14,15 +17,13 @@ use Rattle.command_types.specs.Machine.{answer_to, first_of}
 use Rattle.command_types.specs.History.{end_of, longer, recorded, is_recorded, replayed}
 use Rattle.command_types.specs.Sizes.{journal_limit, frame_size}
 use Rattle.command_types.specs.Told.{IsTold, house_refusals}
-use Rattle.command_types.proofs.HistoryFacts.{told_memory}
-use Rattle.cycle_states.specs.declared.offers.OpenAsk.{OpenAsk}
-use Rattle.cycle_states.specs.declared.offers.OpenAsk.TheVariants as asks
-use Rattle.cycle_states.specs.declared.offers.Places.{Places}
-use Rattle.cycle_states.specs.Offers.{ArePlaces, filled_at, open_ask}
-use Rattle.cycle_states.proofs.DeskFacts.{told_filled, filled_unrecorded}
+use Rattle.command_types.specs.Offers.{answer_at, first_behind, with_entries}
+use Rattle.command_types.proofs.HistoryFacts.{told_memory, told_read}
+use Rattle.cycle_states.specs.Offers.{open_ask}
+use Rattle.cycle_states.proofs.OfferFacts.{filled_unkept}
 use Rattle.house.specs.Storing.{AreStored, AreStoredAs, AreOnDisk}
 use Rattle.house.specs.House.{HouseView, JournalNow, figures_of, first_of as first_history, is_stopped, bytes_of, Keeps, IsHouse}
-use Rattle.house.specs.Calling.{is_disk_fault, Calls}
+use Rattle.house.specs.Calling.{is_disk_fault, Calls, IsFilled}
 use Rattle.house.proofs.StoringFacts.{still, stored_now}
 use Rattle.house.proofs.StopFacts.{machine_plain}
 use Rattle.house.proofs.ToldFacts.{first_full, first_stopped, told_by_journal, no_refusal_recorded, room_told}
@@ -62,19 +63,24 @@ unchanged v seat ask reply keeps place told unrecorded no_fault = record {
   keeps = keeps;
 }
 
--- what is told by a history's places is no fault of the disk
-offered_plain : (gone ahead before : Bool) (from end : ℕ) →
-    is_disk_fault (unwrap_or (cond {A = Option Answer} gone (Some (No (Gone from))) (cond {A = Option Answer} ahead (Some (No (Ahead end))) (cond {A = Option Answer} before None (Some NoNext)))) (No Memory)) ≡ false
-offered_plain true ahead before from end = refl
-offered_plain false true before from end = refl
-offered_plain false false true from end = refl
-offered_plain false false false from end = refl
+-- what a history tells is no fault of the disk
+behind_plain : (position : ℕ) (entries : List Entry) → is_disk_fault (first_behind position entries) ≡ false
+behind_plain position [] = refl
+behind_plain position (entry ∷ entries) = refl
 
-filled_plain : (places : Places) (ask : OpenAsk) (machine : Answer) → is_disk_fault machine ≡ false → is_disk_fault (unwrap_or (filled_at places ask machine) (No Memory)) ≡ false
-filled_plain places (asks.Next position) NoNext plain =
-    offered_plain (nat_lt position places.base) (nat_lt places.end position) (nat_lt position places.end) places.base places.end
-filled_plain places asks.Proof (ProofRows head rows) plain = refl
-filled_plain places ask machine plain = plain
+offered_plain : (gone ahead : Bool) (from end : ℕ) (rest : Answer) → is_disk_fault rest ≡ false →
+    is_disk_fault (cond {A = Answer} gone (No (Gone from)) (cond {A = Answer} ahead (No (Ahead end)) rest)) ≡ false
+offered_plain true ahead from end rest plain = refl
+offered_plain false true from end rest plain = refl
+offered_plain false false from end rest plain = plain
+
+with_plain : (base : Start) (entries : List Entry) (what : What) (machine : Answer) → is_disk_fault machine ≡ false → is_disk_fault (with_entries base entries what machine) ≡ false
+with_plain base entries (Next position) NoNext plain =
+    let end = base.position + length entries in
+    let rest = drop (position - base.position) entries in
+    offered_plain (nat_lt position base.position) (nat_lt end position) base.position end (first_behind position rest) (behind_plain position rest)
+with_plain base entries (Proof cycle) (ProofRows head rows) plain = refl
+with_plain base entries what machine plain = plain
 
 module _ (s : State) (now : JournalNow) (v : HouseView) (house : IsHouse s now v) (seat : ℕ) (ask : Ask) where
   -- there is no memory
@@ -85,17 +91,21 @@ module _ (s : State) (now : JournalNow) (v : HouseView) (house : IsHouse s now v
       unchanged v seat ask reply house.keeps told_at (told_memory (figures_of v) (is_stopped v) (is_stopped v) v.history seat ask reply told_at (record { same = answer; takes = λ vote. refl }))
       (ap (λ a. is_recorded ask.what a) answer ∙ no_refusal_recorded ask Memory) (ap is_disk_fault answer)
 
-  -- the machine refuses the command, or it is a read, and the history's places are told in its answer
-  pub read_call : (at : ℕ) (machine : Answer) (places : Places) (reply : Reply) → at ≡ end_of v.history → machine ≡ answer_to s ask → is_recorded ask.what machine ≡ false → ArePlaces v.history.base v.history.entries places
-      → reply ≡ record { at = at; answer = unwrap_or (filled_at places (open_ask ask.what) machine) (No Memory) } → Calls v v seat ask reply
-  read_call at machine places reply place answers unrecorded are is =
+  -- the machine refuses the command, or it is a read, and the history is told in its answer
+  pub read_call : (at : ℕ) (machine answer : Answer) → at ≡ end_of v.history → machine ≡ answer_to s ask → is_recorded ask.what machine ≡ false → IsFilled v.history (open_ask ask.what) machine answer
+      → Calls v v seat ask (record { at = at; answer = answer })
+  read_call at machine answer place answers unrecorded (inl memory) =
+      memory_call at (record { at = at; answer = answer }) place (ap (λ (a : Answer). record { at = at; answer = a }) memory)
+  read_call at machine answer place answers unrecorded (inr tells) =
+      let h = v.history in
+      let is : answer ≡ with_entries h.base h.entries ask.what machine = tells ask.what refl in
+      let unkept : is_recorded ask.what answer ≡ false = ap (is_recorded ask.what) is ∙ filled_unkept h.base h.entries ask.what machine unrecorded in
+      let same : answer ≡ answer_at h.base h.entries ask = is ∙ ap (with_entries h.base h.entries ask.what) (answers ∙ ap (λ (m : State). answer_to m ask) house.replayed.same) in
+      let reply : Reply = record { at = at; answer = answer } in
       let plain : is_disk_fault machine ≡ false = ap is_disk_fault answers ∙ machine_plain s ask in
-      let literal : Reply = record { at = at; answer = unwrap_or (filled_at places (open_ask ask.what) machine) (No Memory) } in
-      subst (λ (r : Reply). Calls v v seat ask r) (sym is)
-      (unchanged v seat ask literal house.keeps place
-      (told_filled s v.history ask machine places house.replayed unrecorded answers are (figures_of v) (is_stopped v) seat at refl place)
-      (filled_unrecorded s v.history ask machine places house.replayed unrecorded answers are)
-      (filled_plain places (open_ask ask.what) machine plain))
+      unchanged v seat ask reply house.keeps place
+      (told_read (figures_of v) (is_stopped v) (is_stopped v) h seat ask reply place (record { no_change = ap not unkept; same = same }))
+      unkept (ap is_disk_fault is ∙ with_plain h.base h.entries ask.what machine plain)
 
   module _ (change : IsTrue (is_recorded ask.what (answer_to (replayed v.history) ask))) where
     refused_call : (refusal : Refusal) (at : ℕ) (reply : Reply) → at ≡ end_of v.history → reply ≡ record { at = at; answer = No refusal }

@@ -3,6 +3,8 @@ pub mod StoringFacts
 pub mod GoingFacts
 pub mod StopFacts
 pub mod ToldFacts
+pub mod ChronicleFacts
+pub mod OfferFacts
 pub mod CallingFacts
 pub mod ChangeFacts
 pub mod ReplayFacts

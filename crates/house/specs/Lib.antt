@@ -2,6 +2,7 @@ pub mod Unstored
 pub mod Storing
 pub mod Folding
 pub mod Due
+pub mod Chronicle
 pub mod House
 pub mod Opening
 pub mod Journals

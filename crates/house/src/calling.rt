@@ -1,16 +1,17 @@
 //! Calls of a house.
-ghost use Rattle.std.specs.Prelude.{◌≡◌, ◌<◌, ◌^◌, unwrap_or};
+ghost use Rattle.std.specs.Prelude.{◌≡◌, ◌<◌, ◌^◌};
 ghost use Rattle.command_types.specs.declared.answer.Answer.TheVariants.{No};
-ghost use Rattle.command_types.specs.declared.refusal.Refusal.TheVariants.{Memory};
 ghost use Rattle.command_types.specs.History.{end_of};
-ghost use Rattle.house.specs.Calling.{Calls};
+ghost use Rattle.house.specs.Calling.{Calls, IsFilled};
 
 use crate::House;
+use crate::chronicle::Chronicle;
 use crate::storing::{Unstored, store};
 use command_types::{Answer, Ask, Entry, Refusal, Reply};
-use cycle_states::{Decision, filled, open_ask};
+use cycle_states::{Decision, OpenAsk, filled, open_ask};
 use outside::Disk;
 use record_codec::length;
+use std::alloc::Global;
 
 // The reply that refuses a command.
 fn refused(at: u64, refusal: Refusal) -> Reply
@@ -22,20 +23,26 @@ fn refused(at: u64, refusal: Refusal) -> Reply
     }
 }
 
-// The reply with this answer; one that would need an entry's bytes finds no memory, since a house keeps none of them.
-fn told(at: u64, answer: Option<Answer>) -> Reply
-    ensures { result ≡ record { at = at; answer = unwrap_or answer (No Memory) } }
+// The machine's answer to a command that asks this of the history, with what the history tells in it, or that there is no memory
+// for an entry.
+fn told(alloc: Global, past: &Chronicle, asked: OpenAsk, answer: Answer) -> Answer
+    ensures { IsFilled past.now.history asked answer result }
 {
-    match answer {
-        Some(answer) => Reply { at, answer },
-        None => refused(at, Refusal::Memory),
+    match filled(answer, asked, past.places()) {
+        Some(answer) => answer,
+        None => {
+            let OpenAsk::Next { position } = asked else {
+                unreachable!()
+            };
+            past.entry_behind(alloc, position)
+        }
     }
 }
 
 impl<D: Disk> House<D> {
     /// Answers a command of this seat as the machine does. A change that the machine accepts is refused where the journal has
     /// no room for it; where a disk fault stopped the house before; where there is no memory; and where the disk fails, which
-    /// stops the house. Else it is made once its record is on the disk. A NEXT that asks for an entry finds no memory.
+    /// stops the house. Else it is made once its record is on the disk.
     pub fn call(&mut self, seat: u32, ask: Ask) -> Reply
         ensures calls { Calls self.old self.new seat ask result }
         ensures short { end_of self.new.history < 2 ^ 63 }
@@ -45,7 +52,8 @@ impl<D: Disk> House<D> {
         let ready = match self.machine.decide(Entry { seat, ask }) {
             Err(_) => return refused(at, Refusal::Memory),
             Ok(Decision::Told(answer)) => {
-                return told(at, filled(answer, asked, self.past.places()));
+                let answer = told(self.alloc, &self.past, asked, answer);
+                return Reply { at, answer };
             }
             Ok(Decision::Ready(ready)) => ready,
         };

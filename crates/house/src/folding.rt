@@ -1,7 +1,7 @@
 //! Whether a house opens with the fold of its history, and the fold of its journal.
-ghost use Rattle.std.specs.Prelude.{◌≡◌, ◌≤◌, length, true, IfOk, OnOk, OnErr};
+ghost use Rattle.std.specs.Prelude.{◌≡◌, ◌≤◌, length, true, IfOk, OnOk};
 ghost use Rattle.command_types.specs.History.{History};
-ghost use Rattle.outside.specs.Faults.{Rose};
+ghost use Rattle.outside.specs.Faults.{CountsFault};
 ghost use Rattle.journal_core.specs.Form.{IsSlots, fold_end};
 ghost use Rattle.journal_core.specs.Holds.{limit};
 ghost use Rattle.journal_core.specs.Journal.{disk_of, form_of, size_of, is_sound, IsReady};
@@ -88,8 +88,7 @@ impl Folding {
         ensures stored { OnOk result (StoresFold (D.history (disk_of journal.old)) journal.old self.now.frame (D.history (disk_of journal.new)) journal.new) }
         ensures size { OnOk result (size_of journal.new ≡ fold_end (form_of journal.old) (size_of journal.old) self.now.size) }
         ensures sound { OnOk result (is_sound journal.new ≡ true) }
-        ensures never_falls { D.fault_count (disk_of journal.old) ≤ D.fault_count (disk_of journal.new) }
-        ensures failed { OnErr result (Rose (D.fault_count (disk_of journal.old)) (D.fault_count (disk_of journal.new))) }
+        ensures counts { CountsFault result (D.fault_count (disk_of journal.old)) (D.fault_count (disk_of journal.new)) }
     {
         journal.stage(&self.frame)?;
         journal.switch()?;

@@ -1,6 +1,7 @@
 //! A desk over a disk.
 ghost use Rattle.std.specs.Prelude.{◌≡◌, ◌<◌, ◌^◌};
 
+use crate::chronicle::Chronicle;
 use crate::past::Past;
 use command_types::{Ask, Desk, Entry, Reply};
 use cycle_states::Machine;
@@ -10,13 +11,13 @@ use std::alloc::Global;
 use std::marker::Model;
 use std::snapshot::Snapshot;
 
-/// A machine, the history of its accepted changes, and the journal that keeps them. Each change is on the disk before it is
+/// A machine, the history of its accepted changes with their records, and the journal that keeps them. Each change is on the disk before it is
 /// answered. After a fault of the disk it makes no change any more, and is to be opened again.
 #[derive(Drop)]
 pub struct House<D: Disk> {
     pub(crate) alloc: Global,
     pub(crate) machine: Machine,
-    pub(crate) past: Past,
+    pub(crate) past: Chronicle,
     pub(crate) journal: Journal<D>,
     // The change on which the disk failed.
     pub(crate) kept: Option<Entry>,
@@ -34,11 +35,11 @@ impl<D: Disk> Model for House<D> {
 
     ghost Value = { HouseView };
 
-    ghost view = { λ h. house_of h.past h.opening (journal_of (size_of h.opened.value) (D.fault_count (disk_of h.opened.value))
+    ghost view = { λ h. house_of h.past.history h.opening (journal_of (size_of h.opened.value) (D.fault_count (disk_of h.opened.value))
         (D.history h.taken.value) (D.history (disk_of h.opened.value)) h.first.value) h.kept (D.history (disk_of h.journal)) (D.fault_count (disk_of h.journal)) };
 
     ghost invariant = { λ h. IsHouse h.machine.state (now_of h.journal)
-        (house_of h.past h.opening (journal_of (size_of h.opened.value) (D.fault_count (disk_of h.opened.value))
+        (house_of h.past.history h.opening (journal_of (size_of h.opened.value) (D.fault_count (disk_of h.opened.value))
         (D.history h.taken.value) (D.history (disk_of h.opened.value)) h.first.value) h.kept (D.history (disk_of h.journal)) (D.fault_count (disk_of h.journal))) };
 }
 

@@ -2,6 +2,7 @@
 #![tactic(auto)]
 
 mod calling;
+mod chronicle;
 mod executions;
 mod folding;
 mod house;

@@ -10,20 +10,23 @@ ghost use Rattle.journal_core.specs.Journal.{disk_of, form_of, size_of, is_sound
 ghost use Rattle.journal_core.specs.Moments.{LeavesOnly};
 ghost use Rattle.recovery.specs.Reading.{FindsSpelling};
 ghost use Rattle.journal_core.specs.declared.fault.JournalFault.TheVariants.{DiskFault};
+ghost use Rattle.house.specs.Chronicle.{AreRecords};
 ghost use Rattle.house.specs.Due.{IsDue};
 ghost use Rattle.house.specs.Folding.{LeavesOpenedAs, MayBeFolded, OpensOn, StandsForOne, opened_with};
 ghost use Rattle.house.specs.Opening.{LeavesOpened, StandsForNone, FindsFault, IsOpened};
 ghost use Rattle.house.specs.Storing.{AreStoredIn, ContentStandsFor, StoresTurned, TurnsOnly, end_turned};
 
+use crate::chronicle::{Chronicle, pool_of};
 use crate::folding::Folding;
 use crate::past::Past;
-use crate::recovering::{Recovered, recover_noting};
+use crate::recovering::{Recovered, recover};
 use crate::turning::{turn_frame, turned};
 use crate::{Executions, House};
 use command_types::{Roster, Spelling};
 use cycle_states::Machine;
 use journal_core::{Form, Frame, Journal, JournalFault};
 use outside::{Disk, Failed};
+use record_pool::Pool;
 use std::alloc::Global;
 use std::snapshot::Snapshot;
 
@@ -32,6 +35,7 @@ use std::snapshot::Snapshot;
 pub(crate) struct Reopened {
     machine: Machine,
     past: Past,
+    pool: Pool,
     form: Form,
     end: u64,
     spelling: Spelling,
@@ -43,6 +47,7 @@ pub(crate) struct Reopened {
 fn reopen<D: Disk>(alloc: Global, roster: Roster, disk: &mut D) -> Result<Reopened, JournalFault>
     ensures stands { IfOk result (λ r. ContentStandsFor (D.history disk.old) r.past) }
     ensures replayed { IfOk result (λ r. IsReplayed r.machine.state r.past) }
+    ensures records { IfOk result (λ r. AreRecords r.pool.changes r.past.entries) }
     ensures base { IfOk result (λ r. IsWritable roster r.past.base.state) }
     ensures few { IfOk result (λ r. length r.past.entries ≤ journal_limit) }
     ensures ends { IfOk result (λ r. EndsAt (D.history disk.old) r.form r.end) }
@@ -55,7 +60,7 @@ fn reopen<D: Disk>(alloc: Global, roster: Roster, disk: &mut D) -> Result<Reopen
     ensures never_falls { D.fault_count disk.old ≤ D.fault_count disk.new }
     ensures failed { result ≡ Err DiskFault → Rose (D.fault_count disk.old) (D.fault_count disk.new) }
 {
-    let recovered = recover_noting(alloc, roster, disk, Executions::unkept())?;
+    let (recovered, read) = recover(alloc, roster, disk, Executions::unkept())?;
     let Recovered {
         machine,
         past,
@@ -64,6 +69,9 @@ fn reopen<D: Disk>(alloc: Global, roster: Roster, disk: &mut D) -> Result<Reopen
         spelling,
         executions: _,
     } = recovered;
+    let Ok(pool) = pool_of(alloc, read) else {
+        return Err(JournalFault::Memory);
+    };
     let Ok(turn) = turn_frame(alloc) else {
         return Err(JournalFault::Memory);
     };
@@ -73,6 +81,7 @@ fn reopen<D: Disk>(alloc: Global, roster: Roster, disk: &mut D) -> Result<Reopen
     Ok(Reopened {
         machine,
         past,
+        pool,
         form,
         end,
         spelling,
@@ -170,7 +179,8 @@ impl<D: Disk> House<D> {
         match start(disk, &read) {
             Ok((journal, folded)) => {
                 let first = Snapshot::of(&read.past);
-                let past = read.past.opened(&read.machine, folded);
+                let (past, pool) = (read.past, read.pool);
+                let past = Chronicle::opened(alloc, &read.machine, past, pool, folded);
                 Ok(House {
                     alloc,
                     opening: past.count(),

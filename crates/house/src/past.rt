@@ -7,7 +7,6 @@ ghost use Rattle.command_types.specs.History.{end_of, longer};
 ghost use Rattle.command_types.specs.Offers.{last_begin};
 ghost use Rattle.cycle_states.specs.Offers.{ArePlaces};
 ghost use Rattle.cycle_states.specs.Replayed.{base_at, history_from, IsReplayed, IsSmall};
-ghost use Rattle.house.specs.Folding.{MayBeFolded, opened_with};
 
 use command_types::Entry;
 use cycle_states::{Machine, Places, is_begin};
@@ -80,19 +79,6 @@ impl Past {
             log: Log::new(),
             count: 0,
             begun_at: 0,
-        }
-    }
-
-    /// It, or, where it is folded, the one without a change that begins where the machine stands at its end.
-    pub(crate) fn opened(self, machine: &Machine, folded: bool) -> Past
-        requires replayed { IsReplayed machine.now.state self }
-        requires small { IsTrue folded → MayBeFolded self }
-        ensures { result ≡ opened_with folded self }
-    {
-        if folded {
-            Past::at(machine, self.length())
-        } else {
-            self
         }
     }
 

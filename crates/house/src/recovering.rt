@@ -111,6 +111,46 @@ pub struct Recovered {
     pub executions: Executions,
 }
 
+/// [`recover_noting`], with the entries, to be read once more.
+pub(crate) fn recover<D: Disk>(
+    alloc: Global,
+    roster: Roster,
+    disk: &mut D,
+    mut executions: Executions,
+) -> Result<(Recovered, Entries), JournalFault>
+    ensures stands { IfOk result (λ r. ContentStandsFor (D.history disk.old) r.0.past) }
+    ensures replayed { IfOk result (λ r. IsReplayed r.0.machine.state r.0.past) }
+    ensures base { IfOk result (λ r. IsWritable roster r.0.past.base.state) }
+    ensures few { IfOk result (λ r. length r.0.past.entries ≤ journal_limit) }
+    ensures ends { IfOk result (λ r. EndsAt (D.history disk.old) r.0.form r.0.end) }
+    ensures form { IfOk result (λ r. HasForm (D.history disk.old) r.0.form) }
+    ensures spelling { IfOk result (λ r. FindsSpelling (D.history disk.old) r.0.spelling) }
+    ensures told { IfOk result (λ r. told_of r.0.executions ≡ option_map (λ replies. replies ++ executions_told r.0.past.base.state r.0.past.base.position r.0.past.entries) (told_of executions)) }
+    ensures read { IfOk result (λ r. HasRead r.1) }
+    ensures entries { IfOk result (λ r. (list : List EntryAt) → IsRead (file_of r.1) list → r.0.past.entries ≡ entries_in list) }
+    ensures fault { IfErr result (FindsFault roster (D.history disk.old)) }
+    ensures same { D.history disk.new ≡ D.history disk.old }
+    ensures never_falls { D.fault_count disk.old ≤ D.fault_count disk.new }
+    ensures failed { result ≡ Err DiskFault → Rose (D.fault_count disk.old) (D.fault_count disk.new) }
+{
+    let contents = read_entries(alloc, disk)?;
+    let (mut machine, position) = begin(alloc, roster, contents.base)?;
+    let entries = contents.entries;
+    let past = match replay(alloc, &mut machine, position, &entries, &mut executions) {
+        Ok(past) => past,
+        Err(fault) => return Err(fault),
+    };
+    let recovered = Recovered {
+        machine,
+        past,
+        form: entries.form(),
+        end: entries.end(),
+        spelling: entries.spelling(),
+        executions,
+    };
+    Ok((recovered, entries))
+}
+
 /// Reads a disk's journal, and makes its changes, over this roster. It writes nothing. `Damaged` comes only where the disk's
 /// content stands for no history that is legal for the roster, with the one place that is told. The replies that tell an
 /// execution are noted behind those that were, where they are kept at all: those to the changes behind the journal's base.
@@ -118,7 +158,7 @@ pub fn recover_noting<D: Disk>(
     alloc: Global,
     roster: Roster,
     disk: &mut D,
-    mut executions: Executions,
+    executions: Executions,
 ) -> Result<Recovered, JournalFault>
     ensures stands { IfOk result (λ r. ContentStandsFor (D.history disk.old) r.past) }
     ensures replayed { IfOk result (λ r. IsReplayed r.machine.state r.past) }
@@ -133,19 +173,6 @@ pub fn recover_noting<D: Disk>(
     ensures never_falls { D.fault_count disk.old ≤ D.fault_count disk.new }
     ensures failed { result ≡ Err DiskFault → Rose (D.fault_count disk.old) (D.fault_count disk.new) }
 {
-    let contents = read_entries(alloc, disk)?;
-    let (mut machine, position) = begin(alloc, roster, contents.base)?;
-    let entries = &contents.entries;
-    let past = match replay(alloc, &mut machine, position, entries, &mut executions) {
-        Ok(past) => past,
-        Err(fault) => return Err(fault),
-    };
-    Ok(Recovered {
-        machine,
-        past,
-        form: entries.form(),
-        end: entries.end(),
-        spelling: entries.spelling(),
-        executions,
-    })
+    let (recovered, _entries) = recover(alloc, roster, disk, executions)?;
+    Ok(recovered)
 }

@@ -1,10 +1,10 @@
 //! A change, made and kept.
 //!
 //! ```text
-//!   Ready of decide            bytes               frame                on the disk
-//!        |                       |                   |                       |
-//!        +-- encode (memory) ----+-- Frame::of ------+-- append (fault) -----+-- commit, push: can't fail
-//!            all stays               (memory)            Unstored::Failed        the change is made
+//!   Ready of decide           bytes          room for them          frame                on the disk
+//!        |                      |                  |                   |                       |
+//!        +-- encode (memory) ---+-- make_room -----+-- Frame::of ------+-- append (fault) -----+-- commit, push: can't fail
+//!            all stays              (memory)           (memory)            Unstored::Failed        the change is made
 //! ```
 //!
 //! Before `append` nothing has changed, and after it nothing can fail.
@@ -24,7 +24,7 @@ ghost use Rattle.house.specs.Storing.{StoresMore, LeavesEither, LeavesYet};
 ghost use Rattle.house.specs.declared.storing.Unstored.TheVariants.{Memory};
 ghost use Rattle.house.specs.Unstored.{Tells};
 
-use crate::past::Past;
+use crate::chronicle::Chronicle;
 use command_types::{Answer, Entry};
 use cycle_states::{Machine, Ready};
 use journal_core::{Frame, Journal};
@@ -48,17 +48,18 @@ impl From<AllocError> for Unstored {
     }
 }
 
-// The frame of a change's record.
-fn frame_of(alloc: Global, entry: &Entry) -> Result<Frame, AllocError>
+// A change's record.
+fn record_of(alloc: Global, entry: &Entry) -> Result<Vec<u8>, AllocError>
     requires change { IsTrue (changes entry.now.ask.what) }
     requires party { IsTrue (is_some entry.now.ask.by) }
     requires few { posted entry.now.ask.what ≤ most_solutions }
     requires small { record_size entry.now.ask < 2 ^ 32 }
-    ensures spells { IfOk result (λ frame. Spells Second frame entry.now) }
-    ensures size { IfOk result (λ frame. length frame ≡ record_size entry.now.ask) }
+    ensures spells { IfOk result (λ bytes. Spells Second bytes.items entry.now) }
+    ensures size { IfOk result (λ bytes. length bytes.items ≡ record_size entry.now.ask) }
+    ensures small { IfOk result (λ bytes. length bytes.items < 2 ^ 32) }
 {
     let bytes = encode(alloc, entry)?;
-    Frame::of(alloc, &bytes)
+    Ok(bytes)
 }
 
 /// Makes a change that is ready and fits into the journal, and puts it last, once its record is on the disk. What a crash at
@@ -67,7 +68,7 @@ fn frame_of(alloc: Global, entry: &Entry) -> Result<Frame, AllocError>
 pub(crate) fn store<D: Disk>(
     alloc: Global,
     machine: &mut Machine,
-    past: &mut Past,
+    past: &mut Chronicle,
     journal: &mut Journal<D>,
     ready: Ready,
 ) -> Result<Answer, Unstored>
@@ -76,29 +77,31 @@ pub(crate) fn store<D: Disk>(
     requires ready { IsReadyAt (D.history (disk_of journal.old)) (form_of journal.old) (size_of journal.old) }
     requires sound { is_sound journal.old ≡ true }
     requires fits { size_of journal.old + frame_size ready.entry.ask ≤ journal_limit }
-    requires short { length past.old.entries + 1 < 2 ^ 62 }
+    requires short { length past.old.history.entries + 1 < 2 ^ 62 }
     ensures answer { IfOk result (λ answer. answer ≡ answer_to machine.old.state ready.entry.ask) }
     ensures state { OnOk result (machine.new.state ≡ state_after machine.old.state ready.entry.ask) }
-    ensures past { OnOk result (past.new ≡ longer past.old (ready.entry ∷ [])) }
+    ensures past { OnOk result (past.new.history ≡ longer past.old.history (ready.entry ∷ [])) }
     ensures solutions { OnOk result (All IsSolution (solutions_posted ready.entry.ask.what)) }
     ensures size { OnOk result (size_of journal.new ≡ size_of journal.old + frame_size ready.entry.ask) }
-    ensures stored { OnOk result (StoresMore (D.history (disk_of journal.old)) journal.old (D.history (disk_of journal.new)) journal.new past.old ready.entry) }
+    ensures stored { OnOk result (StoresMore (D.history (disk_of journal.old)) journal.old (D.history (disk_of journal.new)) journal.new past.old.history ready.entry) }
     ensures sound { OnOk result (is_sound journal.new ≡ true) }
-    ensures any_moment { LeavesEither (D.history (disk_of journal.old)) journal.old (D.history (disk_of journal.new)) past.old ready.entry }
-    ensures yet { LeavesYet (D.history (disk_of journal.old)) journal.old (D.history (disk_of journal.new)) past.old }
+    ensures any_moment { LeavesEither (D.history (disk_of journal.old)) journal.old (D.history (disk_of journal.new)) past.old.history ready.entry }
+    ensures yet { LeavesYet (D.history (disk_of journal.old)) journal.old (D.history (disk_of journal.new)) past.old.history }
     ensures same_state { OnErr result (machine.new.state ≡ machine.old.state) }
-    ensures same_past { OnErr result (past.new ≡ past.old) }
+    ensures same_past { OnErr result (past.new.history ≡ past.old.history) }
     ensures same_size { OnErr result (size_of journal.new ≡ size_of journal.old) }
     ensures same_journal { result ≡ Err Memory → now_of journal.new ≡ now_of journal.old }
     ensures same_disk { result ≡ Err Memory → (D.history (disk_of journal.new) ≡ D.history (disk_of journal.old)) × (D.fault_count (disk_of journal.new) ≡ D.fault_count (disk_of journal.old)) }
     ensures never_falls { D.fault_count (disk_of journal.old) ≤ D.fault_count (disk_of journal.new) }
     ensures failed { IfErr result (Tells ready.entry (Rose (D.fault_count (disk_of journal.old)) (D.fault_count (disk_of journal.new)) × All IsSolution (solutions_posted ready.entry.ask.what))) }
 {
-    let frame = frame_of(alloc, ready.entry())?;
+    let bytes = record_of(alloc, ready.entry())?;
+    past.make_room(alloc, bytes.len())?;
+    let frame = Frame::of(alloc, &bytes)?;
     match journal.append(&frame) {
         Ok(()) => {
             let (entry, answer) = machine.commit(ready);
-            past.push(&entry);
+            past.push(&entry, &bytes);
             Ok(answer)
         }
         Err(_) => Err(Unstored::Failed(ready.into_entry())),

@@ -3,8 +3,8 @@
 //! A call that fails may have done any part of its work, so a write that fails is kept too. Of the bytes in a write's
 //! range a crash leaves the old ones, the new ones or others, and of the file any length between the old one and the
 //! longest reached.
-ghost use Rattle.std.specs.Prelude.{◌≡◌, ◌≤◌, OnOk, OnErr};
-ghost use Rattle.outside.specs.Faults.{Rose};
+ghost use Rattle.std.specs.Prelude.{◌≡◌, OnOk};
+ghost use Rattle.outside.specs.Faults.{CountsFault};
 
 use outside::{Disk, Failed};
 use std::alloc::{AllocError, Global};
@@ -142,8 +142,7 @@ impl TracedDisk {
 
     // Counts a call, and its fault where it is the one that fails or was out of memory.
     fn end_call(&mut self, outcome: Result<(), AllocError>) -> Result<(), Failed>
-        ensures never_falls { self.old.faults ≤ self.new.faults }
-        ensures failed { OnErr result (Rose self.old.faults self.new.faults) }
+        ensures counts { CountsFault result self.old.faults self.new.faults }
     {
         self.calls = self.calls.saturating_add(1);
         if self.calls == self.failing || outcome.is_err() {

@@ -4,3 +4,4 @@ pub mod Appended
 pub mod Parts
 pub mod Opened
 pub mod Pool
+pub mod Laws

@@ -2,8 +2,8 @@
 ghost use Rattle.std.specs.Prelude.{◌≡◌, ◌+◌, ◌<◌, ◌≤◌, ◌^◌, [], ◌∷◌, ◌++◌, length, slice_index_or, OnOk, OnErr};
 ghost use Rattle.record_pool.specs.Marks.{place_at};
 
-use crate::Pages;
 use crate::marks::{Marks, STEP};
+use crate::pages::Pages;
 use std::alloc::{AllocError, Global};
 use std::marker::Model;
 

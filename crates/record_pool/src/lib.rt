@@ -2,6 +2,7 @@
 #![tactic(auto)]
 
 mod appended;
+mod laws;
 mod log;
 mod marks;
 mod opened;
@@ -10,5 +11,5 @@ mod pages;
 mod parts;
 mod pool;
 
-pub use pages::Pages;
+pub use laws::changes_are_given_in_the_second_spelling;
 pub use pool::Pool;

@@ -15,7 +15,7 @@ const MOST: u64 = 4_611_686_018_427_387_904;
 ///
 /// Only [`Pages::make_room`] takes memory for them. It copies none of those that are there.
 #[derive(Drop)]
-pub struct Pages {
+pub(crate) struct Pages {
     pages: Vec<Page>,
     used: u64,
     room: u64,
@@ -134,7 +134,7 @@ fn copy_all(pages: &[Page], from: u64, count: u64, into: &mut Vec<u8>) -> Result
 
 impl Pages {
     /// No bytes, and no room for any.
-    pub fn new(alloc: Global) -> Pages
+    pub(crate) fn new(alloc: Global) -> Pages
         ensures { result ≡ record { bytes = []; room = 0 } }
     {
         Pages {
@@ -145,7 +145,7 @@ impl Pages {
     }
 
     /// How many bytes there are.
-    pub fn len(&self) -> u64
+    pub(crate) fn len(&self) -> u64
         ensures count { result ≡ length self.now.bytes }
         ensures few { result + self.now.room < 2 ^ 63 }
     {
@@ -153,7 +153,7 @@ impl Pages {
     }
 
     /// The number that four bytes from a place on spell, the lowest first.
-    pub fn number(&self, at: u64) -> u32
+    pub(crate) fn number(&self, at: u64) -> u32
         requires { at + 4 ≤ length self.now.bytes }
         ensures { to_le_bytes w32 result ≡ take 4 (drop at self.now.bytes) }
     {
@@ -185,7 +185,7 @@ impl Pages {
 
     /// Makes room for so many more bytes. The only error is want of memory, which leaves the bytes, and some of the room that
     /// was made.
-    pub fn make_room(&mut self, alloc: Global, more: u64) -> Result<(), AllocError>
+    pub(crate) fn make_room(&mut self, alloc: Global, more: u64) -> Result<(), AllocError>
         ensures bytes { self.new.bytes ≡ self.old.bytes }
         ensures keeps { self.old.room ≤ self.new.room }
         ensures room { OnOk result (more ≤ self.new.room) }
@@ -198,7 +198,7 @@ impl Pages {
     }
 
     /// Puts bytes behind the others, for which there is room. It takes no memory.
-    pub fn put(&mut self, bytes: &[u8])
+    pub(crate) fn put(&mut self, bytes: &[u8])
         requires { length bytes.now ≤ self.old.room }
         ensures bytes { self.new.bytes ≡ self.old.bytes ++ bytes.now }
         ensures room { self.new.room + length bytes.now ≡ self.old.room }
@@ -209,7 +209,7 @@ impl Pages {
     }
 
     /// Puts so many bytes from a place on behind others. The only error is want of memory for those.
-    pub fn copy(&self, from: u64, count: u64, into: &mut Vec<u8>) -> Result<(), AllocError>
+    pub(crate) fn copy(&self, from: u64, count: u64, into: &mut Vec<u8>) -> Result<(), AllocError>
         requires { from + count ≤ length self.now.bytes }
         ensures { OnOk result (into.new.items ≡ into.old.items ++ take count (drop from self.now.bytes)) }
     {

@@ -116,7 +116,7 @@ spell_all [] (x ∷ xs) is = absurd is
 spell_all (r ∷ rs) [] is = absurd is
 spell_all (r ∷ rs) (x ∷ xs) is = (is.0.1, spell_all rs xs is.1)
 
-read_spell : (file : List ℕ) (list : List EntryAt) (read : IsRead file list) → SpellAll (spelling_behind read.0) read.1 (entries_in list)
+pub read_spell : (file : List ℕ) (list : List EntryAt) (read : IsRead file list) → SpellAll (spelling_behind read.0) read.1 (entries_in list)
 read_spell file list read =
     subst (λ (l : List Written). AllZip SpellsAs l (entries_in list)) (written_in-changes (spelling_behind read.0) read.2 read.1) (spell_all (changes_at read.0 read.2 read.1) list read.4)
 

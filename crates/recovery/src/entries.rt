@@ -1,5 +1,7 @@
 //! The entries that a journal's file stands for.
 ghost use Rattle.std.specs.Prelude.{◌≡◌, ◌<◌, ◌^◌, List};
+ghost use Rattle.journal_core.specs.RecordBytes.{walked_of};
+ghost use Rattle.journal_core.specs.Walk.{bytes_of, IsWalked};
 ghost use Rattle.recovery.specs.declared.entries.EntryAt.{EntryAt};
 
 use crate::EntryReader;
@@ -26,7 +28,7 @@ pub struct Entries {
 }
 
 impl Entries {
-    ghost use Rattle.recovery.specs.Reading.{file_of, form_read, ends_at, last_spelling, bytes_left, HasRead, IsRead, AreLeft};
+    ghost use Rattle.recovery.specs.Reading.{file_of, form_read, ends_at, last_spelling, bytes_left, HasRead, IsRead, AreLeft, TellAll};
 
     /// The form of the file.
     pub fn form(&self) -> Form
@@ -60,5 +62,14 @@ impl Entries {
                 spelling: self.first,
             },
         }
+    }
+
+    /// Their records, and the spelling in which the file's body begins. It takes no memory.
+    pub fn into_records(self) -> (RecordBytes, Spelling)
+        ensures same { bytes_of (walked_of result.0) ≡ file_of self }
+        ensures walked { HasRead self → IsWalked (walked_of result.0) }
+        ensures spelled { HasRead self → (list : List EntryAt) → IsRead (file_of self) list → TellAll (file_of self) result.1 list }
+    {
+        (self.records, self.first)
     }
 }

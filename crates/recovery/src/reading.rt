@@ -1,7 +1,7 @@
 //! What a disk's journal holds.
-ghost use Rattle.std.specs.Prelude.{◌≡◌, ◌≤◌, List, ℕ, Err, IfOk, IfErr, IfSome, OnOk};
+ghost use Rattle.std.specs.Prelude.{◌≡◌, List, ℕ, Err, IfOk, IfErr, IfSome, OnOk};
 ghost use Rattle.command_types.specs.Bases.{CanBeWritten};
-ghost use Rattle.outside.specs.Faults.{Rose};
+ghost use Rattle.outside.specs.Faults.{CountsWhere};
 ghost use Rattle.journal_core.specs.Holds.{Holds};
 ghost use Rattle.journal_core.specs.Journal.{EndsAt, HasForm};
 ghost use Rattle.journal_core.specs.Walk.{bytes_of, gate_of, placed, IsWalked};
@@ -74,8 +74,7 @@ pub fn read_entries<D: Disk>(alloc: Global, disk: &mut D) -> Result<Contents, Jo
     ensures only { GivesOnly (D.history disk.old) result }
     ensures fault { IfErr result (FindsFault (D.history disk.old)) }
     ensures same { D.history disk.new ≡ D.history disk.old }
-    ensures never_falls { D.fault_count disk.old ≤ D.fault_count disk.new }
-    ensures failed { result ≡ Err JournalFault.DiskFault → Rose (D.fault_count disk.old) (D.fault_count disk.new) }
+    ensures counts { CountsWhere (result ≡ Err JournalFault.DiskFault) (D.fault_count disk.old) (D.fault_count disk.new) }
 {
     let walked = walk(alloc, disk)?;
     let base = read_base(alloc, &walked)?;

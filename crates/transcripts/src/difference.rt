@@ -38,6 +38,45 @@ fn is_seen(line: &Line<'_>, pace: Pace) -> bool {
     }
 }
 
+// A hexadecimal digit.
+fn digit(byte: u8) -> Option<u8> {
+    match byte {
+        b'0'..=b'9' => Some(byte - b'0'),
+        b'a'..=b'f' => Some(byte - b'a' + 10),
+        _ => None,
+    }
+}
+
+// What is seen behind a byte, which two digits tell, if it comes first.
+fn behind_byte<'a>(seen: &'a [u8], digits: &[u8]) -> Option<&'a [u8]> {
+    let [high, low] = digits else {
+        return None;
+    };
+    let byte = (digit(*high)? << 4) | digit(*low)?;
+    let (first, behind) = seen.split_first()?;
+    if *first != byte {
+        return None;
+    }
+    Some(behind)
+}
+
+// What is seen behind bytes that digits tell, and a line feed, if they come first.
+fn behind_raw<'a>(seen: &'a [u8], digits: &str) -> Option<&'a [u8]> {
+    let mut rest = seen;
+    for pair in digits.trim_end().as_bytes().chunks(2) {
+        rest = behind_byte(rest, pair)?;
+    }
+    rest.strip_prefix(b"\n")
+}
+
+// What is seen behind a line, if that comes first.
+fn behind_line<'a>(seen: &'a [u8], line: &Line<'_>) -> Option<&'a [u8]> {
+    match line.raw() {
+        Some(digits) => behind_raw(seen, digits),
+        None => seen.strip_prefix(line.text.as_bytes()),
+    }
+}
+
 /// The first difference between the lines of a run and what is seen; none where that is just those lines.
 pub fn first_difference<'a>(
     run: &'a Run<'_>,
@@ -49,7 +88,7 @@ pub fn first_difference<'a>(
     for line in &run.lines {
         number = line.number;
         if is_seen(line, pace) {
-            match rest.strip_prefix(line.text.as_bytes()) {
+            match behind_line(rest, line) {
                 Some(behind) => rest = behind,
                 None => {
                     return Some(Difference {

@@ -7,6 +7,7 @@
 //!     ok 0 hello A                                                    a line that it writes
 //!     > TRADE A B P 10 2026-03-02
 //!     ok 1 trade 1
+//!     raw 40b7cb6900000000                                            bytes that it writes, in hexadecimal, and a line feed
 //!     status 6                                                        its status, where that is not 0
 //!
 //! A `$` begins a run, which goes on up to the next one. The first run finds an empty disk, and each later one what a crash
@@ -27,6 +28,11 @@ impl<'a> Line<'a> {
     /// What is typed, if it is a line of input.
     pub fn typed(&self) -> Option<&'a str> {
         self.text.strip_prefix("> ")
+    }
+
+    /// The digits of the bytes that are written, if it stands for some.
+    pub fn raw(&self) -> Option<&'a str> {
+        self.text.strip_prefix("raw ")
     }
 
     // Whether it says nothing of a run.

@@ -37,12 +37,15 @@ returns-in_err-base-clause-only g c =
     subst (GivesOnly was) (sym is) (only_fault_of was fault
     (fault_before was c.in_ok-walked.walked fault walked.walked walked.found walked.ends c.in_err-base.ensures.fault))
 
-pub returns-in_err-base-clause-failed : goal.returns-in_err-base-clause-failed
-returns-in_err-base-clause-failed g c = λ failed.
-    let w = c.in_ok-walked.walked in
-    let is : c.from_residual-in_err-base.result ≡ Err c.in_err-base.field-0.0 = search rules in
-    let bad : IfErr c.from_residual-in_err-base.result (IsBaseFault w) = subst (λ r. IfErr r (IsBaseFault w)) (sym is) c.in_err-base.ensures.fault in
-    absurd (subst (λ r. IfErr r (IsBaseFault w)) failed bad)
+pub returns-in_err-base-clause-counts : goal.returns-in_err-base-clause-counts
+returns-in_err-base-clause-counts g c = (
+  c.in_ok-walked.ensures.counts.0,
+  λ failed.
+      let w = c.in_ok-walked.walked in
+      let is : c.from_residual-in_err-base.result ≡ Err c.in_err-base.field-0.0 = search rules in
+      let bad : IfErr c.from_residual-in_err-base.result (IsBaseFault w) = subst (λ r. IfErr r (IsBaseFault w)) (sym is) c.in_err-base.ensures.fault in
+      absurd (subst (λ r. IfErr r (IsBaseFault w)) failed bad),
+)
 
 pub returns-in_err-last-clause-fault : goal.returns-in_err-last-clause-fault
 returns-in_err-last-clause-fault g c =
@@ -68,15 +71,18 @@ returns-in_err-last-clause-only g c =
     (fault_among was w c.in_ok-base.base c.spelling_behind-first.result fault walked.walked walked.found walked.ends c.in_ok-base.ensures.found begins
     (c.in_err-last.ensures.fault (base_of w) walked.walked.1.0 (walked_holds w walked.walked))))
 
-pub returns-in_err-last-clause-failed : goal.returns-in_err-last-clause-failed
-returns-in_err-last-clause-failed g c = λ failed.
-    let w = c.in_ok-walked.walked in
-    let walked = c.in_ok-walked.ensures.walked in
-    let changes = changes_of c.spelling_behind-first.result (placed (gate_of w) walked.1.0) in
-    let is : c.from_residual-in_err-last.result ≡ Err c.in_err-last.field-0.0 = search rules in
-    let bad : IfErr c.from_residual-in_err-last.result (IsFaultAmong changes) =
-    subst (λ r. IfErr r (IsFaultAmong changes)) (sym is) (c.in_err-last.ensures.fault (base_of w) walked.1.0 (walked_holds w walked)) in
-    absurd (subst (λ r. IfErr r (IsFaultAmong changes)) failed bad)
+pub returns-in_err-last-clause-counts : goal.returns-in_err-last-clause-counts
+returns-in_err-last-clause-counts g c = (
+  c.in_ok-walked.ensures.counts.0,
+  λ failed.
+      let w = c.in_ok-walked.walked in
+      let walked = c.in_ok-walked.ensures.walked in
+      let changes = changes_of c.spelling_behind-first.result (placed (gate_of w) walked.1.0) in
+      let is : c.from_residual-in_err-last.result ≡ Err c.in_err-last.field-0.0 = search rules in
+      let bad : IfErr c.from_residual-in_err-last.result (IsFaultAmong changes) =
+      subst (λ r. IfErr r (IsFaultAmong changes)) (sym is) (c.in_err-last.ensures.fault (base_of w) walked.1.0 (walked_holds w walked)) in
+      absurd (subst (λ r. IfErr r (IsFaultAmong changes)) failed bad),
+)
 
 pub returns-clause-read : goal.returns-clause-read
 returns-clause-read g c =

@@ -1,4 +1,4 @@
-use Rattle.std.proofs.Common.{◌≡◌, ◌∙◌, ◌+◌, rules, [], ◌∷◌, true, false, Some, None, is_some, IsTrue, arith, ap, sym, subst, length-append}
+use Rattle.std.proofs.Common.{◌≡◌, ◌∙◌, ◌+◌, [], ◌∷◌, true, false, Some, None, is_some, IsTrue, arith, ap, sym, subst, length-append}
 use Rattle.command_types.specs.declared.ask.Entry.{Entry}
 use Rattle.command_types.specs.declared.figures.JournalFigures.{JournalFigures}
 use Rattle.command_types.specs.declared.figures.State.{State}
@@ -16,13 +16,13 @@ use Rattle.house.proofs.ChangeFacts.{made_house, made, broken_house, failed_call
 use Rattle.house.proofs.house.House.call.Goals as goal
 
 pub decide-requires : goal.decide-requires
-decide-requires g c = young_small c.self.inside.machine.state c.self.inside.past c.self.invariant.replayed c.length-at.ensures.small c.length-at.ensures.few
+decide-requires g c = young_small c.self.inside.machine.state c.self.inside.past.history c.self.invariant.replayed c.length-at.ensures.small c.length-at.ensures.few
 
 pub returns-in-Err-clause-calls : goal.returns-in-Err-clause-calls
 returns-in-Err-clause-calls g c =
     let i = c.self.inside in
     let here : HouseView =
-    house_of i.past i.opening (journal_of (size_of i.opened.value) (g.D.Disk.fault_count (disk_of i.opened.value)) (g.D.Disk.history i.taken.value) (g.D.Disk.history (disk_of i.opened.value)) i.first.value) i.kept
+    house_of i.past.history i.opening (journal_of (size_of i.opened.value) (g.D.Disk.fault_count (disk_of i.opened.value)) (g.D.Disk.history i.taken.value) (g.D.Disk.history (disk_of i.opened.value)) i.first.value) i.kept
     (g.D.Disk.history (disk_of i.journal)) (g.D.Disk.fault_count (disk_of i.journal)) in
     subst (λ (v : HouseView). Calls v here c.args.seat c.args.ask c.refused.result) c.self.view_is
     (memory_call i.machine.state (now_of i.journal) _ c.self.invariant c.args.seat c.args.ask c.length-at.result c.refused.result c.length-at.ensures.length c.refused.ensures)
@@ -31,12 +31,12 @@ pub returns-in-Ok-Told-clause-calls : goal.returns-in-Ok-Told-clause-calls
 returns-in-Ok-Told-clause-calls g c =
     let i = c.self.inside in
     let here : HouseView =
-    house_of i.past i.opening (journal_of (size_of i.opened.value) (g.D.Disk.fault_count (disk_of i.opened.value)) (g.D.Disk.history i.taken.value) (g.D.Disk.history (disk_of i.opened.value)) i.first.value) i.kept
+    house_of i.past.history i.opening (journal_of (size_of i.opened.value) (g.D.Disk.fault_count (disk_of i.opened.value)) (g.D.Disk.history i.taken.value) (g.D.Disk.history (disk_of i.opened.value)) i.first.value) i.kept
     (g.D.Disk.history (disk_of i.journal)) (g.D.Disk.fault_count (disk_of i.journal)) in
     let nothing = rw c.in-Ok-Told.field-0-is at c.in-Ok-Told.ensures.decides in
-    subst (λ (v : HouseView). Calls v here c.args.seat c.args.ask c.told.result) c.self.view_is
-    (read_call i.machine.state (now_of i.journal) _ c.self.invariant c.args.seat c.args.ask c.length-at.result c.in-Ok-Told.answer c.places.result c.told.result c.length-at.ensures.length
-    (nothing.told ∙ ap (λ (s : State). answer_to s c.args.ask) c.decide.ensures.state) nothing.no_change c.places.ensures (search rules))
+    subst (λ (v : HouseView). Calls v here c.args.seat c.args.ask (record { at = c.length-at.result; answer = c.told-answer.result })) c.self.view_is
+    (read_call i.machine.state (now_of i.journal) _ c.self.invariant c.args.seat c.args.ask c.length-at.result c.in-Ok-Told.answer c.told-answer.result c.length-at.ensures.length
+    (nothing.told ∙ ap (λ (s : State). answer_to s c.args.ask) c.decide.ensures.state) nothing.no_change (rw c.open_ask-asked.ensures at c.told-answer.ensures))
 
 pub invariant_of-self-in-Ok-Told : goal.invariant_of-self-in-Ok-Told
 invariant_of-self-in-Ok-Told g c = rw c.decide.ensures.state c.self.invariant
@@ -45,7 +45,7 @@ pub returns-then-not-fits-clause-calls : goal.returns-then-not-fits-clause-calls
 returns-then-not-fits-clause-calls g c =
     let i = c.self.inside in
     let here : HouseView =
-    house_of i.past i.opening (journal_of (size_of i.opened.value) (g.D.Disk.fault_count (disk_of i.opened.value)) (g.D.Disk.history i.taken.value) (g.D.Disk.history (disk_of i.opened.value)) i.first.value) i.kept
+    house_of i.past.history i.opening (journal_of (size_of i.opened.value) (g.D.Disk.fault_count (disk_of i.opened.value)) (g.D.Disk.history i.taken.value) (g.D.Disk.history (disk_of i.opened.value)) i.first.value) i.kept
     (g.D.Disk.history (disk_of i.journal)) (g.D.Disk.fault_count (disk_of i.journal)) in
     let decided = rw c.in-Ok-Ready.field-0-is at c.in-Ok-Ready.ensures.decides in
     let entry : Entry = c.in-Ok-Ready.ready.entry in
@@ -63,7 +63,7 @@ pub returns-then-is_some-clause-calls : goal.returns-then-is_some-clause-calls
 returns-then-is_some-clause-calls g c =
     let i = c.self.inside in
     let here : HouseView =
-    house_of i.past i.opening (journal_of (size_of i.opened.value) (g.D.Disk.fault_count (disk_of i.opened.value)) (g.D.Disk.history i.taken.value) (g.D.Disk.history (disk_of i.opened.value)) i.first.value) i.kept
+    house_of i.past.history i.opening (journal_of (size_of i.opened.value) (g.D.Disk.fault_count (disk_of i.opened.value)) (g.D.Disk.history i.taken.value) (g.D.Disk.history (disk_of i.opened.value)) i.first.value) i.kept
     (g.D.Disk.history (disk_of i.journal)) (g.D.Disk.fault_count (disk_of i.journal)) in
     let decided = rw c.in-Ok-Ready.field-0-is at c.in-Ok-Ready.ensures.decides in
     let entry : Entry = c.in-Ok-Ready.ready.entry in
@@ -85,13 +85,13 @@ store-requires-clause-may g c =
 
 pub store-requires-clause-young : goal.store-requires-clause-young
 store-requires-clause-young g c =
-    rw c.decide.ensures.state (young_small c.self.inside.machine.state c.self.inside.past c.self.invariant.replayed c.length-at.ensures.small c.length-at.ensures.few)
+    rw c.decide.ensures.state (young_small c.self.inside.machine.state c.self.inside.past.history c.self.invariant.replayed c.length-at.ensures.small c.length-at.ensures.few)
 
 pub store-requires-clause-ready : goal.store-requires-clause-ready
 store-requires-clause-ready g c =
     let i = c.self.inside in
     let runs : is_some i.kept ≡ false = sym c.is_some.ensures ∙ c.if-is_some.false in
-    stored_ready (g.D.Disk.history (disk_of i.journal)) (form_of i.journal) (size_of i.journal) i.past (house_stored i.machine.state (now_of i.journal) _ c.self.invariant runs)
+    stored_ready (g.D.Disk.history (disk_of i.journal)) (form_of i.journal) (size_of i.journal) i.past.history (house_stored i.machine.state (now_of i.journal) _ c.self.invariant runs)
 
 pub store-requires-clause-sound : goal.store-requires-clause-sound
 store-requires-clause-sound g c =
@@ -130,7 +130,7 @@ returns-in-Ok-clause-short g c =
     let now : State = c.decide.new.self.state in
     let sized : c.length.result ≡ record_size ask = c.length.ensures.size ∙ ap (λ (e : Entry). record_size e.ask) c.entry.ensures in
     let room = has_room c.fits.result (size_of i.journal) c.length.result ask c.if-not-fits.false c.fits.ensures sized in
-    omega (arith, room, entries_within i.machine.state (now_of i.journal) _ c.self.invariant, c.length-at.ensures.small.position, ap end_of c.in-Ok.ensures.past, length-append i.past.entries (entry ∷ []))
+    omega (arith, room, entries_within i.machine.state (now_of i.journal) _ c.self.invariant, c.length-at.ensures.small.position, ap end_of c.in-Ok.ensures.past, length-append i.past.history.entries (entry ∷ []))
 
 pub invariant_of-self-in-Ok : goal.invariant_of-self-in-Ok
 invariant_of-self-in-Ok g c =
@@ -146,15 +146,15 @@ invariant_of-self-in-Ok g c =
     let house = rw none at was in
     let stored = house_stored now (now_of i.journal) _ was runs in
     rw none
-    (made_house now i.past i.opening (now_of i.journal) journal (g.D.Disk.history (disk_of i.journal)) (g.D.Disk.fault_count (disk_of i.journal))
+    (made_house now i.past.history i.opening (now_of i.journal) journal (g.D.Disk.history (disk_of i.journal)) (g.D.Disk.fault_count (disk_of i.journal))
     house entry.seat ask decided.1.accepted c.store.new.machine.state (now_of c.store.new.journal) (g.D.Disk.history (disk_of c.store.new.journal)) (g.D.Disk.fault_count (disk_of c.store.new.journal))
-    c.in-Ok.ensures.state c.in-Ok.ensures.size (c.store.ensures.any_moment stored) (c.store.ensures.yet stored) (c.in-Ok.ensures.stored stored) c.in-Ok.ensures.sound c.store.ensures.never_falls c.in-Ok.ensures.solutions c.store.new.past c.in-Ok.ensures.past)
+    c.in-Ok.ensures.state c.in-Ok.ensures.size (c.store.ensures.any_moment stored) (c.store.ensures.yet stored) (c.in-Ok.ensures.stored stored) c.in-Ok.ensures.sound c.store.ensures.never_falls c.in-Ok.ensures.solutions c.store.new.past.history c.in-Ok.ensures.past)
 
 pub returns-in-Ok-clause-calls : goal.returns-in-Ok-clause-calls
 returns-in-Ok-clause-calls g c =
     let i = c.self.inside in
     let here : HouseView =
-    house_of i.past i.opening (journal_of (size_of i.opened.value) (g.D.Disk.fault_count (disk_of i.opened.value)) (g.D.Disk.history i.taken.value) (g.D.Disk.history (disk_of i.opened.value)) i.first.value) i.kept
+    house_of i.past.history i.opening (journal_of (size_of i.opened.value) (g.D.Disk.fault_count (disk_of i.opened.value)) (g.D.Disk.history i.taken.value) (g.D.Disk.history (disk_of i.opened.value)) i.first.value) i.kept
     (g.D.Disk.history (disk_of i.journal)) (g.D.Disk.fault_count (disk_of i.journal)) in
     let decided = rw c.in-Ok-Ready.field-0-is at c.in-Ok-Ready.ensures.decides in
     let entry : Entry = c.in-Ok-Ready.ready.entry in
@@ -166,14 +166,14 @@ returns-in-Ok-clause-calls g c =
     let none : i.kept ≡ None = none_of i.kept runs in
     let house = rw none at was in
     let stored = house_stored now (now_of i.journal) _ was runs in
-    let place : c.length-at.result + 1 ≡ end_of i.past + 1 = ap (λ n. n + 1) c.length-at.ensures.length in
+    let place : c.length-at.result + 1 ≡ end_of i.past.history + 1 = ap (λ n. n + 1) c.length-at.ensures.length in
     let done : HouseView =
-    house_of c.store.new.past i.opening (journal_of (size_of i.opened.value) (g.D.Disk.fault_count (disk_of i.opened.value)) (g.D.Disk.history i.taken.value) (g.D.Disk.history (disk_of i.opened.value)) i.first.value) i.kept
+    house_of c.store.new.past.history i.opening (journal_of (size_of i.opened.value) (g.D.Disk.fault_count (disk_of i.opened.value)) (g.D.Disk.history i.taken.value) (g.D.Disk.history (disk_of i.opened.value)) i.first.value) i.kept
     (g.D.Disk.history (disk_of c.store.new.journal)) (g.D.Disk.fault_count (disk_of c.store.new.journal)) in
     let said =
-    made now i.past i.opening (now_of i.journal) journal (g.D.Disk.history (disk_of i.journal)) (g.D.Disk.fault_count (disk_of i.journal))
+    made now i.past.history i.opening (now_of i.journal) journal (g.D.Disk.history (disk_of i.journal)) (g.D.Disk.fault_count (disk_of i.journal))
     house entry.seat ask decided.1.accepted c.store.new.machine.state (now_of c.store.new.journal) (g.D.Disk.history (disk_of c.store.new.journal)) (g.D.Disk.fault_count (disk_of c.store.new.journal))
-    c.in-Ok.ensures.state c.in-Ok.ensures.size (c.store.ensures.any_moment stored) (c.store.ensures.yet stored) (c.in-Ok.ensures.stored stored) c.in-Ok.ensures.sound c.store.ensures.never_falls c.in-Ok.ensures.solutions c.store.new.past c.in-Ok.answer (c.length-at.result + 1)
+    c.in-Ok.ensures.state c.in-Ok.ensures.size (c.store.ensures.any_moment stored) (c.store.ensures.yet stored) (c.in-Ok.ensures.stored stored) c.in-Ok.ensures.sound c.store.ensures.never_falls c.in-Ok.ensures.solutions c.store.new.past.history c.in-Ok.answer (c.length-at.result + 1)
     c.in-Ok.ensures.past c.in-Ok.ensures.answer place in
     subst (λ (v : HouseView). Calls v done c.args.seat c.args.ask (record { at = c.length-at.result + 1; answer = c.in-Ok.answer })) c.self.view_is
     (subst (λ (e : Entry). Calls here done e.seat e.ask (record { at = c.length-at.result + 1; answer = c.in-Ok.answer })) decided.0
@@ -192,7 +192,7 @@ returns-in-Err-Memory-clause-calls g c =
     let memory = rw c.in-Err-Memory.field-0-is at c.in-Err-Memory.is in
     let same = c.store.ensures.same_disk memory in
     let done : HouseView =
-    house_of c.store.new.past i.opening (journal_of (size_of i.opened.value) (g.D.Disk.fault_count (disk_of i.opened.value)) (g.D.Disk.history i.taken.value) (g.D.Disk.history (disk_of i.opened.value)) i.first.value) i.kept
+    house_of c.store.new.past.history i.opening (journal_of (size_of i.opened.value) (g.D.Disk.fault_count (disk_of i.opened.value)) (g.D.Disk.history i.taken.value) (g.D.Disk.history (disk_of i.opened.value)) i.first.value) i.kept
     (g.D.Disk.history (disk_of c.store.new.journal)) (g.D.Disk.fault_count (disk_of c.store.new.journal)) in
     subst (λ (v : HouseView). Calls v done c.args.seat c.args.ask c.refused-in-Err-Memory.result) c.self.view_is
     (rw (c.in-Err-Memory.ensures.same_past, same.0, same.1)
@@ -213,7 +213,7 @@ invariant_of-self-in-Err-Failed g c =
     let stored = house_stored now (now_of i.journal) _ was runs in
     let told = rw c.in-Err-Failed.field-0-is at c.in-Err-Failed.ensures.failed in
     rw (c.in-Err-Failed.ensures.same_state, c.in-Err-Failed.ensures.same_past, told.0)
-    (broken_house now i.past i.opening (now_of i.journal) journal (g.D.Disk.history (disk_of i.journal)) (g.D.Disk.fault_count (disk_of i.journal))
+    (broken_house now i.past.history i.opening (now_of i.journal) journal (g.D.Disk.history (disk_of i.journal)) (g.D.Disk.fault_count (disk_of i.journal))
     house entry.seat ask decided.1.accepted (g.D.Disk.history (disk_of c.store.new.journal)) (g.D.Disk.fault_count (disk_of c.store.new.journal)) (c.store.ensures.any_moment stored) (c.store.ensures.yet stored) c.store.ensures.never_falls told.1.0 told.1.1
     (now_of c.store.new.journal) c.in-Err-Failed.ensures.same_size)
 
@@ -221,7 +221,7 @@ pub returns-in-Err-Failed-clause-calls : goal.returns-in-Err-Failed-clause-calls
 returns-in-Err-Failed-clause-calls g c =
     let i = c.self.inside in
     let here : HouseView =
-    house_of i.past i.opening (journal_of (size_of i.opened.value) (g.D.Disk.fault_count (disk_of i.opened.value)) (g.D.Disk.history i.taken.value) (g.D.Disk.history (disk_of i.opened.value)) i.first.value) i.kept
+    house_of i.past.history i.opening (journal_of (size_of i.opened.value) (g.D.Disk.fault_count (disk_of i.opened.value)) (g.D.Disk.history i.taken.value) (g.D.Disk.history (disk_of i.opened.value)) i.first.value) i.kept
     (g.D.Disk.history (disk_of i.journal)) (g.D.Disk.fault_count (disk_of i.journal)) in
     let decided = rw c.in-Ok-Ready.field-0-is at c.in-Ok-Ready.ensures.decides in
     let entry : Entry = c.in-Ok-Ready.ready.entry in
@@ -237,10 +237,10 @@ returns-in-Err-Failed-clause-calls g c =
     let told = rw c.in-Err-Failed.field-0-is at c.in-Err-Failed.ensures.failed in
     let room = room_told (size_of i.journal) ask (has_room c.fits.result (size_of i.journal) c.length.result ask c.if-not-fits.false c.fits.ensures sized) in
     let done : HouseView =
-    house_of c.store.new.past i.opening (journal_of (size_of i.opened.value) (g.D.Disk.fault_count (disk_of i.opened.value)) (g.D.Disk.history i.taken.value) (g.D.Disk.history (disk_of i.opened.value)) i.first.value) (Some c.in-Err-Failed.entry)
+    house_of c.store.new.past.history i.opening (journal_of (size_of i.opened.value) (g.D.Disk.fault_count (disk_of i.opened.value)) (g.D.Disk.history i.taken.value) (g.D.Disk.history (disk_of i.opened.value)) i.first.value) (Some c.in-Err-Failed.entry)
     (g.D.Disk.history (disk_of c.store.new.journal)) (g.D.Disk.fault_count (disk_of c.store.new.journal)) in
     let said =
-    failed_call now i.past i.opening (now_of i.journal) journal (g.D.Disk.history (disk_of i.journal)) (g.D.Disk.fault_count (disk_of i.journal))
+    failed_call now i.past.history i.opening (now_of i.journal) journal (g.D.Disk.history (disk_of i.journal)) (g.D.Disk.fault_count (disk_of i.journal))
     house entry.seat ask decided.1.accepted (g.D.Disk.history (disk_of c.store.new.journal)) (g.D.Disk.fault_count (disk_of c.store.new.journal)) (c.store.ensures.any_moment stored) (c.store.ensures.yet stored) c.store.ensures.never_falls told.1.0 told.1.1
     c.length-at.result c.length-at.ensures.length room in
     subst (λ (v : HouseView). Calls v done c.args.seat c.args.ask c.refused-in-Err-Failed.result) c.self.view_is

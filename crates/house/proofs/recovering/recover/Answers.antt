@@ -3,13 +3,14 @@ use Rattle.std.proofs.lemmas.List.{length-map}
 use Rattle.command_types.specs.declared.figures.Start.{Start}
 use Rattle.command_types.specs.declared.figures.State.{State}
 use Rattle.recovery.specs.Reading.{file_of}
+use Rattle.recovery.specs.declared.entries.Entries.{Entries}
 use Rattle.recovery.proofs.EntryFacts.{read_few}
 use Rattle.journal_core.specs.declared.fault.JournalFault.{JournalFault}
 use Rattle.house.specs.declared.recovering.Recovered.{Recovered}
 use Rattle.house.specs.Opening.{IsReplayFault, FindsFault}
 use Rattle.house.proofs.ReplayFacts.{entry_of}
 use Rattle.house.proofs.DamageFacts.{reading_fault, begin_fault, replay_fault, replay_stands}
-use Rattle.house.proofs.recovering.recover_noting.Goals as goal
+use Rattle.house.proofs.recovering.recover.Goals as goal
 
 pub returns-in_err-contents-clause-fault : goal.returns-in_err-contents-clause-fault
 returns-in_err-contents-clause-fault g c =
@@ -38,7 +39,7 @@ returns-in-Err-clause-fault g c =
 pub returns-in-Err-clause-failed : goal.returns-in-Err-clause-failed
 returns-in-Err-clause-failed g c = λ failed.
     let read = c.in_ok-contents.ensures.read in
-    let replayed : Result Recovered JournalFault → Type 0 = λ r. IfErr r (IsReplayFault c.in_ok-machine.machine.state read.0) in
+    let replayed : Result (Recovered × Entries) JournalFault → Type 0 = λ r. IfErr r (IsReplayFault c.in_ok-machine.machine.state read.0) in
     let bad : replayed (Err c.in-Err.fault) = c.in-Err.ensures.fault read.0 read.1 in
     absurd (subst replayed failed bad)
 
