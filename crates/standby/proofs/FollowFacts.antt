@@ -39,6 +39,7 @@ follows_start v said heard keeps none = (
   record {
     kept = λ entry some. absurd cc;
     counted = omega arith;
+    figures = refl;
     sends = [];
     says = sym (append-nil said);
     before = All-nil (IsSaidBefore v);
@@ -101,6 +102,7 @@ follows_on a b c s0 s1 s2 h0 h1 h2 f whole g = (
     held = λ start within held. g.held start (let le = within_longer a b f.taken f.grows in omega arith) (f.held start within held);
     keeps = g.keeps;
     counted = let p = f.counted in let q = g.counted in omega arith;
+    figures = g.figures ∙ f.figures;
     kept = λ entry some. Contains-append_right f.offers g.offers (record { position = end_of c.history + 1; entry = entry }) (g.kept entry some);
     linked = λ roster w is among.
         let first = f.linked roster w is (among_left f.offers g.offers w.sent among) in
@@ -146,6 +148,7 @@ module _ (v : HouseView) (keeps : Keeps v) (none : v.kept ≡ None) where
       held = λ start within held. held;
       keeps = keeps;
       counted = omega arith;
+      figures = refl;
       kept = λ entry some. absurd cc;
       linked = λ roster w is among. record { events = Asks ∷ []; entries = w.standby; leads = one_asks roster v.history w is; stands = is };
     },
@@ -169,6 +172,7 @@ module _ (v : HouseView) (keeps : Keeps v) (none : v.kept ≡ None) where
       held = λ start within held. held;
       keeps = keeps;
       counted = omega arith;
+      figures = refl;
       kept = λ entry some. absurd cc;
       linked = λ roster w is among. record { events = []; entries = w.standby; leads = moved_not w; stands = is };
     },
@@ -219,6 +223,7 @@ module _ (v : HouseView) (keeps : Keeps v) (none : v.kept ≡ None) where
           held = held;
           keeps = calls.keeps;
           counted = calls.counted;
+          figures = calls.figures;
           kept = λ entry some. kept_here position place made (is_disk_fault reply.answer) refl entry some;
           linked = λ roster w is among. record {
             events = Asks ∷ [];
@@ -258,6 +263,7 @@ module _ (v : HouseView) (keeps : Keeps v) (none : v.kept ≡ None) where
             held = held;
             keeps = calls.keeps;
             counted = calls.counted;
+            figures = calls.figures;
             kept = λ entry some. let no : b.kept ≡ None = runs_on v b seat ask reply keeps none calls made in absurd cc;
             linked = λ roster w is among. record {
               events = Asks ∷ Arrives offer ∷ [];

@@ -13,7 +13,7 @@ use Rattle.command_types.specs.History.{History, end_of, replayed_from}
 use Rattle.command_types.specs.Roster.{Rows}
 use Rattle.standby.specs.Lists.{IsHistoryOf, BeginsWith}
 use Rattle.standby.specs.Link.{Offer, Fits, World, Event, Leads, Lead, opening, AreAtMost, IsSound}
-use Rattle.standby.specs.Link.Event.{Grows, Replies, Asks, Arrives, Stops, StopsIn}
+use Rattle.standby.specs.Link.Event.{Grows, Replies, Asks, AsksAgain, Arrives, Stops, StopsIn}
 
 fits_longer : (entries : List Entry) (entry : Entry) (offer : Offer) → Fits entries offer → Fits (entries ++ entry ∷ []) offer
 fits_longer entries entry offer f = record {
@@ -64,6 +64,8 @@ keeps_on (Grows entry) old new k is = subst IsSound (sym is) (record {
 })
 keeps_on (Replies offer) old new k (fits, is) = subst IsSound (sym is) (record { fits = All-cons (Fits old.primary) offer old.sent fits k.fits; front = k.front; asked = k.asked })
 keeps_on Asks old new k is = subst IsSound (sym is) (record { fits = k.fits; front = k.front; asked = All-push (λ n. n ≤ length old.standby) old.asked (length old.standby) k.asked (omega arith) })
+keeps_on (AsksAgain number) old new k (fewer, is) =
+    subst IsSound (sym is) (record { fits = k.fits; front = k.front; asked = All-push (λ n. n ≤ length old.standby) old.asked number k.asked (omega (arith, fewer)) })
 keeps_on (Arrives offer) old new k (among, is) =
     subst IsSound (sym is) (arrived old offer (offer.position == length old.standby + 1) refl k (All-contains (Fits old.primary) old.sent offer k.fits among))
 keeps_on (Stops image) old new k (stands, is) = subst IsSound (sym is) k
@@ -92,6 +94,7 @@ one_grows : (event : Event) (old new : World) → Leads event old new → Begins
 one_grows (Grows entry) old new is = (entry ∷ [], ap (λ (w : World). w.primary) is)
 one_grows (Replies offer) old new (fits, is) = ([], ap (λ (w : World). w.primary) is ∙ sym (append-nil old.primary))
 one_grows Asks old new is = ([], ap (λ (w : World). w.primary) is ∙ sym (append-nil old.primary))
+one_grows (AsksAgain number) old new (fewer, is) = ([], ap (λ (w : World). w.primary) is ∙ sym (append-nil old.primary))
 one_grows (Arrives offer) old new (among, is) = ([], ap (λ (w : World). w.primary) is ∙ sym (append-nil old.primary))
 one_grows (Stops image) old new (stands, is) = ([], ap (λ (w : World). w.primary) is ∙ sym (append-nil old.primary))
 one_grows (StopsIn offer image) old new (among, place, (left, rest, is)) = ([], ap (λ (w : World). w.primary) is ∙ sym (append-nil old.primary))

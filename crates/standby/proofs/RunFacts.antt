@@ -1,5 +1,5 @@
 -- Runs of events, put together, and the events of a standby that asks and takes.
-use Rattle.std.proofs.Common.{◌≡◌, ℕ, ◌+◌, ◌==◌, Bool, true, false, List, [], ◌∷◌, ◌++◌, length, refl, sym, ap, ◌∙◌, subst, arith, append_assoc, length-append, cond}
+use Rattle.std.proofs.Common.{◌≡◌, ℕ, ◌+◌, ◌<◌, ◌==◌, Bool, true, false, List, [], ◌∷◌, ◌++◌, length, refl, sym, ap, ◌∙◌, subst, arith, append_assoc, length-append, cond}
 use Rattle.std.proofs.lemmas.List.{append-nil}
 use Rattle.std.proofs.lemmas.Bool.Decides.{nat_tests}
 use Rattle.std.specs.List.{Contains}
@@ -8,7 +8,7 @@ use Rattle.command_types.specs.History.{History, end_of, longer}
 use Rattle.command_types.specs.Roster.{Rows}
 use Rattle.standby.specs.Lists.{IsHistoryOf}
 use Rattle.standby.specs.Link.{Offer, World, Event, with_offer, Lead, AreAmong, moved}
-use Rattle.standby.specs.Link.Event.{Asks, Arrives}
+use Rattle.standby.specs.Link.Event.{Asks, AsksAgain, Arrives}
 
 pub lead_on : (first others : List Event) (a b c : World) → Lead first a b → Lead others b c → Lead (first ++ others) a c
 lead_on [] others a b c is lead = subst (λ w. Lead others w c) is lead
@@ -46,6 +46,12 @@ pub one_asks : (roster : Rows) (h : History) (w : World) → IsHistoryOf roster 
 one_asks roster h w is =
     let n : length w.standby ≡ end_of h = list_length roster h w.standby is in
     (moved w w.standby (length w.standby ∷ []), refl, ap (λ k. moved w w.standby (k ∷ [])) (sym n))
+
+-- it asks for an entry again
+pub one_asks_again : (roster : Rows) (h : History) (w : World) (number : ℕ) → number < end_of h → IsHistoryOf roster h w.standby → Lead (AsksAgain number ∷ []) w (moved w w.standby (number ∷ []))
+one_asks_again roster h w number fewer is =
+    let n : length w.standby ≡ end_of h = list_length roster h w.standby is in
+    (moved w w.standby (number ∷ []), (omega (arith, fewer, n), refl), refl)
 
 with_next : (entries : List Entry) (offer : Offer) (t : Bool) → (offer.position == length entries + 1) ≡ t → offer.position ≡ length entries + 1
     → cond {A = List Entry} t (entries ++ offer.entry ∷ []) entries ≡ entries ++ offer.entry ∷ []

@@ -7,7 +7,7 @@ use Rattle.command_types.specs.History.{end_of, longer, is_recorded}
 use Rattle.command_types.specs.Roster.{Rows}
 use Rattle.house.specs.Storing.{AreOnDisk, moment_of, LeavesHistory}
 use Rattle.outside.specs.Faults.{Rose}
-use Rattle.house.specs.House.{HouseView, is_stopped, bytes_of, Keeps}
+use Rattle.house.specs.House.{HouseView, figures_of, is_stopped, bytes_of, Keeps}
 use Rattle.house.specs.Calling.{Calls, is_disk_fault}
 use Rattle.standby.specs.Lists.{IsHistoryOf}
 use Rattle.standby.specs.Link.{Offer, World, Event, Lead, AreAmong, moved}
@@ -62,6 +62,7 @@ pub record Follows (old new : HouseView) (said said' : List Sent) (heard heard' 
   pub held : (start : HouseView) → length start.history.entries ≤ length old.history.entries → HeldSince start old → HeldSince start new
   pub keeps : Keeps new
   pub counted : old.faults ≤ new.faults
+  pub figures : figures_of new ≡ figures_of old
   -- what was kept on a fault of the disk was heard, as the next entry
   pub kept : (entry : Entry) → new.kept ≡ Some entry → Contains offers (record { position = end_of new.history + 1; entry = entry })
   pub linked :

@@ -1,5 +1,5 @@
 -- A primary, a standby that asks it for one entry after another, and a link that loses, repeats and reorders what is sent.
-use Rattle.std.specs.Prelude.{◌≡◌, ◌⊎◌, ℕ, ◌+◌, ◌==◌, ◌≤◌, List, [], ◌∷◌, ◌++◌, length, All, if◌then◌else◌}
+use Rattle.std.specs.Prelude.{◌≡◌, ◌⊎◌, ℕ, ◌+◌, ◌==◌, ◌<◌, ◌≤◌, List, [], ◌∷◌, ◌++◌, length, All, if◌then◌else◌}
 use Rattle.std.specs.List.{Contains}
 use Rattle.command_types.specs.declared.ask.Entry.{Entry}
 use Rattle.standby.specs.Lists.{StandsForList, BeginsWith}
@@ -30,8 +30,10 @@ pub data Event : Type 0 where
   Grows : Entry → Event
   -- the primary replies
   Replies : Offer → Event
-  -- the standby sends a NEXT
+  -- the standby sends a NEXT, of all its entries
   Asks : Event
+  -- it asks for one of its entries again, by a NEXT of fewer
+  AsksAgain : ℕ → Event
   -- a reply arrives
   Arrives : Offer → Event
   -- the standby stops, between two appends, and its journal is this image
@@ -53,6 +55,7 @@ abbrev pub Leads : Event → World → World → Type 0
 Leads (Grows entry) old new = new ≡ record old { primary = old.primary ++ entry ∷ [] }
 Leads (Replies offer) old new = Fits old.primary offer × (new ≡ record old { sent = offer ∷ old.sent })
 Leads Asks old new = new ≡ record old { asked = old.asked ++ length old.standby ∷ [] }
+Leads (AsksAgain number) old new = (number < length old.standby) × (new ≡ record old { asked = old.asked ++ number ∷ [] })
 Leads (Arrives offer) old new = Contains old.sent offer × (new ≡ record old { standby = with_offer old.standby offer })
 Leads (Stops image) old new = StandsForList image old.standby × (new ≡ old)
 Leads (StopsIn offer image) old new =

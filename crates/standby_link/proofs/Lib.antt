@@ -1,2 +1,6 @@
 pub mod WireFacts
+pub mod LastFacts
+pub mod AskFacts
 pub mod FollowedFacts
+pub mod AnswerFacts
+pub mod TextFacts

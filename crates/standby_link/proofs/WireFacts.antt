@@ -118,6 +118,7 @@ module _ (position due : ℕ) (old new : HearingView) (here : due ≡ old.pendin
   cause_of counted (Ok replies.Nothing) came heard told = subst (IsCause new position) (sym told) (due, ended replies.Nothing heard)
   cause_of counted (Ok (replies.Refused number)) came heard told = subst (IsCause new position) (sym told) (due, ended (replies.Refused number) heard)
   cause_of counted (Ok replies.Greeted) came heard told = absurd told
+  cause_of counted (Ok replies.Same) came heard told = absurd told
   cause_of counted (Err (faults.Broken at)) came heard told = subst (IsCause new position) (sym told) (heard_broken (questions.Next position) old new at heard)
   cause_of counted (Err faults.SourceFault) came heard (failed, told) =
       subst (IsCause new position) (sym told) (heard_fault (questions.Next position) old new same counted heard)
@@ -139,6 +140,7 @@ module _ (position due : ℕ) (old new : HearingView) (here : due ≡ old.pendin
   offers_heard (Ok replies.Nothing) came heard told = offers_one replies.Nothing (offers_in came) (sym (ap offers_in told)) heard
   offers_heard (Ok (replies.Refused number)) came heard told = offers_one (replies.Refused number) (offers_in came) (sym (ap offers_in told)) heard
   offers_heard (Ok replies.Greeted) came heard told = absurd told
+  offers_heard (Ok replies.Same) came heard told = absurd told
   offers_heard (Err (faults.Broken at)) came heard told =
       offers_none (offers_in came) (heard_none (questions.Next position) old new (faults.Broken at) heard) (ap offers_in told)
   offers_heard (Err faults.SourceFault) came heard (failed, told) =
@@ -146,6 +148,7 @@ module _ (position due : ℕ) (old new : HearingView) (here : due ≡ old.pendin
   offers_heard (Err faults.Memory) came heard told =
       offers_none (offers_in came) (heard_none (questions.Next position) old new faults.Memory heard) (ap offers_in told)
 
+module _ (old new : HearingView) (same : IsSameSource old new) where
   on : (first : HearingView) → HearsMore first old → (more : List Replied) → new.replied ≡ old.replied ++ more → HearsMore first new
   on first m more is = record {
     more = m.more ++ more;
@@ -156,9 +159,9 @@ module _ (position due : ℕ) (old new : HearingView) (here : due ≡ old.pendin
   }
 
   -- nothing that was heard is lost
-  pub hears_on : (first : HearingView) → HearsMore first old → (answer : Result Reply WaitFault) → Hears (questions.Next position) old new answer → HearsMore first new
-  hears_on first m (Ok reply) heard = on first m (record { question = questions.Next position; due = old.pending.due; reply = reply } ∷ []) heard.notes
-  hears_on first m (Err fault) heard = on first m [] heard.notes
+  pub hears_on : (question : Question) (first : HearingView) → HearsMore first old → (answer : Result Reply WaitFault) → Hears question old new answer → HearsMore first new
+  hears_on question first m (Ok reply) heard = on first m (record { question = question; due = old.pending.due; reply = reply } ∷ []) heard.notes
+  hears_on question first m (Err fault) heard = on first m [] heard.notes
 
 -- ---- the wire
 

@@ -1,19 +1,28 @@
 -- What following over a source and a sink comes to.
-use Rattle.std.specs.Prelude.{◌≡◌, ◌⊎◌, ℕ, ◌≤◌, false, List, [], ◌∷◌, Option, Some, None}
+use Rattle.std.specs.Prelude.{◌≡◌, ◌⊎◌, ℕ, ◌<◌, ◌≤◌, false, List, [], ◌∷◌, ◌++◌, All, Option, Some, None}
 use Rattle.command_types.specs.declared.ask.Entry.{Entry}
 use Rattle.command_types.specs.History.{end_of}
+use Rattle.command_types.specs.Roster.{Rows}
 use Rattle.outside.specs.Faults.{Rose}
 use Rattle.outside.specs.Flow.{Flow, Takes, TakesFront}
+use Rattle.outside.specs.declared.sink.Sink.{Ghosts as SinkTells}
+use Rattle.outside.specs.declared.source.Source.{Ghosts as SourceTells}
 use Rattle.house.specs.House.{HouseView}
+use Rattle.house.specs.Storing.{LeavesHistory}
 use Rattle.standby_wire.specs.Lines.{hello_line}
-use Rattle.standby_wire.specs.Replied.{HearingView, IsHearing}
+use Rattle.standby_wire.specs.Replied.{Replied, HearingView, IsHearing}
 use Rattle.standby_wire.specs.declared.reply.Question.TheVariants as questions
 use Rattle.standby_wire.specs.declared.reply.Reply.{Reply}
 use Rattle.standby_wire.specs.declared.reply.Reply.TheVariants as replies
-use Rattle.standby.specs.Following.{FollowsTo}
+use Rattle.standby.specs.Following.{FollowsTo, HeldSince, IsLinked}
+use Rattle.standby.specs.Link.{World}
+use Rattle.standby.specs.Lists.{IsHistoryOf}
+use Rattle.standby.specs.Sent.{Sent, numbers_in}
+use Rattle.standby.specs.declared.peer.Said.TheVariants.{Next}
 use Rattle.standby.specs.Ending.{SaysLines, Declines, is_cut_by}
 use Rattle.standby.specs.declared.follow.FollowEnd.{FollowEnd}
 use Rattle.standby.specs.declared.follow.FollowEnd.TheVariants.{Caught, Refused, Broken, Full, SourceFault, SinkFault, DiskFault, Memory}
+use Rattle.standby_link.specs.Compared.{Compares}
 use Rattle.standby_link.specs.Read.{offers_of, EndWith, IsBroken, IsUnheard}
 use Rattle.standby_link.specs.Wire.{WireView, IsWire}
 use Rattle.standby_link.specs.declared.login.Login.{Login}
@@ -25,9 +34,9 @@ pub record Streams : Type 0 where
   pub source_faults : ℕ
   pub sink_faults : ℕ
 
-abbrev pub streams_of : {S K : Type 0} → (S → Option Flow) → (S → ℕ) → (K → Option (List ℕ)) → (K → ℕ) → S → K → Streams
-streams_of flow faults_in taken faults_out source sink =
-    record { flow = flow source; taken = taken sink; source_faults = faults_in source; sink_faults = faults_out sink }
+abbrev pub streams_by : {S K : Type 0} → SourceTells S → SinkTells K → S → K → Streams
+streams_by sources sinks source sink =
+    record { flow = sources.flow source; taken = sinks.taken sink; source_faults = sources.faults source; sink_faults = sinks.faults sink }
 
 -- the source as it was, of which nothing was heard yet
 pub record IsFresh (source : Streams) (hearing : HearingView) : Type 0 where
@@ -87,9 +96,8 @@ EndsFor house hearing SourceFault = IsUnheard (questions.Next (end_of house.hist
 EndsFor house hearing SinkFault = Unit {0}
 EndsFor house hearing Memory = Unit {0}
 
--- A primary greeted, and the house followed it: what was written is HELLO and the lines that were said, what was heard is read from
--- what the source gave, each entry taken was heard, and the end has its cause.
-pub record Greeted (login : Login) (first now : Streams) (old new : HouseView) (end : FollowEnd) : Type 0 where
+-- A primary greeted: what was written is HELLO and the lines that were said, and what was heard is read from what the source gave.
+pub record Greeted (login : Login) (first now : Streams) (end : FollowEnd) : Type 0 where
   pub wire : WireView
   pub is : IsWire wire
   pub party : wire.start.login ≡ login
@@ -102,13 +110,47 @@ pub record Greeted (login : Login) (first now : Streams) (old new : HouseView) (
   pub taken : now.taken ≡ wire.taken
   pub sink_faults : now.sink_faults ≡ wire.sink_faults
   pub cut : wire.cut ≡ is_cut_by false (Some end)
-  pub follows : FollowsTo old new [] wire.said (offers_of wire.start.hearing.replied) (offers_of wire.hearing.replied) (Some end)
-  pub lines : SaysLines old new [] wire.said (Some end)
-  pub why : EndsFor new wire.hearing end
+
+-- When this was said, what a crash left stood for all entries, and it asks for one of them again; ever since, what a crash leaves
+-- stands for at least these.
+pub record IsSaidWithin (now : HouseView) (sent : Sent) : Type 0 where
+  pub position : ℕ
+  pub line : sent.line ≡ Next position
+  pub fewer : position < end_of sent.house.history
+  pub running : sent.house.kept ≡ None
+  pub has : LeavesHistory sent.house.disk sent.house.history
+  pub since : HeldSince sent.house now
+
+-- Behind the greeting these lines were said before the house followed, and these replies read. Each is tied to the disk, and is an event of the link.
+pub record Begins (login : Login) (old new : HouseView) (hearing : HearingView) (said : List Sent) (replied : List Replied) (end : Option FollowEnd) : Type 0 where
+  pub compares : Compares login old hearing said replied end
+  pub before : All (IsSaidWithin new) said
+  pub linked : (roster : Rows) (w : World) → IsHistoryOf roster old.history w.standby → IsLinked roster old old (numbers_in said) w
+
+-- Greeted, a standby asked for its last entry again, or had no memory for that, and ended there; its house is as it was.
+pub record Parted (login : Login) (first now : Streams) (old new : HouseView) (end : FollowEnd) : Type 0 where
+  pub greeted : Greeted login first now end
+  pub replied : List Replied
+  pub reads : greeted.wire.hearing.replied ≡ greeted.wire.start.hearing.replied ++ replied
+  pub begins : Begins login old new greeted.wire.hearing greeted.wire.said replied (Some end)
+  pub same : new ≡ old
+
+-- Greeted, and having compared its last entry if it does, a standby followed the primary: each entry taken was heard, and the end has its cause.
+pub record Followed (login : Login) (first now : Streams) (old new : HouseView) (end : FollowEnd) : Type 0 where
+  pub greeted : Greeted login first now end
+  pub asked : List Sent
+  pub hearing : HearingView
+  pub replied : List Replied
+  pub reads : hearing.replied ≡ greeted.wire.start.hearing.replied ++ replied
+  pub begins : Begins login old new hearing asked replied None
+  pub follows : FollowsTo old new asked greeted.wire.said (offers_of hearing.replied) (offers_of greeted.wire.hearing.replied) (Some end)
+  pub lines : SaysLines old new asked greeted.wire.said (Some end)
+  pub why : EndsFor new greeted.wire.hearing end
 
 -- From old to new, a house followed a primary over a source and a sink, as this party.
 abbrev pub FollowsOver : Login → Streams → Streams → HouseView → HouseView → FollowEnd → Type 0
-FollowsOver login first now old new end = Ungreeted login first now old new end ⊎ Greeted login first now old new end
+FollowsOver login first now old new end =
+    Ungreeted login first now old new end ⊎ Parted login first now old new end ⊎ Followed login first now old new end
 
 -- a fault of the source or of the sink is told only where its count rose
 abbrev pub IsCounted : Streams → Streams → FollowEnd → Type 0

@@ -2,4 +2,8 @@ pub mod Written
 pub mod Read
 pub mod Wire
 pub mod Wired
+pub mod Compared
+pub mod Asked
 pub mod Followed
+pub mod Laws
+pub mod Talk

@@ -2,6 +2,8 @@
 use Rattle.std.specs.Prelude.{◌≡◌, ℕ, ◌≤◌, Bool, true, List, Option}
 use Rattle.outside.specs.Faults.{Rose}
 use Rattle.outside.specs.Flow.{Flow}
+use Rattle.outside.specs.declared.sink.Sink.{Ghosts as SinkTells}
+use Rattle.outside.specs.declared.source.Source.{Ghosts as SourceTells}
 use Rattle.standby_wire.specs.Replied.{HeardView, HearingView, hearing_over, IsHearing}
 use Rattle.standby.specs.Ending.{Came}
 use Rattle.standby.specs.Sent.{Sent}
@@ -48,6 +50,14 @@ wire_over parts flow faults taken sink_faults = record {
   taken = taken;
   sink_faults = sink_faults;
 }
+
+-- what was heard, and the source
+abbrev pub heard_by : {S : Type 0} → SourceTells S → HeardView → S → HearingView
+heard_by sources heard source = hearing_over heard (sources.flow source) (sources.faults source)
+
+-- what a wire was and what it is over a source and a sink
+abbrev pub wire_by : {S K : Type 0} → SourceTells S → SinkTells K → WireParts → S → K → WireView
+wire_by sources sinks parts source sink = wire_over parts (sources.flow source) (sources.faults source) (sinks.taken sink) (sinks.faults sink)
 
 -- What was said is written, what was heard is read, and a line is cut only where a count rose.
 pub record IsWire (view : WireView) : Type 0 where

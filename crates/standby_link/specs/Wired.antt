@@ -31,7 +31,7 @@ abbrev pub IsToldBy : ℕ → ℕ → Result Reply WaitFault → Result Heard Fa
 IsToldBy position due (Ok (replies.Entry entry)) came = came ≡ Ok (hears.Entry due (place_behind position) entry)
 IsToldBy position due (Ok replies.Nothing) came = came ≡ Ok hears.Nothing
 IsToldBy position due (Ok (replies.Refused number)) came = came ≡ Ok (hears.Refused number)
-IsToldBy position due (Ok replies.Greeted) came = ⊥
+IsToldBy position due (Ok reply) came = ⊥
 IsToldBy position due (Err (faults.Broken at)) came = came ≡ Ok (hears.Broken at)
 IsToldBy position due (Err faults.SourceFault) came = (failed : Failed) × (came ≡ Err failed)
 IsToldBy position due (Err faults.Memory) came = came ≡ Ok hears.Memory

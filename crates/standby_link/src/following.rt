@@ -1,10 +1,11 @@
 //! A standby over a source and a sink.
 ghost use Rattle.std.specs.Prelude.{◌≡◌, ◌≤◌, [], Some, false};
-ghost use Rattle.house.specs.House.{is_stopped};
+ghost use Rattle.house.specs.House.{figures_of, is_stopped};
 ghost use Rattle.standby.specs.Following.{EndsSo};
 ghost use Rattle.standby_wire.specs.Replied.{hearing_over, IsHearing};
-ghost use Rattle.standby_link.specs.Followed.{streams_of, Greets, IsGreeting, FollowsOver, IsCounted};
+ghost use Rattle.standby_link.specs.Followed.{streams_by, Greets, IsGreeting, FollowsOver, IsCounted};
 
+use crate::comparing::compare;
 use crate::login::Login;
 use crate::wire::Wire;
 use house::House;
@@ -43,7 +44,9 @@ fn greet<S: Source, K: Sink>(
     }
 }
 
-/// Greets a primary with a name and a key, and follows it over a source and a sink as `follow_over` does.
+/// Greets a primary with a name and a key, and follows it over a source and a sink as `follow_over` does. Where it is to compare, it
+/// first asks for its last entry again, if it has one behind its base: where the primary has another one there, or none, that is a
+/// reply that may not stand there; where the primary has only entries behind it, nothing is compared.
 pub fn follow<D: Disk, S: Source, K: Sink>(
     alloc: Global,
     house: &mut House<D>,
@@ -52,15 +55,22 @@ pub fn follow<D: Disk, S: Source, K: Sink>(
     sink: &mut K,
 ) -> FollowEnd
     requires runs { is_stopped house.old ≡ false }
-    ensures follows { FollowsOver login (streams_of S.flow S.faults K.taken K.faults source.old sink.old) (streams_of S.flow S.faults K.taken K.faults source.new sink.new) house.old house.new result }
-    ensures counted { IsCounted (streams_of S.flow S.faults K.taken K.faults source.old sink.old) (streams_of S.flow S.faults K.taken K.faults source.new sink.new) result }
+    ensures follows { let told = streams_by S.Source K.Sink in FollowsOver login (told source.old sink.old) (told source.new sink.new) house.old house.new result }
+    ensures counted { let told = streams_by S.Source K.Sink in IsCounted (told source.old sink.old) (told source.new sink.new) result }
     ensures ends { EndsSo house.old house.new (Some result) }
+    ensures figures { figures_of house.new ≡ figures_of house.old }
 {
+    // What a house keeps, of which its length tells.
+    let _length = house.length();
     let mut hearing = Hearing::new(alloc, source);
     match greet(&login, &mut hearing, source, sink) {
         None => {}
         Some(end) => return end,
     }
     let mut wire: Wire<D, S, K> = Wire::new(alloc, login, hearing, source, sink);
+    match compare(house, &mut wire, source, sink) {
+        None => {}
+        Some(end) => return end,
+    }
     follow_over(house, &mut wire, source, sink)
 }

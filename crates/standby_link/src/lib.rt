@@ -7,9 +7,12 @@
 //! ```
 #![tactic(auto)]
 
+mod comparing;
 mod following;
+mod laws;
 mod login;
 mod wire;
 
 pub use following::follow;
+pub use laws::{caught_up_text, followers_hold_a_prefix};
 pub use login::Login;

@@ -1,14 +1,18 @@
 //! A peer over a source and a sink.
-ghost use Rattle.std.specs.Prelude.{◌≡◌, ◌≤◌, [], None, false, IfOk, OnOk, OnErr};
-ghost use Rattle.outside.specs.Faults.{Rose};
+ghost use Rattle.std.specs.Prelude.{◌≡◌, [], ◌∷◌, ◌++◌, None, false, IfOk, OnOk, OnErr, Err};
+ghost use Rattle.outside.specs.Faults.{CountsFault};
 ghost use Rattle.outside.specs.Flow.{Takes, TakesFront};
 ghost use Rattle.standby_wire.specs.Replies.{IsFor};
-ghost use Rattle.standby_wire.specs.declared.reply.Question.TheVariants.{Next};
+ghost use Rattle.standby_wire.specs.Replied.{Hears, IsHearing, IsSameSource};
+ghost use Rattle.standby_wire.specs.declared.reply.Question.TheVariants.{Next, Again};
+ghost use Rattle.standby.specs.Ending.{is_cut_after};
 ghost use Rattle.standby.specs.Sent.{IsOfChange};
 ghost use Rattle.standby_link.specs.Written.{line_text};
-ghost use Rattle.standby_link.specs.Wire.{start_of};
+ghost use Rattle.standby_link.specs.Compared.{IsAgain};
+ghost use Rattle.standby_link.specs.Wire.{IsWire, heard_by, start_of, wire_by};
 ghost use Rattle.standby_link.specs.Wired.{IsToldBy};
 
+use crate::comparing::Own;
 use crate::login::Login;
 use house::House;
 use outside::{Disk, Failed, Sink, Source};
@@ -47,8 +51,7 @@ impl<D: Disk, S: Source, K: Sink> Model for Wire<D, S, K> {
 fn write<K: Sink>(sink: &mut K, login: &Login, line: Said) -> Result<(), Failed>
     ensures takes { OnOk result (Takes (K.taken sink.old) (K.taken sink.new) (line_text login.now line)) }
     ensures front { OnErr result (TakesFront (K.taken sink.old) (K.taken sink.new) (line_text login.now line)) }
-    ensures never_falls { K.faults sink.old ≤ K.faults sink.new }
-    ensures failed { OnErr result (Rose (K.faults sink.old) (K.faults sink.new)) }
+    ensures counts { CountsFault result (K.faults sink.old) (K.faults sink.new) }
 {
     match line {
         Said::Hello => write_hello(sink, &login.name, &login.key),
@@ -71,7 +74,7 @@ fn told(position: u64, due: u64, answer: Result<Reply, WaitFault>) -> Result<Hea
         }),
         Ok(Reply::Nothing) => Ok(Heard::Nothing),
         Ok(Reply::Refused { number }) => Ok(Heard::Refused { number }),
-        Ok(Reply::Greeted) => unreachable!(),
+        Ok(Reply::Greeted | Reply::Same) => unreachable!(),
         Err(WaitFault::Broken { at }) => Ok(Heard::Broken { at }),
         Err(WaitFault::SourceFault) => Err(Failed),
         Err(WaitFault::Memory) => Ok(Heard::Memory),
@@ -104,6 +107,53 @@ impl<D: Disk, S: Source, K: Sink> Wire<D, S, K> {
             last: None,
         }
     }
+
+    /// How its standby begins.
+    pub(crate) fn login(&self) -> Login
+        ensures { result ≡ self.now.start.login }
+    {
+        self.login
+    }
+
+    /// Says a line as `say` of `Peer` does. What was heard stays as it is.
+    pub(crate) fn tell(
+        &mut self,
+        sink: &mut K,
+        house: &House<D>,
+        line: Said,
+    ) -> Result<(), SayFault>
+        ensures says { OnOk result (self.new.said ≡ self.old.said ++ record { house = house.now; line = line } ∷ []) }
+        ensures says_in_part { result ≡ Err SayFault.Failed → self.new.said ≡ self.old.said ++ record { house = house.now; line = line } ∷ [] }
+        ensures unsaid { result ≡ Err SayFault.Memory → self.new.said ≡ self.old.said }
+        ensures cuts { self.new.cut ≡ is_cut_after (self.old.cut) result }
+        ensures stays { self.new ≡ record self.old { said = self.new.said; cut = self.new.cut } }
+        ensures holds { let seen = wire_by S.Source K.Sink in (source : S) → IsWire (seen self.old source sink.old) → IsWire (seen self.new source sink.new) }
+    {
+        if note_said(&mut self.said, house, line).is_err() {
+            return Err(SayFault::Memory);
+        }
+        if self.cut {
+            return Err(SayFault::Failed);
+        }
+        if write(sink, &self.login, line).is_err() {
+            self.cut = true;
+            return Err(SayFault::Failed);
+        }
+        Ok(())
+    }
+
+    /// Waits for the reply to the question for an entry again. What was said stays as it is.
+    pub(crate) fn ask_again(&mut self, source: &mut S, own: Own) -> Result<Reply, WaitFault>
+        ensures hears { let seen = heard_by S.Source in Hears (Again own.position own.bytes) (seen self.old.heard source.old) (seen self.new.heard source.new) result }
+        ensures fits { IfOk result IsAgain }
+        ensures same { let seen = heard_by S.Source in IsSameSource (seen self.old.heard source.old) (seen self.new.heard source.new) }
+        ensures heard { let seen = heard_by S.Source in IsHearing (seen self.old.heard source.old) → IsHearing (seen self.new.heard source.new) }
+        ensures stays { self.new ≡ record self.old { heard = self.new.heard } }
+    {
+        let Own { position, bytes } = own;
+        self.hearing
+            .ask(source, &Question::Again { position, bytes })
+    }
 }
 
 impl<D: Disk, S: Source, K: Sink> Peer<D, S, K> for Wire<D, S, K> {
@@ -125,17 +175,7 @@ impl<D: Disk, S: Source, K: Sink> Peer<D, S, K> for Wire<D, S, K> {
     ghost Holds = { λ w source sink. IsWire (wire_over w (S.flow source) (S.faults source) (K.taken sink) (K.faults sink)) };
 
     fn say(&mut self, sink: &mut K, house: &House<D>, line: Said) -> Result<(), SayFault> {
-        if note_said(&mut self.said, house, line).is_err() {
-            return Err(SayFault::Memory);
-        }
-        if self.cut {
-            return Err(SayFault::Failed);
-        }
-        if write(sink, &self.login, line).is_err() {
-            self.cut = true;
-            return Err(SayFault::Failed);
-        }
-        Ok(())
+        self.tell(sink, house, line)
     }
 
     fn hear(&mut self, source: &mut S, position: u64) -> Result<Heard, Failed> {

@@ -6,4 +6,6 @@ mod follows;
 #[cfg(test)]
 mod houses;
 #[cfg(test)]
+mod replies;
+#[cfg(test)]
 mod streams;

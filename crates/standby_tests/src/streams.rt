@@ -4,39 +4,15 @@ ghost use Rattle.std.specs.Prelude.{◌≡◌, false, IfOk};
 ghost use Rattle.house.specs.House.{is_stopped};
 
 use crate::houses::{crashed, disk_below, house_on, is_found, large_disk_of, named};
+use crate::replies::{Told, source_of};
 use house::House;
-use outside::{Disk, MemoryDisk, MemorySink, MemorySource};
+use outside::{Disk, MemoryDisk, MemorySink};
 use standby::FollowEnd;
 use standby::FollowEnd::{Broken, Caught, DiskFault, Refused, SinkFault, SourceFault};
 use standby_link::{Login, follow};
 use std::alloc::Global;
 use std::process::Abort;
 use std::test::Fail;
-
-// What a primary replies: it greets, tells TRADE A B P 10 2026-03-02 by A, then AFFIRM 1 by B, or by A, and that there is no more.
-#[derive(Clone, Copy)]
-enum Told {
-    Hello,
-    Trade,
-    Affirm,
-    OwnAffirm,
-    Last,
-    // This text.
-    Text(&'static [u8]),
-}
-
-fn text_of(told: Told) -> &'static [u8] {
-    match told {
-        Told::Hello => b"ok 2 hello OPS\n",
-        Told::Trade =>
-            b"ok 2 entry 1 33\n\0\0\0\0\0\0\0\0\0\0\0\0\x01A\x01\x01A\x01B\x01P\x0a\0\0\0\0\0\0\0\xea\x07\x03\x02\n",
-        Told::Affirm => b"ok 2 entry 2 23\n\0\0\0\0\0\0\0\0\0\0\0\0\x01B\x02\x01\0\0\0\0\0\0\0\n",
-        Told::OwnAffirm =>
-            b"ok 2 entry 2 23\n\0\0\0\0\0\0\0\0\0\0\0\0\x01A\x02\x01\0\0\0\0\0\0\0\n",
-        Told::Last => b"ok 2 none\n",
-        Told::Text(text) => text,
-    }
-}
 
 // What a standby writes, and how much of it: so many bytes.
 const LINES: &[u8] = b"HELLO OPS KO\nNEXT 0\nNEXT 1\nNEXT 2\nBYE\n";
@@ -156,16 +132,6 @@ const FAULTS: &[Trial] = &[
     (WHOLE, [0, 0, 15], ASKED_AGAIN, DiskFault, 1),
 ];
 
-fn source_of(alloc: Global, replies: &[Told], read: u64) -> Result<MemorySource, Fail> {
-    let mut input = Vec::new(alloc);
-    for &told in replies {
-        input.extend_from_slice(text_of(told))?;
-    }
-    let mut source = MemorySource::new(alloc, &input)?;
-    source.fail_at(read)?;
-    Ok(source)
-}
-
 // A house on an empty disk, whose call with this number fails.
 fn house_at(rt: &impl Abort, alloc: Global, call: u64) -> Result<House<MemoryDisk>, Fail>
     ensures { IfOk result (λ house. is_stopped house ≡ false) }
@@ -189,6 +155,7 @@ fn goes(rt: &impl Abort, alloc: Global, trial: &Trial) -> Result<bool, Fail> {
     let login = Login {
         name: named(b"OPS"),
         key: named(b"KO"),
+        compare: false,
     };
     let is_ended = follow(alloc, &mut house, login, &mut source, &mut sink) == end;
     let is_written = Some(sink.bytes()) == LINES.get(..written);

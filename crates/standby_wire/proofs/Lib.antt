@@ -3,6 +3,7 @@ mod ReplyFacts
 mod ReaderFacts
 mod StayFacts
 mod WrittenFacts
+mod AgainFacts
 mod RefusedFacts
 mod InboxFacts
 mod HearingFacts

@@ -13,7 +13,8 @@ use Rattle.record_codec.specs.declared.fault.DecodeFault.TheVariants.{BadRecord}
 use Rattle.record_codec.specs.Laws.{IsFaultOf}
 use Rattle.record_codec.specs.Reading.{field, entry_at, entry_of, read_record}
 use Rattle.standby_wire.specs.declared.stop.Stop.TheVariants.{More, Bad}
-use Rattle.standby_wire.specs.Replies.{record_at, entry_or_bad}
+use Rattle.standby_wire.specs.Words.{word}
+use Rattle.standby_wire.specs.Replies.{record_at, entry_or_bad, same_bytes}
 use Rattle.standby_wire.proofs.WordFacts.{is_below, is_not_below}
 
 no_bytes : (input : List ℕ) → record_at 0 input ≡ Err Bad
@@ -47,6 +48,18 @@ module _ (size : ℕ) (input : List ℕ) (e : ℕ) (long : e + size ≤ length i
 
   pub record_on : (entry : Entry) → read_record Second (slice_range input e (e + size)) ≡ Ok entry → record_at size (drop e input) ≡ Ok (entry, drop (e + size) input)
   record_on entry found = judged ∙ ap (λ r. entry_or_bad r (drop (e + size) input)) found
+
+-- ---- bytes that were told before
+
+pub same_short : (bytes input : List ℕ) (e : ℕ) → length input - e < length bytes → same_bytes bytes (drop e input) ≡ Err More
+unfolding same_bytes
+same_short bytes input e short = ap (λ b. cond b (Err More) (word bytes (drop e input))) (is_below _ _ (omega (arith, length-drop e input)))
+
+pub same_long : (bytes input : List ℕ) (e : ℕ) → length bytes ≤ length input - e → same_bytes bytes (drop e input) ≡ word bytes (drop e input)
+unfolding same_bytes
+same_long bytes input e long = ap (λ b. cond b (Err More) (word bytes (drop e input))) (is_not_below _ _ (omega (arith, length-drop e input)))
+
+-- ---- changes
 
 -- what has the fields of a change is one
 fields_change : (what : What) → AreFields what → IsTrue (changes what)

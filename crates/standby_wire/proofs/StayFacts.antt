@@ -1,20 +1,22 @@
 -- What is read of refusals and replies stays so as the input goes on.
-use Rattle.std.proofs.Common.{◌≡◌, ℕ, ◌+◌, ◌==◌, Bool, cond, nat_lt, List, [], ◌++◌, Result, Ok, Err, refl, ap, ◌∙◌, subst, codes, decimal}
+use Rattle.std.proofs.Common.{◌≡◌, ℕ, ◌+◌, ◌==◌, Bool, cond, nat_lt, List, [], ◌++◌, Result, Ok, Err, refl, sym, ap, ◌∙◌, subst, codes, decimal, arith, ◌≤◌, length, true, false, length-append}
+use Rattle.std.proofs.lemmas.Bool.{ltb-false}
 use Rattle.command_types.specs.declared.ask.Entry.{Entry}
 use Rattle.command_types.specs.declared.spelling.Spelling.TheVariants.{Second}
 use Rattle.record_codec.specs.Reading.{read_record}
 use Rattle.units_core.specs.declared.limits.TheConstants.{MOST_NUMBER, MOST_JOURNAL}
 use Rattle.standby_wire.specs.Seen.{Seen}
 use Rattle.standby_wire.specs.declared.stop.Stop.TheVariants.{More, Bad}
-use Rattle.standby_wire.specs.Words.{nothing}
+use Rattle.standby_wire.specs.Words.{nothing, word}
 use Rattle.standby_wire.specs.Refusals.{state_word, phase_word, spaced_number, spaced_day, spaced_name, spaced_pair, clash_word, product_clash, posting_fault, value_word, named, low_refusal, middle_refusal, high_refusal, refusal, refused}
-use Rattle.standby_wire.specs.Replies.{greeted, entry_or_bad, record_at, entry_behind, nothing_more, none_at, offered, accepted, refused_reply, not_accepted, reply_to}
+use Rattle.standby_wire.specs.Replies.{greeted, entry_or_bad, record_at, entry_behind, nothing_more, none_at, offered, same_bytes, same_entry, accepted, refused_reply, not_accepted, reply_to}
 use Rattle.standby_wire.specs.declared.values.Value.{Value}
 use Rattle.standby_wire.specs.declared.values.Value.TheVariants.{Nothing, Number, Day, State, Phase, Clash}
 use Rattle.standby_wire.specs.declared.reply.Question.{Question}
-use Rattle.standby_wire.specs.declared.reply.Question.TheVariants.{Hello, Next}
+use Rattle.standby_wire.specs.declared.reply.Question.TheVariants.{Hello, Next, Again}
 use Rattle.standby_wire.specs.declared.reply.Reply.{Reply}
 use Rattle.standby_wire.specs.declared.reply.Reply.TheVariants as replies
+use Rattle.standby_wire.proofs.WordFacts.{is_not_below}
 use Rattle.standby_wire.proofs.ReaderFacts.{IsBehind, Goes, IsReader, then_reads, done_reads, never_reads, if_reads, test_goes, word_reads, number_reads, name_reads, judged_reads, day_reads}
 
 nothing_reads : IsReader nothing
@@ -170,10 +172,35 @@ offered_reads : (position : ℕ) → IsReader (offered position)
 unfolding offered
 offered_reads position = then_reads (number_reads MOST_NUMBER) (λ at. if_reads (codes " entry ") (entry_reads position) (none_reads position at))
 
+-- where as many bytes are there, more change nothing
+module _ (bytes : List ℕ) where
+  bytes_long : (input more : List ℕ) → nat_lt (length input) (length bytes) ≡ false → same_bytes bytes (input ++ more) ≡ word bytes (input ++ more)
+  unfolding same_bytes
+  bytes_long input more enough =
+      let le : length bytes ≤ length input = ltb-false (length input) (length bytes) enough in
+      ap (λ b. cond b (Err More) (word bytes (input ++ more))) (is_not_below (length (input ++ more)) (length bytes) (let l = length-append input more in omega arith))
+
+  by_count : (b : Bool) (input more : List ℕ) → nat_lt (length input) (length bytes) ≡ b
+      → Goes (cond b (Err More) (word bytes input)) input more (same_bytes bytes (input ++ more))
+  by_count true input more short = tt
+  by_count false input more enough = subst (λ (v : Seen (Unit {0})). Goes (word bytes input) input more v) (sym (bytes_long input more enough)) ((word_reads bytes).goes input more)
+
+  bytes_reads : IsReader (same_bytes bytes)
+  unfolding same_bytes
+  bytes_reads = record { goes = λ input more. by_count (nat_lt (length input) (length bytes)) input more refl }
+
+same_reads : (position : ℕ) (bytes : List ℕ) → IsReader (same_entry position bytes)
+unfolding same_entry
+same_reads position bytes =
+    then_reads (number_reads MOST_NUMBER) (λ _. then_reads (word_reads (codes " entry ")) (λ _. then_reads (word_reads (decimal (position + 1))) (λ _.
+    then_reads (word_reads (codes " ")) (λ _. then_reads (word_reads (decimal (length bytes))) (λ _. then_reads (word_reads (codes "\n")) (λ _.
+    then_reads (bytes_reads bytes) (λ _. then_reads (word_reads (codes "\n")) (λ _. done_reads replies.Same))))))))
+
 accepted_reads : (question : Question) → IsReader (accepted question)
 unfolding accepted
 accepted_reads (Hello name) = greeted_reads name
 accepted_reads (Next position) = offered_reads position
+accepted_reads (Again position bytes) = same_reads position bytes
 
 refused_reply_reads : IsReader refused_reply
 unfolding refused_reply

@@ -17,8 +17,8 @@ use Rattle.record_codec.proofs.RecordReading.{read_again}
 use Rattle.standby_wire.specs.Seen.{Seen, ◌>>=◌}
 use Rattle.standby_wire.specs.declared.stop.Stop.TheVariants.{More, Bad}
 use Rattle.standby_wire.specs.Words.{word, if_word, digits, number}
-use Rattle.standby_wire.specs.Replies.{greeted, entry_or_bad, record_at, entry_behind, nothing_more, none_at, offered, accepted, reply_to}
-use Rattle.standby_wire.specs.declared.reply.Question.TheVariants.{Hello, Next}
+use Rattle.standby_wire.specs.Replies.{greeted, entry_or_bad, record_at, entry_behind, nothing_more, none_at, offered, same_bytes, same_entry, accepted, reply_to}
+use Rattle.standby_wire.specs.declared.reply.Question.TheVariants.{Hello, Next, Again}
 use Rattle.standby_wire.specs.declared.reply.Reply.{Reply}
 use Rattle.standby_wire.specs.declared.reply.Reply.TheVariants as replies
 use Rattle.standby_wire.proofs.WordFacts.{is_same, is_other, is_not_below}
@@ -111,7 +111,7 @@ module _ (rows : Rows) (at : ℕ) (more : List ℕ) (small : at ≤ MOST_NUMBER)
   abbrev offered_on : ℕ → ℕ × List ℕ → Seen Reply
   offered_on position x = if_word (codes " entry ") (entry_behind position) (none_at position x.0) x.1
 
-  none_shape : reply_text rows (record { at = at; answer = answers.NoNext }) ++ more ≡ codes "ok " ++ (decimal at ++ (codes " none\n" ++ more))
+  pub none_shape : reply_text rows (record { at = at; answer = answers.NoNext }) ++ more ≡ codes "ok " ++ (decimal at ++ (codes " none\n" ++ more))
   none_shape = simp append_assoc
 
   pub none_read : reply_to (Next at) (reply_text rows (record { at = at; answer = answers.NoNext }) ++ more) ≡ Ok (replies.Nothing, more)
@@ -120,6 +120,56 @@ module _ (rows : Rows) (at : ℕ) (more : List ℕ) (small : at ≤ MOST_NUMBER)
       ap (reply_to (Next at)) none_shape
       ∙ ap (λ (r : Seen ℕ). r >>= offered_on at) (number_back MOST_NUMBER at 32 (codes "none\n" ++ more) few small refl)
       ∙ ap (λ b. cond b (nothing_more (codes " none\n" ++ more)) (Err Bad)) (is_same at at refl)
+
+  -- an entry's reply, by its place, its length and its bytes
+  module _ (position : ℕ) (bytes : List ℕ) where
+    -- the place, the length, the bytes, and what comes behind
+    abbrev pub behind_entry : List ℕ
+    behind_entry = decimal (position + 1) ++ (32 ∷ (decimal (length bytes) ++ (10 ∷ (bytes ++ (10 ∷ more)))))
+
+    pub entry_shape : reply_text rows (record { at = at; answer = answers.EntryBytes (position + 1) bytes }) ++ more ≡ codes "ok " ++ (decimal at ++ (codes " entry " ++ behind_entry))
+    entry_shape =
+        ap (λ v. codes "ok " ++ v) (parts (decimal at) (codes " entry" ++ numbers_text (position + 1) (length bytes)) (codes "\n") bytes more)
+        ∙ ap (λ v. codes "ok " ++ (decimal at ++ (codes " entry " ++ v)))
+        (spaced (decimal (position + 1)) (decimal (length bytes)) (codes "\n" ++ (bytes ++ (codes "\n" ++ more))))
+
+    bytes_back : (rest : List ℕ) → same_bytes bytes (bytes ++ rest) ≡ Ok (tt, rest)
+    unfolding same_bytes
+    bytes_back rest =
+        ap (λ b. cond b (Err More) (word bytes (bytes ++ rest))) (is_not_below (length (bytes ++ rest)) (length bytes) (let l = length-append bytes rest in omega arith))
+        ∙ word_back bytes rest
+
+    abbrev pub same_on : Unit {0} × List ℕ → Seen Reply
+    same_on same = do
+      end ← word (codes "\n") same.1
+      Ok (replies.Same, end.1)
+
+    abbrev pub length_on : Unit {0} × List ℕ → Seen Reply
+    length_on size = do
+      head ← word (codes "\n") size.1
+      same ← same_bytes bytes head.1
+      same_on same
+
+    abbrev pub place_on : Unit {0} × List ℕ → Seen Reply
+    place_on place = do
+      gap ← word (codes " ") place.1
+      size ← word (decimal (length bytes)) gap.1
+      length_on size
+
+    abbrev pub told_on : ℕ × List ℕ → Seen Reply
+    told_on told = do
+      kind ← word (codes " entry ") told.1
+      place ← word (decimal (position + 1)) kind.1
+      place_on place
+
+    pub same_read : reply_to (Again position bytes) (reply_text rows (record { at = at; answer = answers.EntryBytes (position + 1) bytes }) ++ more) ≡ Ok (replies.Same, more)
+    unfolding reply_to accepted same_entry word
+    same_read =
+        ap (reply_to (Again position bytes)) entry_shape
+        ∙ ap (λ (r : Seen ℕ). r >>= told_on) (number_back MOST_NUMBER at 32 (codes "entry " ++ behind_entry) few small refl)
+        ∙ ap (λ (r : Seen (Unit {0})). r >>= place_on) (word_back (decimal (position + 1)) (32 ∷ (decimal (length bytes) ++ (10 ∷ (bytes ++ (10 ∷ more))))))
+        ∙ ap (λ (r : Seen (Unit {0})). r >>= length_on) (word_back (decimal (length bytes)) (10 ∷ (bytes ++ (10 ∷ more))))
+        ∙ ap (λ (r : Seen (Unit {0})). r >>= same_on) (bytes_back (10 ∷ more))
 
   module _ (position : ℕ) (bytes : List ℕ) (entry : Entry) (fits : length bytes ≤ MOST_JOURNAL) (spells : Spells Second bytes entry) where
     record_back : (rest : List ℕ) → record_at (length bytes) (bytes ++ rest) ≡ Ok (entry, rest)
@@ -152,17 +202,7 @@ module _ (rows : Rows) (at : ℕ) (more : List ℕ) (small : at ≤ MOST_NUMBER)
       end ← word (codes "\n") entry.1
       Ok (replies.Entry entry.0, end.1)
 
-    -- the place, the length, the bytes, and what comes behind
-    abbrev behind_entry : List ℕ
-    behind_entry = decimal (position + 1) ++ (32 ∷ (decimal (length bytes) ++ (10 ∷ (bytes ++ (10 ∷ more)))))
-
-    entry_shape : reply_text rows (record { at = at; answer = answers.EntryBytes (position + 1) bytes }) ++ more ≡ codes "ok " ++ (decimal at ++ (codes " entry " ++ behind_entry))
-    entry_shape =
-        ap (λ v. codes "ok " ++ v) (parts (decimal at) (codes " entry" ++ numbers_text (position + 1) (length bytes)) (codes "\n") bytes more)
-        ∙ ap (λ v. codes "ok " ++ (decimal at ++ (codes " entry " ++ v)))
-        (spaced (decimal (position + 1)) (decimal (length bytes)) (codes "\n" ++ (bytes ++ (codes "\n" ++ more))))
-
-    behind_read : entry_behind position behind_entry ≡ Ok (replies.Entry entry, more)
+    behind_read : entry_behind position (behind_entry position bytes) ≡ Ok (replies.Entry entry, more)
     unfolding entry_behind word
     behind_read =
         ap (λ (r : Seen (Unit {0})). r >>= placed_on) (word_back (decimal (position + 1)) (32 ∷ (decimal (length bytes) ++ (10 ∷ (bytes ++ (10 ∷ more))))))
@@ -172,6 +212,6 @@ module _ (rows : Rows) (at : ℕ) (more : List ℕ) (small : at ≤ MOST_NUMBER)
     pub entry_read : reply_to (Next position) (reply_text rows (record { at = at; answer = answers.EntryBytes (position + 1) bytes }) ++ more) ≡ Ok (replies.Entry entry, more)
     unfolding reply_to accepted offered word
     entry_read =
-        ap (reply_to (Next position)) entry_shape
-        ∙ ap (λ (r : Seen ℕ). r >>= offered_on position) (number_back MOST_NUMBER at 32 (codes "entry " ++ behind_entry) few small refl)
+        ap (reply_to (Next position)) (entry_shape position bytes)
+        ∙ ap (λ (r : Seen ℕ). r >>= offered_on position) (number_back MOST_NUMBER at 32 (codes "entry " ++ behind_entry position bytes) few small refl)
         ∙ behind_read

@@ -12,7 +12,7 @@ use Rattle.command_types.specs.Spelling.{Spells}
 use Rattle.standby_wire.specs.declared.stop.Stop.TheVariants.{Bad}
 use Rattle.standby_wire.specs.Replies.{reply_to}
 use Rattle.standby_wire.specs.declared.reply.Question.{Question}
-use Rattle.standby_wire.specs.declared.reply.Question.TheVariants.{Hello, Next}
+use Rattle.standby_wire.specs.declared.reply.Question.TheVariants.{Hello, Next, Again}
 use Rattle.standby_wire.specs.declared.reply.Reply.{Reply}
 use Rattle.standby_wire.specs.declared.reply.Reply.TheVariants as replies
 
@@ -26,7 +26,7 @@ pub record ReadingStays : Type 0 where
       (question : Question) (reply : Reply) (input rest : List ℕ)
       → reply_to question input ≡ Ok (reply, rest) → (text : List ℕ) × (input ≡ text ++ rest)
 
--- What a primary writes is read, whatever comes behind it: a greeting, that there is no entry, and an entry by the bytes that spell it.
+-- What a primary writes is read, whatever comes behind it: a greeting, that there is no entry, an entry by the bytes that spell it, and the same entry by its bytes.
 pub record WritingIsRead : Type 0 where
   pub hello :
       (rows : Rows) (at : ℕ) (name more : List ℕ) → at ≤ MOST_NUMBER
@@ -37,6 +37,19 @@ pub record WritingIsRead : Type 0 where
   pub entry :
       (rows : Rows) (at position : ℕ) (bytes : List ℕ) (entry : Entry) (more : List ℕ) → at ≤ MOST_NUMBER → length bytes ≤ MOST_JOURNAL → Spells Second bytes entry
       → reply_to (Next position) (reply_text rows (record { at = at; answer = answers.EntryBytes (position + 1) bytes }) ++ more) ≡ Ok (replies.Entry entry, more)
+  pub same :
+      (rows : Rows) (at position : ℕ) (bytes more : List ℕ) → at ≤ MOST_NUMBER
+      → reply_to (Again position bytes) (reply_text rows (record { at = at; answer = answers.EntryBytes (position + 1) bytes }) ++ more) ≡ Ok (replies.Same, more)
+
+-- Of what a primary writes behind a NEXT, only the entry with the same bytes is read as the one that was told before.
+pub record OnlyTheSameIsRead : Type 0 where
+  pub none :
+      (rows : Rows) (at position : ℕ) (own more : List ℕ) (reply : Reply) (rest : List ℕ) → at ≤ MOST_NUMBER
+      → reply_to (Again position own) (reply_text rows (record { at = at; answer = answers.NoNext }) ++ more) ≡ Ok (reply, rest) → ⊥
+  pub entry :
+      (rows : Rows) (at position : ℕ) (own bytes more : List ℕ) (reply : Reply) (rest : List ℕ) → at ≤ MOST_NUMBER → length own ≤ MOST_JOURNAL → length bytes ≤ MOST_JOURNAL
+      → reply_to (Again position own) (reply_text rows (record { at = at; answer = answers.EntryBytes (position + 1) bytes }) ++ more) ≡ Ok (reply, rest)
+      → (own ≡ bytes) × (reply ≡ replies.Same) × (rest ≡ more)
 
 -- The number of a refusal that a primary may answer a HELLO or a NEXT with.
 abbrev pub number_of : Refusal → Option ℕ

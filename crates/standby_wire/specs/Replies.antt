@@ -10,7 +10,7 @@ use Rattle.standby_wire.specs.declared.stop.Stop.TheVariants.{More, Bad}
 use Rattle.standby_wire.specs.Words.{word, if_word, number}
 use Rattle.standby_wire.specs.Refusals.{refused}
 use Rattle.standby_wire.specs.declared.reply.Question.{Question}
-use Rattle.standby_wire.specs.declared.reply.Question.TheVariants.{Hello, Next}
+use Rattle.standby_wire.specs.declared.reply.Question.TheVariants.{Hello, Next, Again}
 use Rattle.standby_wire.specs.declared.reply.Reply.{Reply}
 use Rattle.standby_wire.specs.declared.reply.Reply.TheVariants as replies
 
@@ -57,9 +57,27 @@ offered position input = do
   at ← number MOST_NUMBER input
   if_word (codes " entry ") (entry_behind position) (none_at position at.0) at.1
 
+-- these bytes, which are judged when as many are there
+unfoldable pub same_bytes : List ℕ → List ℕ → Seen (Unit {0})
+same_bytes bytes input = if nat_lt (length input) (length bytes) then Err More else word bytes input
+
+-- behind `ok `: a position, and the entry behind one, which has these bytes
+unfoldable pub same_entry : ℕ → List ℕ → List ℕ → Seen Reply
+same_entry position bytes input = do
+  at ← number MOST_NUMBER input
+  kind ← word (codes " entry ") at.1
+  place ← word (decimal (position + 1)) kind.1
+  gap ← word (codes " ") place.1
+  size ← word (decimal (length bytes)) gap.1
+  head ← word (codes "\n") size.1
+  same ← same_bytes bytes head.1
+  end ← word (codes "\n") same.1
+  Ok (replies.Same, end.1)
+
 unfoldable pub accepted : Question → List ℕ → Seen Reply
 accepted (Hello name) input = greeted name input
 accepted (Next position) input = offered position input
+accepted (Again position bytes) input = same_entry position bytes input
 
 unfoldable pub refused_reply : List ℕ → Seen Reply
 refused_reply input = do
@@ -75,15 +93,14 @@ not_accepted input = do
 unfoldable pub reply_to : Question → List ℕ → Seen Reply
 reply_to question input = if_word (codes "ok ") (accepted question) not_accepted input
 
--- the reply is one to the question: a greeting to a HELLO, an entry that is a change or none to a NEXT, and a refusal to both
+-- the reply is one to the question: a greeting to a HELLO, an entry that is a change or none to a NEXT, the same entry to one that asks for it again, and a refusal to all
 abbrev pub IsFor : Reply → Question → Type 0
 IsFor (replies.Refused number) question = Unit {0}
 IsFor replies.Greeted (Hello name) = Unit {0}
-IsFor replies.Greeted (Next position) = ⊥
-IsFor replies.Nothing (Hello name) = ⊥
 IsFor replies.Nothing (Next position) = Unit {0}
-IsFor (replies.Entry entry) (Hello name) = ⊥
 IsFor (replies.Entry entry) (Next position) = IsTrue (changes entry.ask.what)
+IsFor replies.Same (Again position bytes) = Unit {0}
+IsFor reply question = ⊥
 
 -- to each question
 abbrev pub IsForAny : Reply → Type 0

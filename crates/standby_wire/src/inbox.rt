@@ -1,6 +1,6 @@
 //! The way in: replies as they come from a source.
 ghost use Rattle.std.specs.Prelude.{◌≡◌, ◌≤◌, ◌<◌, ◌-◌, ◌^◌, [], length, IfOk, OnErr, Err};
-ghost use Rattle.outside.specs.Faults.{Rose};
+ghost use Rattle.outside.specs.Faults.{CountsWhere};
 ghost use Rattle.standby_wire.specs.Gives.{Gives};
 ghost use Rattle.standby_wire.specs.Replies.{reply_to, IsFor};
 ghost use Rattle.standby_wire.specs.Taking.{moved_on, Waits, Fills};
@@ -102,8 +102,7 @@ impl Inbox {
     fn fill<S: Source>(&mut self, source: &mut S) -> Result<bool, WaitFault>
         ensures fills { Fills self.old self.new (S.flow source.old) (S.flow source.new) result }
         ensures few { length self.new.bytes < 2 ^ 64 }
-        ensures why { result ≡ Err WaitFault.SourceFault → Rose (S.faults source.old) (S.faults source.new) }
-        ensures never_falls { S.faults source.old ≤ S.faults source.new }
+        ensures counts { CountsWhere (result ≡ Err WaitFault.SourceFault) (S.faults source.old) (S.faults source.new) }
     {
         self.forget();
         if self.bytes.reserve(PIECE).is_err() {
@@ -130,8 +129,7 @@ impl Inbox {
     ) -> Result<Reply, WaitFault>
         ensures waits { Waits question.now self.old self.new (S.flow source.old) (S.flow source.new) result }
         ensures fits { IfOk result (λ reply. IsFor reply question.now) }
-        ensures why { result ≡ Err WaitFault.SourceFault → Rose (S.faults source.old) (S.faults source.new) }
-        ensures never_falls { S.faults source.old ≤ S.faults source.new }
+        ensures counts { CountsWhere (result ≡ Err WaitFault.SourceFault) (S.faults source.old) (S.faults source.new) }
     {
         loop {
             match self.read(question) {

@@ -14,7 +14,7 @@ mod words;
 
 pub use hearing::Hearing;
 pub use inbox::{Inbox, WaitFault};
-pub use laws::{reading_stays, refusals_are_read, writing_is_read};
+pub use laws::{only_the_same_is_read, reading_stays, refusals_are_read, writing_is_read};
 pub use lines::{write_bye, write_hello, write_next};
 pub use replies::reply_to;
 pub use reply::{Question, Reply};

@@ -1,6 +1,6 @@
 //! Lines as a standby writes them.
 ghost use Rattle.std.specs.Prelude.{◌≡◌, ◌≤◌, take, OnOk, OnErr};
-ghost use Rattle.outside.specs.Faults.{Rose};
+ghost use Rattle.outside.specs.Faults.{CountsFault};
 ghost use Rattle.outside.specs.Flow.{Takes, TakesFront};
 ghost use Rattle.standby_wire.specs.Lines.{hello_line, next_line, bye_line};
 
@@ -35,8 +35,7 @@ fn put_next(into: &mut [u8; ROOM], position: u64) -> usize
 pub fn write_hello<K: Sink>(sink: &mut K, name: &Name, key: &Name) -> Result<(), Failed>
     ensures takes { OnOk result (Takes (K.taken sink.old) (K.taken sink.new) (hello_line name.now key.now)) }
     ensures front { OnErr result (TakesFront (K.taken sink.old) (K.taken sink.new) (hello_line name.now key.now)) }
-    ensures never_falls { K.faults sink.old ≤ K.faults sink.new }
-    ensures failed { OnErr result (Rose (K.faults sink.old) (K.faults sink.new)) }
+    ensures counts { CountsFault result (K.faults sink.old) (K.faults sink.new) }
 {
     let mut line = [0; ROOM];
     let end = put_hello(&mut line, name, key);
@@ -47,8 +46,7 @@ pub fn write_hello<K: Sink>(sink: &mut K, name: &Name, key: &Name) -> Result<(),
 pub fn write_next<K: Sink>(sink: &mut K, position: u64) -> Result<(), Failed>
     ensures takes { OnOk result (Takes (K.taken sink.old) (K.taken sink.new) (next_line position)) }
     ensures front { OnErr result (TakesFront (K.taken sink.old) (K.taken sink.new) (next_line position)) }
-    ensures never_falls { K.faults sink.old ≤ K.faults sink.new }
-    ensures failed { OnErr result (Rose (K.faults sink.old) (K.faults sink.new)) }
+    ensures counts { CountsFault result (K.faults sink.old) (K.faults sink.new) }
 {
     let mut line = [0; ROOM];
     let end = put_next(&mut line, position);
@@ -59,8 +57,7 @@ pub fn write_next<K: Sink>(sink: &mut K, position: u64) -> Result<(), Failed>
 pub fn write_bye<K: Sink>(sink: &mut K) -> Result<(), Failed>
     ensures takes { OnOk result (Takes (K.taken sink.old) (K.taken sink.new) bye_line) }
     ensures front { OnErr result (TakesFront (K.taken sink.old) (K.taken sink.new) bye_line) }
-    ensures never_falls { K.faults sink.old ≤ K.faults sink.new }
-    ensures failed { OnErr result (Rose (K.faults sink.old) (K.faults sink.new)) }
+    ensures counts { CountsFault result (K.faults sink.old) (K.faults sink.new) }
 {
     write_all(sink, b"BYE\n")
 }

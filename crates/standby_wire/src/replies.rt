@@ -1,8 +1,8 @@
 //! Replies that may stand where a standby waits for one.
-ghost use Rattle.std.specs.Prelude.{◌≡◌, ◌+◌, ◌≤◌, drop, decimal, IfOk, IsTrue};
+ghost use Rattle.std.specs.Prelude.{◌≡◌, ◌+◌, ◌≤◌, drop, decimal, length, IfOk, IsTrue};
 ghost use Rattle.command_types.specs.Machine.{changes};
 ghost use Rattle.standby_wire.specs.Gives.{seen, Gives};
-ghost use Rattle.standby_wire.specs.Replies.{greeted, record_at, entry_behind, none_at, offered, accepted, not_accepted, reply_to, IsFor, IsForAny};
+ghost use Rattle.standby_wire.specs.Replies.{greeted, record_at, entry_behind, none_at, offered, same_bytes, same_entry, accepted, not_accepted, reply_to, IsFor, IsForAny};
 ghost use Rattle.standby_wire.specs.Words.{word};
 ghost use Rattle.units_core.specs.declared.limits.TheConstants.{MOST_JOURNAL};
 
@@ -109,6 +109,43 @@ fn offered(alloc: Global, input: &[u8], at: &mut usize, position: u64) -> Result
     Ok(none_at(input, at, position, told)?)
 }
 
+// A length of so many bytes.
+fn length_told(input: &[u8], at: &mut usize, bytes: &[u8]) -> Result<(), Stop>
+    ensures { word (decimal (length bytes.now)) (drop at.old input.now) ≡ seen result (drop at.new input.now) }
+{
+    let mut buffer = Buffer::new();
+    word(input, at, buffer.format(bytes.len() as u64).as_bytes())
+}
+
+// These bytes, which are judged when as many are there.
+#[tactic(auto, using(crate::proofs::ReplyFacts::same_short, crate::proofs::ReplyFacts::same_long))]
+fn same_bytes(input: &[u8], at: &mut usize, bytes: &[u8]) -> Result<(), Stop>
+    ensures { same_bytes bytes.now (drop at.old input.now) ≡ seen result (drop at.new input.now) }
+{
+    let left = input.len().saturating_sub(*at);
+    if left < bytes.len() {
+        return Err(Stop::More);
+    }
+    word(input, at, bytes)
+}
+
+// Behind `ok `: a position, and the entry behind one, which has these bytes.
+#[tactic(auto, unfolding(crate::specs::Replies::same_entry))]
+fn same_entry(input: &[u8], at: &mut usize, position: u64, bytes: &[u8]) -> Result<Reply, Stop>
+    ensures gives { same_entry position bytes.now (drop at.old input.now) ≡ seen result (drop at.new input.now) }
+    ensures fits { IfOk result (λ reply. IsFor reply (Question.Again position bytes.now)) }
+{
+    let _told = number(input, at, MOST_NUMBER)?;
+    word(input, at, b" entry ")?;
+    place_behind(input, at, position)?;
+    word(input, at, b" ")?;
+    length_told(input, at, bytes)?;
+    word(input, at, b"\n")?;
+    same_bytes(input, at, bytes)?;
+    word(input, at, b"\n")?;
+    Ok(Reply::Same)
+}
+
 #[tactic(auto, unfolding(crate::specs::Replies::accepted))]
 fn accepted(
     alloc: Global,
@@ -122,6 +159,7 @@ fn accepted(
     match question {
         Question::Hello { name } => Ok(greeted(input, at, name)?),
         Question::Next { position } => offered(alloc, input, at, *position),
+        Question::Again { position, bytes } => Ok(same_entry(input, at, *position, bytes.rows())?),
     }
 }
 

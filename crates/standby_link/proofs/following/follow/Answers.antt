@@ -1,9 +1,14 @@
-use Rattle.std.proofs.Common.{◌∙◌, refl, sym, ap, subst, inl, inr}
+use Rattle.std.proofs.Common.{◌∙◌, Some, refl, sym, ap, subst, inl, inr}
+use Rattle.house.specs.House.{HouseView}
+use Rattle.house.proofs.CallingFacts.{none_of}
+use Rattle.standby.specs.Ending.{SaysLines}
+use Rattle.standby.specs.Following.{FollowsTo}
 use Rattle.standby_wire.specs.Replied.{HeardView, HearingView, hearing_over, IsHearing}
-use Rattle.standby_link.specs.Wire.{WireStart, WireView, IsWire, wire_over}
-use Rattle.standby_link.specs.Followed.{Streams, streams_of}
+use Rattle.standby_link.specs.Followed.{Streams, FollowsOver, streams_by}
+use Rattle.standby_link.specs.Read.{offers_of}
+use Rattle.standby_link.specs.Wire.{WireStart, WireView, wire_by}
+use Rattle.standby_link.proofs.FollowedFacts.{parted, followed}
 use Rattle.standby_link.proofs.WireFacts.{first_wire}
-use Rattle.standby_link.proofs.FollowedFacts.{greeted, follows_counted}
 use Rattle.standby_link.proofs.following.follow.Goals as goal
 
 pub returns-in-Some-clause-follows : goal.returns-in-Some-clause-follows
@@ -21,33 +26,56 @@ returns-in-Some-clause-follows g c =
       same = refl;
     })
 
-pub returns-clause-follows : goal.returns-clause-follows
-returns-clause-follows g c =
-    let flow = g.S.Source.flow in
-    let faults_in = g.S.Source.faults in
-    let taken = g.K.Sink.taken in
-    let faults_out = g.K.Sink.faults in
+pub compare-requires-clause-is : goal.compare-requires-clause-is
+compare-requires-clause-is g c =
+    let wire = c.new-wire.ensures in
+    let before = c.greet.new.source in
+    let w0 : WireView = wire_by g.S.Source g.K.Sink c.new-wire.result before c.greet.new.sink in
+    let heard = ap (λ (v : HeardView). hearing_over v (g.S.Source.flow before) (g.S.Source.faults before)) wire.hearing in
+    first_wire w0 wire.said wire.cut wire.last (heard ∙ sym (ap (λ (s : WireStart). s.hearing) wire.start))
+    (sym (ap (λ (s : WireStart). s.taken) wire.start)) (sym (ap (λ (s : WireStart). s.sink_faults) wire.start))
+    (subst IsHearing (sym heard) (c.in-None.ensures.heard c.new-hearing.ensures.heard))
+
+pub returns-in-Some-compare-clause-follows : goal.returns-in-Some-compare-clause-follows
+returns-in-Some-compare-clause-follows g c =
+    let begun = c.new-hearing.ensures in
+    let met = c.in-None.ensures in
+    let wire = c.new-wire.ensures in
     let before = c.greet.new.source in
     let to = c.greet.new.sink in
-    let first : Streams = streams_of flow faults_in taken faults_out c.args.source.now c.args.sink.now in
-    let now : Streams = streams_of flow faults_in taken faults_out c.follow_over.new.source c.follow_over.new.sink in
+    let first : Streams = streams_by g.S.Source g.K.Sink c.args.source.now c.args.sink.now in
+    let now : Streams = streams_by g.S.Source g.K.Sink c.compare.new.source c.compare.new.sink in
+    let hearing : HearingView = hearing_over c.greet.new.hearing (g.S.Source.flow before) (g.S.Source.faults before) in
+    let w0 : WireView = wire_by g.S.Source g.K.Sink c.new-wire.result before to in
+    let w1 : WireView = wire_by g.S.Source g.K.Sink c.compare.new.wire c.compare.new.source c.compare.new.sink in
+    let heard = ap (λ (v : HeardView). hearing_over v (g.S.Source.flow before) (g.S.Source.faults before)) wire.hearing in
+    let house : HouseView = c.args.house.now in
+    let ended = parted c.args.login first w0 hearing (g.K.Sink.taken to) (g.K.Sink.faults to) wire.start
+    (record { first = met.same.0 ∙ begun.first.0; first_faults = met.same.1 ∙ begun.first.1 }) met.why met.greets met.never_falls wire.cut wire.said heard
+    house (none_of house.kept c.requires.runs) c.length-length.ensures.keeps w1 c.in-Some-compare.end c.in-Some-compare.ensures.compares in
+    subst (λ (v : HouseView). FollowsOver c.args.login first now house v c.in-Some-compare.end) (sym c.in-Some-compare.ensures.same) (inr (inl ended))
+
+pub returns-clause-follows : goal.returns-clause-follows
+returns-clause-follows g c =
     let begun = c.new-hearing.ensures in
     let met = c.in-None.ensures in
     let wire = c.new-wire.ensures in
     let over = c.follow_over.ensures in
-    let hearing : HearingView = hearing_over c.greet.new.hearing (flow before) (faults_in before) in
-    let w0 : WireView = wire_over c.new-wire.result (flow before) (faults_in before) (taken to) (faults_out to) in
-    let w : WireView = wire_over c.follow_over.new.peer now.flow now.source_faults now.taken now.sink_faults in
-    let heard = ap (λ (v : HeardView). hearing_over v (flow before) (faults_in before)) wire.hearing in
-    let is0 : IsWire w0 = first_wire w0 wire.said wire.cut wire.last (heard ∙ sym (ap (λ (s : WireStart). s.hearing) wire.start))
-    (sym (ap (λ (s : WireStart). s.taken) wire.start)) (sym (ap (λ (s : WireStart). s.sink_faults) wire.start))
-    (subst IsHearing (sym heard) (met.heard begun.heard)) in
-    inr (greeted c.args.login first now c.args.house.now c.follow_over.new.house c.follow_over.result w w0 (over.holds is0) over.stays hearing (taken to) (faults_out to) wire.start
-    (record { first = met.same.0 ∙ begun.first.0; first_faults = met.same.1 ∙ begun.first.1 })
-    met.why met.greets met.never_falls refl refl refl refl wire.cut over.cuts wire.said heard over.short over.follows over.lines over.because)
-
-pub returns-clause-counted : goal.returns-clause-counted
-returns-clause-counted g c =
-    let told = streams_of g.S.Source.flow g.S.Source.faults g.K.Sink.taken g.K.Sink.faults in
-    follows_counted c.args.login (told c.args.source.now c.args.sink.now) (told c.follow_over.new.source c.follow_over.new.sink) c.args.house.now c.follow_over.new.house c.follow_over.result
-    (returns-clause-follows g c)
+    let goes = c.in-None-compare.ensures.compares in
+    let before = c.greet.new.source in
+    let to = c.greet.new.sink in
+    let first : Streams = streams_by g.S.Source g.K.Sink c.args.source.now c.args.sink.now in
+    let hearing : HearingView = hearing_over c.greet.new.hearing (g.S.Source.flow before) (g.S.Source.faults before) in
+    let w0 : WireView = wire_by g.S.Source g.K.Sink c.new-wire.result before to in
+    let w1 : WireView = wire_by g.S.Source g.K.Sink c.compare.new.wire c.compare.new.source c.compare.new.sink in
+    let w : WireView = wire_by g.S.Source g.K.Sink c.follow_over.new.peer c.follow_over.new.source c.follow_over.new.sink in
+    let heard = ap (λ (v : HeardView). hearing_over v (g.S.Source.flow before) (g.S.Source.faults before)) wire.hearing in
+    let house : HouseView = c.args.house.now in
+    let new : HouseView = c.follow_over.new.house in
+    let same = c.in-None-compare.ensures.same in
+    inr (inr (followed c.args.login first w0 hearing (g.K.Sink.taken to) (g.K.Sink.faults to) wire.start
+    (record { first = met.same.0 ∙ begun.first.0; first_faults = met.same.1 ∙ begun.first.1 }) met.why met.greets met.never_falls wire.cut wire.said heard
+    house (none_of house.kept c.requires.runs) c.length-length.ensures.keeps w1 new w c.follow_over.result goes (over.holds goes.is) over.stays over.cuts over.short
+    (subst (λ (v : HouseView). FollowsTo v new w1.said w.said (offers_of w1.hearing.replied) (offers_of w.hearing.replied) (Some c.follow_over.result)) same over.follows)
+    (subst (λ (v : HouseView). SaysLines v new w1.said w.said (Some c.follow_over.result)) same over.lines)
+    over.because))

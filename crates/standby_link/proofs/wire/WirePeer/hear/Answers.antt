@@ -2,6 +2,7 @@ use Rattle.std.proofs.Common.{◌∙◌, ◌++◌, Some, refl, sym, ap, subst}
 use Rattle.standby.specs.Ending.{Came}
 use Rattle.standby.specs.Sent.{offers_in}
 use Rattle.standby_wire.specs.Replied.{HearingView, hearing_over}
+use Rattle.standby_wire.specs.declared.reply.Question.TheVariants.{Next}
 use Rattle.standby_link.specs.Read.{offers_of, IsCause}
 use Rattle.standby_link.specs.Wire.{WireParts, WireView, IsWire, wire_over}
 use Rattle.standby_link.specs.Wired.{parts_of}
@@ -36,6 +37,6 @@ returns-clause-holds g c sink h =
     (flow after) (faults_in after) (taken sink) (faults_out sink) in
     let asked = c.ask-answer.ensures in
     heard_wire old new held refl refl refl refl refl (asked.heard held.hearing)
-    (hears_on c.args.position c.due-due.result old.hearing new.hearing c.due-due.ensures asked.same old.start.hearing held.hears c.ask-answer.result asked.hears)
+    (hears_on old.hearing new.hearing asked.same (Next c.args.position) old.start.hearing held.hears c.ask-answer.result asked.hears)
     (subst (λ (x : Came). IsCause new.hearing x.position x.heard) (sym c.of.ensures)
     (cause_of c.args.position c.due-due.result old.hearing new.hearing c.due-due.ensures asked.same held.hearing.never_falls c.ask-answer.result c.told-came.result asked.hears c.told-came.ensures.tells))

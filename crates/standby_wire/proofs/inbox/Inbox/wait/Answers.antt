@@ -52,5 +52,5 @@ loop-reply-preserved g c =
       waits = waits_on c.args.question.now c.args.self.now c.loop-reply.self (flow c.args.source.now) (flow c.loop-reply.source) (flow c.fill.new.source) c.loop-reply.invariant.waits
           c.read.new.self c.fill.new.self c.in_ok-is_more.is_more more.ensures.stays
           (why_stopped _ _ _ c.read.new.self.bytes (reply_to c.args.question.now c.loop-reply.self.bytes) more.field-0-is more.field-0-0-is more.ensures.gives) is c.in_ok-is_more.ensures.fills;
-      never_falls = omega (arith, c.loop-reply.invariant.never_falls, c.fill.ensures.never_falls);
+      never_falls = omega (arith, c.loop-reply.invariant.never_falls, c.fill.ensures.counts.0);
     }

@@ -8,7 +8,7 @@ use Rattle.standby_link.specs.Written.{line_text, Writes}
 use Rattle.standby_link.specs.Wire.{WireStart, WireParts, WireView, IsWire, start_of, wire_over}
 use Rattle.standby_link.specs.Wired.{parts_of}
 use Rattle.standby_link.proofs.WireFacts.{writes_whole, writes_front, writes_no_more, rose_from, said_wire}
-use Rattle.standby_link.proofs.wire.WirePeer.say.Goals as goal
+use Rattle.standby_link.proofs.wire.Wire.tell.Goals as goal
 
 pub returns-then-self-clause-holds : goal.returns-then-self-clause-holds
 returns-then-self-clause-holds g c source h =
@@ -53,7 +53,7 @@ returns-then-is_err-2-clause-holds g c source h =
     let rose : Rose (faults_out c.args.sink.now) (faults_out c.write.new.sink) = search rules in
     let new : WireView = wire_over (parts_of i.login first (flow from) (faults_in from) (taken to) (faults_out to) c.note_said.new.log.items true i.hearing i.last)
     (flow source) (faults_in source) (taken c.write.new.sink) (faults_out c.write.new.sink) in
-    said_wire old new held refl refl refl c.write.ensures.never_falls
+    said_wire old new held refl refl refl c.write.ensures.counts.0
     (subst (λ (ss : List Sent). Writes i.login ss true start.taken (taken c.write.new.sink)) (sym more)
     (writes_front i.login (map sent_of i.said.items) sent i.cut start.taken (taken c.args.sink.now) (taken c.write.new.sink) c.if-self.false held.writes front))
     (λ is. rose_from start.sink_faults (faults_out c.args.sink.now) (faults_out c.write.new.sink) held.falls rose)
@@ -77,7 +77,7 @@ returns-clause-holds g c source h =
     let whole : Takes (taken c.args.sink.now) (taken c.write.new.sink) (line_text i.login c.args.line) = search rules in
     let new : WireView = wire_over (parts_of i.login first (flow from) (faults_in from) (taken to) (faults_out to) c.note_said.new.log.items i.cut i.hearing i.last)
     (flow source) (faults_in source) (taken c.write.new.sink) (faults_out c.write.new.sink) in
-    said_wire old new held refl refl refl c.write.ensures.never_falls
+    said_wire old new held refl refl refl c.write.ensures.counts.0
     (subst (λ (ss : List Sent). Writes i.login ss i.cut start.taken (taken c.write.new.sink)) (sym more)
     (writes_whole i.login (map sent_of i.said.items) sent i.cut start.taken (taken c.args.sink.now) (taken c.write.new.sink) c.if-self.false held.writes whole))
     (λ is. absurd (false≢true (sym c.if-self.false ∙ is)))
