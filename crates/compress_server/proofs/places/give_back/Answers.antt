@@ -20,7 +20,7 @@ take_back-requires g c = record {
 pub loop-place-preserved : goal.loop-place-preserved
 loop-place-preserved g c = (
   front_more g.L.Door.Door.visits g.L.Door.Door.faults (g.L.Listener.doors c.args.listener.now) (g.L.Listener.doors c.loop-place.listener) (g.L.Listener.doors c.take_back.new.self) (g.L.Listener.faults c.args.listener.now) (g.L.Listener.faults c.loop-place.listener)
-      (g.L.Listener.faults c.take_back.new.self) c.args.places.items c.loop-place.place-iterator.rest.items c.next.new.self.rest.items c.in-Some.place c.loop-place.invariant.0 c.in-Some.ensures.steps.0 c.take_back.ensures.returns c.take_back.ensures.never_falls c.take_back.ensures.failed,
+      (g.L.Listener.faults c.take_back.new.self) c.args.places.items c.loop-place.place-iterator.rest.items c.next.new.self.rest.items c.in-Some.place c.loop-place.invariant.0 c.in-Some.ensures.steps.0 c.take_back.ensures.returns c.take_back.ensures.counts.0 c.take_back.ensures.counts.1,
   c.take_back.ensures.waits ∙ c.loop-place.invariant.1,
 )
 

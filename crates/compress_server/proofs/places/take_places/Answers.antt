@@ -46,7 +46,7 @@ loop-preserved g c =
           (lends_planned (length places) (g.L.Listener.doors c.args.listener.now) (g.L.Listener.doors c.loop.listener) (g.L.Listener.doors c.door.new.self) (g.L.Door.Door.visits c.in_ok-door.door) inv.lends c.in_ok-door.ensures.lends)));
       new = subst (λ ps. All (λ p. IsNew (g.L.Door.Door.visits p.door) × (g.L.Door.Door.faults p.door ≡ 0)) ps) (sym pushed)
           (All-push (λ p. IsNew (g.L.Door.Door.visits p.door) × (g.L.Door.Door.faults p.door ≡ 0)) places place inv.new fresh);
-      faults = omega (arith, inv.faults, c.door.ensures.never_falls);
+      faults = omega (arith, inv.faults, c.door.ensures.counts.0);
       waits = c.door.ensures.waits ∙ inv.waits;
     }
 

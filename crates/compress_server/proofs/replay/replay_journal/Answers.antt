@@ -17,7 +17,7 @@ returns-then-is_err-2-clause-runs g c =
     (err_holds c.write_all.result c.is_err-2.result _ c.is_err-2.ensures.value c.if-is_err-2.true c.write_all.ensures.front)
 
 pub returns-then-is_err-2-clause-sink_fault : goal.returns-then-is_err-2-clause-sink_fault
-returns-then-is_err-2-clause-sink_fault g c = λ sink. err_holds c.write_all.result c.is_err-2.result _ c.is_err-2.ensures.value c.if-is_err-2.true c.write_all.ensures.failed
+returns-then-is_err-2-clause-sink_fault g c = λ sink. err_holds c.write_all.result c.is_err-2.result _ c.is_err-2.ensures.value c.if-is_err-2.true c.write_all.ensures.counts.1
 
 pub returns-clause-runs : goal.returns-clause-runs
 returns-clause-runs g c =

@@ -20,7 +20,7 @@ pub returns-in-Err-clause-serves : goal.returns-in-Err-clause-serves
 returns-in-Err-clause-serves g c =
     inl (unbegun_at_once g.L.Door.Door.visits c.args.self.now.words.now.address.now c.args.house _ _ _ _ c.in-Err.ensures.nothing
     (why_trouble c.in-Err.trouble c.end_of_trouble.result (Rose (g.L.Listener.faults c.args.listener.now) (g.L.Listener.faults c.bind.new.self)) c.end_of_trouble.ensures
-    (λ e. c.in-Err.ensures.failed (ap (λ t. Err t) e))))
+    (λ e. c.in-Err.ensures.counts.1 (ap (λ t. Err t) e))))
 
 pub returns-in-Err-take_places-clause-serves : goal.returns-in-Err-take_places-clause-serves
 returns-in-Err-take_places-clause-serves g c =
@@ -28,8 +28,8 @@ returns-in-Err-take_places-clause-serves g c =
     let told = c.in-Err-take_places.ensures in
     inl (unbegun_back g.L.Door.Door.visits c.args.self.now.words.now.address.now c.args.house c.args.house (output_of (g.K.Sink.taken c.args.output.now) (g.K.Sink.faults c.args.output.now)) (listener_of (g.L.Listener.doors c.args.listener.now) (faults c.args.listener.now)) (listener_of (g.L.Listener.doors c.give_back.new.listener) (faults c.give_back.new.listener)) (g.L.Listener.doors c.bind.new.self) (g.L.Listener.doors c.take_places.new.listener) c.take_places.new.places.items c.end_of_trouble-in-Err-take_places.result refl c.in_default-bind.ensures.binds told.lends c.give_back.ensures.returned (λ k other lt. (told.new k other lt).0)
     (why_trouble c.in-Err-take_places.trouble c.end_of_trouble-in-Err-take_places.result (Rose (faults c.args.listener.now) (faults c.give_back.new.listener)) c.end_of_trouble-in-Err-take_places.ensures
-    (λ e. rose_stays (faults c.args.listener.now) (faults c.take_places.new.listener) (faults c.give_back.new.listener) (omega (arith, c.in_default-bind.ensures.never_falls, told.never_falls)) c.give_back.ensures.never_falls
-    (rose_later (faults c.args.listener.now) (faults c.bind.new.self) (faults c.take_places.new.listener) c.in_default-bind.ensures.never_falls (told.failed (ap (λ t. Err t) e))))))
+    (λ e. rose_stays (faults c.args.listener.now) (faults c.take_places.new.listener) (faults c.give_back.new.listener) (omega (arith, c.in_default-bind.ensures.counts.0, told.never_falls)) c.give_back.ensures.never_falls
+    (rose_later (faults c.args.listener.now) (faults c.bind.new.self) (faults c.take_places.new.listener) c.in_default-bind.ensures.counts.0 (told.failed (ap (λ t. Err t) e))))))
 
 pub serve_house-requires-clause-new : goal.serve_house-requires-clause-new
 serve_house-requires-clause-new g c = λ κs within.
@@ -65,7 +65,7 @@ returns-in-Ok-serve_house-clause-serves g c =
           ∙ (ap (λ b. service_end (list_any (λ seat. had_no_memory seat.end) (runs_of places)) b c.is_stopped.result c.tell_history-written.result) (any_run visits had_door_fault places)
           ∙ ap (λ b. service_end (list_any (λ seat. had_no_memory seat.end) (runs_of places)) (list_any (λ seat. had_door_fault seat.end) (runs_of places)) b c.tell_history-written.result) c.is_stopped.ensures.stopped));
       counted = λ any.
-          rose_later (faults c.args.listener.now) (faults c.take_places.new.listener) (faults c.give_back-in-Ok-serve_house.new.listener) (omega (arith, c.in_default-bind.ensures.never_falls, told.never_falls))
+          rose_later (faults c.args.listener.now) (faults c.take_places.new.listener) (faults c.give_back-in-Ok-serve_house.new.listener) (omega (arith, c.in_default-bind.ensures.counts.0, told.never_falls))
           (failed (some_failed visits g.L.Door.Door.faults places out.counted (any_run visits had_door_fault places ∙ any)));
     })
 
