@@ -82,9 +82,17 @@ class Used(NamedTuple):
 
     @staticmethod
     def by(process: int) -> "Used":
-        tasks = list(Path(f"/proc/{process}/task").iterdir())
-        switches = [text for task in tasks for text in (task / "status").read_text().split("\n") if text.startswith("voluntary")]
-        return Used(sum(int(text.split()[1]) for text in switches), sum(int((task / "schedstat").read_text().split()[0]) for task in tasks))
+        tasks = [used for task in Path(f"/proc/{process}/task").iterdir() if (used := Used.of_task(task))]
+        return Used(sum(used.switches for used in tasks), sum(used.processor for used in tasks))
+
+    @staticmethod
+    def of_task(task: Path) -> "Used | None":
+        """What a thread has used; nothing, where it has ended meanwhile, as one of the echo server's."""
+        try:
+            switches = [text for text in (task / "status").read_text().split("\n") if text.startswith("voluntary")]
+            return Used(int(switches[0].split()[1]), int((task / "schedstat").read_text().split()[0]))
+        except (FileNotFoundError, ProcessLookupError):
+            return None
 
 
 def wait_for(port: int) -> None:

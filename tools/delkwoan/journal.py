@@ -90,6 +90,12 @@ def print_slots(file: bytes, lead: Lead) -> None:
         print(f"{place} slot {slot}: offset {offset}")
 
 
+def asked_text(record: Record, kind: Kind) -> str:
+    """When a change was asked, if that is told, by whom, and the change."""
+    asked = f"{moment_text(record.moment)}, " if kind is Kind.DATED else ""
+    return f"{asked}seat {record.seat}, {record.party}: {record.change}"
+
+
 def print_record(at: int, number: int, bytes: bytes, kind: Kind) -> Record | BadField:
     """A record in words; where it spells no change, that."""
     try:
@@ -97,8 +103,7 @@ def print_record(at: int, number: int, bytes: bytes, kind: Kind) -> Record | Bad
     except BadField as bad:
         print(f"{at} record {number}, {len(bytes)} bytes: spells no change at offset {at + 5 + bad.at}, {bad.what}")
         return bad
-    asked = f"{moment_text(record.moment)}, " if kind is Kind.DATED else ""
-    print(f"{at} record {number}, {len(bytes)} bytes: {asked}seat {record.seat}, {record.party}: {record.change}")
+    print(f"{at} record {number}, {len(bytes)} bytes: {asked_text(record, kind)}")
     for line in rows_of(record.change):
         print(line)
     return record

@@ -5,6 +5,9 @@ Every answer begins with its position, the history's length after the command. A
 
 from typing import Any, Callable, NamedTuple, TypeVar, get_type_hints, overload
 
+MOST_RECORD = 268_435_456
+"""The bytes of an entry."""
+
 
 class BadReply(Exception):
     """What came is no reply."""
@@ -251,13 +254,21 @@ class NoEntry(NamedTuple):
     position: int
 
 
+class Entry(NamedTuple):
+    """The change behind the position that was asked: its own position, and its record."""
+
+    position: int
+    place: int
+    record: bytes
+
+
 class Bye(NamedTuple):
     position: int
 
 
 Answer = (
     Hello | Traded | Live | Ending | Ended | Held | Freed | Tolerance | Nets | Market | Statement | Frozen | Begun | Limits
-    | Noted | Proposed | Nothing | Plan | Proof | Accepted | Executed | Declined | Cancelled | NoEntry | Bye
+    | Noted | Proposed | Nothing | Plan | Proof | Accepted | Executed | Declined | Cancelled | NoEntry | Entry | Bye
 )  # fmt: skip
 
 HEADS: dict[str, Callable[..., Answer]] = {
@@ -346,6 +357,25 @@ def count_of(head: str) -> int:
         return 0
     try:
         return int(words[-1])
+    except ValueError:
+        raise BadReply(head) from None
+
+
+def size_of(head: str) -> int | None:
+    """How many bytes follow a head line of an entry, with a line feed behind them; none where it is no entry's."""
+    words = head.split(" ")
+    if words[0] != "ok" or words[2:3] != ["entry"]:
+        return None
+    if len(words) != 5 or not (words[4].isascii() and words[4].isdigit()) or len(words[4]) > len(str(MOST_RECORD)) or int(words[4]) > MOST_RECORD:
+        raise BadReply(head)
+    return int(words[4])
+
+
+def entry_of(head: str, record: bytes) -> Entry:
+    """The answer that an entry's reply tells."""
+    try:
+        _, position, _, place, _ = head.split(" ")
+        return Entry(int(position), int(place), record)
     except ValueError:
         raise BadReply(head) from None
 

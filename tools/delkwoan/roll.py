@@ -8,13 +8,12 @@ bytes. They go into a file beside the new name, are synced, read again, and comp
 has it meanwhile. A tool that is killed leaves it as it was, and the new one whole or absent.
 """
 
-import fcntl
 import os
 import subprocess
 import tempfile
 from argparse import Namespace
 from pathlib import Path
-from typing import BinaryIO, NamedTuple, NoReturn
+from typing import NamedTuple, NoReturn
 
 from . import checker
 from .audit import Audit, names_of
@@ -24,6 +23,7 @@ from .client import found_program
 from .ending import FILE_FAULT, Stop, read_file, run
 from .frames import MOST_BYTES, Damaged, lead_of
 from .history import History, Moved
+from .placing import give_name, locked
 from .rolled import Differs, Told, check_base, numbers_of, told_of
 from .rolling import Obstacle, Period, journal_of
 from .words import Once, Words, text
@@ -67,18 +67,6 @@ class Rolled(NamedTuple):
     def __str__(self) -> str:
         left = len(self.before.rows) - len(self.numbers)
         return f"position {self.base.position}: trades {len(self.numbers)}, settings {len(self.base.settings)}; trades left out {left}"
-
-
-def locked(name: str) -> BinaryIO:
-    """A file that no other program has, as a service has its journal, until it is closed."""
-    try:
-        file = open(name, "rb")
-        fcntl.flock(file, fcntl.LOCK_EX | fcntl.LOCK_NB)
-    except BlockingIOError:
-        raise Stop(6, f"{name} is in use") from None
-    except (OSError, ValueError):
-        raise Stop(6, "disk fault") from None
-    return file
 
 
 def written_by(program: str, *words: str) -> bytes:
@@ -152,25 +140,6 @@ def write_map(name: str, numbers: list[tuple[int, int]]) -> None:
     except FileExistsError:
         raise Stop(11, f"{name} is there already") from None
     except (OSError, ValueError):
-        raise FILE_FAULT from None
-
-
-def sync_folder(folder: Path) -> None:
-    place = os.open(folder, os.O_RDONLY)
-    try:
-        os.fsync(place)
-    finally:
-        os.close(place)
-
-
-def give_name(part: str, new: Path) -> None:
-    """Gives a whole file its name, which no other file may have."""
-    try:
-        os.link(part, new)
-        sync_folder(new.parent)
-    except FileExistsError:
-        raise Stop(11, f"{new} is there already") from None
-    except OSError:
         raise FILE_FAULT from None
 
 

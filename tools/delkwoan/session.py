@@ -29,12 +29,12 @@ class LinkClosed(Exception):
 
 
 class Link(Protocol):
-    """What sends lines and gives lines, both with their line feed; an empty line given means the end."""
+    """What sends lines and gives lines, both with their line feed, or so many bytes; fewer, or an empty line, mean the end."""
 
     def send(self, line: bytes) -> None:
         ...
 
-    def give(self) -> bytes:
+    def give(self, size: int | None = None) -> bytes:
         ...
 
     def close(self) -> tuple[int, str]:
@@ -61,9 +61,9 @@ class ScriptLink:
         except OSError:
             pass  # the end is told where the reply is missing
 
-    def give(self) -> bytes:
+    def give(self, size: int | None = None) -> bytes:
         assert self.process.stdout is not None
-        return self.process.stdout.readline()
+        return self.process.stdout.readline() if size is None else self.process.stdout.read(size)
 
     def close(self) -> tuple[int, str]:
         """Ends the input, and gives the process's status and what it wrote to its errors."""
@@ -93,12 +93,12 @@ class TcpLink:
         except OSError:
             pass  # the end is told where the reply is missing
 
-    def give(self) -> bytes:
+    def give(self, size: int | None = None) -> bytes:
         try:
-            line = self.replies.readline()
+            line = self.replies.readline() if size is None else self.replies.read(size)
         except OSError:
             line = b""
-        self.is_lost = not line.endswith(b"\n")
+        self.is_lost = not line.endswith(b"\n") or (size is not None and len(line) < size)
         return line
 
     def close(self) -> tuple[int, str]:
@@ -140,7 +140,7 @@ class Session:
         return self.end_of_link
 
     def ask_raw(self, line: str) -> list[bytes]:
-        """The lines of the reply to a line."""
+        """The lines of the reply to a line; of an entry the head, and its record with a line feed."""
         if "\n" in line:
             raise ValueError("a line has no line feed in it")
         if self.end_of_link is not None:
@@ -148,20 +148,27 @@ class Session:
         self.link.send(line.encode(errors="surrogateescape") + b"\n")
         head = self.given()
         text = head.decode(errors="replace").rstrip("\n")
-        details = [self.given() for _ in range(replies.count_of(text))]
+        size = replies.size_of(text)
+        details = [self.given() for _ in range(replies.count_of(text))] if size is None else [self.given(size + 1)]
         self.position = replies.position_of(text)
         return [head, *details]
 
-    def given(self) -> bytes:
-        line = self.link.give()
-        if not line.endswith(b"\n"):
+    def given(self, size: int | None = None) -> bytes:
+        """A line, or so many bytes with a line feed as the last."""
+        line = self.link.give(size)
+        if size is not None and len(line) == size and not line.endswith(b"\n"):
+            raise replies.BadReply("no line feed behind an entry")
+        if not line.endswith(b"\n") or (size is not None and len(line) < size):
             raise LinkClosed(*self.close(), self.position)
         return line
 
     def ask(self, line: str) -> replies.Answer:
         """The answer to a line."""
-        head, *details = (line.decode(errors="replace")[:-1] for line in self.ask_raw(line))
-        return replies.answer_of(head, details)
+        head, *details = self.ask_raw(line)
+        text = head.decode(errors="replace")[:-1]
+        if replies.size_of(text) is not None:
+            return replies.entry_of(text, details[0][:-1])
+        return replies.answer_of(text, [line.decode(errors="replace")[:-1] for line in details])
 
     def command(self, *words: object) -> replies.Answer:
         """The answer to a command of these words, none of which is empty or has a space or a line's end."""
@@ -233,6 +240,10 @@ class Session:
 
     def cancel(self, cycle: int) -> replies.Cancelled:
         return expected(self.command("CANCEL", cycle), replies.Cancelled)
+
+    def next(self, position: int) -> replies.Entry | replies.NoEntry:
+        """The change behind a position."""
+        return expected(self.command("NEXT", position), replies.Entry, replies.NoEntry)
 
     def bye(self) -> replies.Bye:
         return expected(self.command("BYE"), replies.Bye)

@@ -6,8 +6,11 @@ from pathlib import Path
 from typing import Iterable
 
 from . import replies
+from .changes import rows_of
 from .ending import Stop
+from .journal import asked_text
 from .names import COMMANDS, OWN, Names, completions
+from .records import BadField, Kind, record_of
 from .session import CONNECTION_LOST, LinkClosed, Session
 
 def columns(rows: list[list[str]]) -> Iterable[str]:
@@ -58,13 +61,25 @@ def tables_of(answer: replies.Statement | replies.Limits | replies.Plan | replie
     yield from kinds.values()
 
 
+def entry_lines(record: bytes) -> Iterable[str]:
+    """The change of an entry in words."""
+    try:
+        told = record_of(record, Kind.DATED)
+    except BadField as bad:
+        raise replies.BadReply(f"an entry that spells no change at {bad}") from None
+    yield asked_text(told, Kind.DATED)
+    yield from rows_of(told.change)
+
+
 def shown(answer: replies.Answer) -> Iterable[str]:
     """An answer in columns: its name with its fields, and its rows."""
-    fields = [(name, value) for name, value in zip(answer._fields, answer) if name not in ("position", "rows")]
+    fields = [(name, value) for name, value in zip(answer._fields, answer) if name not in ("position", "rows", "record")]
     words = [f"{name.upper()} {cell(value)}" for name, value in fields]
     if isinstance(answer, WITH_ROWS):
         words.append(f"{len(answer.rows)} rows")
     yield "  ".join([f"[{answer.position}]", type(answer).__name__.lower(), *words])
+    if isinstance(answer, replies.Entry):
+        yield from entry_lines(answer.record)
     if isinstance(answer, WITH_ROWS):
         for rows in tables_of(answer):
             yield from columns(rows)

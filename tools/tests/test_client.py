@@ -16,7 +16,7 @@ sys.path.insert(0, str(TOOLS))
 
 from delkwoan import replies
 from delkwoan.names import COMMANDS, Names, completions
-from delkwoan.replies import BadReply, Refused, answer_of, count_of
+from delkwoan.replies import BadReply, Refused, answer_of, count_of, entry_of, size_of
 from delkwoan.session import LinkClosed, Session
 
 CLIENT = TOOLS / "client"
@@ -100,7 +100,21 @@ NO_REPLIES = [
 NO_REPLIES += ["yes 1 hello A", "ok 1 nets 1 2 x", "ok 1 frozen 1", "ok 1 bye 1", "ok 1 statement 1 1"]
 
 
+NO_ENTRIES = ["ok 4 entry 1", "ok 4 entry 1 x", "ok 4 entry 1 -1", "ok 4 entry 1 2 3", "ok 4 entry 1 268435457", "ok 4 entry 1 " + "0" * 10]
+
+
 class Values(unittest.TestCase):
+    def test_entries(self) -> None:
+        """How many bytes come behind a head, and the answer that both tell."""
+        for head, size in (("ok 4 entry 1 33", 33), ("ok 4 entry 1 268435456", 268_435_456), ("ok 4 none", None), ("no 4 31 gone 3", None), ("", None)):
+            self.assertEqual(size_of(head), size)
+        self.assertEqual(entry_of("ok 4 entry 1 3", b"\n\0 "), replies.Entry(4, 1, b"\n\0 "))
+        for head in NO_ENTRIES:
+            with self.subTest(head=head), self.assertRaises(BadReply):
+                size_of(head)
+        with self.assertRaises(BadReply):
+            entry_of("ok x entry 1 3", b"abc")
+
     def test_answers(self) -> None:
         for head, details, answer in ANSWERS:
             with self.subTest(head=head):

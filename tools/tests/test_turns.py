@@ -6,7 +6,7 @@ from holding import faults_of, held
 from serving import InService
 from turns import Lock, Wrong
 
-SECONDS = 4.0
+SECONDS = 60.0
 
 SIZES = [(2, 3, 1), (2, 3, 2), (3, 2, 2)]
 """Seats, calls of each, and bells; `turns.py` walks other sizes."""

@@ -1,0 +1,41 @@
+"""Files that no two programs may have, and names that are given once."""
+
+import fcntl
+import os
+from pathlib import Path
+from typing import BinaryIO
+
+from .ending import FILE_FAULT, Stop
+
+
+def locked(name: str) -> BinaryIO:
+    """A file that no other program has, as a service has its journal, until it is closed."""
+    try:
+        file = open(name, "rb")
+    except (OSError, ValueError):
+        raise Stop(6, "disk fault") from None
+    try:
+        fcntl.flock(file, fcntl.LOCK_EX | fcntl.LOCK_NB)
+    except OSError as fault:
+        file.close()
+        raise Stop(6, f"{name} is in use" if isinstance(fault, BlockingIOError) else "disk fault") from None
+    return file
+
+
+def sync_folder(folder: Path) -> None:
+    place = os.open(folder, os.O_RDONLY)
+    try:
+        os.fsync(place)
+    finally:
+        os.close(place)
+
+
+def give_name(part: str, new: Path) -> None:
+    """Gives a whole file its name, which no other file may have."""
+    try:
+        os.link(part, new)
+        sync_folder(new.parent)
+    except FileExistsError:
+        raise Stop(11, f"{new} is there already") from None
+    except OSError:
+        raise FILE_FAULT from None
