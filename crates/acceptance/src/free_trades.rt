@@ -114,7 +114,7 @@ impl FreeTrades {
                 rows.push(*row)?;
             }
         }
-        rows.sort_by_key(|row| trade_place(*row))?;
+        rows.sort_by_cached_key(|row| trade_place(*row))?;
         Ok(FreeTrades { rows })
     }
 
