@@ -83,7 +83,7 @@ not_its_name (Some row) name none = either (bytes_eq row.name name) refl
         absurd (false≢true (sym (or_parts (bytes_eq name row.name) false none).0 ∙ there))
 
 -- a member's name is not the operator's
-not_the_operators : (rows : Rows) (name : List ℕ) (member : ℕ) → IsRoster rows → member_place rows name ≡ Some member → is_operator rows name ≡ false
+pub not_the_operators : (rows : Rows) (name : List ℕ) (member : ℕ) → IsRoster rows → member_place rows name ≡ Some member → is_operator rows name ≡ false
 not_the_operators rows name member roster is =
     let found = position-Some (λ row. bytes_eq row.name name) rows.members member some_member is in
     let row = get_or rows.members member some_member in
