@@ -8,8 +8,7 @@ use Rattle.session.specs.Answered.{IsInputAnswered}
 use Rattle.seats.specs.declared.seat.SeatEnd.{SeatEnd}
 use Rattle.seats.specs.Answered.{AreVisitsAnswered}
 use Rattle.compress_server.specs.Complete.{HasFault, IsUndisturbed}
-use Rattle.compress_server.specs.Ending.{OverRoster}
-use Rattle.compress_server.specs.Housed.{OverHouse}
+use Rattle.compress_server.specs.Housed.{OverJournal}
 use Rattle.compress_server.specs.Seen.{World}
 use Rattle.compress_server.specs.Serve.{ServicePlan, SeatRun, HaveServed, HaveGiven, IsUnasked, Returned}
 use Rattle.compress_server.specs.Telling.{Ends}
@@ -18,8 +17,8 @@ use Rattle.program_words.specs.Words.{Form, ServiceNumbers}
 -- The house that was opened on the script's journal, whose history is the one for which the disk stands, answered the script's input; the last value tells whether the session's limit ended it.
 abbrev pub AnswersInput : List ℕ → World → World → Bool → Type 0
 AnswersInput roster before after limit =
-    OverRoster before.files.folder roster (λ rows. OverHouse rows before.seen.disk after.seen.disk (λ v w.
-    IsInputAnswered (figures_of v) w.history 0 before.input.flow after.input.flow before.seen.output.taken after.seen.output.taken limit))
+    OverJournal before.files.folder roster before.seen.disk after.seen.disk (λ v w.
+    IsInputAnswered (figures_of v) w.history 0 before.input.flow after.input.flow before.seen.output.taken after.seen.output.taken limit)
 
 -- a script that nothing outside disturbs is answered: to its end at status 0, and up to the limit at status 8; the others are a fault of the roster's file, a damaged journal and want of memory
 abbrev pub ScriptsAreAnswered : {D : Type 0} → (D → Option Visits) → Type 0
@@ -28,7 +27,7 @@ ScriptsAreAnswered visits =
     Ends clock visits (Some (Form.Script roster journal workers)) before after status → IsUndisturbed before after →
     ((status ≡ 0) × AnswersInput roster before after false)
     ⊎ (((status ≡ 8) × AnswersInput roster before after true)
-    ⊎ (((status ≡ 3) × HasFault before.files.folder (Form.Script roster journal workers)) ⊎ ((status ≡ 7) ⊎ (status ≡ 9))))
+    ⊎ (((status ≡ 3) × HasFault before.files (Form.Script roster journal workers)) ⊎ ((status ≡ 7) ⊎ (status ≡ 9))))
 
 -- each of a seat's connections is answered, if no call of its streams failed; the door may tell nothing
 abbrev pub IsSeatAnswered : Figures → History → ℕ → Option Visits → SeatEnd → Type 0
@@ -55,7 +54,7 @@ module _ {D : Type 0} (visits : D → Option Visits) where
       (clock : ℕ → Bool) (roster journal address : List ℕ) (numbers : ServiceNumbers) (before after : World) (status : ℕ) →
       Ends clock visits (Some (Form.Serve roster journal address numbers)) before after status →
       IsUndisturbed before after →
-      ((((status ≡ 3) × HasFault before.files.folder (Form.Serve roster journal address numbers)) ⊎ ((status ≡ 7) ⊎ (status ≡ 9)))
+      ((((status ≡ 3) × HasFault before.files (Form.Serve roster journal address numbers)) ⊎ ((status ≡ 7) ⊎ (status ≡ 9)))
       × IsUnasked visits address before.seen.listener.doors after.seen.listener.doors)
-      ⊎ OverRoster before.files.folder roster (λ rows. OverHouse rows before.seen.disk after.seen.disk (λ v w.
-      AnswersDoors clock (record { address = address; seats = numbers.seats; connections = numbers.connections }) v w before.seen.listener.doors after.seen.listener.doors))
+      ⊎ OverJournal before.files.folder roster before.seen.disk after.seen.disk (λ v w.
+      AnswersDoors clock (record { address = address; seats = numbers.seats; connections = numbers.connections }) v w before.seen.listener.doors after.seen.listener.doors)

@@ -1,5 +1,6 @@
 -- What a check of a proposal tells.
-use Rattle.std.specs.Prelude.{◌≡◌, ℕ, List, Option, Some, None}
+use Rattle.std.specs.Prelude.{◌≡◌, ℕ, List, [], ◌∷◌, Option, Some, None}
+use Rattle.outside.specs.Faults.{Rose}
 use Rattle.outside.specs.Files.{Folder}
 use Rattle.outside.specs.Flow.{Takes, TakesFront}
 use Rattle.command_types.specs.Roster.{Rows, IsRoster}
@@ -11,7 +12,25 @@ use Rattle.file_market.specs.declared.failing.Failing.{Failing}
 use Rattle.file_market.specs.Check.{IsChecked}
 use Rattle.file_market.specs.Verdict.{verdict_text}
 use Rattle.program_words.specs.Words.{Market}
-use Rattle.compress_server.specs.Files.{SaysMarket, SaysProposal}
+use Rattle.compress_server.specs.declared.check.CheckEnd.{CheckEnd}
+use Rattle.compress_server.specs.declared.check.CheckEnd.TheVariants.{Yes, No, Unloaded, SinkFault, Memory}
+use Rattle.compress_server.specs.declared.ending.End.{End}
+use Rattle.compress_server.specs.declared.ending.End.TheVariants as ends
+use Rattle.compress_server.specs.Files.{FilesState, SaysMarket, SaysProposal, IsCheckUnread}
+use Rattle.compress_server.specs.Seen.{OutputState}
+use Rattle.compress_server.specs.Statuses.{load_end}
+
+-- the end of the call
+abbrev pub check_end : CheckEnd → End
+check_end Yes = ends.Done
+check_end No = ends.No
+check_end (Unloaded fault) = load_end fault
+check_end SinkFault = ends.SinkFault
+check_end Memory = ends.Memory
+
+-- the status beside 0, 3 and 9 that may come where nothing outside fails: a bad proposal
+abbrev pub check_statuses : List ℕ
+check_statuses = 1 ∷ []
 
 -- a check of what the three files say finds this, and the text tells it
 pub record IsVerdict (folder : Option Folder) (market : Market) (proposal : List ℕ) (found : Option Failing) (text : List ℕ) : Type 0 where
@@ -40,3 +59,12 @@ SaysNo folder begun taken market proposal =
 abbrev pub SaysFront : Option Folder → Option (List ℕ) → Option (List ℕ) → Market → List ℕ → Type 0
 SaysFront folder begun taken market proposal =
     (found : Option Failing) × (text : List ℕ) × IsVerdict folder market proposal found text × TakesFront begun taken text
+
+-- by the end of a check
+module _ (market : Market) (proposal : List ℕ) (files files' : FilesState) (output output' : OutputState) where
+  abbrev pub CheckRuns : CheckEnd → Type 0
+  CheckRuns Yes = SaysYes files.folder output.taken output'.taken market proposal
+  CheckRuns No = SaysNo files.folder output.taken output'.taken market proposal
+  CheckRuns (Unloaded fault) = (output' ≡ output) × IsCheckUnread files files' market proposal fault
+  CheckRuns SinkFault = SaysFront files.folder output.taken output'.taken market proposal × Rose output.faults output'.faults
+  CheckRuns Memory = output' ≡ output

@@ -1,28 +1,34 @@
 -- What is answered where nothing outside fails.
-use Rattle.std.specs.Prelude.{◌≡◌, ◌⊎◌, ℕ, Bool, Option, Some}
+use Rattle.std.specs.Prelude.{◌≡◌, ◌⊎◌, ℕ, Bool, List, [], ◌∷◌, Option, Some}
 use Rattle.doors.specs.Visits.{Visits}
 use Rattle.outside.specs.Faults.{Rose}
-use Rattle.outside.specs.Files.{Folder}
 use Rattle.command_types.specs.declared.file_fault.FileFault.{FileFault}
 use Rattle.compress_server.specs.declared.load.FileRole.{FileRole}
-use Rattle.compress_server.specs.Files.{IsRosterFault, IsMarketFault, IsCheckFault, IsRollFault}
+use Rattle.compress_server.specs.declared.load.LoadFault.{LoadFault}
+use Rattle.compress_server.specs.declared.load.LoadFault.TheVariants.{Faulty}
+use Rattle.compress_server.specs.Check.{check_statuses}
+use Rattle.compress_server.specs.Files.{FilesState, IsRosterUnread, IsMarketUnread, IsCheckUnread, IsRollUnread}
+use Rattle.compress_server.specs.Replay.{replay_statuses}
+use Rattle.compress_server.specs.Roll.{roll_statuses}
+use Rattle.compress_server.specs.Script.{script_statuses}
 use Rattle.compress_server.specs.Seen.{World}
+use Rattle.compress_server.specs.Serve.{service_statuses}
 use Rattle.compress_server.specs.Telling.{Ends}
 use Rattle.program_words.specs.Words.{Form}
 
--- of the files that a form reads, the first that has a fault has this one
-abbrev pub IsFormFault : Option Folder → Form → FileRole → FileFault → Type 0
-IsFormFault folder (Form.Script roster journal workers) = IsRosterFault folder roster
-IsFormFault folder (Form.Serve roster journal address numbers) = IsRosterFault folder roster
-IsFormFault folder (Form.Check market proposal) = IsCheckFault folder market proposal
-IsFormFault folder (Form.Solve market workers) = IsMarketFault folder market
-IsFormFault folder (Form.Gen number workers) = λ role fault. ⊥
-IsFormFault folder (Form.Replay roster journal) = IsRosterFault folder roster
-IsFormFault folder (Form.Roll roster journal new_roster matured) = IsRollFault folder roster new_roster
+-- why one of the files that a form reads could not be had
+abbrev pub IsFormUnread : FilesState → FilesState → Form → LoadFault → Type 0
+IsFormUnread files files' (Form.Script roster journal workers) = IsRosterUnread files files' roster
+IsFormUnread files files' (Form.Serve roster journal address numbers) = IsRosterUnread files files' roster
+IsFormUnread files files' (Form.Check market proposal) = IsCheckUnread files files' market proposal
+IsFormUnread files files' (Form.Solve market workers) = IsMarketUnread files files' market
+IsFormUnread files files' (Form.Gen number workers) = λ fault. ⊥
+IsFormUnread files files' (Form.Replay roster journal) = IsRosterUnread files files' roster
+IsFormUnread files files' (Form.Roll roster journal new_roster matured) = IsRollUnread files files' roster new_roster
 
 -- a file of the form has a fault, and those that are read before it have none
-abbrev pub HasFault : Option Folder → Form → Type 0
-HasFault folder form = (role : FileRole) × (fault : FileFault) × IsFormFault folder form role fault
+abbrev pub HasFault : FilesState → Form → Type 0
+HasFault files form = (role : FileRole) × (fault : FileFault) × IsFormUnread files files form (Faulty role fault)
 
 -- no count rose
 pub record IsUndisturbed (before after : World) : Type 0 where
@@ -32,33 +38,26 @@ pub record IsUndisturbed (before after : World) : Type 0 where
   pub disk_held : Rose before.seen.disk.faults after.seen.disk.faults → ⊥
   pub listener_held : Rose before.seen.listener.faults after.seen.listener.faults → ⊥
 
-abbrev pub IsCheck : Form → Type 0
-IsCheck (Form.Check market proposal) = Unit {0}
-IsCheck other = ⊥
+-- the statuses beside 0, 3 and 9 that may come of a form where nothing outside fails
+abbrev pub statuses_of : Form → List ℕ
+statuses_of (Form.Script roster journal workers) = script_statuses
+statuses_of (Form.Serve roster journal address numbers) = service_statuses
+statuses_of (Form.Check market proposal) = check_statuses
+statuses_of (Form.Solve market workers) = []
+statuses_of (Form.Gen number workers) = []
+statuses_of (Form.Replay roster journal) = replay_statuses
+statuses_of (Form.Roll roster journal new_roster matured) = roll_statuses
 
-abbrev pub IsScript : Form → Type 0
-IsScript (Form.Script roster journal workers) = Unit {0}
-IsScript other = ⊥
+abbrev pub IsAmong : List ℕ → ℕ → Type 0
+IsAmong [] status = ⊥
+IsAmong (own ∷ others) status = (status ≡ own) ⊎ IsAmong others status
 
-abbrev pub HasJournal : Form → Type 0
-HasJournal (Form.Script roster journal workers) = Unit {0}
-HasJournal (Form.Serve roster journal address numbers) = Unit {0}
-HasJournal (Form.Replay roster journal) = Unit {0}
-HasJournal (Form.Roll roster journal new_roster matured) = Unit {0}
-HasJournal other = ⊥
-
-abbrev pub IsRoll : Form → Type 0
-IsRoll (Form.Roll roster journal new_roster matured) = Unit {0}
-IsRoll other = ⊥
-
--- The work was done, or a check said no; or a file has a fault, a journal is damaged, a script is at its limit, there was no memory, or a roll is refused.
-abbrev pub IsAnswered : Option Folder → Form → ℕ → Type 0
-IsAnswered folder form status =
-    (status ≡ 0) ⊎ (((status ≡ 1) × IsCheck form) ⊎ (((status ≡ 3) × HasFault folder form)
-    ⊎ (((status ≡ 7) × HasJournal form) ⊎ (((status ≡ 8) × IsScript form) ⊎ ((status ≡ 9) ⊎ ((status ≡ 15) × IsRoll form))))))
+-- The work was done; or a file has a fault, or there was no memory; or it ended in one of the form's own ways: a check says no, a journal is damaged, a script is at its limit, a roll is refused.
+abbrev pub IsAnswered : FilesState → Form → ℕ → Type 0
+IsAnswered files form status = (status ≡ 0) ⊎ (((status ≡ 3) × HasFault files form) ⊎ ((status ≡ 9) ⊎ IsAmong (statuses_of form) status))
 
 -- a call whose words are in form, and that nothing outside disturbs, is answered
 abbrev pub AnswersWhatItCan : {D : Type 0} → (D → Option Visits) → Type 0
 AnswersWhatItCan visits =
     (clock : ℕ → Bool) (form : Form) (before after : World) (status : ℕ) → Ends clock visits (Some form) before after status → IsUndisturbed before after →
-    IsAnswered before.files.folder form status
+    IsAnswered before.files form status

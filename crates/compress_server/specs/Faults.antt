@@ -35,9 +35,13 @@ fault_line role (RowLimit row) = row_line role row (codes "row-limit")
 fault_line role (BadLine row) = row_line role row (codes "bad-line")
 fault_line role Memory = codes "memory\n"
 
+-- a line that ends in a number
+abbrev pub number_line : List ℕ → ℕ → List ℕ
+number_line text number = text ++ decimal number ++ codes "\n"
+
 -- the line of a journal that is damaged at this place
 abbrev pub damage_line : ℕ → List ℕ
-damage_line place = codes "damaged at " ++ decimal place ++ codes "\n"
+damage_line place = number_line (codes "damaged at ") place
 
 -- a cause with the number of a trade in it
 abbrev pub trade_text : List ℕ → ℕ → List ℕ → List ℕ

@@ -5,12 +5,13 @@ use Rattle.command_types.specs.Roster.{Rows}
 use Rattle.outside.specs.Disk as disks
 use Rattle.outside.specs.declared.disk.Disk.{Ghosts as DiskTells}
 use Rattle.outside.specs.Faults.{Rose}
+use Rattle.outside.specs.Files.{Folder}
 use Rattle.house.specs.House.{HouseView, figures_of, first_of, is_stopped}
 use Rattle.house.specs.Opening.{IsOpened, FindsFault, LeavesOpened, StandsForNone}
 use Rattle.house.specs.Storing.{ContentStandsFor, LeavesHistory, LeavesKept, StandsForFront, StandsForKept, NeverGoBack, with_kept, moment_of}
-use Rattle.compress_server.specs.declared.ending.End.{End}
-use Rattle.compress_server.specs.declared.ending.End.TheVariants.{Damaged, DiskFault, Memory}
+use Rattle.compress_server.specs.Files.{OverRoster}
 use Rattle.compress_server.specs.Cycles.{KeepsLaws}
+use Rattle.journal_core.specs.declared.fault.JournalFault.{JournalFault}
 use Rattle.journal_core.specs.declared.fault.JournalFault.TheVariants as faults
 
 -- a disk, and the count of its faults
@@ -64,13 +65,16 @@ pub record IsDamaged (rows : Rows) (disk left : DiskState) (place : ℕ) : Type 
   pub unopened : IsUnopened rows disk left
   pub same : left.history ≡ disk.history
 
--- no house could be opened, by the end that tells why
-abbrev pub OpeningFails : Rows → DiskState → DiskState → End → Type 0
-OpeningFails rows disk left (Damaged place) = IsDamaged rows disk left place
-OpeningFails rows disk left DiskFault = IsUnopened rows disk left × Rose disk.faults left.faults
-OpeningFails rows disk left Memory = IsUnopened rows disk left
-OpeningFails rows disk left other = ⊥
+-- why no house could be opened
+abbrev pub OpeningFails : Rows → DiskState → DiskState → JournalFault → Type 0
+OpeningFails rows disk left (faults.Damaged place) = IsDamaged rows disk left place
+OpeningFails rows disk left faults.DiskFault = IsUnopened rows disk left × Rose disk.faults left.faults
+OpeningFails rows disk left faults.Memory = IsUnopened rows disk left
 
 -- a house was opened, and came back, and of the two this holds
 abbrev pub OverHouse : Rows → DiskState → DiskState → (HouseView → HouseView → Type 0) → Type 0
 OverHouse rows disk left P = (v : HouseView) × (w : HouseView) × IsHoused rows disk left v w × P v w
+
+-- so it was over the rows of the roster's file
+abbrev pub OverJournal : Option Folder → List ℕ → DiskState → DiskState → (HouseView → HouseView → Type 0) → Type 0
+OverJournal folder roster disk left P = OverRoster folder roster (λ rows. OverHouse rows disk left P)

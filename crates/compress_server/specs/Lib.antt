@@ -3,6 +3,7 @@ pub mod Faults
 pub mod Cycles
 pub mod Housed
 pub mod Seen
+pub mod Statuses
 pub mod Serve
 pub mod Runs
 pub mod Run
@@ -15,6 +16,5 @@ pub mod Replay
 pub mod Roll
 pub mod Ending
 pub mod Telling
-pub mod Statuses
 pub mod Complete
 pub mod Answered

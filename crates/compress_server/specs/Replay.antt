@@ -13,11 +13,29 @@ use Rattle.trade_history.specs.Book.{ExecutionRow, own_rows, executions_of}
 use Rattle.statements.specs.Details.{member_text, execution_text, moment_text}
 use Rattle.house.specs.Storing.{ContentStandsFor}
 use Rattle.house.specs.Opening.{FindsFault}
+use Rattle.journal_core.specs.declared.fault.JournalFault.{JournalFault}
 use Rattle.journal_core.specs.declared.fault.JournalFault.TheVariants as faults
 use Rattle.compress_server.specs.declared.ending.End.{End}
-use Rattle.compress_server.specs.declared.ending.End.TheVariants.{Done, Damaged, DiskFault, SinkFault, Memory}
+use Rattle.compress_server.specs.declared.ending.End.TheVariants as ends
+use Rattle.compress_server.specs.declared.replay.ReplayEnd.{ReplayEnd}
+use Rattle.compress_server.specs.declared.replay.ReplayEnd.TheVariants.{Done, Unloaded, Unread, SinkFault, Memory}
+use Rattle.compress_server.specs.Files.{FilesState, OverRoster, IsRosterUnread}
 use Rattle.compress_server.specs.Housed.{DiskState}
+use Rattle.compress_server.specs.Seen.{OutputState}
+use Rattle.compress_server.specs.Statuses.{load_end, journal_end}
 use Rattle.compress_server.specs.Told.{end_text}
+
+-- the end of the call
+abbrev pub replay_end : ReplayEnd → End
+replay_end Done = ends.Done
+replay_end (Unloaded fault) = load_end fault
+replay_end (Unread fault) = journal_end fault
+replay_end SinkFault = ends.SinkFault
+replay_end Memory = ends.Memory
+
+-- the status beside 0, 3 and 9 that may come where nothing outside fails: a damaged journal
+abbrev pub replay_statuses : List ℕ
+replay_statuses = 7 ∷ []
 
 -- a member, and the trades in which it has a side, in rising number
 abbrev pub rows_text : Rows → History → ℕ → List ℕ
@@ -56,15 +74,21 @@ Replays rows disk begun taken = (h : History) × IsKept rows disk.history h × T
 abbrev pub ReplaysFront : Rows → DiskState → Option (List ℕ) → Option (List ℕ) → Type 0
 ReplaysFront rows disk begun taken = (h : History) × IsKept rows disk.history h × TakesFront begun taken (replay_text rows h)
 
--- by the end of a replay over these rows and a disk: damage is told only where the content stands for no legal history, with the one place that is told
-abbrev pub ReplayEnds : Rows → DiskState → DiskState → Option (List ℕ) → Option (List ℕ) → End → Type 0
-ReplayEnds rows disk left begun taken Done = Replays rows disk begun taken
-ReplayEnds rows disk left begun taken (Damaged place) = (taken ≡ begun) × FindsFault rows disk.history (faults.Damaged place)
-ReplayEnds rows disk left begun taken DiskFault = (taken ≡ begun) × Rose disk.faults left.faults
-ReplayEnds rows disk left begun taken SinkFault = ReplaysFront rows disk begun taken
-ReplayEnds rows disk left begun taken Memory = taken ≡ begun
-ReplayEnds rows disk left begun taken other = ⊥
+-- Why nothing was read of a disk's journal, over these rows: damage is told only where the content stands for no legal history, with the one place that is told.
+abbrev pub IsUnread : Rows → DiskState → DiskState → JournalFault → Type 0
+IsUnread rows disk left (faults.Damaged place) = FindsFault rows disk.history (faults.Damaged place)
+IsUnread rows disk left faults.DiskFault = Rose disk.faults left.faults
+IsUnread rows disk left faults.Memory = Unit {0}
 
--- so it ended, and nothing was written to the disk
-abbrev pub JournalReplays : Rows → DiskState → DiskState → Option (List ℕ) → Option (List ℕ) → End → Type 0
-JournalReplays rows disk left begun taken end = (left.history ≡ disk.history) × ReplayEnds rows disk left begun taken end
+module _ (roster : List ℕ) (files files' : FilesState) (output output' : OutputState) (disk left : DiskState) where
+  -- over the roster's rows this holds, and the disk holds what it held
+  abbrev pub OverRows : (Rows → Type 0) → Type 0
+  OverRows P = (left.history ≡ disk.history) × OverRoster files.folder roster P
+
+  -- by the end of a replay, which writes nothing to the disk
+  abbrev pub ReplayRuns : ReplayEnd → Type 0
+  ReplayRuns Done = OverRows (λ rows. Replays rows disk output.taken output'.taken)
+  ReplayRuns (Unloaded fault) = (output' ≡ output) × (left ≡ disk) × IsRosterUnread files files' roster fault
+  ReplayRuns (Unread fault) = (output' ≡ output) × OverRows (λ rows. IsUnread rows disk left fault)
+  ReplayRuns SinkFault = OverRows (λ rows. ReplaysFront rows disk output.taken output'.taken) × Rose output.faults output'.faults
+  ReplayRuns Memory = (output' ≡ output) × OverRows (λ rows. Unit {0})

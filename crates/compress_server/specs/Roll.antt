@@ -1,5 +1,5 @@
 -- What a roll writes: a journal with which the market of a kept history goes on over new rows.
-use Rattle.std.specs.Prelude.{◌≡◌, ℕ, ◌+◌, ◌≤◌, List, length, Option, Some, Result, Ok, Err}
+use Rattle.std.specs.Prelude.{◌≡◌, ℕ, ◌+◌, ◌≤◌, List, [], ◌∷◌, length, Option, Some, Result, Ok, Err}
 use Rattle.units_core.specs.Day.{DayParts}
 use Rattle.outside.specs.Faults.{Rose}
 use Rattle.outside.specs.Flow.{Takes, TakesFront}
@@ -13,17 +13,35 @@ use Rattle.cycle_states.specs.BaseOf.{base_of}
 use Rattle.period_roll.specs.declared.cause.Cause.{Cause}
 use Rattle.period_roll.specs.Laws.{KeepsPosition}
 use Rattle.period_roll.specs.Rolls.{rolled}
-use Rattle.journal_core.specs.declared.fault.JournalFault.TheVariants as faults
 use Rattle.journal_core.specs.Holds.{limit}
 use Rattle.recovery.specs.StandsFor.{StandsFor}
 use Rattle.fresh_journal.specs.Journals.{begun_history, journal_of}
-use Rattle.house.specs.Opening.{FindsFault}
 use Rattle.compress_server.specs.declared.ending.End.{End}
-use Rattle.compress_server.specs.declared.ending.End.TheVariants.{Done, Damaged, DiskFault, SinkFault, Memory, Unrolled}
+use Rattle.compress_server.specs.declared.ending.End.TheVariants as ends
 use Rattle.compress_server.specs.declared.ending.Obstacle.{Obstacle}
 use Rattle.compress_server.specs.declared.ending.Obstacle.TheVariants.{Market, Misfit, TooLong}
+use Rattle.compress_server.specs.declared.rolling.RollEnd.{RollEnd}
+use Rattle.compress_server.specs.declared.rolling.RollEnd.TheVariants.{Done, Unloaded, Unread, Unrolled, SinkFault, Memory}
+use Rattle.compress_server.specs.declared.rolling.Unmade.{Unmade}
+use Rattle.compress_server.specs.declared.rolling.Unmade.TheVariants as unmade
+use Rattle.compress_server.specs.Files.{FilesState, OverRoster, IsRollUnread}
 use Rattle.compress_server.specs.Housed.{DiskState}
-use Rattle.compress_server.specs.Replay.{IsKept}
+use Rattle.compress_server.specs.Replay.{IsKept, IsUnread}
+use Rattle.compress_server.specs.Seen.{OutputState}
+use Rattle.compress_server.specs.Statuses.{load_end, journal_end}
+
+-- the end of the call
+abbrev pub roll_end : RollEnd → End
+roll_end Done = ends.Done
+roll_end (Unloaded fault) = load_end fault
+roll_end (Unread fault) = journal_end fault
+roll_end (Unrolled obstacle) = ends.Unrolled obstacle
+roll_end SinkFault = ends.SinkFault
+roll_end Memory = ends.Memory
+
+-- the statuses beside 0, 3 and 9 that may come where nothing outside fails: a damaged journal, a refusal
+abbrev pub roll_statuses : List ℕ
+roll_statuses = 7 ∷ 15 ∷ []
 
 -- what is written of the market at the end of a history; nothing where a cycle is open
 abbrev pub last_base : History → Option Base
@@ -48,11 +66,10 @@ IsObstacle old new matured h (Market cause) = rolled_history old new matured h �
 IsObstacle old new matured h Misfit = (base : Base) × (last_base h ≡ Some base) × (¬ Fits old base)
 IsObstacle old new matured h TooLong = (base : Base) × (rolled_history old new matured h ≡ Ok base) × (limit ≤ 29 + length (base_spelling Second base))
 
--- why there is no text, by the end that tells it
-abbrev pub IsUnrolled : Rows → Rows → Option DayParts → History → End → Type 0
-IsUnrolled old new matured h (Unrolled obstacle) = IsObstacle old new matured h obstacle
-IsUnrolled old new matured h Memory = Unit {0}
-IsUnrolled old new matured h other = ⊥
+-- why there is no text
+abbrev pub IsUnmade : Rows → Rows → Option DayParts → History → Unmade → Type 0
+IsUnmade old new matured h (unmade.Refused obstacle) = IsObstacle old new matured h obstacle
+IsUnmade old new matured h unmade.Memory = Unit {0}
 
 -- the whole text for what the disk keeps was written
 abbrev pub Rolls : Rows → Rows → Option DayParts → DiskState → Option (List ℕ) → Option (List ℕ) → Type 0
@@ -64,17 +81,16 @@ abbrev pub RollsFront : Rows → Rows → Option DayParts → DiskState → Opti
 RollsFront old new matured disk begun taken =
     (h : History) × (text : List ℕ) × IsKept old disk.history h × IsRolled old new matured h text × TakesFront begun taken text
 
--- by the end of a roll over these rows and a disk
-abbrev pub RollEnds : Rows → Rows → Option DayParts → DiskState → DiskState → Option (List ℕ) → Option (List ℕ) → End → Type 0
-RollEnds old new matured disk left begun taken Done = Rolls old new matured disk begun taken
-RollEnds old new matured disk left begun taken (Unrolled obstacle) =
-    (taken ≡ begun) × ((h : History) × IsKept old disk.history h × IsObstacle old new matured h obstacle)
-RollEnds old new matured disk left begun taken (Damaged place) = (taken ≡ begun) × FindsFault old disk.history (faults.Damaged place)
-RollEnds old new matured disk left begun taken DiskFault = (taken ≡ begun) × Rose disk.faults left.faults
-RollEnds old new matured disk left begun taken SinkFault = RollsFront old new matured disk begun taken
-RollEnds old new matured disk left begun taken Memory = taken ≡ begun
-RollEnds old new matured disk left begun taken other = ⊥
+module _ (roster new_roster : List ℕ) (matured : Option DayParts) (files files' : FilesState) (output output' : OutputState) (disk left : DiskState) where
+  -- over the rows of both rosters this holds, and the disk holds what it held
+  abbrev pub OverRosters : (Rows → Rows → Type 0) → Type 0
+  OverRosters P = (left.history ≡ disk.history) × OverRoster files.folder roster (λ old. OverRoster files.folder new_roster (λ new. P old new))
 
--- so it ended, and nothing was written to the disk
-abbrev pub JournalRolls : Rows → Rows → Option DayParts → DiskState → DiskState → Option (List ℕ) → Option (List ℕ) → End → Type 0
-JournalRolls old new matured disk left begun taken end = (left.history ≡ disk.history) × RollEnds old new matured disk left begun taken end
+  -- by the end of a roll, which writes nothing to the disk
+  abbrev pub RollRuns : RollEnd → Type 0
+  RollRuns Done = OverRosters (λ old new. Rolls old new matured disk output.taken output'.taken)
+  RollRuns (Unloaded fault) = (output' ≡ output) × (left ≡ disk) × IsRollUnread files files' roster new_roster fault
+  RollRuns (Unread fault) = (output' ≡ output) × OverRosters (λ old new. IsUnread old disk left fault)
+  RollRuns (Unrolled obstacle) = (output' ≡ output) × OverRosters (λ old new. (h : History) × IsKept old disk.history h × IsObstacle old new matured h obstacle)
+  RollRuns SinkFault = OverRosters (λ old new. RollsFront old new matured disk output.taken output'.taken) × Rose output.faults output'.faults
+  RollRuns Memory = (output' ≡ output) × OverRosters (λ old new. Unit {0})

@@ -1,6 +1,5 @@
 -- What the program does with its input, its output and its errors.
-use Rattle.std.specs.Prelude.{◌≡◌, ◌⊎◌, ℕ, ◌==◌, Bool, true, false, List, [], ◌++◌, ◌<◌, ◌≤◌, length, Option, codes, if◌then◌else◌}
-use Rattle.outside.specs.Faults.{Rose}
+use Rattle.std.specs.Prelude.{◌≡◌, ◌⊎◌, ℕ, Bool, true, false, List, ◌++◌, ◌<◌, ◌≤◌, length, Option}
 use Rattle.outside.specs.Flow.{Flow, Gives, IsAtEnd, Takes, TakesFront}
 use Rattle.command_types.specs.History.{end_of, longer}
 use Rattle.command_types.specs.Lines.{cut_of, lines_of}
@@ -84,19 +83,3 @@ IsUnwritten clock v w opened flow begun taken =
     (bytes : List ℕ) × Gives opened flow bytes
     × (((length bytes ≤ session_limit) × IsCutOff clock v w begun taken bytes (cut_of bytes).whole)
     ⊎ (IsAtEnd flow × (length bytes < session_limit) × IsCutOff clock v w begun taken bytes (lines_of bytes)))
-
--- the line that tells a status on the errors; statuses 0 and 1 have none, and statuses 3, 7 and 15 the fault's
-abbrev pub status_line : ℕ → List ℕ
-status_line status =
-    if status == 2 then codes "bad words\n"
-    else (if status == 4 then codes "source fault\n"
-    else (if status == 5 then codes "sink fault\n"
-    else (if status == 6 then codes "disk fault\n"
-    else (if status == 8 then codes "session limit\n"
-    else (if status == 9 then codes "memory\n"
-    else (if status == 10 then codes "listener fault\n"
-    else (if status == 11 then codes "file fault\n" else [])))))))
-
--- The line was written, or a front of it up to a fault of its sink.
-abbrev pub IsReported : Option (List ℕ) → Option (List ℕ) → ℕ → ℕ → List ℕ → Type 0
-IsReported begun taken before after line = Takes begun taken line ⊎ (TakesFront begun taken line × Rose before after)

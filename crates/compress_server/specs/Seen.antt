@@ -1,12 +1,12 @@
 -- What the program sees of what is outside: its files, its streams, its disk and its listener.
 use Rattle.std.specs.Prelude.{◌≡◌, ℕ, List, Option}
 use Rattle.doors.specs.Visits.{Doors}
-use Rattle.outside.specs.Files.{Folder}
 use Rattle.outside.specs.Flow.{Flow}
 use Rattle.outside.specs.declared.disk.Disk.{Ghosts as DiskTells}
 use Rattle.outside.specs.declared.files.Files.{Ghosts as FilesTells}
 use Rattle.outside.specs.declared.sink.Sink.{Ghosts as SinkTells}
 use Rattle.outside.specs.declared.source.Source.{Ghosts as SourceTells}
+use Rattle.compress_server.specs.Files.{FilesState, files_by}
 use Rattle.compress_server.specs.Housed.{DiskState, disk_by}
 
 -- the bytes that an output took, where it tells them, and the count of its faults
@@ -33,15 +33,21 @@ listener_of doors faults = record { doors = doors; faults = faults }
 abbrev pub seen_of : OutputState → DiskState → ListenerState → Seen
 seen_of output disk listener = record { output = output; disk = disk; listener = listener }
 
--- the files, where they tell what they hold, and the count of their faults
-pub record FilesState : Type 0 where
-  pub folder : Option Folder
-  pub faults : ℕ
-
 -- the bytes that an input gave and has left, where it tells them, and the count of its faults
 pub record InputState : Type 0 where
   pub flow : Option Flow
   pub faults : ℕ
+
+-- an input, and an output
+pub record Streams : Type 0 where
+  pub input : InputState
+  pub output : OutputState
+
+abbrev pub input_of : Option Flow → ℕ → InputState
+input_of flow faults = record { flow = flow; faults = faults }
+
+abbrev pub streams_of : InputState → OutputState → Streams
+streams_of input output = record { input = input; output = output }
 
 -- all that is outside
 pub record World : Type 0 where
@@ -54,6 +60,14 @@ pub record World : Type 0 where
 abbrev pub output_by : {K : Type 0} → SinkTells K → K → OutputState
 output_by tells sink = output_of (tells.taken sink) (tells.faults sink)
 
+-- what a source tells
+abbrev pub input_by : {S : Type 0} → SourceTells S → S → InputState
+input_by tells source = input_of (tells.flow source) (tells.faults source)
+
+-- what an input and an output tell
+abbrev pub streams_by : {S K : Type 0} → SourceTells S → SinkTells K → S → K → Streams
+streams_by inputs outputs input output = streams_of (input_by inputs input) (output_by outputs output)
+
 -- what a listener tells
 abbrev pub listener_by : {L : Type 0} → (L → Option Doors) → (L → ℕ) → L → ListenerState
 listener_by doors faults listener = listener_of (doors listener) (faults listener)
@@ -65,8 +79,8 @@ seen_by sinks disks doors faults output disk listener = seen_of (output_by sinks
 -- what files, an input, an output for errors and the rest tell
 abbrev pub world_by : {F S E K D L : Type 0} → FilesTells F → SourceTells S → SinkTells E → (K → D → L → Seen) → F → S → E → K → D → L → World
 world_by folders inputs sinks seen files input errors output disk listener = record {
-  files = record { folder = folders.folder files; faults = folders.faults files };
-  input = record { flow = inputs.flow input; faults = inputs.faults input };
+  files = files_by folders files;
+  input = input_by inputs input;
   errors = output_by sinks errors;
   seen = seen output disk listener;
 }

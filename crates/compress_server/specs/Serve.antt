@@ -15,10 +15,30 @@ use Rattle.seats.specs.declared.seat.SeatEnd.{SeatEnd}
 use Rattle.seats.specs.declared.seat.SeatEnd.TheVariants as seat_end
 use Rattle.seats.specs.Final.{Final, AreServed}
 use Rattle.seats.specs.Sessions.{input_of}
+use Rattle.journal_core.specs.declared.fault.JournalFault.{JournalFault}
 use Rattle.compress_server.specs.declared.ending.End.{End}
-use Rattle.compress_server.specs.declared.ending.End.TheVariants.{Done, ListenerFault, Stopped, SinkFault, Memory}
+use Rattle.compress_server.specs.declared.ending.End.TheVariants as ends
+use Rattle.compress_server.specs.declared.load.LoadFault.{LoadFault}
+use Rattle.compress_server.specs.declared.serve.ServiceEnd.{ServiceEnd}
+use Rattle.compress_server.specs.declared.serve.ServiceEnd.TheVariants.{Done, Unloaded, Unopened, ListenerFault, Stopped, SinkFault, Memory}
+use Rattle.compress_server.specs.Files.{FilesState, OverRoster, IsRosterUnread}
 use Rattle.compress_server.specs.Housed.{OverHouse, OpeningFails}
 use Rattle.compress_server.specs.Seen.{OutputState, ListenerState, Seen}
+use Rattle.compress_server.specs.Statuses.{load_end, journal_end}
+
+-- the end of the call
+abbrev pub service_end : ServiceEnd → End
+service_end Done = ends.Done
+service_end (Unloaded fault) = load_end fault
+service_end (Unopened fault) = journal_end fault
+service_end ListenerFault = ends.ListenerFault
+service_end Stopped = ends.DiskFault
+service_end SinkFault = ends.SinkFault
+service_end Memory = ends.Memory
+
+-- the status beside 0, 3 and 9 that may come where nothing outside fails: a damaged journal
+abbrev pub service_statuses : List ℕ
+service_statuses = 7 ∷ []
 
 -- at which address a service listens, how many seats serve, and how many connections each of them at most
 pub record ServicePlan : Type 0 where
@@ -64,13 +84,13 @@ had_door_fault seat_end.DoorFault = true
 had_door_fault seat_end.Memory = false
 
 -- the end of a service whose listener was in trouble
-abbrev pub trouble_end : Trouble → End
+abbrev pub trouble_end : Trouble → ServiceEnd
 trouble_end trouble.Failed = ListenerFault
 trouble_end trouble.Memory = Memory
 
--- the end of a service: whether a seat had no memory, a door failed, a fault of the disk stopped the house, and the line was written whole
-abbrev pub service_end : Bool → Bool → Bool → Bool → End
-service_end no_memory door_fault stopped written =
+-- the end of a service whose seats served: whether a seat had no memory, a door failed, a fault of the disk stopped the house, and the line was written whole
+abbrev pub end_of_seats : Bool → Bool → Bool → Bool → ServiceEnd
+end_of_seats no_memory door_fault stopped written =
     if no_memory then Memory
     else (if door_fault then ListenerFault
     else (if stopped then Stopped
@@ -117,8 +137,10 @@ pub record SeatRun (D : Type 0) : Type 0 where
   pub end : SeatEnd
 
 -- No house was opened, and nothing else was asked.
-pub record IsUnhoused (rows : Rows) (before after : Seen) (end : End) : Type 0 where
-  pub opening : OpeningFails rows before.disk after.disk end
+pub record IsUnhoused (rows : Rows) (before after : Seen) (end : ServiceEnd) : Type 0 where
+  pub fault : JournalFault
+  pub told : end ≡ Unopened fault
+  pub opening : OpeningFails rows before.disk after.disk fault
   pub output : after.output ≡ before.output
   pub listener : after.listener ≡ before.listener
 
@@ -145,7 +167,7 @@ module _ {D : Type 0} (visits : D → Option Visits) where
   HaveGiven doors k (seat ∷ seats) = HasGivenAt doors k (visits seat.door) × HaveGiven doors (k + 1) seats
 
   -- The seats could not begin, and the history is what it was. No door was asked for a connection.
-  pub record IsUnbegun (address : List ℕ) (v w : HouseView) (output output' : OutputState) (listener listener' : ListenerState) (end : End) : Type 0 where
+  pub record IsUnbegun (address : List ℕ) (v w : HouseView) (output output' : OutputState) (listener listener' : ListenerState) (end : ServiceEnd) : Type 0 where
     pub same : w ≡ v
     pub none_written : output' ≡ output
     pub unasked : IsUnasked address listener.doors listener'.doors
@@ -167,23 +189,29 @@ module _ {D : Type 0} (clock : ℕ → Bool) (visits : D → Option Visits) wher
     pub each : AreSeats plan.connections lock v w 1 seats
 
   -- The listener listened at the address, the seats served, each what was to come to its door, the line of the history's length was written, and the doors were taken back. Where a door failed, the listener's count rose.
-  pub record IsService (plan : ServicePlan) (v w : HouseView) (output output' : OutputState) (listener listener' : ListenerState) (end : End) : Type 0 where
+  pub record IsService (plan : ServicePlan) (v w : HouseView) (output output' : OutputState) (listener listener' : ListenerState) (end : ServiceEnd) : Type 0 where
     pub seats : List (SeatRun D)
     pub served : HaveServed plan v w seats
     pub returned : Returned visits plan.address listener.doors listener'.doors (map (λ (seat : SeatRun D). seat.door) seats)
     pub given : HaveGiven visits listener.doors 0 seats
     pub written : Bool
     pub wrote : IsWritten output output' (history_line (end_of w.history)) written
-    pub told : end ≡ service_end (list_any (λ seat. had_no_memory seat.end) seats) (list_any (λ seat. had_door_fault seat.end) seats) (is_stopped w) written
+    pub told : end ≡ end_of_seats (list_any (λ seat. had_no_memory seat.end) seats) (list_any (λ seat. had_door_fault seat.end) seats) (is_stopped w) written
     pub counted : list_any (λ seat. had_door_fault seat.end) seats ≡ true → Rose listener.faults listener'.faults
 
   -- by the end of a service over a house that was just opened
-  abbrev pub HouseServes : ServicePlan → HouseView → HouseView → OutputState → OutputState → ListenerState → ListenerState → End → Type 0
+  abbrev pub HouseServes : ServicePlan → HouseView → HouseView → OutputState → OutputState → ListenerState → ListenerState → ServiceEnd → Type 0
   HouseServes plan v w output output' listener listener' end =
       IsUnbegun visits plan.address v w output output' listener listener' end ⊎ IsService plan v w output output' listener listener' end
 
   -- by the end of a service over these rows
-  abbrev pub ServiceRuns : ServicePlan → Rows → Seen → Seen → End → Type 0
+  abbrev pub ServiceRuns : ServicePlan → Rows → Seen → Seen → ServiceEnd → Type 0
   ServiceRuns plan rows before after end =
       IsUnhoused rows before after end
       ⊎ OverHouse rows before.disk after.disk (λ v w. HouseServes plan v w before.output after.output before.listener after.listener end)
+
+  -- by the end of a service: the roster could not be had, and nothing else was asked; or what came over its rows
+  abbrev pub ServeRuns : List ℕ → ServicePlan → FilesState → FilesState → Seen → Seen → ServiceEnd → Type 0
+  ServeRuns roster plan files files' before after end =
+      ((fault : LoadFault) × (end ≡ Unloaded fault) × (after ≡ before) × IsRosterUnread files files' roster fault)
+      ⊎ OverRoster files.folder roster (λ rows. ServiceRuns plan rows before after end)

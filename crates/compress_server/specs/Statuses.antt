@@ -1,36 +1,61 @@
--- What a status tells of the end.
-use Rattle.std.specs.Prelude.{◌≡◌, ◌⊎◌, ℕ, Bool, true, false, List, Option}
-use Rattle.compress_server.specs.declared.load.LoadFault.TheVariants.{Files, Faulty, Memory as NoMemory}
+-- The end of a call: its status, and the line that tells it on the errors.
+use Rattle.std.specs.Prelude.{ℕ, Bool, true, false, List, [], codes}
+use Rattle.journal_core.specs.declared.fault.JournalFault.{JournalFault}
+use Rattle.journal_core.specs.declared.fault.JournalFault.TheVariants as faults
+use Rattle.compress_server.specs.declared.load.LoadFault.{LoadFault}
+use Rattle.compress_server.specs.declared.load.LoadFault.TheVariants as loads
 use Rattle.compress_server.specs.declared.ending.End.{End}
-use Rattle.compress_server.specs.declared.ending.End.TheVariants.{Done, No, BadWords, Unloaded, Damaged, DiskFault, Stopped, ListenerFault, SourceFault, SinkFault, Limit, Memory, Unrolled}
-use Rattle.compress_server.specs.Telling.{TellsEnd}
+use Rattle.compress_server.specs.declared.ending.End.TheVariants.{Done, No, BadWords, Faulty, SourceFault, SinkFault, DiskFault, Damaged, Limit, Memory, ListenerFault, FilesFault, Unrolled}
+use Rattle.compress_server.specs.Faults.{fault_line, damage_line, obstacle_line}
+
+-- the end where a file could not be had
+abbrev pub load_end : LoadFault → End
+load_end (loads.Faulty role fault) = Faulty role fault
+load_end (loads.Files role) = FilesFault
+load_end loads.Memory = Memory
+
+-- the end where nothing was read of a journal
+abbrev pub journal_end : JournalFault → End
+journal_end (faults.Damaged place) = Damaged place
+journal_end faults.DiskFault = DiskFault
+journal_end faults.Memory = Memory
+
+-- what is told of an end: its status, its line, and whether the line wants memory
+pub record Notice : Type 0 where
+  pub status : ℕ
+  pub line : List ℕ
+  pub wants_memory : Bool
+
+-- a line that always stands the same
+abbrev pub fixed : ℕ → List ℕ → Notice
+fixed status line = record { status = status; line = line; wants_memory = false }
+
+-- a line with a fault, a number or a cause in it
+abbrev pub made : ℕ → List ℕ → Notice
+made status line = record { status = status; line = line; wants_memory = true }
+
+abbrev pub notice_of : End → Notice
+notice_of Done = fixed 0 []
+notice_of No = fixed 1 []
+notice_of BadWords = fixed 2 (codes "bad words\n")
+notice_of (Faulty role fault) = made 3 (fault_line role fault)
+notice_of SourceFault = fixed 4 (codes "source fault\n")
+notice_of SinkFault = fixed 5 (codes "sink fault\n")
+notice_of DiskFault = fixed 6 (codes "disk fault\n")
+notice_of (Damaged place) = made 7 (damage_line place)
+notice_of Limit = fixed 8 (codes "session limit\n")
+notice_of Memory = fixed 9 (codes "memory\n")
+notice_of ListenerFault = fixed 10 (codes "listener fault\n")
+notice_of FilesFault = fixed 11 (codes "file fault\n")
+notice_of (Unrolled obstacle) = made 15 (obstacle_line obstacle)
 
 -- the status of an end
 abbrev pub status_of : End → ℕ
-status_of Done = 0
-status_of No = 1
-status_of BadWords = 2
-status_of (Unloaded (Faulty role fault)) = 3
-status_of SourceFault = 4
-status_of SinkFault = 5
-status_of DiskFault = 6
-status_of Stopped = 6
-status_of (Damaged place) = 7
-status_of Limit = 8
-status_of Memory = 9
-status_of (Unloaded NoMemory) = 9
-status_of ListenerFault = 10
-status_of (Unloaded (Files role)) = 11
-status_of (Unrolled obstacle) = 15
+status_of end = (notice_of end).status
 
--- the end's line has a place, a fault or a cause in it, and so wants memory
+-- its line; that of statuses 0 and 1 is empty
+abbrev pub line_of : End → List ℕ
+line_of end = (notice_of end).line
+
 abbrev pub wants_memory : End → Bool
-wants_memory (Unloaded (Faulty role fault)) = true
-wants_memory (Damaged place) = true
-wants_memory (Unrolled obstacle) = true
-wants_memory end = false
-
--- the status that is told of an end is the end's, or 9 where there was no memory for its line
-abbrev pub StatusesTellTheEnd : Type 0
-StatusesTellTheEnd = (begun taken : Option (List ℕ)) (before after : ℕ) (end : End) (status : ℕ) → TellsEnd begun taken before after end status →
-    (status ≡ status_of end) ⊎ ((wants_memory end ≡ true) × (status ≡ 9))
+wants_memory end = (notice_of end).wants_memory

@@ -1,46 +1,34 @@
 -- What the program tells of its end: its status, and a line on the errors.
-use Rattle.std.specs.Prelude.{◌≡◌, ◌⊎◌, ℕ, Bool, List, Option}
-use Rattle.compress_server.specs.declared.load.LoadFault.TheVariants.{Files, Faulty, Memory as NoMemory}
-use Rattle.compress_server.specs.declared.ending.End.{End}
-use Rattle.compress_server.specs.declared.ending.End.TheVariants.{Done, No, BadWords, Unloaded, Damaged, DiskFault, Stopped, ListenerFault, SourceFault, SinkFault, Limit, Memory, Unrolled}
+use Rattle.std.specs.Prelude.{◌≡◌, ◌⊎◌, ℕ, Bool, true, List, Option}
 use Rattle.doors.specs.Visits.{Visits}
 use Rattle.outside.specs.Faults.{Rose}
-use Rattle.compress_server.specs.Ending.{Runs, IsCounted}
-use Rattle.compress_server.specs.Faults.{fault_line, damage_line, obstacle_line}
-use Rattle.compress_server.specs.Run.{status_line, IsReported}
-use Rattle.compress_server.specs.Seen.{World}
+use Rattle.outside.specs.Flow.{Takes, TakesFront}
+use Rattle.compress_server.specs.declared.ending.End.{End}
+use Rattle.compress_server.specs.declared.ending.End.TheVariants.{Memory}
+use Rattle.compress_server.specs.Ending.{Runs}
+use Rattle.compress_server.specs.Seen.{OutputState, World}
+use Rattle.compress_server.specs.Statuses.{status_of, line_of, wants_memory}
 use Rattle.program_words.specs.Words.{Form}
 
--- this status, with this line; or 9, where there was no memory for the line
-abbrev pub IsLine : Option (List ℕ) → Option (List ℕ) → ℕ → ℕ → ℕ → List ℕ → ℕ → Type 0
-IsLine begun taken before after own line status =
-    ((status ≡ own) × IsReported begun taken before after line) ⊎ ((status ≡ 9) × IsReported begun taken before after (status_line 9))
+-- The line was written, or a front of it up to a fault of its sink.
+abbrev pub IsReported : OutputState → OutputState → List ℕ → Type 0
+IsReported errors errors' line = Takes errors.taken errors'.taken line ⊎ (TakesFront errors.taken errors'.taken line × Rose errors.faults errors'.faults)
 
--- this status, with its line
-abbrev pub IsStatus : Option (List ℕ) → Option (List ℕ) → ℕ → ℕ → ℕ → ℕ → Type 0
-IsStatus begun taken before after own status = (status ≡ own) × IsReported begun taken before after (status_line own)
+-- the status of this end, with its line
+abbrev pub IsTold : OutputState → OutputState → End → ℕ → Type 0
+IsTold errors errors' end status = (status ≡ status_of end) × IsReported errors errors' (line_of end)
 
--- the status by the end, and the line
-abbrev pub TellsEnd : Option (List ℕ) → Option (List ℕ) → ℕ → ℕ → End → ℕ → Type 0
-TellsEnd begun taken before after Done status = IsStatus begun taken before after 0 status
-TellsEnd begun taken before after No status = IsStatus begun taken before after 1 status
-TellsEnd begun taken before after BadWords status = IsStatus begun taken before after 2 status
-TellsEnd begun taken before after (Unloaded (Faulty role fault)) status = IsLine begun taken before after 3 (fault_line role fault) status
-TellsEnd begun taken before after (Unloaded (Files role)) status = IsStatus begun taken before after 11 status
-TellsEnd begun taken before after (Unloaded NoMemory) status = IsStatus begun taken before after 9 status
-TellsEnd begun taken before after (Damaged place) status = IsLine begun taken before after 7 (damage_line place) status
-TellsEnd begun taken before after DiskFault status = IsStatus begun taken before after 6 status
-TellsEnd begun taken before after Stopped status = IsStatus begun taken before after 6 status
-TellsEnd begun taken before after ListenerFault status = IsStatus begun taken before after 10 status
-TellsEnd begun taken before after SourceFault status = IsStatus begun taken before after 4 status
-TellsEnd begun taken before after SinkFault status = IsStatus begun taken before after 5 status
-TellsEnd begun taken before after Limit status = IsStatus begun taken before after 8 status
-TellsEnd begun taken before after Memory status = IsStatus begun taken before after 9 status
-TellsEnd begun taken before after (Unrolled obstacle) status = IsLine begun taken before after 15 (obstacle_line obstacle) status
+-- so it is of the end; or of want of memory, where there was none for the end's line
+abbrev pub TellsEnd : OutputState → OutputState → End → ℕ → Type 0
+TellsEnd errors errors' end status = IsTold errors errors' end status ⊎ ((wants_memory end ≡ true) × IsTold errors errors' Memory status)
 
 -- From before to after the program did what its words ask for, up to an end whose status this is.
 pub record Ends {D : Type 0} (clock : ℕ → Bool) (visits : D → Option Visits) (form : Option Form) (before after : World) (status : ℕ) : Type 0 where
   pub end : End
-  pub runs : Runs clock visits before.files.folder form before.input.flow after.input.flow before.seen after.seen end
-  pub tells : TellsEnd before.errors.taken after.errors.taken before.errors.faults after.errors.faults end status
-  pub counted : IsCounted (Rose before.files.faults after.files.faults) (Rose before.input.faults after.input.faults) (Rose before.seen.output.faults after.seen.output.faults) end
+  pub runs : Runs clock visits form before.files after.files before.input after.input before.seen after.seen end
+  pub tells : TellsEnd before.errors after.errors end status
+
+-- the status that is told of an end is the end's, or 9 where there was no memory for its line
+abbrev pub StatusesTellTheEnd : Type 0
+StatusesTellTheEnd = (errors errors' : OutputState) (end : End) (status : ℕ) → TellsEnd errors errors' end status →
+    (status ≡ status_of end) ⊎ ((wants_memory end ≡ true) × (status ≡ 9))

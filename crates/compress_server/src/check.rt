@@ -1,50 +1,70 @@
 //! The form `check`: whether a proposal is right for a market.
 
-ghost use Rattle.std.specs.Prelude.{◌≡◌, Err};
-ghost use Rattle.outside.specs.Faults.{Rose};
+ghost use Rattle.std.specs.Prelude.{◌≡◌, Err, IfOk};
 ghost use Rattle.trade_file.specs.TradeFile.{AreFileTrades};
 ghost use Rattle.dual_certificate.specs.Parts.{AreParts};
+ghost use Rattle.file_market.specs.Check.{IsChecked};
+ghost use Rattle.file_market.specs.Verdict.{verdict_text};
 ghost use Rattle.program_words.specs.Words.{read_market};
-ghost use Rattle.compress_server.specs.declared.load.FileRole.{FileRole as Role};
-ghost use Rattle.compress_server.specs.Ending.{IsVerdictTold, CheckRuns};
+ghost use Rattle.compress_server.specs.Check.{check_end, CheckRuns};
+ghost use Rattle.compress_server.specs.Files.{files_by};
+ghost use Rattle.compress_server.specs.Seen.{output_by};
 
 use crate::ending::End;
 use crate::load::{LoadFault, load_proposal, load_roster, load_trades};
 use command_types::{Mode, Roster};
 use dual_certificate::ProposalPart;
-use file_market::{check, verdict};
+use file_market::{Failing, check, verdict};
 use outside::{Files, Sink, write_all};
 use program_words::MarketFiles;
-use std::alloc::Global;
+use std::alloc::{AllocError, Global};
 use trade_file::FileTrade;
 
-// Checks the parts and writes the verdict.
-fn tell_verdict<K: Sink>(
+/// How a check ended.
+#[derive(Clone, Copy)]
+pub enum CheckEnd {
+    /// Every product passes, and that was written.
+    Yes,
+    /// A product fails, and that was written.
+    No,
+    /// A file could not be had.
+    Unloaded(LoadFault),
+    /// The output failed.
+    SinkFault,
+    /// The memory that was needed was not to be had.
+    Memory,
+}
+
+impl From<CheckEnd> for End {
+    ghost from_gives = { λ own end. end ≡ check_end own };
+
+    fn from(own: CheckEnd) -> End {
+        match own {
+            CheckEnd::Yes => End::Done,
+            CheckEnd::No => End::No,
+            CheckEnd::Unloaded(fault) => End::from(fault),
+            CheckEnd::SinkFault => End::SinkFault,
+            CheckEnd::Memory => End::Memory,
+        }
+    }
+}
+
+// What a check of the parts finds, and the text that tells it.
+fn verdict_on(
     alloc: Global,
     roster: &Roster,
     mode: Mode,
     trades: &[FileTrade],
     parts: &[ProposalPart],
-    output: &mut K,
-) -> End
+) -> Result<(Option<Failing>, Vec<u8>), AllocError>
     requires trades { AreFileTrades roster.now trades.now }
     requires parts { AreParts roster.now parts.now }
-    ensures told { IsVerdictTold roster.now mode trades.now parts.now (K.taken output.old) (K.taken output.new) result }
-    ensures sink_fault { result ≡ End.SinkFault → Rose (K.faults output.old) (K.faults output.new) }
+    ensures checked { IfOk result (λ found. IsChecked roster.now mode trades.now parts.now found.0) }
+    ensures told { IfOk result (λ found. found.1.items ≡ verdict_text roster.now found.0) }
 {
-    let Ok(failing) = check(alloc, roster, mode, trades, parts) else {
-        return End::Memory;
-    };
-    let Ok(text) = verdict(alloc, roster, &failing) else {
-        return End::Memory;
-    };
-    if write_all(output, &text).is_err() {
-        return End::SinkFault;
-    }
-    match failing {
-        None => End::Done,
-        Some(_) => End::No,
-    }
+    let failing = check(alloc, roster, mode, trades, parts)?;
+    let text = verdict(alloc, roster, &failing)?;
+    Ok((failing, text))
 }
 
 /// Reads the market's files and the proposal, checks it, and writes the verdict. No file changes.
@@ -54,23 +74,30 @@ pub fn run_check<F: Files, K: Sink>(
     market: &MarketFiles<'_>,
     proposal: &str,
     output: &mut K,
-) -> End
-    ensures runs { CheckRuns (F.folder files.old) (read_market market.now) proposal.now (K.taken output.old) (K.taken output.new) result }
+) -> CheckEnd
+    ensures runs { CheckRuns (read_market market.now) proposal.now (files_by F.Files files.old) (files_by F.Files files.new) (output_by K.Sink output.old) (output_by K.Sink output.new) result }
     ensures stays { F.folder files.new ≡ F.folder files.old }
-    ensures sink_fault { result ≡ End.SinkFault → Rose (K.faults output.old) (K.faults output.new) }
-    ensures file_fault { (role : Role) → result ≡ End.Unloaded (LoadFault.Files role) → Rose (F.faults files.old) (F.faults files.new) }
 {
     let roster = match load_roster(alloc, files, market.roster) {
         Ok(roster) => roster,
-        Err(fault) => return End::Unloaded(fault),
+        Err(fault) => return CheckEnd::Unloaded(fault),
     };
     let trades = match load_trades(alloc, files, market.trades, &roster) {
         Ok(trades) => trades,
-        Err(fault) => return End::Unloaded(fault),
+        Err(fault) => return CheckEnd::Unloaded(fault),
     };
     let parts = match load_proposal(alloc, files, proposal, &roster) {
         Ok(parts) => parts,
-        Err(fault) => return End::Unloaded(fault),
+        Err(fault) => return CheckEnd::Unloaded(fault),
     };
-    tell_verdict(alloc, &roster, market.mode, &trades, &parts, output)
+    let Ok((failing, text)) = verdict_on(alloc, &roster, market.mode, &trades, &parts) else {
+        return CheckEnd::Memory;
+    };
+    if write_all(output, &text).is_err() {
+        return CheckEnd::SinkFault;
+    }
+    match failing {
+        None => CheckEnd::Yes,
+        Some(_) => CheckEnd::No,
+    }
 }

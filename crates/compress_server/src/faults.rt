@@ -1,7 +1,7 @@
 //! The lines that tell a file's fault on the errors.
 
 ghost use Rattle.std.specs.Prelude.{◌≡◌, ◌++◌, IfOk, codes};
-ghost use Rattle.compress_server.specs.Faults.{role_name, row_line, fault_line, damage_line};
+ghost use Rattle.compress_server.specs.Faults.{role_name, row_line, fault_line, number_line, damage_line};
 
 use crate::load::FileRole;
 use command_types::FileFault;
@@ -69,12 +69,19 @@ fn too_long_line(alloc: Global, role: FileRole) -> Result<Vec<u8>, AllocError>
     Ok(line)
 }
 
+/// The line that is this text with a number behind it. The only error is want of memory.
+pub fn number_line(alloc: Global, text: &[u8], number: u64) -> Result<Vec<u8>, AllocError>
+    ensures { IfOk result (λ line. line.items ≡ number_line text.now number) }
+{
+    let mut line = text.to_vec(alloc)?;
+    print_u128(u128::from(number), &mut line)?;
+    line.push(b'\n')?;
+    Ok(line)
+}
+
 /// The line of a journal that is damaged at this place. The only error is want of memory.
 pub fn damage_line(alloc: Global, place: u64) -> Result<Vec<u8>, AllocError>
     ensures { IfOk result (λ line. line.items ≡ damage_line place) }
 {
-    let mut line = b"damaged at ".to_vec(alloc)?;
-    print_u128(u128::from(place), &mut line)?;
-    line.push(b'\n')?;
-    Ok(line)
+    number_line(alloc, b"damaged at ", place)
 }

@@ -1,7 +1,7 @@
 //! The laws on statuses and on lines, the contracts of functions that do nothing.
 ghost use Rattle.compress_server.specs.Answered.{ScriptsAreAnswered, ServicesAreAnswered};
 ghost use Rattle.compress_server.specs.Complete.{AnswersWhatItCan};
-ghost use Rattle.compress_server.specs.Statuses.{StatusesTellTheEnd};
+ghost use Rattle.compress_server.specs.Telling.{StatusesTellTheEnd};
 
 use doors::Listener;
 

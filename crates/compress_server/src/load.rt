@@ -8,7 +8,7 @@ ghost use Rattle.trade_file.specs.RosterFile.{roster_file};
 ghost use Rattle.trade_file.specs.TradeFile.{trade_file, AreFileTrades};
 ghost use Rattle.dual_certificate.specs.Proposal.{proposal_of};
 ghost use Rattle.dual_certificate.specs.Parts.{AreParts};
-ghost use Rattle.compress_server.specs.Files.{file_front, Reads, SaysRoster, SaysProposal, IsLoadFault};
+ghost use Rattle.compress_server.specs.Files.{files_by, file_front, Reads, SaysRoster, SaysProposal, IsLoadFault};
 
 use command_types::{FileFault, Roster};
 use dual_certificate::{ProposalPart, read_proposal};
@@ -47,10 +47,9 @@ fn read_front<F: Files>(
     name: &str,
 ) -> Result<Vec<u8>, LoadFault>
     ensures front { IfOk result (λ bytes. IsFront (F.folder files.old) name.now file_front bytes.items) }
-    ensures other { IfErr result (λ fault. (fault ≡ LoadFault.Files role) ⊎ (fault ≡ LoadFault.Memory)) }
+    ensures other { IfErr result (λ fault. ((fault ≡ LoadFault.Files role) × Rose (F.faults files.old) (F.faults files.new)) ⊎ (fault ≡ LoadFault.Memory)) }
     ensures stays { F.folder files.new ≡ F.folder files.old }
     ensures never_falls { F.faults files.old ≤ F.faults files.new }
-    ensures failed { (at : FileRole) → result ≡ Err (LoadFault.Files at) → Rose (F.faults files.old) (F.faults files.new) }
 {
     match files.read_front(alloc, name, FILE_FRONT) {
         Ok(bytes) => Ok(bytes),
@@ -68,10 +67,9 @@ pub fn load_roster_as<F: Files>(
 ) -> Result<Roster, LoadFault>
     ensures says { IfOk result (λ roster. SaysRoster (F.folder files.old) name.now roster) }
     ensures roster { IfOk result (λ roster. IsRoster roster) }
-    ensures fault { IfErr result (IsLoadFault (F.folder files.old) name.now role roster_file) }
+    ensures fault { IfErr result (IsLoadFault (files_by F.Files files.old) (files_by F.Files files.new) name.now role roster_file) }
     ensures stays { F.folder files.new ≡ F.folder files.old }
     ensures never_falls { F.faults files.old ≤ F.faults files.new }
-    ensures failed { (at : FileRole) → result ≡ Err (LoadFault.Files at) → Rose (F.faults files.old) (F.faults files.new) }
 {
     let bytes = read_front(alloc, files, role, name)?;
     match read_roster(alloc, &bytes) {
@@ -85,10 +83,9 @@ pub fn load_roster_as<F: Files>(
 pub fn load_roster<F: Files>(alloc: Global, files: &mut F, name: &str) -> Result<Roster, LoadFault>
     ensures says { IfOk result (λ roster. SaysRoster (F.folder files.old) name.now roster) }
     ensures roster { IfOk result (λ roster. IsRoster roster) }
-    ensures fault { IfErr result (IsLoadFault (F.folder files.old) name.now FileRole.Roster roster_file) }
+    ensures fault { IfErr result (IsLoadFault (files_by F.Files files.old) (files_by F.Files files.new) name.now FileRole.Roster roster_file) }
     ensures stays { F.folder files.new ≡ F.folder files.old }
     ensures never_falls { F.faults files.old ≤ F.faults files.new }
-    ensures failed { (at : FileRole) → result ≡ Err (LoadFault.Files at) → Rose (F.faults files.old) (F.faults files.new) }
 {
     load_roster_as(alloc, files, FileRole::Roster, name)
 }
@@ -102,10 +99,9 @@ pub fn load_trades<F: Files>(
 ) -> Result<Vec<FileTrade>, LoadFault>
     ensures says { IfOk result (λ trades. Reads (F.folder files.old) name.now (trade_file roster.now) (Ok trades.items)) }
     ensures within { IfOk result (λ trades. AreFileTrades roster.now trades.items) }
-    ensures fault { IfErr result (IsLoadFault (F.folder files.old) name.now FileRole.Trades (trade_file roster.now)) }
+    ensures fault { IfErr result (IsLoadFault (files_by F.Files files.old) (files_by F.Files files.new) name.now FileRole.Trades (trade_file roster.now)) }
     ensures stays { F.folder files.new ≡ F.folder files.old }
     ensures never_falls { F.faults files.old ≤ F.faults files.new }
-    ensures failed { (at : FileRole) → result ≡ Err (LoadFault.Files at) → Rose (F.faults files.old) (F.faults files.new) }
 {
     let bytes = read_front(alloc, files, FileRole::Trades, name)?;
     match read_trades(alloc, &bytes, roster) {
@@ -124,10 +120,9 @@ pub fn load_proposal<F: Files>(
 ) -> Result<Vec<ProposalPart>, LoadFault>
     ensures says { IfOk result (λ parts. SaysProposal (F.folder files.old) name.now roster.now parts.items) }
     ensures within { IfOk result (λ parts. AreParts roster.now parts.items) }
-    ensures fault { IfErr result (IsLoadFault (F.folder files.old) name.now FileRole.Proposal (proposal_of roster.now)) }
+    ensures fault { IfErr result (IsLoadFault (files_by F.Files files.old) (files_by F.Files files.new) name.now FileRole.Proposal (proposal_of roster.now)) }
     ensures stays { F.folder files.new ≡ F.folder files.old }
     ensures never_falls { F.faults files.old ≤ F.faults files.new }
-    ensures failed { (at : FileRole) → result ≡ Err (LoadFault.Files at) → Rose (F.faults files.old) (F.faults files.new) }
 {
     let bytes = read_front(alloc, files, FileRole::Proposal, name)?;
     match read_proposal(alloc, &bytes, roster) {

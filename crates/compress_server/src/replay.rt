@@ -5,25 +5,24 @@
 //! Nothing is written to the disk.
 
 ghost use Rattle.std.specs.Prelude.{◌≡◌, ◌<◌, ◌++◌, length, OnOk, IfOk};
-ghost use Rattle.outside.specs.Faults.{Rose};
 ghost use Rattle.command_types.specs.Books.{listed_below};
 ghost use Rattle.command_types.specs.CycleSteps.{rows_of_member};
 ghost use Rattle.command_types.specs.Details.{lines_text, trade_line};
-ghost use Rattle.command_types.specs.Roster.{IsRoster};
 ghost use Rattle.cycle_states.specs.Machine.{IsYoung};
 ghost use Rattle.cycle_states.specs.Replayed.{IsReplayed};
 ghost use Rattle.statements.specs.Details.{row_text};
-ghost use Rattle.compress_server.specs.declared.load.FileRole.{FileRole as Role};
-ghost use Rattle.compress_server.specs.Ending.{ReplayRuns};
+ghost use Rattle.compress_server.specs.Files.{files_by};
 ghost use Rattle.compress_server.specs.Housed.{disk_by};
-ghost use Rattle.compress_server.specs.Replay.{JournalReplays};
+ghost use Rattle.compress_server.specs.Replay.{replay_end, ReplayRuns};
+ghost use Rattle.compress_server.specs.Seen.{output_by};
 ghost use Rattle.compress_server.specs.Told.{rows_told, reply_told, end_text, recovered_text};
 
 use crate::ending::End;
 use crate::load::{LoadFault, load_roster};
+use crate::opening::read_journal;
 use command_types::{Answer, Ask, Listed, Moment, Roster, TradeRow, What};
 use cycle_states::Machine;
-use house::{Dated, Executions, Recovered, recover_noting};
+use house::{Dated, Executions, Recovered};
 use journal_core::JournalFault;
 use outside::{Disk, Files, Sink, write_all};
 use statements::{DetailRow, ExecutionLine, MOST_ROW, put_row};
@@ -154,41 +153,40 @@ fn text_of(alloc: Global, read: &Recovered) -> Result<Vec<u8>, AllocError>
     Ok(text)
 }
 
-// Tells what the journal of this name stands for, over this roster.
-fn replay_journal<K: Sink, D: Disk>(
-    alloc: Global,
-    roster: Roster,
-    journal: &str,
-    output: &mut K,
-    disk: &mut D,
-) -> End
-    ensures runs { let seen = disk_by D.Disk in
-        JournalReplays roster (seen disk.old) (seen disk.new) (K.taken output.old) (K.taken output.new) result }
-    ensures sink_fault { result ≡ End.SinkFault → Rose (K.faults output.old) (K.faults output.new) }
-{
-    if disk.attach(journal).is_err() {
-        return End::DiskFault;
-    }
-    let read = match recover_noting(alloc, roster, disk, Executions::none(alloc)) {
-        Ok(read) => read,
-        Err(JournalFault::Damaged { offset }) => return End::Damaged(offset),
-        Err(JournalFault::DiskFault) => return End::DiskFault,
-        Err(JournalFault::Memory) => return End::Memory,
-    };
-    let Ok(text) = text_of(alloc, &read) else {
-        return End::Memory;
-    };
-    if write_all(output, &text).is_err() {
-        return End::SinkFault;
-    }
-    End::Done
-}
-
 /// The words of the form.
 #[derive(Clone, Copy)]
 pub struct ReplayWords<'a> {
     pub roster: &'a str,
     pub journal: &'a str,
+}
+
+/// How a replay ended.
+#[derive(Clone, Copy)]
+pub enum ReplayEnd {
+    /// All was written.
+    Done,
+    /// The roster could not be had.
+    Unloaded(LoadFault),
+    /// Nothing was read of the journal.
+    Unread(JournalFault),
+    /// The output failed.
+    SinkFault,
+    /// The memory that was needed was not to be had.
+    Memory,
+}
+
+impl From<ReplayEnd> for End {
+    ghost from_gives = { λ own end. end ≡ replay_end own };
+
+    fn from(own: ReplayEnd) -> End {
+        match own {
+            ReplayEnd::Done => End::Done,
+            ReplayEnd::Unloaded(fault) => End::from(fault),
+            ReplayEnd::Unread(fault) => End::from(fault),
+            ReplayEnd::SinkFault => End::SinkFault,
+            ReplayEnd::Memory => End::Memory,
+        }
+    }
 }
 
 /// Reads the roster of the file with this name, and tells what the journal with that one stands for. No file changes.
@@ -198,15 +196,25 @@ pub fn run_replay<F: Files, K: Sink, D: Disk>(
     words: &ReplayWords<'_>,
     output: &mut K,
     disk: &mut D,
-) -> End
+) -> ReplayEnd
     ensures runs { let seen = disk_by D.Disk in
-        ReplayRuns (F.folder files.old) words.now.roster.now (K.taken output.old) (K.taken output.new) (seen disk.old) (seen disk.new) result }
+        ReplayRuns words.now.roster.now (files_by F.Files files.old) (files_by F.Files files.new)
+        (output_by K.Sink output.old) (output_by K.Sink output.new) (seen disk.old) (seen disk.new) result }
     ensures stays { F.folder files.new ≡ F.folder files.old }
-    ensures sink_fault { result ≡ End.SinkFault → Rose (K.faults output.old) (K.faults output.new) }
-    ensures file_fault { (role : Role) → result ≡ End.Unloaded (LoadFault.Files role) → Rose (F.faults files.old) (F.faults files.new) }
 {
-    match load_roster(alloc, files, words.roster) {
-        Ok(roster) => replay_journal(alloc, roster, words.journal, output, disk),
-        Err(fault) => End::Unloaded(fault),
+    let roster = match load_roster(alloc, files, words.roster) {
+        Ok(roster) => roster,
+        Err(fault) => return ReplayEnd::Unloaded(fault),
+    };
+    let read = match read_journal(alloc, roster, words.journal, disk, Executions::none(alloc)) {
+        Ok(read) => read,
+        Err(fault) => return ReplayEnd::Unread(fault),
+    };
+    let Ok(text) = text_of(alloc, &read) else {
+        return ReplayEnd::Memory;
+    };
+    if write_all(output, &text).is_err() {
+        return ReplayEnd::SinkFault;
     }
+    ReplayEnd::Done
 }

@@ -4,12 +4,11 @@ ghost use Rattle.std.specs.Prelude.{◌≡◌, false};
 ghost use Rattle.outside.specs.Disk.{IsSettled};
 ghost use Rattle.outside.specs.Faults.{Rose};
 ghost use Rattle.command_types.specs.History.{end_of};
-ghost use Rattle.command_types.specs.Roster.{IsRoster};
 ghost use Rattle.house.specs.House.{figures_of, is_stopped};
-ghost use Rattle.compress_server.specs.Script.{ScriptEnds, script_end};
-ghost use Rattle.compress_server.specs.declared.load.FileRole.{FileRole as Role};
+ghost use Rattle.compress_server.specs.Files.{files_by};
 ghost use Rattle.compress_server.specs.Housed.{disk_by};
-ghost use Rattle.compress_server.specs.Ending.{JournalRuns, ScriptRuns};
+ghost use Rattle.compress_server.specs.Script.{ScriptEnds, end_of_session, script_end, ScriptRuns};
+ghost use Rattle.compress_server.specs.Seen.{streams_by};
 
 use crate::ending::End;
 use crate::load::{LoadFault, load_roster};
@@ -18,6 +17,7 @@ use crate::resources::Resources;
 use command_types::Roster;
 use cycle_lock::Turns;
 use house::House;
+use journal_core::JournalFault;
 use network_laws::Solver;
 use outside::{Clock, Disk, Files, Gate, Sink, Source};
 use program_words::Count;
@@ -33,17 +33,55 @@ pub struct ScriptWords<'a> {
     pub workers: Count,
 }
 
+/// How a script ended.
+#[derive(Clone, Copy)]
+pub enum ScriptEnd {
+    /// The input was read to its end, or a BYE was accepted, and all was written.
+    Done,
+    /// The roster could not be had.
+    Unloaded(LoadFault),
+    /// No house was opened on the journal.
+    Unopened(JournalFault),
+    /// A fault of the disk stopped the house; the session ended whole.
+    Stopped,
+    /// The input failed.
+    SourceFault,
+    /// The output failed.
+    SinkFault,
+    /// The session took as many bytes as one may.
+    Limit,
+    /// There was no memory for the lock or the session's buffers.
+    Memory,
+}
+
+impl From<ScriptEnd> for End {
+    ghost from_gives = { λ own end. end ≡ script_end own };
+
+    fn from(own: ScriptEnd) -> End {
+        match own {
+            ScriptEnd::Done => End::Done,
+            ScriptEnd::Unloaded(fault) => End::from(fault),
+            ScriptEnd::Unopened(fault) => End::from(fault),
+            ScriptEnd::Stopped => End::DiskFault,
+            ScriptEnd::SourceFault => End::SourceFault,
+            ScriptEnd::SinkFault => End::SinkFault,
+            ScriptEnd::Limit => End::Limit,
+            ScriptEnd::Memory => End::Memory,
+        }
+    }
+}
+
 // The end of a script, by its session's end and by whether a fault of the disk stopped the house.
-fn end_of_script(end: SessionEnd, stopped: bool) -> End
-    ensures { result ≡ script_end end stopped }
+fn end_of_session(end: SessionEnd, stopped: bool) -> ScriptEnd
+    ensures { result ≡ end_of_session end stopped }
 {
     match end {
-        SessionEnd::Ended if stopped => End::Stopped,
-        SessionEnd::Ended => End::Done,
-        SessionEnd::SourceFault => End::SourceFault,
-        SessionEnd::SinkFault => End::SinkFault,
-        SessionEnd::Limit => End::Limit,
-        SessionEnd::Memory => End::Memory,
+        SessionEnd::Ended if stopped => ScriptEnd::Stopped,
+        SessionEnd::Ended => ScriptEnd::Done,
+        SessionEnd::SourceFault => ScriptEnd::SourceFault,
+        SessionEnd::SinkFault => ScriptEnd::SinkFault,
+        SessionEnd::Limit => ScriptEnd::Limit,
+        SessionEnd::Memory => ScriptEnd::Memory,
     }
 }
 
@@ -85,29 +123,6 @@ impl<'a, R: Threads + Wait + Sync, V: Solver, G: Gate, T: Clock> Script<'a, R, V
         let (end, pass) = host.serve(&turns, pass, input, output);
         (end, turns.close(self.with.rt, pass))
     }
-
-    // Opens a house on the journal, and serves one session over it. The disk comes back.
-    fn run_journal<S: Source, K: Sink, D: Disk + Send>(
-        &self,
-        input: &mut S,
-        output: &mut K,
-        disk: D,
-    ) -> (End, D)
-        requires settled { IsSettled (D.history disk) }
-        requires roster { IsRoster self.now.roster.now }
-        ensures runs { let seen = disk_by D.Disk in
-            JournalRuns (T.tells self.now.with.now.clock.now) self.now.roster.now (S.flow input.old) (S.flow input.new) (K.taken output.old) (K.taken output.new) (seen disk) (seen result.1) result.0 }
-        ensures source_fault { result.0 ≡ End.SourceFault → Rose (S.faults input.old) (S.faults input.new) }
-        ensures sink_fault { result.0 ≡ End.SinkFault → Rose (K.faults output.old) (K.faults output.new) }
-    {
-        let house = match open_house(self.with.alloc, self.roster, self.words.journal, disk) {
-            Ok(house) => house,
-            Err(failed) => return failed,
-        };
-        let (end, house) = self.serve_house(house, input, output);
-        let stopped = house.is_stopped();
-        (end_of_script(end, stopped), house.end())
-    }
 }
 
 /// Reads the roster of the file with this name, opens the journal with that one, and serves one session. No file changes but
@@ -128,24 +143,27 @@ pub fn run_script<
     input: &mut S,
     output: &mut K,
     disk: D,
-) -> (End, D)
+) -> (ScriptEnd, D)
     requires { IsSettled (D.history disk) }
-    ensures runs { let seen = disk_by D.Disk in
-        ScriptRuns (T.tells with.now.clock.now) (F.folder files.old) words.now.roster.now (S.flow input.old) (S.flow input.new)
-        (K.taken output.old) (K.taken output.new) (seen disk) (seen result.1) result.0 }
+    ensures runs { let seen = disk_by D.Disk in let streams = streams_by S.Source K.Sink in
+        ScriptRuns (T.tells with.now.clock.now) words.now.roster.now (files_by F.Files files.old) (files_by F.Files files.new)
+        (streams input.old output.old) (streams input.new output.new) (seen disk) (seen result.1) result.0 }
     ensures stays { F.folder files.new ≡ F.folder files.old }
-    ensures source_fault { result.0 ≡ End.SourceFault → Rose (S.faults input.old) (S.faults input.new) }
-    ensures sink_fault { result.0 ≡ End.SinkFault → Rose (K.faults output.old) (K.faults output.new) }
-    ensures file_fault { (role : Role) → result.0 ≡ End.Unloaded (LoadFault.Files role) → Rose (F.faults files.old) (F.faults files.new) }
 {
     let roster = match load_roster(with.alloc, files, words.roster) {
         Ok(roster) => roster,
-        Err(fault) => return (End::Unloaded(fault), disk),
+        Err(fault) => return (ScriptEnd::Unloaded(fault), disk),
+    };
+    let house = match open_house(with.alloc, &roster, words.journal, disk) {
+        Ok(house) => house,
+        Err((fault, disk)) => return (ScriptEnd::Unopened(fault), disk),
     };
     let script = Script {
         with,
         roster: &roster,
         words,
     };
-    script.run_journal(input, output, disk)
+    let (end, house) = script.serve_house(house, input, output);
+    let stopped = house.is_stopped();
+    (end_of_session(end, stopped), house.end())
 }

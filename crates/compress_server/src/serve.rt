@@ -11,12 +11,11 @@ ghost use Rattle.outside.specs.Disk.{IsSettled};
 ghost use Rattle.outside.specs.Faults.{Rose};
 ghost use Rattle.command_types.specs.History.{end_of};
 ghost use Rattle.house.specs.House.{figures_of, is_stopped};
-ghost use Rattle.compress_server.specs.declared.load.FileRole.{FileRole as Role};
+ghost use Rattle.compress_server.specs.Files.{files_by};
 ghost use Rattle.compress_server.specs.Seen.{output_by, listener_by, seen_by};
 ghost use Rattle.doors.specs.Visits.{IsNew};
 ghost use Rattle.seats.specs.Places.{EachPlace};
-ghost use Rattle.compress_server.specs.Serve.{HasGivenSince, IsWritten, history_line, had_no_memory, had_door_fault, trouble_end, service_end, HaveServed, HouseServes};
-ghost use Rattle.compress_server.specs.Ending.{ServeRuns};
+ghost use Rattle.compress_server.specs.Serve.{HasGivenSince, IsWritten, history_line, had_no_memory, had_door_fault, trouble_end, end_of_seats, service_end, HaveServed, HouseServes, ServeRuns};
 ghost use Rattle.compress_server.specs.Runs.{runs_of, plan_of};
 
 use crate::ending::End;
@@ -29,6 +28,7 @@ use cycle_lock::Turns;
 use doors::{Door, Listener};
 use house::House;
 use itoa::Buffer;
+use journal_core::JournalFault;
 use network_laws::Solver;
 use outside::{Clock, Disk, Files, Gate, Sink, Trouble, write_all};
 use program_words::Count;
@@ -64,20 +64,55 @@ fn tell_history<K: Sink>(output: &mut K, length: u64) -> bool
     write_all(output, b"\n").is_ok()
 }
 
-// The end of a service.
-fn end_of_service<C: Door + Drop>(places: &[Place<C>], stopped: bool, written: bool) -> End
-    ensures { result ≡ service_end (list_any (λ place. had_no_memory place.end) places.now) (list_any (λ place. had_door_fault place.end) places.now) stopped written }
+/// How a service ended.
+#[derive(Clone, Copy)]
+pub enum ServiceEnd {
+    /// The seats served, and all was written.
+    Done,
+    /// The roster could not be had.
+    Unloaded(LoadFault),
+    /// No house was opened on the journal.
+    Unopened(JournalFault),
+    /// The listener or one of its doors failed.
+    ListenerFault,
+    /// A fault of the disk stopped the house; all seats ended whole.
+    Stopped,
+    /// The output failed.
+    SinkFault,
+    /// There was no memory for the seats, or one of them found none.
+    Memory,
+}
+
+impl From<ServiceEnd> for End {
+    ghost from_gives = { λ own end. end ≡ service_end own };
+
+    fn from(own: ServiceEnd) -> End {
+        match own {
+            ServiceEnd::Done => End::Done,
+            ServiceEnd::Unloaded(fault) => End::from(fault),
+            ServiceEnd::Unopened(fault) => End::from(fault),
+            ServiceEnd::ListenerFault => End::ListenerFault,
+            ServiceEnd::Stopped => End::DiskFault,
+            ServiceEnd::SinkFault => End::SinkFault,
+            ServiceEnd::Memory => End::Memory,
+        }
+    }
+}
+
+// The end of a service whose seats served.
+fn end_of_seats<C: Door + Drop>(places: &[Place<C>], stopped: bool, written: bool) -> ServiceEnd
+    ensures { result ≡ end_of_seats (list_any (λ place. had_no_memory place.end) places.now) (list_any (λ place. had_door_fault place.end) places.now) stopped written }
 {
     if has_no_memory(places) {
-        End::Memory
+        ServiceEnd::Memory
     } else if has_door_fault(places) {
-        End::ListenerFault
+        ServiceEnd::ListenerFault
     } else if stopped {
-        End::Stopped
+        ServiceEnd::Stopped
     } else if written {
-        End::Done
+        ServiceEnd::Done
     } else {
-        End::SinkFault
+        ServiceEnd::SinkFault
     }
 }
 
@@ -131,7 +166,7 @@ impl<'a, R: Threads + Wait + Sync, V: Solver, G: Gate, T: Clock> Seating<'a, R, 
         house: House<D>,
         listener: &mut L,
         output: &mut K,
-    ) -> (End, House<D>)
+    ) -> (ServiceEnd, House<D>)
         requires opened { end_of house.history ≡ (figures_of house).opening }
         requires roster { self.now.roster.now ≡ house.history.base.state.roster }
         requires running { is_stopped house ≡ false }
@@ -144,7 +179,7 @@ impl<'a, R: Threads + Wait + Sync, V: Solver, G: Gate, T: Clock> Seating<'a, R, 
     {
         let count = self.words.seats.value as usize;
         let Ok(mut places) = Vec::with_capacity(self.with.alloc, count) else {
-            return (End::Memory, house);
+            return (ServiceEnd::Memory, house);
         };
         if let Err(trouble) = listener.bind(self.words.address) {
             return (end_of_trouble(trouble), house);
@@ -156,25 +191,25 @@ impl<'a, R: Threads + Wait + Sync, V: Solver, G: Gate, T: Clock> Seating<'a, R, 
         match self.serve_house(house, &mut places) {
             Ok(house) => {
                 let written = tell_history(output, house.length());
-                let end = end_of_service(&places, house.is_stopped(), written);
+                let end = end_of_seats(&places, house.is_stopped(), written);
                 give_back(listener, places);
                 (end, house)
             }
             Err(house) => {
                 give_back(listener, places);
-                (End::Memory, house)
+                (ServiceEnd::Memory, house)
             }
         }
     }
 }
 
 // The end of a service whose listener was in trouble.
-fn end_of_trouble(trouble: Trouble) -> End
+fn end_of_trouble(trouble: Trouble) -> ServiceEnd
     ensures { result ≡ trouble_end trouble }
 {
     match trouble {
-        Trouble::Failed => End::ListenerFault,
-        Trouble::Memory => End::Memory,
+        Trouble::Failed => ServiceEnd::ListenerFault,
+        Trouble::Memory => ServiceEnd::Memory,
     }
 }
 
@@ -195,24 +230,22 @@ fn open_and_serve<
     output: &mut K,
     disk: D,
     listener: &mut L,
-) -> (End, D)
+) -> (ServiceEnd, D)
     requires settled { IsSettled (D.history disk) }
     requires told { L.idle listener.old ≡ words.now.idle }
     ensures runs { let seen = seen_by K.Sink D.Disk L.doors L.faults in
-        ServeRuns (T.tells with.now.clock.now) L.Door.visits (F.folder files.old) words.now.roster.now (plan_of words.now)
+        ServeRuns (T.tells with.now.clock.now) L.Door.visits words.now.roster.now (plan_of words.now) (files_by F.Files files.old) (files_by F.Files files.new)
         (seen output.old disk listener.old) (seen output.new result.1 listener.new) result.0 }
     ensures stays { F.folder files.new ≡ F.folder files.old }
-    ensures sink_fault { result.0 ≡ End.SinkFault → Rose (K.faults output.old) (K.faults output.new) }
-    ensures file_fault { (role : Role) → result.0 ≡ End.Unloaded (LoadFault.Files role) → Rose (F.faults files.old) (F.faults files.new) }
     ensures waits { L.idle listener.new ≡ L.idle listener.old }
 {
     let roster = match load_roster(with.alloc, files, words.roster) {
         Ok(roster) => roster,
-        Err(fault) => return (End::Unloaded(fault), disk),
+        Err(fault) => return (ServiceEnd::Unloaded(fault), disk),
     };
     let house = match open_house(with.alloc, &roster, words.journal, disk) {
         Ok(house) => house,
-        Err(failed) => return failed,
+        Err((fault, disk)) => return (ServiceEnd::Unopened(fault), disk),
     };
     let seating = Seating {
         with,
@@ -241,15 +274,13 @@ pub fn run_serve<
     output: &mut K,
     disk: D,
     listener: &mut L,
-) -> (End, D)
+) -> (ServiceEnd, D)
     requires { IsSettled (D.history disk) }
     ensures runs { let seen = seen_by K.Sink D.Disk L.doors L.faults in
-        ServeRuns (T.tells with.now.clock.now) L.Door.visits (F.folder files.old) words.now.roster.now (plan_of words.now)
+        ServeRuns (T.tells with.now.clock.now) L.Door.visits words.now.roster.now (plan_of words.now) (files_by F.Files files.old) (files_by F.Files files.new)
         (seen output.old disk listener.old) (seen output.new result.1 listener.new) result.0 }
     ensures idle { L.idle listener.new ≡ words.now.idle }
     ensures stays { F.folder files.new ≡ F.folder files.old }
-    ensures sink_fault { result.0 ≡ End.SinkFault → Rose (K.faults output.old) (K.faults output.new) }
-    ensures file_fault { (role : Role) → result.0 ≡ End.Unloaded (LoadFault.Files role) → Rose (F.faults files.old) (F.faults files.new) }
 {
     listener.set_idle(words.idle);
     open_and_serve(with, files, words, output, disk, listener)

@@ -1,10 +1,10 @@
 //! The form `solve`: a proposal for a market.
 
 ghost use Rattle.std.specs.Prelude.{◌≡◌, Err};
-ghost use Rattle.outside.specs.Faults.{Rose};
 ghost use Rattle.program_words.specs.Words.{read_market};
-ghost use Rattle.compress_server.specs.declared.load.FileRole.{FileRole as Role};
-ghost use Rattle.compress_server.specs.Ending.{SolveRuns};
+ghost use Rattle.compress_server.specs.Files.{files_by};
+ghost use Rattle.compress_server.specs.Seen.{output_by};
+ghost use Rattle.compress_server.specs.Solve.{solve_end, SolveRuns};
 
 use crate::ending::End;
 use crate::load::{LoadFault, load_roster, load_trades};
@@ -16,6 +16,32 @@ use program_words::MarketFiles;
 use std::alloc::Global;
 use std::thread::Threads;
 
+/// How a solve ended.
+#[derive(Clone, Copy)]
+pub enum SolveEnd {
+    /// The proposal was written.
+    Done,
+    /// A file could not be had.
+    Unloaded(LoadFault),
+    /// The output failed.
+    SinkFault,
+    /// The memory that was needed was not to be had.
+    Memory,
+}
+
+impl From<SolveEnd> for End {
+    ghost from_gives = { λ own end. end ≡ solve_end own };
+
+    fn from(own: SolveEnd) -> End {
+        match own {
+            SolveEnd::Done => End::Done,
+            SolveEnd::Unloaded(fault) => End::from(fault),
+            SolveEnd::SinkFault => End::SinkFault,
+            SolveEnd::Memory => End::Memory,
+        }
+    }
+}
+
 /// Reads the market's files, has the workers solve the market, and writes the proposal. No file changes.
 pub fn run_solve<R: Threads + Sync, V: Solver, G: Gate, F: Files, K: Sink>(
     alloc: Global,
@@ -23,25 +49,23 @@ pub fn run_solve<R: Threads + Sync, V: Solver, G: Gate, F: Files, K: Sink>(
     market: &MarketFiles<'_>,
     output: &mut K,
     workers: &Workers<'_, R, V, G>,
-) -> End
-    ensures runs { SolveRuns (F.folder files.old) (read_market market.now) (K.taken output.old) (K.taken output.new) result }
+) -> SolveEnd
+    ensures runs { SolveRuns (read_market market.now) (files_by F.Files files.old) (files_by F.Files files.new) (output_by K.Sink output.old) (output_by K.Sink output.new) result }
     ensures stays { F.folder files.new ≡ F.folder files.old }
-    ensures sink_fault { result ≡ End.SinkFault → Rose (K.faults output.old) (K.faults output.new) }
-    ensures file_fault { (role : Role) → result ≡ End.Unloaded (LoadFault.Files role) → Rose (F.faults files.old) (F.faults files.new) }
 {
     let roster = match load_roster(alloc, files, market.roster) {
         Ok(roster) => roster,
-        Err(fault) => return End::Unloaded(fault),
+        Err(fault) => return SolveEnd::Unloaded(fault),
     };
     let trades = match load_trades(alloc, files, market.trades, &roster) {
         Ok(trades) => trades,
-        Err(fault) => return End::Unloaded(fault),
+        Err(fault) => return SolveEnd::Unloaded(fault),
     };
     let Ok(text) = solve(alloc, &roster, market.mode, &trades, workers) else {
-        return End::Memory;
+        return SolveEnd::Memory;
     };
     if write_all(output, &text).is_err() {
-        return End::SinkFault;
+        return SolveEnd::SinkFault;
     }
-    End::Done
+    SolveEnd::Done
 }

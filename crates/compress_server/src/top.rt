@@ -2,98 +2,29 @@
 
 ghost use Rattle.std.specs.Prelude.{◌≡◌, map, string_bytes};
 ghost use Rattle.outside.specs.Disk.{IsSettled};
-ghost use Rattle.outside.specs.Faults.{Rose};
-ghost use Rattle.compress_server.specs.declared.load.FileRole.{FileRole as Role};
 ghost use Rattle.program_words.specs.Words.{form_of, idle_after};
-ghost use Rattle.compress_server.specs.Faults.{fault_line, damage_line, obstacle_line};
-ghost use Rattle.compress_server.specs.Run.{IsReported};
-ghost use Rattle.compress_server.specs.Seen.{seen_by, world_by};
+ghost use Rattle.compress_server.specs.Files.{files_by};
+ghost use Rattle.compress_server.specs.Seen.{input_by, seen_by, world_by};
 ghost use Rattle.compress_server.specs.Ending.{Runs};
-ghost use Rattle.compress_server.specs.Telling.{IsLine, TellsEnd, Ends};
+ghost use Rattle.compress_server.specs.Telling.{Ends};
 
 use crate::check::run_check;
-use crate::ending::{End, Obstacle};
-use crate::faults::{damage_line, fault_line};
+use crate::ending::{End, tell_end};
 use crate::generated::run_gen;
-use crate::load::{FileRole, LoadFault};
-use crate::obstacles::obstacle_line;
 use crate::replay::{ReplayWords, run_replay};
 use crate::resources::Resources;
 use crate::rolling::{RollWords, run_roll};
 use crate::script::{ScriptWords, run_script};
 use crate::serve::{ServiceWords, run_serve};
 use crate::solve::run_solve;
-use command_types::FileFault;
 use doors::Listener;
 use network_laws::Solver;
-use outside::{Clock, Disk, Files, Gate, Sink, Source, write_all};
+use outside::{Clock, Disk, Files, Gate, Sink, Source};
 use path_solver::PathSolver;
 use program_words::{Form, read_words};
 use std::alloc::Global;
 use std::sync::Wait;
 use std::thread::Threads;
-
-// Writes a line, and answers the status. A fault of the errors changes nothing.
-fn tell<E: Sink>(errors: &mut E, status: u8, line: &[u8]) -> u8
-    ensures status { result ≡ status }
-    ensures line { IsReported (E.taken errors.old) (E.taken errors.new) (E.faults errors.old) (E.faults errors.new) line.now }
-{
-    let _ = write_all(errors, line);
-    status
-}
-
-// Writes the line of a file's fault, and answers its status; where there is no memory for the line, that is told.
-fn tell_fault<E: Sink>(alloc: Global, errors: &mut E, role: FileRole, fault: FileFault) -> u8
-    ensures { IsLine (E.taken errors.old) (E.taken errors.new) (E.faults errors.old) (E.faults errors.new) 3 (fault_line role fault) result }
-{
-    match fault_line(alloc, role, fault) {
-        Ok(line) => tell(errors, 3, &line),
-        Err(_) => tell(errors, 9, b"memory\n"),
-    }
-}
-
-// Writes the line of a damaged journal, and answers its status; where there is no memory for the line, that is told.
-fn tell_damage<E: Sink>(alloc: Global, errors: &mut E, place: u64) -> u8
-    ensures { IsLine (E.taken errors.old) (E.taken errors.new) (E.faults errors.old) (E.faults errors.new) 7 (damage_line place) result }
-{
-    match damage_line(alloc, place) {
-        Ok(line) => tell(errors, 7, &line),
-        Err(_) => tell(errors, 9, b"memory\n"),
-    }
-}
-
-// Writes the line of a roll that is refused, and answers its status; where there is no memory for the line, that is told.
-fn tell_obstacle<E: Sink>(alloc: Global, errors: &mut E, obstacle: Obstacle) -> u8
-    ensures { IsLine (E.taken errors.old) (E.taken errors.new) (E.faults errors.old) (E.faults errors.new) 15 (obstacle_line obstacle) result }
-{
-    match obstacle_line(alloc, obstacle) {
-        Ok(line) => tell(errors, 15, &line),
-        Err(_) => tell(errors, 9, b"memory\n"),
-    }
-}
-
-// Writes the line of an end, if it has one, and answers its status.
-fn tell_end<E: Sink>(alloc: Global, errors: &mut E, end: End) -> u8
-    ensures { TellsEnd (E.taken errors.old) (E.taken errors.new) (E.faults errors.old) (E.faults errors.new) end result }
-{
-    match end {
-        End::Done => 0,
-        End::No => 1,
-        End::BadWords => tell(errors, 2, b"bad words\n"),
-        End::Unloaded(LoadFault::Faulty(role, fault)) => tell_fault(alloc, errors, role, fault),
-        End::Unloaded(LoadFault::Files(_)) => tell(errors, 11, b"file fault\n"),
-        End::Unloaded(LoadFault::Memory) => tell(errors, 9, b"memory\n"),
-        End::Damaged(place) => tell_damage(alloc, errors, place),
-        End::DiskFault => tell(errors, 6, b"disk fault\n"),
-        End::Stopped => tell(errors, 6, b"disk fault\n"),
-        End::ListenerFault => tell(errors, 10, b"listener fault\n"),
-        End::SourceFault => tell(errors, 4, b"source fault\n"),
-        End::SinkFault => tell(errors, 5, b"sink fault\n"),
-        End::Limit => tell(errors, 8, b"session limit\n"),
-        End::Memory => tell(errors, 9, b"memory\n"),
-        End::Unrolled(obstacle) => tell_obstacle(alloc, errors, obstacle),
-    }
-}
 
 // Does what the words ask for.
 fn run_form<
@@ -117,13 +48,10 @@ fn run_form<
 ) -> (End, D)
     requires { IsSettled (D.history disk) }
     ensures runs { let seen = seen_by K.Sink D.Disk L.doors L.faults in
-        Runs (T.tells with.now.clock.now) L.Door.visits (F.folder files.old) (form_of (map string_bytes words.now)) (S.flow input.old) (S.flow input.new)
-        (seen output.old disk listener.old) (seen output.new result.1 listener.new) result.0 }
+        Runs (T.tells with.now.clock.now) L.Door.visits (form_of (map string_bytes words.now)) (files_by F.Files files.old) (files_by F.Files files.new)
+        (input_by S.Source input.old) (input_by S.Source input.new) (seen output.old disk listener.old) (seen output.new result.1 listener.new) result.0 }
     ensures idle { L.idle listener.new ≡ idle_after (form_of (map string_bytes words.now)) (L.idle listener.old) }
     ensures stays { F.folder files.new ≡ F.folder files.old }
-    ensures source_fault { result.0 ≡ End.SourceFault → Rose (S.faults input.old) (S.faults input.new) }
-    ensures sink_fault { result.0 ≡ End.SinkFault → Rose (K.faults output.old) (K.faults output.new) }
-    ensures file_fault { (role : Role) → result.0 ≡ End.Unloaded (LoadFault.Files role) → Rose (F.faults files.old) (F.faults files.new) }
 {
     match read_words(words) {
         None => (End::BadWords, disk),
@@ -139,7 +67,8 @@ fn run_form<
                 journal,
                 workers,
             };
-            run_script(with, files, &words, input, output, disk)
+            let (end, disk) = run_script(with, files, &words, input, output, disk);
+            (End::from(end), disk)
         }
         Some(
             Form::Serve {
@@ -161,30 +90,28 @@ fn run_form<
                 workers,
                 idle,
             };
-            run_serve(with, files, &words, output, disk, listener)
+            let (end, disk) = run_serve(with, files, &words, output, disk, listener);
+            (End::from(end), disk)
         }
         Some(Form::Check { market, proposal }) => {
-            (
-                run_check(with.alloc, files, &market, proposal, output),
-                disk,
-            )
+            let end = run_check(with.alloc, files, &market, proposal, output);
+            (End::from(end), disk)
         }
         Some(Form::Solve { market, workers }) => {
             let workers = with.workers(workers);
-            (
-                run_solve(with.alloc, files, &market, output, &workers),
-                disk,
-            )
+            let end = run_solve(with.alloc, files, &market, output, &workers);
+            (End::from(end), disk)
         }
         Some(Form::Gen { number, workers }) => {
             let workers = with.workers(workers);
-            (run_gen(with.alloc, number, output, &workers), disk)
+            let end = run_gen(with.alloc, number, output, &workers);
+            (End::from(end), disk)
         }
         Some(Form::Replay { roster, journal }) => {
             let words = ReplayWords { roster, journal };
             let mut disk = disk;
             let end = run_replay(with.alloc, files, &words, output, &mut disk);
-            (end, disk)
+            (End::from(end), disk)
         }
         Some(
             Form::Roll {
@@ -202,7 +129,7 @@ fn run_form<
             };
             let mut disk = disk;
             let end = run_roll(with.alloc, files, &words, output, &mut disk);
-            (end, disk)
+            (End::from(end), disk)
         }
     }
 }
