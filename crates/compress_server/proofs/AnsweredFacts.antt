@@ -2,11 +2,9 @@
 use Rattle.std.proofs.Common.{◌≡◌, ◌⊎◌, ℕ, ◌+◌, Bool, true, false, List, [], ◌∷◌, Option, Some, None, refl, sym, subst, ap, inl, inr}
 use Rattle.doors.specs.Visits.{Visits}
 use Rattle.outside.specs.Faults.{Rose}
-use Rattle.outside.specs.Files.{Folder}
 use Rattle.outside.specs.Flow.{Flow}
 use Rattle.command_types.specs.Lines.{cut_of, lines_of}
 use Rattle.command_types.specs.History.{end_of}
-use Rattle.command_types.specs.Roster.{Rows, IsRoster}
 use Rattle.command_types.specs.Session.{nobody}
 use Rattle.cycle_lock.specs.Passes.{LockId}
 use Rattle.house.specs.House.{HouseView, figures_of, is_stopped}
@@ -14,21 +12,20 @@ use Rattle.session.specs.Answered.{AreAnswered, IsInputAnswered}
 use Rattle.session.proofs.AnsweredFacts.{talk_answered, left_more}
 use Rattle.seats.specs.declared.seat.SeatEnd.{SeatEnd}
 use Rattle.seats.proofs.AnsweredFacts.{connections_are_answered}
-use Rattle.compress_server.specs.declared.load.FileRole.{FileRole}
-use Rattle.compress_server.specs.declared.load.LoadFault.{LoadFault}
-use Rattle.compress_server.specs.declared.load.LoadFault.TheVariants.{Files, Faulty, Memory as NoMemory}
-use Rattle.compress_server.specs.declared.ending.End.{End}
-use Rattle.compress_server.specs.declared.ending.End.TheVariants.{Done, No, BadWords, Unloaded, Damaged, DiskFault, Stopped, ListenerFault, SourceFault, SinkFault, Limit, Memory, Unrolled}
+use Rattle.compress_server.specs.declared.script.ScriptEnd.{ScriptEnd}
+use Rattle.compress_server.specs.declared.script.ScriptEnd.TheVariants.{Done, Unloaded, Unopened, Stopped, SourceFault, SinkFault, Limit, Memory}
+use Rattle.compress_server.specs.declared.serve.ServiceEnd.{ServiceEnd}
+use Rattle.compress_server.specs.declared.serve.ServiceEnd.TheVariants as service
 use Rattle.compress_server.specs.Answered.{AnswersInput, ScriptsAreAnswered, IsSeatAnswered, AreSeatsAnswered, AnswersDoors, ServicesAreAnswered}
-use Rattle.compress_server.specs.Complete.{HasFault, IsFormFault}
-use Rattle.compress_server.specs.Ending.{IsFault, IsCounted, JournalRuns, ScriptRuns, ServeRuns, OverRoster}
-use Rattle.compress_server.specs.Files.{SaysRoster, ReadBeforeRoster}
-use Rattle.compress_server.specs.Housed.{DiskState, OverHouse, OpeningFails}
+use Rattle.compress_server.specs.Complete.{HasFault, IsUndisturbed}
+use Rattle.compress_server.specs.Housed.{OverJournal}
 use Rattle.compress_server.specs.Run.{at_first, IsReplied, IsWhole, IsAtLimit}
-use Rattle.compress_server.specs.Seen.{ListenerState, Seen, World}
-use Rattle.compress_server.specs.Serve.{ServicePlan, SeatRun, seat_at, final_of, IsSeatAt, AreSeats, IsUnasked}
+use Rattle.compress_server.specs.Script.{script_end, ScriptRuns}
+use Rattle.compress_server.specs.Seen.{OutputState, ListenerState, Seen, World, streams_of}
+use Rattle.compress_server.specs.Serve.{ServicePlan, SeatRun, seat_at, final_of, IsSeatAt, AreSeats, IsUnasked, service_end, ServeRuns}
 use Rattle.compress_server.specs.Telling.{TellsEnd}
 use Rattle.program_words.specs.Words.{Form, ServiceNumbers}
+use Rattle.compress_server.proofs.CompleteFacts.{told_so, load_status, opening_status}
 use Rattle.compress_server.proofs.ServiceFacts.{none_asked}
 
 -- what can't be true is false
@@ -86,67 +83,35 @@ module _ (v w : HouseView) (runs : is_stopped w ≡ false) (opened flow : Option
     took = r.took;
   }
 
--- a file that could not be had, where none failed: it has a fault, or there was no memory
-unloaded_status : (folder : Option Folder) (form : Form) (Q : FileRole → Type 0) (files input output : Type 0) (begun taken : Option (List ℕ)) (errors then_errors : ℕ) (fault : LoadFault) (status : ℕ) →
-    IsFault (IsFormFault folder form) Q fault → IsCounted files input output (Unloaded fault) → TellsEnd begun taken errors then_errors (Unloaded fault) status → (files → ⊥) → ((status ≡ 3) × HasFault folder form) ⊎ ((status ≡ 7) ⊎ (status ≡ 9))
-unloaded_status folder form Q files input output begun taken errors then_errors (Files role) status is counted told held = absurd (held counted)
-unloaded_status folder form Q files input output begun taken errors then_errors (Faulty role f) status is counted (inl told) held = inl (told.0, (role, f, is))
-unloaded_status folder form Q files input output begun taken errors then_errors (Faulty role f) status is counted (inr told) held = inr (inr told.0)
-unloaded_status folder form Q files input output begun taken errors then_errors NoMemory status is counted told held = inr (inr told.0)
-
--- the status of a damaged journal, or 9, where there is no memory to tell it
-damaged_status : (begun taken : Option (List ℕ)) (errors then_errors place status : ℕ) → TellsEnd begun taken errors then_errors (Damaged place) status → (status ≡ 7) ⊎ (status ≡ 9)
-damaged_status begun taken errors then_errors place status (inl told) = inl told.0
-damaged_status begun taken errors then_errors place status (inr told) = inr told.0
-
 -- what came over a roster's rows
-abbrev OverIt : Rows → World → World → Bool → Type 0
-OverIt rows before after limit = OverHouse rows before.seen.disk after.seen.disk (λ v w.
-    IsInputAnswered (figures_of v) w.history 0 before.input.flow after.input.flow before.seen.output.taken after.seen.output.taken limit)
+module _ (clock : ℕ → Bool) (roster journal : List ℕ) (workers : ℕ) (before after : World) (status : ℕ) (held : IsUndisturbed before after) where
+  abbrev form : Form
+  form = Form.Script roster journal workers
 
-journal_answered : (clock : ℕ → Bool) (rows : Rows) (before after : World) (files input output : Type 0) (end : End) (status : ℕ) → (input → ⊥) → (output → ⊥) → (Rose before.seen.disk.faults after.seen.disk.faults → ⊥) →
-    JournalRuns clock rows before.input.flow after.input.flow before.seen.output.taken after.seen.output.taken before.seen.disk after.seen.disk end →
-    IsCounted files input output end → TellsEnd before.errors.taken after.errors.taken before.errors.faults after.errors.faults end status →
-    ((status ≡ 0) × OverIt rows before after false) ⊎ (((status ≡ 8) × OverIt rows before after true) ⊎ ((status ≡ 7) ⊎ (status ≡ 9)))
-journal_answered clock rows before after files input output Done status no_input no_output no_disk (v, w, housed, (runs, whole)) counted told =
-    inl (told.0, (v, w, housed, whole_answered v w runs before.input.flow after.input.flow before.seen.output.taken after.seen.output.taken whole))
-journal_answered clock rows before after files input output No status no_input no_output no_disk r counted told = absurd r
-journal_answered clock rows before after files input output BadWords status no_input no_output no_disk r counted told = absurd r
-journal_answered clock rows before after files input output (Unloaded fault) status no_input no_output no_disk r counted told = absurd r
-journal_answered clock rows before after files input output (Damaged place) status no_input no_output no_disk r counted told = inr (inr (damaged_status before.errors.taken after.errors.taken before.errors.faults after.errors.faults place status told))
-journal_answered clock rows before after files input output DiskFault status no_input no_output no_disk (same, kept, unopened, rose) counted told = absurd (no_disk rose)
-journal_answered clock rows before after files input output Stopped status no_input no_output no_disk (over, rose) counted told = absurd (no_disk rose)
-journal_answered clock rows before after files input output ListenerFault status no_input no_output no_disk r counted told = absurd r
-journal_answered clock rows before after files input output SourceFault status no_input no_output no_disk r counted told = absurd (no_input counted)
-journal_answered clock rows before after files input output SinkFault status no_input no_output no_disk r counted told = absurd (no_output counted)
-journal_answered clock rows before after files input output Limit status no_input no_output no_disk (v, w, housed, limit) counted told =
-    let runs : is_stopped w ≡ false = held_false (is_stopped w) (λ stops. no_disk (housed.stopped stops)) in
-    inr (inl (told.0, (v, w, housed, limit_answered v w runs before.input.flow after.input.flow before.seen.output.taken after.seen.output.taken limit)))
-journal_answered clock rows before after files input output Memory status no_input no_output no_disk r counted told = inr (inr (inr told.0))
-journal_answered clock rows before after files input output (Unrolled obstacle) status no_input no_output no_disk r counted told = absurd r
+  abbrev Answers : Type 0
+  Answers =
+      ((status ≡ 0) × AnswersInput roster before after false)
+      ⊎ (((status ≡ 8) × AnswersInput roster before after true) ⊎ (((status ≡ 3) × HasFault before.files form) ⊎ ((status ≡ 7) ⊎ (status ≡ 9))))
 
-with_roster : (before after : World) (roster : List ℕ) (status : ℕ) (faulty : Type 0) (rows : Rows) → SaysRoster before.files.folder roster rows → IsRoster rows →
-    ((status ≡ 0) × OverIt rows before after false) ⊎ (((status ≡ 8) × OverIt rows before after true) ⊎ ((status ≡ 7) ⊎ (status ≡ 9))) →
-    ((status ≡ 0) × AnswersInput roster before after false) ⊎ (((status ≡ 8) × AnswersInput roster before after true) ⊎ (faulty ⊎ ((status ≡ 7) ⊎ (status ≡ 9))))
-with_roster before after roster status faulty rows says are (inl (done, over)) = inl (done, (rows, says, are, over))
-with_roster before after roster status faulty rows says are (inr (inl (limit, over))) = inr (inl (limit, (rows, says, are, over)))
-with_roster before after roster status faulty rows says are (inr (inr other)) = inr (inr (inr other))
-
-script_answered : (clock : ℕ → Bool) (roster journal : List ℕ) (workers : ℕ) (before after : World) (status : ℕ) (end : End) (files input output : Type 0) →
-    ScriptRuns clock before.files.folder roster before.input.flow after.input.flow before.seen.output.taken after.seen.output.taken before.seen.disk after.seen.disk end →
-    IsCounted files input output end → TellsEnd before.errors.taken after.errors.taken before.errors.faults after.errors.faults end status →
-    (files → ⊥) → (input → ⊥) → (output → ⊥) → (Rose before.seen.disk.faults after.seen.disk.faults → ⊥) →
-    ((status ≡ 0) × AnswersInput roster before after false) ⊎ (((status ≡ 8) × AnswersInput roster before after true)
-    ⊎ (((status ≡ 3) × HasFault before.files.folder (Form.Script roster journal workers)) ⊎ ((status ≡ 7) ⊎ (status ≡ 9))))
-script_answered clock roster journal workers before after status end files input output (inl (fault, e, unread, unwritten, kept, is)) counted told no_files no_input no_output no_disk =
-    let told_so = subst (λ x. TellsEnd before.errors.taken after.errors.taken before.errors.faults after.errors.faults x status) e told in
-    inr (inr (unloaded_status before.files.folder (Form.Script roster journal workers) ReadBeforeRoster files input output before.errors.taken after.errors.taken before.errors.faults after.errors.faults fault status is (subst (λ x. IsCounted files input output x) e counted) told_so no_files))
-script_answered clock roster journal workers before after status end files input output (inr (rows, says, are, runs)) counted told no_files no_input no_output no_disk =
-    with_roster before after roster status _ rows says are (journal_answered clock rows before after files input output end status no_input no_output no_disk runs counted told)
+  script_answered : (own : ScriptEnd) → ScriptRuns clock roster before.files after.files (streams_of before.input before.seen.output) (streams_of after.input after.seen.output) before.seen.disk after.seen.disk own →
+      TellsEnd before.errors after.errors (script_end own) status → Answers
+  script_answered Done (rows, says, are, (v, w, housed, (runs, whole))) told =
+      inl (told_so before.errors after.errors (script_end Done) status refl told, (rows, says, are, (v, w, housed, whole_answered v w runs before.input.flow after.input.flow before.seen.output.taken after.seen.output.taken whole)))
+  script_answered (Unloaded fault) (unread, kept, is) told = inr (inr (load_status before.files after.files form held.files_held before.errors after.errors fault status is told))
+  script_answered (Unopened fault) (unread, (rows, says, are, fails)) told =
+      inr (inr (inr (opening_status rows before.seen.disk after.seen.disk held.disk_held before.errors after.errors fault status fails told)))
+  script_answered Stopped (serves, rose) told = absurd (held.disk_held rose)
+  script_answered SourceFault (serves, rose) told = absurd (held.input_held rose)
+  script_answered SinkFault (serves, rose) told = absurd (held.output_held rose)
+  script_answered Limit (rows, says, are, (v, w, housed, (any, limit))) told =
+      let runs : is_stopped w ≡ false = held_false (is_stopped w) (λ stops. held.disk_held (housed.stopped stops)) in
+      inr (inl (told_so before.errors after.errors (script_end Limit) status refl told, (rows, says, are, (v, w, housed, limit_answered v w runs before.input.flow after.input.flow before.seen.output.taken after.seen.output.taken limit))))
+  script_answered Memory serves told = inr (inr (inr (inr (told_so before.errors after.errors (script_end Memory) status refl told))))
 
 pub scripts_are_answered : {D : Type 0} (visits : D → Option Visits) → ScriptsAreAnswered visits
 scripts_are_answered visits clock roster journal workers before after status ends held =
-    script_answered clock roster journal workers before after status ends.end _ _ _ ends.runs.1 ends.counted ends.tells held.files_held held.input_held held.output_held held.disk_held
+    let own = ends.runs.1 in
+    script_answered clock roster journal workers before after status held own.0 own.1.1 (subst (λ x. TellsEnd before.errors after.errors x status) own.1.0 ends.tells)
 
 -- ---- a service
 
@@ -159,53 +124,34 @@ module _ (most : ℕ) (lock : LockId) (v w : HouseView) (runs : is_stopped w ≡
   seats_answered clock visits number [] are = tt
   seats_answered clock visits number (seat ∷ seats) are = (seat_answered clock number (visits seat.door) seat.end are.0, seats_answered clock visits (number + 1) seats are.1)
 
--- why a house was not opened, where the disk did not fail
-opening_status : (rows : Rows) (disk left : DiskState) (begun taken : Option (List ℕ)) (errors then_errors status : ℕ) (end : End) → OpeningFails rows disk left end → TellsEnd begun taken errors then_errors end status → (Rose disk.faults left.faults → ⊥) → (status ≡ 7) ⊎ (status ≡ 9)
-opening_status rows disk left begun taken errors then_errors status Done r told held = absurd r
-opening_status rows disk left begun taken errors then_errors status No r told held = absurd r
-opening_status rows disk left begun taken errors then_errors status BadWords r told held = absurd r
-opening_status rows disk left begun taken errors then_errors status (Unloaded fault) r told held = absurd r
-opening_status rows disk left begun taken errors then_errors status (Damaged place) r told held = damaged_status begun taken errors then_errors place status told
-opening_status rows disk left begun taken errors then_errors status DiskFault (unopened, rose) told held = absurd (held rose)
-opening_status rows disk left begun taken errors then_errors status Stopped r told held = absurd r
-opening_status rows disk left begun taken errors then_errors status ListenerFault r told held = absurd r
-opening_status rows disk left begun taken errors then_errors status SourceFault r told held = absurd r
-opening_status rows disk left begun taken errors then_errors status SinkFault r told held = absurd r
-opening_status rows disk left begun taken errors then_errors status Limit r told held = absurd r
-opening_status rows disk left begun taken errors then_errors status Memory r told held = inr told.0
-opening_status rows disk left begun taken errors then_errors status (Unrolled obstacle) r told held = absurd r
-
 -- why the seats did not begin, where the listener did not fail
-unbegun_status : (rose : Type 0) (begun taken : Option (List ℕ)) (errors then_errors status : ℕ) (end : End) → (end ≡ Memory) ⊎ ((end ≡ ListenerFault) × rose) → TellsEnd begun taken errors then_errors end status → (rose → ⊥) → status ≡ 9
-unbegun_status rose begun taken errors then_errors status end (inl e) told held = let so = subst (λ x. TellsEnd begun taken errors then_errors x status) e told in so.0
-unbegun_status rose begun taken errors then_errors status end (inr (e, rises)) told held = absurd (held rises)
+unbegun_status : (rose : Type 0) (errors errors' : OutputState) (status : ℕ) (own : ServiceEnd) → (own ≡ service.Memory) ⊎ ((own ≡ service.ListenerFault) × rose) → TellsEnd errors errors' (service_end own) status → (rose → ⊥) → status ≡ 9
+unbegun_status rose errors errors' status own (inl e) told held = told_so errors errors' (service_end service.Memory) status refl (subst (λ x. TellsEnd errors errors' (service_end x) status) e told)
+unbegun_status rose errors errors' status own (inr (e, rises)) told held = absurd (held rises)
 
-module _ {D : Type 0} (clock : ℕ → Bool) (visits : D → Option Visits) (roster journal address : List ℕ) (numbers : ServiceNumbers) (before after : World) (status : ℕ) where
+module _ {D : Type 0} (clock : ℕ → Bool) (visits : D → Option Visits) (roster journal address : List ℕ) (numbers : ServiceNumbers) (before after : World) (status : ℕ) (held : IsUndisturbed before after) where
   abbrev plan : ServicePlan
   plan = record { address = address; seats = numbers.seats; connections = numbers.connections }
 
-  abbrev form : Form
-  form = Form.Serve roster journal address numbers
+  abbrev served_form : Form
+  served_form = Form.Serve roster journal address numbers
 
-  abbrev Answers : Type 0
-  Answers =
-      ((((status ≡ 3) × HasFault before.files.folder form) ⊎ ((status ≡ 7) ⊎ (status ≡ 9))) × IsUnasked visits address before.seen.listener.doors after.seen.listener.doors)
-      ⊎ OverRoster before.files.folder roster (λ rows. OverHouse rows before.seen.disk after.seen.disk (λ v w.
-      AnswersDoors visits clock plan v w before.seen.listener.doors after.seen.listener.doors))
+  abbrev ServiceAnswers : Type 0
+  ServiceAnswers =
+      ((((status ≡ 3) × HasFault before.files served_form) ⊎ ((status ≡ 7) ⊎ (status ≡ 9))) × IsUnasked visits address before.seen.listener.doors after.seen.listener.doors)
+      ⊎ OverJournal before.files.folder roster before.seen.disk after.seen.disk (λ v w. AnswersDoors visits clock plan v w before.seen.listener.doors after.seen.listener.doors)
 
-  service_answered : (end : End) (files input output : Type 0) → ServeRuns clock visits before.files.folder roster plan before.seen after.seen end →
-      IsCounted files input output end → TellsEnd before.errors.taken after.errors.taken before.errors.faults after.errors.faults end status →
-      (files → ⊥) → (Rose before.seen.disk.faults after.seen.disk.faults → ⊥) → (Rose before.seen.listener.faults after.seen.listener.faults → ⊥) → Answers
-  service_answered end files input output (inl (fault, e, kept, is)) counted told no_files no_disk no_listener =
-      let told_so = subst (λ x. TellsEnd before.errors.taken after.errors.taken before.errors.faults after.errors.faults x status) e told in
-      let why = unloaded_status before.files.folder form ReadBeforeRoster files input output before.errors.taken after.errors.taken before.errors.faults after.errors.faults fault status is (subst (λ x. IsCounted files input output x) e counted) told_so no_files in
-      inl (why, none_asked visits address before.seen.listener.doors after.seen.listener.doors (ap (λ (s : Seen). s.listener.doors) kept))
-  service_answered end files input output (inr (rows, says, are, inl u)) counted told no_files no_disk no_listener =
-      inl (inr (opening_status rows before.seen.disk after.seen.disk before.errors.taken after.errors.taken before.errors.faults after.errors.faults status end u.opening told no_disk), none_asked visits address before.seen.listener.doors after.seen.listener.doors (ap (λ (l : ListenerState). l.doors) u.listener))
-  service_answered end files input output (inr (rows, says, are, inr (v, w, housed, inl u))) counted told no_files no_disk no_listener =
-      inl (inr (inr (unbegun_status (Rose before.seen.listener.faults after.seen.listener.faults) before.errors.taken after.errors.taken before.errors.faults after.errors.faults status end u.why told no_listener)), u.unasked)
-  service_answered end files input output (inr (rows, says, are, inr (v, w, housed, inr s))) counted told no_files no_disk no_listener =
-      let runs : is_stopped w ≡ false = held_false (is_stopped w) (λ stops. no_disk (housed.stopped stops)) in
+  service_answered : (own : ServiceEnd) → ServeRuns clock visits roster plan before.files after.files before.seen after.seen own → TellsEnd before.errors after.errors (service_end own) status → ServiceAnswers
+  service_answered own (inl (fault, e, kept, is)) told =
+      let told_then = subst (λ x. TellsEnd before.errors after.errors (service_end x) status) e told in
+      inl (load_status before.files after.files served_form held.files_held before.errors after.errors fault status is told_then, none_asked visits address before.seen.listener.doors after.seen.listener.doors (ap (λ (s : Seen). s.listener.doors) kept))
+  service_answered own (inr (rows, says, are, inl u)) told =
+      let told_then = subst (λ x. TellsEnd before.errors after.errors (service_end x) status) u.told told in
+      inl (inr (opening_status rows before.seen.disk after.seen.disk held.disk_held before.errors after.errors u.fault status u.opening told_then), none_asked visits address before.seen.listener.doors after.seen.listener.doors (ap (λ (l : ListenerState). l.doors) u.listener))
+  service_answered own (inr (rows, says, are, inr (v, w, housed, inl u))) told =
+      inl (inr (inr (unbegun_status (Rose before.seen.listener.faults after.seen.listener.faults) before.errors after.errors status own u.why told held.listener_held)), u.unasked)
+  service_answered own (inr (rows, says, are, inr (v, w, housed, inr s))) told =
+      let runs : is_stopped w ≡ false = held_false (is_stopped w) (λ stops. held.disk_held (housed.stopped stops)) in
       inr (
         rows,
         says,
@@ -226,4 +172,5 @@ module _ {D : Type 0} (clock : ℕ → Bool) (visits : D → Option Visits) (ros
 
 pub services_are_answered : {D : Type 0} (visits : D → Option Visits) → ServicesAreAnswered visits
 services_are_answered visits clock roster journal address numbers before after status ends held =
-    service_answered clock visits roster journal address numbers before after status ends.end _ _ _ ends.runs.1 ends.counted ends.tells held.files_held held.disk_held held.listener_held
+    let own = ends.runs.1 in
+    service_answered clock visits roster journal address numbers before after status held own.0 own.1.1 (subst (λ x. TellsEnd before.errors after.errors x status) own.1.0 ends.tells)

@@ -1,9 +1,9 @@
 -- What a script comes to over its disk.
-use Rattle.std.proofs.Common.{◌≡◌, ◌∙◌, ◌⊎◌, inr, refl, sym, subst, ap, ℕ, ◌+◌, ◌≤◌, Bool, true, false, List, Option, Some, None, is_some, arith}
+use Rattle.std.proofs.Common.{◌≡◌, ◌∙◌, ◌⊎◌, refl, sym, subst, ap, ℕ, ◌+◌, ◌≤◌, Bool, true, false, List, Option, Some, None, is_some, arith}
+use Rattle.std.specs.Prelude.{◌≢◌, Result, Ok, Err, IfErr}
 use Rattle.outside.specs.Disk.{IsSettled}
 use Rattle.outside.specs.Disk as disks
 use Rattle.outside.specs.Faults.{Rose}
-use Rattle.outside.specs.Flow.{Flow}
 use Rattle.command_types.specs.declared.ask.Entry.{Entry}
 use Rattle.command_types.specs.declared.figures.Figures.{Figures}
 use Rattle.command_types.specs.declared.figures.JournalFigures.{JournalFigures}
@@ -21,9 +21,10 @@ use Rattle.house.proofs.JournalFacts.{stored_stand}
 use Rattle.house.proofs.OpeningFacts.{still_standing, only_opened}
 use Rattle.session.specs.declared.serve.SessionEnd.{SessionEnd}
 use Rattle.session.specs.declared.serve.SessionEnd.TheVariants.{Ended, SourceFault, SinkFault, Limit, Memory}
-use Rattle.compress_server.specs.Housed.{DiskState, disk_of, AtAnyMoment, IsHoused, IsUnopened, IsDamaged}
-use Rattle.compress_server.specs.Script.{ScriptEnds, script_end}
-use Rattle.compress_server.specs.Ending.{JournalRuns}
+use Rattle.compress_server.specs.Housed.{DiskState, disk_of, AtAnyMoment, IsHoused, IsUnopened, IsDamaged, OpeningFails}
+use Rattle.compress_server.specs.Files.{FilesState, SaysRoster}
+use Rattle.compress_server.specs.Script.{ScriptEnds, end_of_session, ScriptRuns}
+use Rattle.compress_server.specs.Seen.{Streams}
 use Rattle.compress_server.proofs.EndFacts.{rose_later}
 use Rattle.compress_server.proofs.CycleFacts.{keeps_laws}
 
@@ -130,6 +131,20 @@ module _ (rows copy : Rows) (o mid : Option disks.History) (before after : ℕ) 
     same = stays ∙ same;
   }
 
+  -- so it was, for this fault
+  fails_later : (now : Option disks.History) (m : ℕ) (fault : JournalFault) → FindsFault copy mid fault → (fault ≢ faults.DiskFault → now ≡ mid) → (StandsForNone copy mid → now ≡ mid) → LeavesOpened copy mid now →
+      (fault ≡ faults.DiskFault → Rose after m) → OpeningFails rows (disk_of o before) (disk_of now m) fault
+  fails_later now m (faults.Damaged place) found stays untouched any rose =
+      damaged_later now before m (faults.Damaged place) place refl found (unopened_later now before m any untouched) (stays (λ e. absurd cc))
+  fails_later now m faults.DiskFault found stays untouched any rose = (unopened_later now before m any untouched, rose_later before after m never_fell (rose refl))
+  fails_later now m faults.Memory found stays untouched any rose = unopened_later now before m any untouched
+
+  pub opening_fails : {H D : Type 0} (history : D → Option disks.History) (count : D → ℕ) (result : Result H (JournalFault × D)) → IfErr result (λ e. FindsFault copy mid e.0) → IfErr result (λ e. e.0 ≢ faults.DiskFault → history e.1 ≡ mid) →
+      (StandsForNone copy mid → IfErr result (λ e. history e.1 ≡ mid)) → IfErr result (λ e. LeavesOpened copy mid (history e.1)) → IfErr result (λ e. e.0 ≡ faults.DiskFault → Rose after (count e.1)) →
+      IfErr result (λ e. OpeningFails rows (disk_of o before) (disk_of (history e.1) (count e.1)) e.0)
+  opening_fails history count (Ok house) found stays untouched any rose = tt
+  opening_fails history count (Err e) found stays untouched any rose = fails_later (history e.1) (count e.1) e.0 found stays untouched any rose
+
   -- one was opened, as on the disk that came in
   pub opened_later : (v : HouseView) → IsOpened copy mid after v → IsOpened rows o before v
   opened_later v is = record {
@@ -157,12 +172,17 @@ module _ (rows : Rows) (o : Option disks.History) (count : ℕ) (v : HouseView) 
   pub runs_yet : is_stopped v ≡ false
   runs_yet = ap (λ (k : Option Entry). is_some k) is.running
 
-module _ (rows : Rows) (disk left : DiskState) (v w : HouseView) (housed : IsHoused rows disk left v w) (opened flow : Option Flow) (begun taken : Option (List ℕ)) where
-  -- a session over the house is a script over the disk
-  pub journal_runs : (clock : ℕ → Bool) (end : SessionEnd) (stopped : Bool) → stopped ≡ is_stopped w → ScriptEnds clock v w opened flow begun taken end → JournalRuns clock rows opened flow begun taken disk left (script_end end stopped)
-  journal_runs clock Ended false is ends = (v, w, housed, (sym is, ends))
-  journal_runs clock Ended true is ends = ((v, w, housed, (sym is, ends)), housed.stopped (sym is))
-  journal_runs clock SourceFault stopped is ends = (v, w, housed, ends)
-  journal_runs clock SinkFault stopped is ends = (v, w, housed, ends)
-  journal_runs clock Limit stopped is ends = (v, w, housed, ends)
-  journal_runs clock Memory stopped is (same, none_taken, still) = (same, none_taken, inr (v, w, housed, still))
+module _ (clock : ℕ → Bool) (roster : List ℕ) (files files' : FilesState) (before after : Streams) (disk left : DiskState)
+    (rows : Rows) (says : SaysRoster files.folder roster rows) (are : IsRoster rows) (v w : HouseView) (housed : IsHoused rows disk left v w) where
+  abbrev Ends : SessionEnd → Type 0
+  Ends end = ScriptEnds clock v w before.input.flow after.input.flow before.output.taken after.output.taken end
+
+  -- a session over the house is a script
+  pub script_runs : (end : SessionEnd) (stopped : Bool) → stopped ≡ is_stopped w → (end ≡ SourceFault → Rose before.input.faults after.input.faults) → (end ≡ SinkFault → Rose before.output.faults after.output.faults) →
+      Ends end → ScriptRuns clock roster files files' before after disk left (end_of_session end stopped)
+  script_runs Ended false is source sink ends = (rows, says, are, (v, w, housed, (sym is, ends)))
+  script_runs Ended true is source sink ends = ((rows, says, are, (v, w, housed, (sym is, ends))), housed.stopped (sym is))
+  script_runs SourceFault stopped is source sink ends = ((rows, says, are, (v, w, housed, (tt, ends))), source refl)
+  script_runs SinkFault stopped is source sink ends = ((rows, says, are, (v, w, housed, (tt, ends))), sink refl)
+  script_runs Limit stopped is source sink ends = (rows, says, are, (v, w, housed, (tt, ends)))
+  script_runs Memory stopped is source sink ends = (rows, says, are, (v, w, housed, (tt, ends)))

@@ -9,6 +9,7 @@ pub mod ServiceFacts
 pub mod StatusFacts
 pub mod CompleteFacts
 pub mod StatementFacts
+pub mod CheckFacts
 pub mod ReplayFacts
 pub mod RollFacts
 pub mod AnsweredFacts

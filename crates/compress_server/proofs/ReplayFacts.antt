@@ -2,8 +2,9 @@
 use Rattle.std.proofs.Common.{◌≡◌, ◌∙◌, refl, sym, subst, ap, ℕ, ◌+◌, ◌-◌, ◌<◌, Bool, true, false, cond, List, [], ◌∷◌, ◌++◌, length, get_or, take, drop, Option, Some, None, unwrap_or, append_assoc, arith}
 use Rattle.std.proofs.lemmas.List.{append-nil, length-map, take_more}
 use Rattle.std.proofs.lemmas.Option.{none-some}
-use Rattle.std.specs.Prelude.{option_map, IsFalse}
+use Rattle.std.specs.Prelude.{option_map, IsFalse, ◌≤◌, Result, Ok, Err, IfErr}
 use Rattle.outside.specs.Disk as disks
+use Rattle.outside.specs.Faults.{Rose}
 use Rattle.outside.specs.Flow.{Takes, TakesFront}
 use Rattle.network_laws.specs.Solutions.{SolutionData}
 use Rattle.command_types.specs.declared.answer.Answer.{Answer}
@@ -13,7 +14,7 @@ use Rattle.command_types.specs.declared.ask.What.TheVariants.{Post}
 use Rattle.command_types.specs.declared.figures.State.{State}
 use Rattle.command_types.specs.declared.plan.PlanRow.{PlanRow}
 use Rattle.command_types.specs.declared.trade.TradeRow.{TradeRow}
-use Rattle.command_types.specs.Roster.{Rows}
+use Rattle.command_types.specs.Roster.{Rows, IsRoster}
 use Rattle.command_types.specs.Books.{listed_below}
 use Rattle.command_types.specs.CycleSteps.{rows_of_member}
 use Rattle.command_types.specs.History.{History, IsLegal, IsLegalFrom, end_of, replayed, replayed_from}
@@ -32,17 +33,20 @@ use Rattle.trade_history.proofs.Whole.{found-at, moments-push, search_finds_exec
 use Rattle.house.specs.declared.executions.Dated.{Dated}
 use Rattle.house.specs.declared.recovering.Recovered.{Recovered}
 use Rattle.house.specs.Executions.{told_by, executions_told, told_of}
-use Rattle.house.specs.Storing.{ContentStandsFor}
 use Rattle.house.specs.Opening.{FindsFault}
+use Rattle.house.specs.Storing.{ContentStandsFor}
 use Rattle.journal_core.specs.declared.fault.JournalFault.{JournalFault}
 use Rattle.journal_core.specs.declared.fault.JournalFault.TheVariants as faults
 use Rattle.house.proofs.ExecutionFacts.{executions_told-push}
 use Rattle.statements.specs.Details.{member_text}
 use Rattle.compress_server.specs.Told.{rows_told, reply_told, end_text, told_text, recovered_text}
-use Rattle.compress_server.specs.Replay.{rows_text, moment_at, first_moment, execution_line, replay_text, IsKept, JournalReplays}
-use Rattle.compress_server.specs.Housed.{disk_of}
-use Rattle.compress_server.specs.declared.ending.End.TheVariants.{Done, Damaged, SinkFault}
+use Rattle.compress_server.specs.Replay.{rows_text, moment_at, first_moment, execution_line, replay_text, IsKept, IsUnread, ReplayRuns}
+use Rattle.compress_server.specs.Files.{FilesState, SaysRoster}
+use Rattle.compress_server.specs.Housed.{DiskState}
+use Rattle.compress_server.specs.Seen.{OutputState}
+use Rattle.compress_server.specs.declared.replay.ReplayEnd.TheVariants.{Done, SinkFault}
 use Rattle.trade_history.proofs.PlanFacts.{posted_empty}
+use Rattle.compress_server.proofs.EndFacts.{rose_later}
 
 -- ---- lines
 
@@ -190,20 +194,27 @@ replay_told rows o read stands replayed base told =
       text_told rows h base.market.closed replayed.legal read.machine.state replayed.same roster (unwrap_or (told_of read.executions) []) (ap (λ o. unwrap_or o []) told),
     )
 
--- ---- how a replay ends, over a disk that was attached, which changes nothing
-module _ (rows : Rows) (o mid now : Option disks.History) (before after : ℕ) (same : mid ≡ o) (stays : now ≡ mid) (begun taken : Option (List ℕ)) where
-  module _ (read : Recovered) (text : List ℕ) (stands : ContentStandsFor mid read.past) (replayed : IsReplayed read.machine.state read.past) (base : IsWritable rows read.past.base.state)
-      (told : told_of read.executions ≡ option_map (λ replies. replies ++ executions_told read.past.base.state read.past.base.position read.past.entries) (Some [])) (is : text ≡ recovered_text read) where
-    pub replays : Takes begun taken text → JournalReplays rows (disk_of o before) (disk_of now after) begun taken Done
-    replays takes =
-        let k = replay_told rows o read (subst (λ (d : Option disks.History). ContentStandsFor d read.past) same stands) replayed base told in
-        (stays ∙ same, (k.0, k.1, subst (λ t. Takes begun taken t) (is ∙ k.2) takes))
+-- ---- why nothing was read, over a disk that was attached, which changes nothing
 
-    pub replays_front : TakesFront begun taken text → JournalReplays rows (disk_of o before) (disk_of now after) begun taken SinkFault
-    replays_front takes =
-        let k = replay_told rows o read (subst (λ (d : Option disks.History). ContentStandsFor d read.past) same stands) replayed base told in
-        (stays ∙ same, (k.0, k.1, subst (λ t. TakesFront begun taken t) (is ∙ k.2) takes))
+module _ (rows : Rows) (disk mid left : DiskState) where
+  unread_so : (fault : JournalFault) → mid.history ≡ disk.history → disk.faults ≤ mid.faults → FindsFault rows mid.history fault → (fault ≡ faults.DiskFault → Rose mid.faults left.faults) → IsUnread rows disk left fault
+  unread_so (faults.Damaged place) same up found rose = subst (λ (d : Option disks.History). FindsFault rows d (faults.Damaged place)) same found
+  unread_so faults.DiskFault same up found rose = rose_later disk.faults mid.faults left.faults up (rose refl)
+  unread_so faults.Memory same up found rose = tt
 
-  pub replay_damaged : (fault : JournalFault) (place : ℕ) → fault ≡ faults.Damaged place → FindsFault rows mid fault → taken ≡ begun → JournalReplays rows (disk_of o before) (disk_of now after) begun taken (Damaged place)
-  replay_damaged fault place is found none =
-      (stays ∙ same, (none, subst (λ (d : Option disks.History). FindsFault rows d (faults.Damaged place)) same (subst (λ (f : JournalFault). FindsFault rows mid f) is found)))
+  pub unread_later : {R : Type 0} (result : Result R JournalFault) → mid.history ≡ disk.history → disk.faults ≤ mid.faults → IfErr result (FindsFault rows mid.history) → (result ≡ Err faults.DiskFault → Rose mid.faults left.faults) → IfErr result (IsUnread rows disk left)
+  unread_later (Ok read) same up found rose = tt
+  unread_later (Err fault) same up found rose = unread_so fault same up found (λ e. rose (ap (λ f. Err f) e))
+
+-- ---- how a replay ends, over a disk that holds what it held
+module _ (roster : List ℕ) (files files' : FilesState) (output output' : OutputState) (disk left : DiskState) (rows : Rows) (says : SaysRoster files.folder roster rows) (are : IsRoster rows) (same : left.history ≡ disk.history)
+    (read : Recovered) (text : List ℕ) (stands : ContentStandsFor disk.history read.past) (replayed : IsReplayed read.machine.state read.past) (base : IsWritable rows read.past.base.state)
+    (told : told_of read.executions ≡ option_map (λ replies. replies ++ executions_told read.past.base.state read.past.base.position read.past.entries) (Some [])) (is : text ≡ recovered_text read) where
+  abbrev kept : (h : History) × IsKept rows disk.history h × (recovered_text read ≡ replay_text rows h)
+  kept = replay_told rows disk.history read stands replayed base told
+
+  pub replays : Takes output.taken output'.taken text → ReplayRuns roster files files' output output' disk left Done
+  replays takes = (same, (rows, says, are, (kept.0, kept.1, subst (λ t. Takes output.taken output'.taken t) (is ∙ kept.2) takes)))
+
+  pub replays_front : TakesFront output.taken output'.taken text → Rose output.faults output'.faults → ReplayRuns roster files files' output output' disk left SinkFault
+  replays_front takes rose = ((same, (rows, says, are, (kept.0, kept.1, subst (λ t. TakesFront output.taken output'.taken t) (is ∙ kept.2) takes))), rose)

@@ -2,8 +2,7 @@
 use Rattle.std.proofs.Common.{◌≡◌, ◌∙◌, refl, sym, subst, ap, ℕ, Bool, true, false, List, Option, Some, None}
 use Rattle.std.specs.Prelude.{◌↔◌, Result, Ok, IfSome, IsTrue, if◌then◌else◌}
 use Rattle.units_core.specs.Day.{DayParts}
-use Rattle.outside.specs.Disk as disks
-use Rattle.outside.specs.Files.{Folder}
+use Rattle.outside.specs.Faults.{Rose}
 use Rattle.outside.specs.Flow.{Takes, TakesFront}
 use Rattle.command_types.specs.declared.base.Base.{Base}
 use Rattle.command_types.specs.declared.cycle.Phase.{Phase}
@@ -27,25 +26,18 @@ use Rattle.period_roll.specs.Rolls.{rolled, rolled_base}
 use Rattle.period_roll.proofs.Fitting.{rolled_fits}
 use Rattle.period_roll.proofs.Nets.{rolled_keeps}
 use Rattle.period_roll.proofs.Written.{can_be_written}
-use Rattle.journal_core.specs.declared.fault.JournalFault.{JournalFault}
-use Rattle.journal_core.specs.declared.fault.JournalFault.TheVariants as faults
 use Rattle.recovery.specs.StandsFor.{StandsFor}
-use Rattle.trade_file.specs.RosterFile.{roster_file}
 use Rattle.fresh_journal.specs.Journals.{begun_history, journal_of}
 use Rattle.house.specs.declared.recovering.Recovered.{Recovered}
-use Rattle.house.specs.Opening.{FindsFault}
 use Rattle.house.specs.Storing.{ContentStandsFor}
-use Rattle.compress_server.specs.declared.ending.End.{End}
-use Rattle.compress_server.specs.declared.ending.End.TheVariants.{Done, No, BadWords, Unloaded, Damaged, DiskFault, Stopped, ListenerFault, SourceFault, SinkFault, Limit, Memory, Unrolled}
+use Rattle.compress_server.specs.declared.ending.Obstacle.{Obstacle}
 use Rattle.compress_server.specs.declared.ending.Obstacle.TheVariants.{Misfit}
-use Rattle.compress_server.specs.declared.load.FileRole.TheVariants as roles
-use Rattle.compress_server.specs.declared.load.LoadFault.{LoadFault}
-use Rattle.compress_server.specs.declared.load.LoadFault.TheVariants.{Files, Faulty, Memory as NoMemory}
-use Rattle.compress_server.specs.Ending.{IsFault}
-use Rattle.compress_server.specs.Files.{SaysRoster, IsLoadFault, IsRollFault, ReadBeforeRoll}
-use Rattle.compress_server.specs.Housed.{disk_of}
+use Rattle.compress_server.specs.declared.rolling.RollEnd.TheVariants.{Done, Unrolled, SinkFault}
+use Rattle.compress_server.specs.Files.{FilesState, SaysRoster}
+use Rattle.compress_server.specs.Housed.{DiskState}
 use Rattle.compress_server.specs.Replay.{IsKept}
-use Rattle.compress_server.specs.Roll.{last_base, rolled_history, IsObstacle, IsRolled, IsUnrolled, JournalRolls}
+use Rattle.compress_server.specs.Roll.{last_base, rolled_history, IsObstacle, IsRolled, OverRosters, RollRuns}
+use Rattle.compress_server.specs.Seen.{OutputState}
 
 -- ---- the base at the end of a history
 
@@ -133,65 +125,33 @@ module _ (old new : Rows) (matured : Option DayParts) (h : History) (writable : 
         stands = stands new made_fits;
       }
 
--- ---- why a roster could not be had
-
-module _ (folder : Option Folder) (roster new_roster : List ℕ) where
-  abbrev IsUnread : LoadFault → Type 0
-  IsUnread fault = IsFault (IsRollFault folder roster new_roster) (ReadBeforeRoll folder roster) fault
-
-  pub old_unread : (fault : LoadFault) → IsLoadFault folder roster roles.Roster roster_file fault → IsUnread fault
-  old_unread (Faulty role f) (is, reads) = subst (λ r. IsRollFault folder roster new_roster r f) (sym is) reads
-  old_unread (Files role) is = subst (λ r. ReadBeforeRoll folder roster r) (sym is) tt
-  old_unread NoMemory is = tt
-
-  pub new_unread : (rows : Rows) (fault : LoadFault) → SaysRoster folder roster rows → IsLoadFault folder new_roster roles.NewRoster roster_file fault → IsUnread fault
-  new_unread rows (Faulty role f) says (is, reads) = subst (λ r. IsRollFault folder roster new_roster r f) (sym is) (rows, says, reads)
-  new_unread rows (Files role) says is = subst (λ r. ReadBeforeRoll folder roster r) (sym is) (rows, says)
-  new_unread rows NoMemory says is = tt
-
 -- the machine that made the changes has the old rows
 pub same_rows : (old : Rows) (read : Recovered) → IsReplayed read.machine.state read.past → IsWritable old read.past.base.state → read.machine.state.roster ≡ old
 same_rows old read there base = roster_replayed read.machine.state read.past there ∙ base.market.same
 
--- ---- how a roll ends, over a disk that was attached, which changes nothing
+-- ---- how a roll ends, over a disk that holds what it held
 
-module _ (old new : Rows) (matured : Option DayParts) (o mid now : Option disks.History) (before after : ℕ) (same : mid ≡ o) (stays : now ≡ mid) (begun taken : Option (List ℕ)) where
-  module _ (read : Recovered) (stands : ContentStandsFor mid read.past) (replayed_there : IsReplayed read.machine.state read.past) (base : IsWritable old read.past.base.state) where
-    kept : IsKept old o read.past
-    kept = record { base = base; legal = replayed_there.legal; stands = subst (λ (d : Option disks.History). ContentStandsFor d read.past) same stands }
+module _ (roster new_roster : List ℕ) (matured : Option DayParts) (files files' : FilesState) (output output' : OutputState) (disk left : DiskState)
+    (old new : Rows) (says : SaysRoster files.folder roster old) (are : IsRoster old) (says_new : SaysRoster files.folder new_roster new) (are_new : IsRoster new) (same : left.history ≡ disk.history)
+    (read : Recovered) (stands : ContentStandsFor disk.history read.past) (replayed_there : IsReplayed read.machine.state read.past) (base : IsWritable old read.past.base.state) where
+  kept : IsKept old disk.history read.past
+  kept = record { base = base; legal = replayed_there.legal; stands = stands }
 
-    rows_same : read.machine.state.roster ≡ old
-    rows_same = same_rows old read replayed_there base
+  rows_same : read.machine.state.roster ≡ old
+  rows_same = same_rows old read replayed_there base
 
-    module _ (text : List ℕ) (is : IsRolled read.machine.state.roster new matured read.past text) where
-      is_there : IsRolled old new matured read.past text
-      is_there = subst (λ (rows : Rows). IsRolled rows new matured read.past text) rows_same is
+  over : {P : Rows → Rows → Type 0} → P old new → OverRosters roster new_roster matured files files' output output' disk left P
+  over is = (same, (old, says, are, (new, says_new, are_new, is)))
 
-      pub rolls : Takes begun taken text → JournalRolls old new matured (disk_of o before) (disk_of now after) begun taken Done
-      rolls takes = (stays ∙ same, (read.past, text, kept, is_there, takes))
+  module _ (text : List ℕ) (is : IsRolled read.machine.state.roster new matured read.past text) where
+    is_there : IsRolled old new matured read.past text
+    is_there = subst (λ (rows : Rows). IsRolled rows new matured read.past text) rows_same is
 
-      pub rolls_front : TakesFront begun taken text → JournalRolls old new matured (disk_of o before) (disk_of now after) begun taken SinkFault
-      rolls_front takes = (stays ∙ same, (read.past, text, kept, is_there, takes))
+    pub rolls : Takes output.taken output'.taken text → RollRuns roster new_roster matured files files' output output' disk left Done
+    rolls takes = over (read.past, text, kept, is_there, takes)
 
-    -- by the end that tells why there is no text
-    ends : (end : End) → IsUnrolled old new matured read.past end → taken ≡ begun → JournalRolls old new matured (disk_of o before) (disk_of now after) begun taken end
-    ends Done is none = absurd is
-    ends No is none = absurd is
-    ends BadWords is none = absurd is
-    ends (Unloaded fault) is none = absurd is
-    ends (Damaged place) is none = absurd is
-    ends DiskFault is none = absurd is
-    ends Stopped is none = absurd is
-    ends ListenerFault is none = absurd is
-    ends SourceFault is none = absurd is
-    ends SinkFault is none = absurd is
-    ends Limit is none = absurd is
-    ends Memory is none = (stays ∙ same, none)
-    ends (Unrolled obstacle) is none = (stays ∙ same, (none, (read.past, kept, is)))
+    pub rolls_front : TakesFront output.taken output'.taken text → Rose output.faults output'.faults → RollRuns roster new_roster matured files files' output output' disk left SinkFault
+    rolls_front takes rose = (over (read.past, text, kept, is_there, takes), rose)
 
-    pub unrolled : (end : End) → IsUnrolled read.machine.state.roster new matured read.past end → taken ≡ begun → JournalRolls old new matured (disk_of o before) (disk_of now after) begun taken end
-    unrolled end is none = ends end (subst (λ (rows : Rows). IsUnrolled rows new matured read.past end) rows_same is) none
-
-  pub roll_damaged : (fault : JournalFault) (place : ℕ) → fault ≡ faults.Damaged place → FindsFault old mid fault → taken ≡ begun → JournalRolls old new matured (disk_of o before) (disk_of now after) begun taken (Damaged place)
-  roll_damaged fault place is found none =
-      (stays ∙ same, (none, subst (λ (d : Option disks.History). FindsFault old d (faults.Damaged place)) same (subst (λ (f : JournalFault). FindsFault old mid f) is found)))
+  pub unrolled : (obstacle : Obstacle) → IsObstacle read.machine.state.roster new matured read.past obstacle → output' ≡ output → RollRuns roster new_roster matured files files' output output' disk left (Unrolled obstacle)
+  unrolled obstacle is none = (none, over (read.past, kept, subst (λ (rows : Rows). IsObstacle rows new matured read.past obstacle) rows_same is))

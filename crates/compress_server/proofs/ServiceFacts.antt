@@ -14,8 +14,8 @@ use Rattle.house.specs.House.{HouseView}
 use Rattle.seats.specs.declared.place.Place.{Place}
 use Rattle.seats.specs.declared.seat.SeatEnd.{SeatEnd}
 use Rattle.seats.specs.declared.seat.SeatEnd.TheVariants as seat_end
-use Rattle.compress_server.specs.declared.ending.End.{End}
-use Rattle.compress_server.specs.declared.ending.End.TheVariants.{ListenerFault, Memory}
+use Rattle.compress_server.specs.declared.serve.ServiceEnd.{ServiceEnd}
+use Rattle.compress_server.specs.declared.serve.ServiceEnd.TheVariants.{ListenerFault, Memory}
 use Rattle.compress_server.specs.Seen.{OutputState, ListenerState}
 use Rattle.compress_server.specs.Runs.{run_of, runs_of}
 use Rattle.compress_server.specs.Serve.{SeatRun, LendsMany, TakesBackAll, Returned, IsUnasked, IsUnbegun, had_door_fault, trouble_end}
@@ -25,7 +25,7 @@ pub written_anew : {P : Type 0} (n : ℕ) (new old : List P) → length new ≡ 
 written_anew n new old many = ap (λ k. take k (new ++ drop (length new) old)) (sym many) ∙ take-append_seam new (drop (length new) old)
 
 -- why a service did not begin, where its listener was in trouble
-pub why_trouble : (t : Trouble) (end : End) (rose : Type 0) → end ≡ trouble_end t → (t ≡ trouble.Failed → rose) → (end ≡ Memory) ⊎ ((end ≡ ListenerFault) × rose)
+pub why_trouble : (t : Trouble) (end : ServiceEnd) (rose : Type 0) → end ≡ trouble_end t → (t ≡ trouble.Failed → rose) → (end ≡ Memory) ⊎ ((end ≡ ListenerFault) × rose)
 why_trouble trouble.Failed end rose is failed = inr (is, failed refl)
 why_trouble trouble.Memory end rose is failed = inl is
 
@@ -33,7 +33,7 @@ why_trouble trouble.Memory end rose is failed = inl is
 pub none_asked : {D : Type 0} (visits : D → Option Visits) (address : List ℕ) (before after : Option Doors) → after ≡ before → IsUnasked visits address before after
 none_asked visits address before after same = record { doors = []; returned = inl (refl, same); unserved = λ k other lt. absurd (omega (arith, lt)) }
 
-pub unbegun_at_once : {D : Type 0} (visits : D → Option Visits) (address : List ℕ) (v : HouseView) (output : OutputState) (listener listener' : ListenerState) (end : End) → listener'.doors ≡ listener.doors →
+pub unbegun_at_once : {D : Type 0} (visits : D → Option Visits) (address : List ℕ) (v : HouseView) (output : OutputState) (listener listener' : ListenerState) (end : ServiceEnd) → listener'.doors ≡ listener.doors →
     (end ≡ Memory) ⊎ ((end ≡ ListenerFault) × Rose listener.faults listener'.faults) → IsUnbegun visits address v v output output listener listener' end
 unbegun_at_once visits address v output listener listener' end same why =
     record { same = refl; none_written = refl; unasked = none_asked visits address listener.doors listener'.doors same; why = why }
@@ -57,7 +57,7 @@ module _ {D In Out : Type 0} (visits : D → Option Visits) where
   door_of place = place.door
 
   -- the doors at these places were handed out, and went back
-  pub unbegun_back : (address : List ℕ) (v w : HouseView) (output : OutputState) (listener listener' : ListenerState) (bound mid : Option Doors) (places : List (Place D In Out)) (end : End) → w ≡ v → Binds address listener.doors bound → LendsMany (length places) bound mid →
+  pub unbegun_back : (address : List ℕ) (v w : HouseView) (output : OutputState) (listener listener' : ListenerState) (bound mid : Option Doors) (places : List (Place D In Out)) (end : ServiceEnd) → w ≡ v → Binds address listener.doors bound → LendsMany (length places) bound mid →
       TakesBackAll visits mid listener'.doors (map (λ (place : Place D In Out). place.door) places) → All (λ (place : Place D In Out). IsNew (visits place.door)) places →
       (end ≡ Memory) ⊎ ((end ≡ ListenerFault) × Rose listener.faults listener'.faults) → IsUnbegun visits address v w output output listener listener' end
   unbegun_back address v w output listener listener' bound mid places end same binds lends takes fresh why = record {

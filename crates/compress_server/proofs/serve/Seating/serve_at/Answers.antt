@@ -5,9 +5,9 @@ use Rattle.std.proofs.lemmas.List.{length-map}
 use Rattle.outside.specs.Faults.{Rose}
 use Rattle.doors.specs.Visits.{IsNew}
 use Rattle.compress_server.specs.Seen.{output_of, listener_of}
-use Rattle.compress_server.specs.declared.ending.End.TheVariants.{Memory}
+use Rattle.compress_server.specs.declared.serve.ServiceEnd.TheVariants.{Memory}
 use Rattle.compress_server.specs.Runs.{run_of, runs_of}
-use Rattle.compress_server.specs.Serve.{IsWritten, history_line, AreLent, HasGivenSince, TakesBackAll, had_no_memory, had_door_fault, service_end}
+use Rattle.compress_server.specs.Serve.{IsWritten, history_line, AreLent, HasGivenSince, TakesBackAll, had_no_memory, had_door_fault, end_of_seats}
 use Rattle.compress_server.proofs.EndFacts.{rose_later}
 use Rattle.compress_server.proofs.PlaceFacts.{rose_stays, lent_of, have_given, bound_given}
 use Rattle.compress_server.proofs.ServiceFacts.{unbegun_at_once, unbegun_back, written_anew, seats_returned, any_run, some_failed, why_trouble}
@@ -50,7 +50,7 @@ returns-in-Ok-serve_house-clause-serves g c =
     let many : length places ≡ old.len = omega (arith, count, told.all, old.ok.0) in
     let anew : take old.len (places ++ drop (length places) old.items) ≡ places = written_anew old.len places old.items many in
     let taken_back = subst (λ ps. TakesBackAll visits (g.L.Listener.doors c.take_places.new.listener) (g.L.Listener.doors c.give_back-in-Ok-serve_house.new.listener) (map (λ place. place.door) ps)) anew back.returned in
-    let ended = subst (λ ps. c.end_of_service-end.result ≡ service_end (list_any (λ place. had_no_memory place.end) ps) (list_any (λ place. had_door_fault place.end) ps) c.is_stopped.result c.tell_history-written.result) (c.deref.ensures.value ∙ anew) c.end_of_service-end.ensures in
+    let ended = subst (λ ps. c.end_of_seats-end.result ≡ end_of_seats (list_any (λ place. had_no_memory place.end) ps) (list_any (λ place. had_door_fault place.end) ps) c.is_stopped.result c.tell_history-written.result) (c.deref.ensures.value ∙ anew) c.end_of_seats-end.ensures in
     let failed = subst (λ ps. list_any (λ place. nat_lt 0 (g.L.Door.Door.faults place.door)) ps ≡ true → Rose (faults c.take_places.new.listener) (faults c.give_back-in-Ok-serve_house.new.listener)) anew back.failed in
     inr (record {
       seats = _;
@@ -61,9 +61,9 @@ returns-in-Ok-serve_house-clause-serves g c =
           (λ k other lt. subst (λ ps. HasGivenSince (visits (slice_index_or ps k other).door) (visits (slice_index_or places k other).door)) c.deref_mut.ensures.value (out.given k other (subst (λ ps. k < length ps) (sym c.deref_mut.ensures.value) lt))));
       written = c.tell_history-written.result;
       wrote = subst (λ n. IsWritten begun taken (history_line n) c.tell_history-written.result) c.length.ensures.length c.tell_history-written.ensures;
-      told = ended ∙ (ap (λ b. service_end b (list_any (λ place. had_door_fault place.end) places) c.is_stopped.result c.tell_history-written.result) (any_run visits had_no_memory places)
-          ∙ (ap (λ b. service_end (list_any (λ seat. had_no_memory seat.end) (runs_of places)) b c.is_stopped.result c.tell_history-written.result) (any_run visits had_door_fault places)
-          ∙ ap (λ b. service_end (list_any (λ seat. had_no_memory seat.end) (runs_of places)) (list_any (λ seat. had_door_fault seat.end) (runs_of places)) b c.tell_history-written.result) c.is_stopped.ensures.stopped));
+      told = ended ∙ (ap (λ b. end_of_seats b (list_any (λ place. had_door_fault place.end) places) c.is_stopped.result c.tell_history-written.result) (any_run visits had_no_memory places)
+          ∙ (ap (λ b. end_of_seats (list_any (λ seat. had_no_memory seat.end) (runs_of places)) b c.is_stopped.result c.tell_history-written.result) (any_run visits had_door_fault places)
+          ∙ ap (λ b. end_of_seats (list_any (λ seat. had_no_memory seat.end) (runs_of places)) (list_any (λ seat. had_door_fault seat.end) (runs_of places)) b c.tell_history-written.result) c.is_stopped.ensures.stopped));
       counted = λ any.
           rose_later (faults c.args.listener.now) (faults c.take_places.new.listener) (faults c.give_back-in-Ok-serve_house.new.listener) (omega (arith, c.in_default-bind.ensures.counts.0, told.never_falls))
           (failed (some_failed visits g.L.Door.Door.faults places out.counted (any_run visits had_door_fault places ∙ any)));
