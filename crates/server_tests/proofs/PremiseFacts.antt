@@ -16,6 +16,8 @@ use Rattle.seats.specs.Final.{AreServed, sight_at}
 use Rattle.seats.specs.Sessions.{IsVisit}
 use Rattle.trade_file.specs.RosterFile.{roster_file, with_records}
 use Rattle.compress_server.specs.declared.ending.End.TheVariants.{Done}
+use Rattle.compress_server.specs.declared.script.ScriptEnd.TheVariants as script_end
+use Rattle.compress_server.specs.declared.serve.ServiceEnd.TheVariants as service_end
 use Rattle.compress_server.specs.Complete.{IsUndisturbed}
 use Rattle.compress_server.specs.Files.{SaysRoster}
 use Rattle.compress_server.specs.Housed.{disk_of, IsHoused}
@@ -93,17 +95,15 @@ left_untold = record { said = line ∷ []; others = []; order = refl; replied = 
 pub script_ends : Ends {D = Option Visits} clock (λ d. d) (Some script_form) script_before script_after 0
 script_ends = record {
   end = Done;
-  runs = (refl, inr (nobody_there, says, is_roster, (first_house, first_house, housed, (refl, (said, (refl, refl), inr (omega arith, left))))));
-  tells = (refl, inl refl);
-  counted = tt;
+  runs = (refl, (script_end.Done, refl, (nobody_there, says, is_roster, (first_house, first_house, housed, (refl, (said, (refl, refl), inr (omega arith, left)))))));
+  tells = inl (refl, inl refl);
 }
 
 pub untold_ends : Ends {D = Option Visits} clock (λ d. d) (Some script_form) untold untold 0
 untold_ends = record {
   end = Done;
-  runs = (refl, inr (nobody_there, says_untold, is_roster, (first_house, first_house, housed, (refl, (said, tt, inr (omega arith, left_untold))))));
-  tells = (refl, inl tt);
-  counted = tt;
+  runs = (refl, (script_end.Done, refl, (nobody_there, says_untold, is_roster, (first_house, first_house, housed, (refl, (said, tt, inr (omega arith, left_untold)))))));
+  tells = inl (refl, inl tt);
 }
 
 pub script_undisturbed : IsUndisturbed script_before script_after
@@ -153,7 +153,7 @@ have_served = record {
   each = (record { none_out = refl; few = omega arith; most = λ e. absurd cc; over = λ e. refl; served = seat_served }, tt);
 }
 
-a_service : IsService clock (λ (d : Option Visits). d) service_plan first_house first_house (took []) (took (history_line 0)) (listener_of (Some doors_before) 0) (listener_of (Some doors_after) 0) Done
+a_service : IsService clock (λ (d : Option Visits). d) service_plan first_house first_house (took []) (took (history_line 0)) (listener_of (Some doors_before) 0) (listener_of (Some doors_after) 0) service_end.Done
 a_service = record {
   seats = seats;
   served = have_served;
@@ -168,9 +168,8 @@ a_service = record {
 pub service_ends : Ends {D = Option Visits} clock (λ d. d) (Some service_form) service_before service_after 0
 service_ends = record {
   end = Done;
-  runs = (refl, inr (nobody_there, says, is_roster, inr (first_house, first_house, housed, inr a_service)));
-  tells = (refl, inl refl);
-  counted = tt;
+  runs = (refl, (service_end.Done, refl, inr (nobody_there, says, is_roster, inr (first_house, first_house, housed, inr a_service))));
+  tells = inl (refl, inl refl);
 }
 
 pub service_undisturbed : IsUndisturbed service_before service_after

@@ -7,6 +7,7 @@ ghost use Rattle.seats.specs.Final.{AreServed};
 ghost use Rattle.seats.specs.declared.seat.SeatEnd.TheVariants.{Over};
 ghost use Rattle.compress_server.specs.declared.ending.End.TheVariants.{DiskFault};
 ghost use Rattle.compress_server.specs.Complete.{IsUndisturbed};
+ghost use Rattle.compress_server.specs.Seen.{output_of};
 ghost use Rattle.compress_server.specs.Telling.{Ends, TellsEnd};
 ghost use Rattle.server_tests.specs.Premises.{clock, untold, script_before, script_after, script_form, service_before, service_after, service_form, seat, final, visit};
 
@@ -37,7 +38,7 @@ fn a_seat_has_served()
 {}
 
 fn an_end_is_told()
-    ensures { TellsEnd (Some []) (Some (codes "disk fault\n")) 0 1 DiskFault 6 }
+    ensures { TellsEnd (output_of (Some []) 0) (output_of (Some (codes "disk fault\n")) 1) DiskFault 6 }
 {}
 
 #[test]
