@@ -11,7 +11,7 @@ use Rattle.compress_server.specs.Serve.{IsWritten, history_line, AreLent, HasGiv
 use Rattle.compress_server.proofs.EndFacts.{rose_later}
 use Rattle.compress_server.proofs.PlaceFacts.{rose_stays, lent_of, have_given, bound_given}
 use Rattle.compress_server.proofs.ServiceFacts.{unbegun_at_once, unbegun_back, written_anew, seats_returned, any_run, some_failed, why_trouble}
-use Rattle.compress_server.proofs.serve.Seating.serve_at.Goals as goal
+use Rattle.compress_server.proofs.seating.Seating.serve_at.Goals as goal
 
 pub returns-in_default-clause-serves : goal.returns-in_default-clause-serves
 returns-in_default-clause-serves g c = inl (unbegun_at_once g.L.Door.Door.visits c.args.self.now.words.now.address.now c.args.house _ _ _ _ refl (inl refl))

@@ -1,6 +1,6 @@
 use Rattle.command_types.specs.Details.{trade_line}
 use Rattle.compress_server.proofs.ReplayFacts.{lines_more}
-use Rattle.compress_server.proofs.replay.push_trades.Goals as goal
+use Rattle.compress_server.proofs.replay_text.push_trades.Goals as goal
 
 pub loop-row-preserved : goal.loop-row-preserved
 loop-row-preserved c =

@@ -3,7 +3,7 @@ use Rattle.outside.specs.Flow.{Takes, TakesFront}
 use Rattle.compress_server.specs.Seen.{output_of}
 use Rattle.compress_server.proofs.EndFacts.{rose_later}
 use Rattle.compress_server.proofs.ServeFacts.{ok_holds, err_holds, err_more, line_cut_second, line_told}
-use Rattle.compress_server.proofs.serve.tell_history.Goals as goal
+use Rattle.compress_server.proofs.seating.tell_history.Goals as goal
 
 pub returns-then-is_err-2 : goal.returns-then-is_err-2
 returns-then-is_err-2 g c =

@@ -12,7 +12,7 @@ use Rattle.seats.proofs.VisitFacts.{rose_from_none}
 use Rattle.compress_server.specs.Runs.{run_of}
 use Rattle.compress_server.specs.Serve.{final_of}
 use Rattle.compress_server.proofs.ServeFacts.{seats_of, seat_stands, seated_at, given_since}
-use Rattle.compress_server.proofs.serve.Seating.serve_house.Goals as goal
+use Rattle.compress_server.proofs.seating.Seating.serve_house.Goals as goal
 
 -- ---- the house may go to another thread, as its disk may
 

@@ -4,7 +4,7 @@ use Rattle.command_types.specs.declared.roster.MemberRow.{MemberRow}
 use Rattle.command_types.specs.Roster.{Rows, IsRoster}
 use Rattle.command_types.specs.CycleSteps.{rows_of_member}
 use Rattle.compress_server.proofs.StatementFacts.{statement_told, same_rows}
-use Rattle.compress_server.proofs.replay.trades_of.Goals as goal
+use Rattle.compress_server.proofs.replay_text.trades_of.Goals as goal
 
 pub unreachable-requires : goal.unreachable-requires
 unreachable-requires c =

@@ -1,6 +1,6 @@
 use Rattle.compress_server.specs.Told.{reply_told}
 use Rattle.compress_server.proofs.ReplayFacts.{lines_more}
-use Rattle.compress_server.proofs.replay.push_replies.Goals as goal
+use Rattle.compress_server.proofs.replay_text.push_replies.Goals as goal
 
 pub loop-reply-preserved : goal.loop-reply-preserved
 loop-reply-preserved c =
