@@ -111,7 +111,7 @@ module _ (clock : ℕ → Bool) (roster journal : List ℕ) (workers : ℕ) (bef
 pub scripts_are_answered : {D : Type 0} (visits : D → Option Visits) → ScriptsAreAnswered visits
 scripts_are_answered visits clock roster journal workers before after status ends held =
     let own = ends.runs.1 in
-    script_answered clock roster journal workers before after status held own.0 own.1.1 (subst (λ x. TellsEnd before.errors after.errors x status) own.1.0 ends.tells)
+    script_answered clock roster journal workers before after status held own.0 own.2 (subst (λ x. TellsEnd before.errors after.errors x status) own.1 ends.tells)
 
 -- ---- a service
 
@@ -173,4 +173,4 @@ module _ {D : Type 0} (clock : ℕ → Bool) (visits : D → Option Visits) (ros
 pub services_are_answered : {D : Type 0} (visits : D → Option Visits) → ServicesAreAnswered visits
 services_are_answered visits clock roster journal address numbers before after status ends held =
     let own = ends.runs.1 in
-    service_answered clock visits roster journal address numbers before after status held own.0 own.1.1 (subst (λ x. TellsEnd before.errors after.errors x status) own.1.0 ends.tells)
+    service_answered clock visits roster journal address numbers before after status held own.0 own.2 (subst (λ x. TellsEnd before.errors after.errors x status) own.1 ends.tells)

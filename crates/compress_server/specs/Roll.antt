@@ -84,7 +84,7 @@ RollsFront old new matured disk begun taken =
 module _ (roster new_roster : List ℕ) (matured : Option DayParts) (files files' : FilesState) (output output' : OutputState) (disk left : DiskState) where
   -- over the rows of both rosters this holds, and the disk holds what it held
   abbrev pub OverRosters : (Rows → Rows → Type 0) → Type 0
-  OverRosters P = (left.history ≡ disk.history) × OverRoster files.folder roster (λ old. OverRoster files.folder new_roster (λ new. P old new))
+  OverRosters P = (left.history ≡ disk.history) × OverRoster files.folder roster (λ old. OverRoster files.folder new_roster (P old))
 
   -- by the end of a roll, which writes nothing to the disk
   abbrev pub RollRuns : RollEnd → Type 0

@@ -1,6 +1,6 @@
-use Rattle.std.proofs.Common.{◌≡◌, ◌∙◌, List, ℕ, [], ◌++◌, Some, ap, refl}
+use Rattle.std.proofs.Common.{◌∙◌, ◌++◌, ap, refl}
 use Rattle.std.specs.Prelude.{option_map}
-use Rattle.house.specs.Executions.{told_of, executions_told}
+use Rattle.house.specs.Executions.{executions_told}
 use Rattle.compress_server.specs.Files.{files_by}
 use Rattle.compress_server.specs.Housed.{disk_by}
 use Rattle.compress_server.specs.Seen.{output_by}

@@ -47,8 +47,9 @@ returns-in-Err-Refused-clause-runs g c =
     let second = c.in-Ok-load_roster_as in
     let says = subst (λ (folder : Option Folder). SaysRoster folder words.new_roster.now second.new) first.ensures.stays second.ensures.says in
     let e = c.in-Ok-read_journal.ensures in
+    let other = rw c.in-Err-Refused.field-0-is at c.in-Err-Refused.ensures.other in
     unrolled words.roster.now words.new_roster.now words.matured files files' output output disk left first.old second.new first.ensures.says first.ensures.roster says second.ensures.roster e.same c.in-Ok-read_journal.read e.stands e.replayed e.base
-    c.in-Err-Refused.obstacle c.in-Err-Refused.ensures.other refl
+    c.in-Err-Refused.obstacle other refl
 
 pub returns-then-is_err-clause-runs : goal.returns-then-is_err-clause-runs
 returns-then-is_err-clause-runs g c =
