@@ -1,10 +1,8 @@
 -- The ballot of a proposal stays with any command that neither posts nor votes, since no trade changes its parties.
-use Rattle.std.proofs.Common.{◌≡◌, ℕ, zero, suc, ◌+◌, ◌-◌, ◌<◌, ◌==◌, ◌&&◌, ◌||◌, nat_lt, Bool, true, false, List, [], ◌∷◌, ◌++◌, length, Option, Some, None, is_some, unwrap_or, IsTrue, All, slice_get, slice_set, if◌then◌else◌, refl, ap, sym, ◌∙◌, take, drop, take-append-drop, subst}
+use Rattle.std.proofs.Common.{◌≡◌, ℕ, zero, suc, ◌+◌, ◌-◌, ◌<◌, ◌≤◌, ◌==◌, ◌&&◌, ◌||◌, nat_lt, Bool, true, false, List, [], ◌∷◌, ◌++◌, length, Option, Some, None, is_some, unwrap_or, IsTrue, All, slice_get, slice_set, if◌then◌else◌, refl, ap, sym, ◌∙◌, take, drop, take-append-drop, subst}
 use Rattle.std.specs.List.{list_any}
 use Rattle.std.proofs.lemmas.Bool.{false≢true}
 use Rattle.std.proofs.lemmas.List.Elements.{All-head, All-tail, All-weaker}
-use Rattle.std.proofs.lemmas.List.Folds.{list_any-append}
-use Rattle.network_laws.specs.Solutions.{SolutionData}
 use Rattle.command_types.specs.declared.ask.What.{What}
 use Rattle.command_types.specs.declared.ask.What.TheVariants.{Hello, Trade, Affirm, End, Hold, Free, Tol, Nets, Statement, Freeze, Begin, Limits, Row, Pot, Post, Fetch, Next, Plan, Proof, Accept, Decline, Cancel, Bye, Unreadable}
 use Rattle.command_types.specs.declared.figures.Cycle.{Cycle}
@@ -15,18 +13,21 @@ use Rattle.command_types.specs.declared.trade.Side.{Side}
 use Rattle.command_types.specs.declared.trade.Side.TheVariants.{Out, In}
 use Rattle.command_types.specs.declared.trade.TradeRow.{TradeRow}
 use Rattle.command_types.specs.declared.trade.TradeState.TheVariants.{Ended}
-use Rattle.command_types.specs.CycleRefusals.{has_voted}
-use Rattle.command_types.specs.Cycles.{is_proposed, may_break, broken_at, posted_plan}
-use Rattle.command_types.specs.CycleSteps.{after_vote, is_frozen_and_marked, left_after, touched_in}
+use Rattle.command_types.specs.CycleRefusals.{has_voted, has_voted_at, is_touched_at}
+use Rattle.command_types.specs.Cycles.{is_proposed, may_break, broken_at}
+use Rattle.command_types.specs.CycleSteps.{after_vote, is_frozen_and_marked}
 use Rattle.command_types.specs.Machine.{first_of, member_of, product_of, refusals, side_at, side_of, state_by_party}
-use Rattle.command_types.specs.Plans.{count_of, is_in_step, is_new, is_party_row, is_touched, touched_by}
+use Rattle.command_types.specs.Plans.{is_in_step, is_party_row, is_touched, touched_by}
+use Rattle.command_types.specs.Roster.{member_place}
 use Rattle.command_types.specs.Trades.{affirmed, alleged_row, changed_row, ended_by, freed_by, held_by, is_alleged, live_row, row_ended_by, row_with_hold, trade_numbered, with_changed, with_row}
 use Rattle.acceptance.specs.Parties.{IsStepBelow, IsPlanBelow}
+use Rattle.acceptance.proofs.FlagFacts.{voted_within}
 use Rattle.acceptance.proofs.PartyFacts.{listed_agree, trade_there}
 use Rattle.cycle_states.specs.declared.machine.ballot.Ballot.{Ballot}
-use Rattle.cycle_states.specs.Ballot.{IsBallot, IsBallotIn}
-use Rattle.cycle_states.specs.Effects.{decides, effect_by, posting_effect, rows_with, vote_effect}
-use Rattle.cycle_states.proofs.KeptFacts.{accept_proposed}
+use Rattle.cycle_states.specs.Ballot.{waiting, IsBallot, IsBallotIn, MayVote}
+use Rattle.cycle_states.specs.Effects.{decides}
+use Rattle.cycle_states.proofs.MachineFacts.{none_holds, not_false, place_within}
+use Rattle.cycle_states.proofs.VoteRooms.{rest_fits, vote_fits, voted_last}
 
 -- ---- the parties of the trades
 
@@ -122,6 +123,7 @@ no_ballot members rows cycle ballot off = record {
   needed = λ on. absurd (false≢true (sym off ∙ on));
   voted = λ on. absurd (false≢true (sym off ∙ on));
   made = λ on. absurd (false≢true (sym off ∙ on));
+  room = λ on. absurd (false≢true (sym off ∙ on));
 }
 
 module _ (members : ℕ) (rows : List TradeRow) (cycle : Cycle) (ballot : Ballot) (below : IsTrue (is_proposed cycle.phase) → IsPlanBelow rows members cycle.plan) (kept : IsBallot members rows cycle ballot) where
@@ -130,6 +132,7 @@ module _ (members : ℕ) (rows : List TradeRow) (cycle : Cycle) (ballot : Ballot
     needed = λ on. kept.needed on ∙ sym (touched_same rows other keep members cycle.plan (below on));
     voted = kept.voted;
     made = kept.made;
+    room = kept.room;
   }
 
   ended_ballot : (t : Bool) (trade : ℕ) (other : List TradeRow) → KeepParties rows other → IsBallot members other (if t then broken_at cycle trade else cycle) ballot
@@ -143,6 +146,7 @@ ballot_back members rows other cycle ballot below keep kept = record {
   needed = λ on. kept.needed on ∙ touched_same other rows keep members cycle.plan (below on);
   voted = kept.voted;
   made = kept.made;
+  room = kept.room;
 }
 
 -- it stays with any command that neither posts nor votes
@@ -183,46 +187,36 @@ ballot_stays s by (Cancel cycle) ballot plain below kept = no_ballot _ _ _ ballo
 ballot_stays s by Bye ballot plain below kept = kept
 ballot_stays s by (Unreadable at) ballot plain below kept = kept
 
-or_none : (b : Bool) → (b || false) ≡ b
-or_none true = refl
-or_none false = refl
-
-or_turned : (a b : Bool) → (a || b) ≡ (b || a)
-or_turned true true = refl
-or_turned true false = refl
-or_turned false true = refl
-or_turned false false = refl
-
--- who has voted once this member has, in either order
-voted_last : (votes : List ℕ) (member m : ℕ) → has_voted (member ∷ votes) m ≡ has_voted (votes ++ member ∷ []) m
-voted_last votes member m =
-    or_turned (member == m) (has_voted votes m)
-    ∙ ap (λ b. has_voted votes m || b) (sym (or_none (member == m)))
-    ∙ sym (list_any-append (λ voter. voter == m) votes (member ∷ []))
-
 -- the ballot after a vote
-pub voted_ballot : (s : State) (member : ℕ) (left : List ℕ) (ballot next : Ballot) → IsTrue (is_proposed s.cycle.phase) → IsBallotIn s ballot → next.votes.needed ≡ ballot.votes.needed
+pub voted_ballot : (s : State) (member : ℕ) (left : List ℕ) (ballot next : Ballot) → MayVote s member → IsTrue (is_proposed s.cycle.phase) → IsBallotIn s ballot → next.votes.needed ≡ ballot.votes.needed
     → ((m : ℕ) → m < 256 → IsTrue (has_voted ballot.votes.needed m) → has_voted next.votes.accepted m ≡ has_voted (member ∷ ballot.votes.accepted) m) → next.made ≡ ballot.made → IsBallotIn (after_vote s member left) next
-voted_ballot s member [] ballot next on kept needed voted made = no_ballot _ _ _ next refl
-voted_ballot s member (voter ∷ voters) ballot next on kept needed voted made = record {
+voted_ballot s member [] ballot next may on kept needed voted made = no_ballot _ _ _ next refl
+voted_ballot s member (voter ∷ voters) ballot next may on kept needed voted made = record {
   needed = λ still. needed ∙ kept.needed on;
   voted = λ still m low need.
       let here : IsTrue (has_voted ballot.votes.needed m) = ap (λ (xs : List ℕ). has_voted xs m) (sym needed) ∙ need in
       voted m low here ∙ ap (λ b. (member == m) || b) (kept.voted on m low here) ∙ voted_last s.cycle.votes member m;
   made = λ still. made ∙ kept.made on;
+  room = λ still.
+      let there : has_voted ballot.votes.needed member ≡ true = ap (λ (xs : List ℕ). has_voted xs member) (kept.needed on) ∙ may.touched in
+      subst (λ (xs : List ℕ). length (s.cycle.votes ++ member ∷ []) + length (waiting (s.cycle.votes ++ member ∷ []) xs) ≤ 256) (sym needed)
+      (rest_fits s.cycle.votes ballot.votes.needed member there may.first (kept.room on));
 }
 
--- ---- the room that a change needs, by the ballot
+-- a vote for which the plan waits has room
+pub vote_room : (s : State) (member : ℕ) (ballot : Ballot) → IsTrue (is_proposed s.cycle.phase) → IsBallotIn s ballot → MayVote s member → length s.cycle.votes < 256
+vote_room s member ballot on kept may =
+    vote_fits s.cycle.votes ballot.votes.needed member (ap (λ (xs : List ℕ). has_voted xs member) (kept.needed on) ∙ may.touched) may.first (kept.room on)
 
-posting_made : (solutions : List SolutionData) (plan : List PlanRow) (n k : ℕ) (touched : List ℕ) → rows_with (posting_effect solutions plan touched) n ≡ rows_with (posting_effect solutions plan touched) k
-posting_made solutions plan n k [] = refl
-posting_made solutions plan n k (member ∷ members) = refl
-
-pub rows_by_ballot : (s : State) (by : Option (List ℕ)) (what : What) (ballot : Ballot) → first_of (refusals s by what) ≡ None → IsBallotIn s ballot →
-    rows_with (effect_by s (unwrap_or by []) what) ballot.made ≡ rows_with (effect_by s (unwrap_or by []) what) (count_of is_new s.cycle.plan)
-rows_by_ballot s by (Post cycle version solutions) ballot none kept =
-    posting_made solutions (posted_plan s.cycle s.trades solutions) ballot.made (count_of is_new s.cycle.plan) (touched_in s (posted_plan s.cycle s.trades solutions))
-rows_by_ballot s by (Accept cycle version) ballot none kept =
-    let member = member_of s (unwrap_or by []) in
-    ap (λ (n : ℕ). rows_with (vote_effect s member (left_after s member)) n) (kept.made (accept_proposed s by cycle version none))
-rows_by_ballot s by what ballot none kept = refl
+-- and an accepted ACCEPT is one
+pub accept_waits : (s : State) (name : List ℕ) (cycle version : ℕ) → first_of (refusals s (Some name) (Accept cycle version)) ≡ None → MayVote s (member_of s name)
+accept_waits s name cycle version none =
+    let tests = none_holds (refusals s (Some name) (Accept cycle version)) none in
+    by (member_place s.roster name) refl (not_false (is_touched_at s (member_place s.roster name)) tests.1.1.1.1.1.0) tests.1.1.1.1.1.1.0
+  where
+    by : (o : Option ℕ) → member_place s.roster name ≡ o → is_touched_at s o ≡ true → has_voted_at s o ≡ false → MayVote s (unwrap_or o 0)
+    by None is touched first = absurd (false≢true touched)
+    by (Some member) is touched first = record {
+      touched = voted_within (is_touched s.trades s.cycle.plan) (length s.roster.members) member (place_within s.roster name member is) ∙ touched;
+      first = first;
+    }

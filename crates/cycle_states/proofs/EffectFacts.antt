@@ -1,5 +1,5 @@
 -- Doing what a command does leads to the next state; what an accepted command does may be done, and adds few trades.
-use Rattle.std.proofs.Common.{◌≡◌, ℕ, ◌<◌, ◌≤◌, true, false, List, [], ◌∷◌, length, Option, Some, None, is_none, unwrap_or, arith, refl}
+use Rattle.std.proofs.Common.{◌≡◌, ℕ, ◌<◌, ◌≤◌, Bool, true, false, if◌then◌else◌, IsTrue, List, [], ◌∷◌, length, Option, Some, None, is_none, unwrap_or, arith, refl}
 use Rattle.std.proofs.lemmas.Bool.{false≢true}
 use Rattle.std.specs.Str.{bytes_eq}
 use Rattle.std.specs.Prelude.{All}
@@ -16,16 +16,18 @@ use Rattle.command_types.specs.declared.plan.PlanRow.{PlanRow}
 use Rattle.command_types.specs.declared.roster.ProductRow.{ProductRow}
 use Rattle.command_types.specs.declared.tolerance.ToleranceRow.{ToleranceRow}
 use Rattle.command_types.specs.declared.trade.TradeRow.{TradeRow}
-use Rattle.command_types.specs.Cycles.{posted_plan}
+use Rattle.command_types.specs.Cycles.{is_proposed, posted_plan}
 use Rattle.command_types.specs.CycleSteps.{after_vote, left_after, proposed_or_done, touched_in}
 use Rattle.command_types.specs.Machine.{accepted, changes, first_of, member_of, party_answer, product_of, refusals, state_after, state_by}
 use Rattle.command_types.specs.Plans.{count_of, is_new}
 use Rattle.command_types.specs.Roster.{Rows, member_place, product_place}
+use Rattle.command_types.specs.Told.{is_accept}
+use Rattle.cycle_states.specs.Ballot.{planned_rows}
 use Rattle.cycle_states.specs.Begun.{AreCheckedBy}
-use Rattle.cycle_states.specs.Effects.{applied, decides, effect_by, effect_of, posting_effect, rows_with, vote_effect, MayAllege}
+use Rattle.cycle_states.specs.Effects.{applied, decides, effect_by, effect_of, is_vote, posting_effect, rows_with, vote_effect, MayAllege, MayApply}
 use Rattle.cycle_states.specs.Machine.{state_with, IsMachine}
 use Rattle.cycle_states.proofs.CycleFacts.{solving_limits}
-use Rattle.cycle_states.proofs.KeptFacts.{accept_proposed, post_solves}
+use Rattle.cycle_states.proofs.KeptFacts.{post_solves}
 use Rattle.cycle_states.proofs.MachineFacts.{found_by, neither, parties_differ, some_member, terms_stand, trade_fits}
 use Rattle.cycle_states.proofs.SettledFacts.{posting_few, proposal_few}
 
@@ -33,7 +35,7 @@ posting_next : (s : State) (solutions : List SolutionData) (plan : List PlanRow)
 posting_next s solutions plan [] = refl
 posting_next s solutions plan (member ∷ members) = refl
 
-vote_next : (s : State) (member : ℕ) (left : List ℕ) → applied s (vote_effect s member left) ≡ after_vote s member left
+vote_next : (s : State) (member : ℕ) (left : List ℕ) → applied s (vote_effect member left) ≡ after_vote s member left
 vote_next s member [] = refl
 vote_next s member (voter ∷ voters) = refl
 
@@ -122,24 +124,49 @@ may_allege s name seller buyer product amount day none =
       bound = trade_fits s (Some name) name seller buyer product amount day refl none;
     }
 
-posting_rows : (solutions : List SolutionData) (plan : List PlanRow) (made : ℕ) (touched : List ℕ) → count_of is_new plan ≤ 4194304 → rows_with (posting_effect solutions plan touched) made ≤ 4194304
-posting_rows solutions plan made [] few = few
-posting_rows solutions plan made (member ∷ members) few = few
+posting_rows : (solutions : List SolutionData) (plan : List PlanRow) (made : ℕ) (touched : List ℕ) → count_of is_new plan ≤ 4194304 → rows_with (posting_effect solutions plan touched) made ≤ 4194305
+posting_rows solutions plan made [] few = omega (arith, few)
+posting_rows solutions plan made (member ∷ members) few = omega (arith, few)
 
-vote_rows : (s : State) (member : ℕ) (left : List ℕ) → count_of is_new s.cycle.plan ≤ 4194304 → rows_with (vote_effect s member left) (count_of is_new s.cycle.plan) ≤ 4194304
-vote_rows s member [] few = few
-vote_rows s member (voter ∷ voters) few = few
+vote_rows : (member : ℕ) (left : List ℕ) (made : ℕ) → rows_with (vote_effect member left) made ≤ 4194305
+vote_rows member [] made = omega arith
+vote_rows member (voter ∷ voters) made = omega arith
+
+planned_by : (b : Bool) (n : ℕ) → (b ≡ true → n ≤ 4194304) → (if b then n else 0) ≤ 4194304
+planned_by true n few = few refl
+planned_by false n few = omega arith
+
+-- what an ACCEPT does is a vote
+pub accept_votes : (s : State) (by : List ℕ) (what : What) → IsTrue (is_accept what) → IsTrue (is_vote (effect_by s by what))
+accept_votes s by (Accept cycle version) h = by_left (left_after s (member_of s by))
+  where
+    by_left : (left : List ℕ) → IsTrue (is_vote (vote_effect (member_of s by) left))
+    by_left [] = refl
+    by_left (voter ∷ voters) = refl
+accept_votes s by what h = absurd (false≢true h)
+
+-- and where it may be done, there is room for one more vote
+pub vote_has_room : (s : State) (by : List ℕ) (what : What) → is_accept what ≡ true → MayApply s (effect_by s by what) → length s.cycle.votes < 256
+vote_has_room s by (Accept cycle version) h may = of_left (left_after s (member_of s by)) may
+  where
+    of_left : (left : List ℕ) → MayApply s (vote_effect (member_of s by) left) → length s.cycle.votes < 256
+    of_left [] last = last.room
+    of_left (voter ∷ voters) one = one
+vote_has_room s by what h may = absurd (false≢true h)
 
 module _ (roster : Rows) (members products : ℕ) (rows : List TradeRow) (settings : List ToleranceRow) (cycle : Cycle) (kept : IsMachine roster members products rows cycle) where
   abbrev s : State
   s = state_with roster rows settings cycle
 
-  -- what an accepted command does adds few trades
-  pub few_rows : (by : Option (List ℕ)) (what : What) → first_of (refusals s by what) ≡ None → rows_with (effect_by s (unwrap_or by []) what) (count_of is_new cycle.plan) ≤ 4194304
+  few_planned : planned_rows cycle ≤ 4194304
+  few_planned = planned_by (is_proposed cycle.phase) (count_of is_new cycle.plan) (λ on. proposal_few roster members products rows cycle kept on)
+
+  -- what an accepted command does wants room for few trades
+  pub few_rows : (by : Option (List ℕ)) (what : What) → first_of (refusals s by what) ≡ None → rows_with (effect_by s (unwrap_or by []) what) (planned_rows cycle) ≤ 4194305
+  few_rows by (Trade seller buyer product amount day) none = omega (arith, few_planned)
   few_rows by (Post number version solutions) none =
-      posting_rows solutions (posted_plan cycle rows solutions) (count_of is_new cycle.plan) (touched_in s (posted_plan cycle rows solutions))
+      posting_rows solutions (posted_plan cycle rows solutions) (planned_rows cycle) (touched_in s (posted_plan cycle rows solutions))
       (posting_few roster members products rows cycle kept solutions (solving_limits cycle.phase (post_solves s by number version solutions none)))
   few_rows by (Accept number version) none =
-      vote_rows s (member_of s (unwrap_or by [])) (left_after s (member_of s (unwrap_or by [])))
-      (proposal_few roster members products rows cycle kept (accept_proposed s by number version none))
+      vote_rows (member_of s (unwrap_or by [])) (left_after s (member_of s (unwrap_or by []))) (planned_rows cycle)
   few_rows by what none = omega arith

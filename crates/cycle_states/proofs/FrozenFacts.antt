@@ -74,7 +74,7 @@ frozen_posted members s solutions plan [] kept breaks are = λ may. absurd (fals
 frozen_posted members s solutions plan (member ∷ touched) kept breaks are = λ may. are breaks
 
 frozen_voted : (members : ℕ) (s : State) (member : ℕ) (left : List ℕ) (kept : List FrozenProduct) → AreOfFreeze members s.trades s.cycle.phase kept →
-    AreOfFreeze members (after_vote s member left).trades (after_vote s member left).cycle.phase (kept_with (vote_effect s member left) kept)
+    AreOfFreeze members (after_vote s member left).trades (after_vote s member left).cycle.phase (kept_with (vote_effect member left) kept)
 frozen_voted members s member [] kept are = λ may. absurd (false≢true may)
 frozen_voted members s member (voter ∷ voters) kept are = are
 

@@ -14,6 +14,7 @@ pub mod EffectFacts
 pub mod RecordFacts
 pub mod RefusalFacts
 pub mod PartyFacts
+pub mod VoteRooms
 pub mod BallotFacts
 pub mod DecisionFacts
 pub mod Sends

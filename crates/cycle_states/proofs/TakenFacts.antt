@@ -29,7 +29,7 @@ taken_posted s solutions plan [] t kept = λ stands. absurd (false≢true stands
 taken_posted s solutions plan (member ∷ members) t kept = kept
 
 -- and so does a vote
-taken_voted : (s : State) (member : ℕ) (left : List ℕ) (t : TolerancesView) → AreTaken s.cycle t.taken → AreTaken (after_vote s member left).cycle (taken_with (vote_effect s member left) t)
+taken_voted : (s : State) (member : ℕ) (left : List ℕ) (t : TolerancesView) → AreTaken s.cycle t.taken → AreTaken (after_vote s member left).cycle (taken_with (vote_effect member left) t)
 taken_voted s member [] t kept = λ stands. absurd (false≢true stands)
 taken_voted s member (voter ∷ voters) t kept = kept
 

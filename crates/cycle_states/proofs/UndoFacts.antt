@@ -158,7 +158,7 @@ posting_stays : (rows : List TradeRow) (solutions : List SolutionData) (plan : L
 posting_stays rows solutions plan [] = refl
 posting_stays rows solutions plan (member ∷ members) = refl
 
-vote_stays : (s : State) (member : ℕ) (left : List ℕ) → is_of_one_row s.trades (vote_effect s member left) ≡ false
+vote_stays : (s : State) (member : ℕ) (left : List ℕ) → is_of_one_row s.trades (vote_effect member left) ≡ false
 vote_stays s member [] = refl
 vote_stays s member (voter ∷ voters) = refl
 

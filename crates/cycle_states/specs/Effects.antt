@@ -6,7 +6,7 @@ use Rattle.command_types.specs.declared.ask.What.{What}
 use Rattle.command_types.specs.declared.ask.What.TheVariants.{Trade, Affirm, End, Hold, Free, Tol, Freeze, Begin, Post, Accept, Decline, Cancel}
 use Rattle.command_types.specs.declared.figures.State.{State}
 use Rattle.command_types.specs.declared.plan.PlanRow.{PlanRow}
-use Rattle.command_types.specs.Cycles.{problems_of, begun_with, proposed_with, posted_plan}
+use Rattle.command_types.specs.Cycles.{problems_of, begun_with, proposed_with, is_proposed, posted_plan}
 use Rattle.command_types.specs.CycleRefusals.{is_crossed}
 use Rattle.command_types.specs.CycleSteps.{after_freeze, after_execution, after_decline, after_cancel, cycle_after_end, left_after, touched_in}
 use Rattle.command_types.specs.Execution.{IsExecutable}
@@ -17,6 +17,8 @@ use Rattle.command_types.specs.Trades.{affirmed, ended_by, freed_by, gross_of, h
 use Rattle.command_types.specs.declared.tolerance.ToleranceRow.{ToleranceRow}
 use Rattle.tolerance_sets.specs.Settings.{TolerancesView}
 use Rattle.product_book.specs.Book.{gross_limit, may_affirm, may_end, may_free, may_hold}
+use Rattle.units_core.specs.declared.limits.TheConstants.{MOST_MEMBERS}
+use Rattle.cycle_states.specs.Ballot.{planned_rows}
 use Rattle.cycle_states.specs.declared.machine.effect.Effect.{Effect}
 use Rattle.cycle_states.specs.declared.machine.effect.Effect.TheVariants as effect
 
@@ -34,7 +36,7 @@ applied s (effect.Begin mode) = record s { cycle = begun_with s.cycle mode s.tol
 applied s (effect.Propose solutions plan) = record s { cycle = proposed_with s.cycle solutions plan }
 applied s (effect.Execute plan) = after_execution s plan
 applied s effect.Complete = after_execution s s.cycle.plan
-applied s (effect.Vote votes) = record s { cycle = record s.cycle { votes = votes } }
+applied s (effect.Vote member) = record s { cycle = record s.cycle { votes = s.cycle.votes ++ member ∷ [] } }
 applied s effect.Decline = after_decline s
 applied s effect.Cancel = after_cancel s
 applied s effect.Keep = s
@@ -45,9 +47,9 @@ posting_effect solutions plan [] = effect.Execute plan
 posting_effect solutions plan (member ∷ members) = effect.Propose solutions plan
 
 -- the last vote executes the plan, and any other is counted
-abbrev pub vote_effect : State → ℕ → List ℕ → Effect
-vote_effect s member [] = effect.Complete
-vote_effect s member (voter ∷ voters) = effect.Vote (s.cycle.votes ++ member ∷ [])
+abbrev pub vote_effect : ℕ → List ℕ → Effect
+vote_effect member [] = effect.Complete
+vote_effect member (voter ∷ voters) = effect.Vote member
 
 -- what a posting of certified solutions does
 abbrev pub post_effect : State → List SolutionData → Effect
@@ -56,7 +58,7 @@ post_effect s solutions =
 
 -- what the member's vote does
 abbrev pub accept_effect : State → ℕ → Effect
-accept_effect s member = vote_effect s member (left_after s member)
+accept_effect s member = vote_effect member (left_after s member)
 
 -- what a party's command does
 abbrev pub effect_by : State → List ℕ → What → Effect
@@ -83,13 +85,12 @@ effect_of s ask = effect_by s (unwrap_or ask.by []) ask.what
 abbrev pub EffectIsNext : Type 0
 EffectIsNext = (s : State) (ask : Ask) → applied s (effect_of s ask) ≡ state_after s ask
 
--- how many trades it may add, where the proposed plan makes so many: a plan that is proposed now may be executed later
+-- for how many trades it wants room, where the proposed plan makes so many: those that it adds, and those of the plan that is
+-- proposed once it is done; a vote wants none, since the plan has its own
 abbrev pub rows_with : Effect → ℕ → ℕ
-rows_with (effect.Allege seller buyer product amount day submitter) made = 1
+rows_with (effect.Allege seller buyer product amount day submitter) made = 1 + made
 rows_with (effect.Propose solutions plan) made = count_of is_new plan
 rows_with (effect.Execute plan) made = count_of is_new plan
-rows_with effect.Complete made = made
-rows_with (effect.Vote votes) made = made
 rows_with other made = 0
 
 -- how many settings it may add
@@ -102,17 +103,18 @@ abbrev pub taken_with : Effect → TolerancesView → List ToleranceRow
 taken_with (effect.Begin mode) tolerances = tolerances.settings
 taken_with other tolerances = tolerances.taken
 
--- how many trades and settings a change may add
+-- for how many trades and settings a change wants room
 abbrev pub rows_added : State → Ask → ℕ
-rows_added s ask = rows_with (effect_of s ask) (count_of is_new s.cycle.plan)
+rows_added s ask = rows_with (effect_of s ask) (planned_rows s.cycle)
 
 abbrev pub settings_added : State → Ask → ℕ
 settings_added s ask = settings_with (effect_of s ask)
 
--- a member accepts what is proposed
-abbrev pub is_accept : What → Bool
-is_accept (Accept cycle version) = true
-is_accept other = false
+-- a vote, or the last one
+abbrev pub is_vote : Effect → Bool
+is_vote effect.Complete = true
+is_vote (effect.Vote member) = true
+is_vote other = false
 
 -- a command about a trade
 abbrev pub is_of_trade : What → Bool
@@ -137,6 +139,12 @@ pub record MayAllege (s : State) (seller buyer product amount : ℕ) : Type 0 wh
   pub different : seller ≢ buyer
   pub bound : gross_of product s.trades + amount ≤ gross_limit
 
+-- the plan is proposed and may be executed, and there is room for one more vote
+pub record MayComplete (s : State) : Type 0 where
+  pub proposed : IsTrue (is_proposed s.cycle.phase)
+  pub executable : IsExecutable (length s.roster.members) (length s.roster.products) s.trades s.cycle.plan
+  pub room : length s.cycle.votes < MOST_MEMBERS
+
 -- what it does may be done in this state
 abbrev pub MayApply : State → Effect → Type 0
 MayApply s (effect.Allege seller buyer product amount day submitter) = MayAllege s seller buyer product amount
@@ -146,5 +154,6 @@ MayApply s (effect.Hold trade side) = IsTrue (may_hold side (trade_numbered s.tr
 MayApply s (effect.Free trade side) = IsTrue (may_free side (trade_numbered s.trades trade))
 MayApply s (effect.Set setting) = is_crossed setting.floor setting.ceiling ≡ false
 MayApply s (effect.Execute plan) = IsExecutable (length s.roster.members) (length s.roster.products) s.trades plan
-MayApply s effect.Complete = IsExecutable (length s.roster.members) (length s.roster.products) s.trades s.cycle.plan
+MayApply s effect.Complete = MayComplete s
+MayApply s (effect.Vote member) = length s.cycle.votes < MOST_MEMBERS
 MayApply s other = ⊤

@@ -16,7 +16,7 @@ use Rattle.tolerance_sets.specs.Settings.{TolerancesView}
 use Rattle.units_core.specs.declared.limits.TheConstants.{MOST_MEMBERS, MOST_PRODUCTS}
 use Rattle.cycle_states.specs.declared.machine.ballot.Ballot.{Ballot}
 use Rattle.cycle_states.specs.declared.machine.frozen.FrozenProduct.{FrozenProduct}
-use Rattle.cycle_states.specs.Ballot.{IsBallot}
+use Rattle.cycle_states.specs.Ballot.{IsBallot, planned_rows}
 use Rattle.cycle_states.specs.Frozen.{AreOfFreeze}
 
 -- the machine's state, and for how many more trades and settings there is room without memory
@@ -80,11 +80,11 @@ pub record IsMachine (roster : Rows) (members products : ℕ) (rows : List Trade
   pub unbroken : IsUnbroken cycle.phase rows
   pub cycle_kept : IsCycle roster rows cycle
 
--- and with it its ballot, the settings last taken, and the freeze's networks
+-- and with it its ballot, the settings last taken, the freeze's networks, and room for the trades of the proposed plan
 abbrev pub IsWhole : Rows → BookView → TolerancesView → Cycle → Ballot → List FrozenProduct → Type 0
 IsWhole roster book tolerances cycle ballot frozen =
     IsMachine roster book.members book.products book.rows cycle × IsBallot (length roster.members) book.rows cycle ballot
-    × AreTaken cycle tolerances.taken × AreOfFreeze book.members book.rows cycle.phase frozen
+    × AreTaken cycle tolerances.taken × AreOfFreeze book.members book.rows cycle.phase frozen × (planned_rows cycle ≤ book.spare)
 
 -- both numbers may rise by one more
 pub record IsYoung (cycle : Cycle) : Type 0 where

@@ -40,11 +40,13 @@ ghost use Rattle.command_types.specs.Cycles.{closed};
 ghost use Rattle.command_types.specs.Machine.{answer_to, first_of, refusals, state_after};
 ghost use Rattle.command_types.specs.History.{is_recorded, solutions_posted};
 ghost use Rattle.command_types.specs.Spelling.{posted, most_solutions};
+ghost use Rattle.command_types.specs.Told.{is_accept};
 ghost use Rattle.trade_history.specs.Laws.{is_execution};
 ghost use Rattle.posting.specs.Laws.{AreLeast, KeepsNets};
 ghost use Rattle.product_book.specs.Book.{gross_limit, AreTrades};
 ghost use Rattle.cycle_states.specs.Decision.{IsDecision};
-ghost use Rattle.cycle_states.specs.Effects.{is_accept, rows_added, settings_added};
+ghost use Rattle.cycle_states.specs.Ballot.{planned_rows};
+ghost use Rattle.cycle_states.specs.Effects.{rows_added, settings_added};
 ghost use Rattle.cycle_states.specs.Machine.{state_with, IsYoung};
 ghost use Rattle.cycle_states.specs.Party.{IsCallerOf};
 ghost use Rattle.cycle_states.specs.Ready.{IsReady};
@@ -52,8 +54,8 @@ ghost use Rattle.cycle_states.specs.Ready.{IsReady};
 use ballot::Ballot;
 use command_types::{Answer, Ask, Entry, Roster, ToleranceRow, TradeRow};
 pub(crate) use commands::is_change;
-use cycle::Cycle;
 pub use cycle::LastCycle;
+use cycle::{Cycle, is_proposed};
 pub use decision::Decision;
 use effect::apply;
 use frozen::Frozen;
@@ -97,11 +99,12 @@ impl Machine {
         let members = roster.members().len() as u16;
         let products = roster.products().len() as u16;
         let book = Book::new(alloc, members, products)?;
+        let cycle = Cycle::none(alloc)?;
         Ok(Machine {
             roster,
             book,
             tolerances: Tolerances::new(alloc),
-            cycle: Cycle::none(alloc),
+            cycle,
             ballot: Ballot::none(),
             frozen: Frozen::none(alloc),
         })
@@ -131,7 +134,7 @@ impl Machine {
             roster,
             book,
             tolerances: Tolerances::of_rows(alloc, tolerances)?,
-            cycle: Cycle::after(alloc, last),
+            cycle: Cycle::after(alloc, last)?,
             ballot: Ballot::none(),
             frozen: Frozen::none(alloc),
         })
@@ -162,6 +165,17 @@ impl Machine {
         }
     }
 
+    // How many trades the proposed plan makes; where none is proposed, 0.
+    fn planned(&self) -> u64
+        ensures { result ≡ planned_rows self.now.state.cycle }
+    {
+        if is_proposed(self.cycle.phase()) {
+            self.ballot.made
+        } else {
+            0
+        }
+    }
+
     // Makes an accepted change ready: the room that it needs, and all that it is made with.
     fn made_ready(&mut self, entry: Entry, caller: &Option<Caller>) -> Result<Ready, AllocError>
         requires caller { IsCallerOf self.old.state.roster entry.ask.by caller.now }
@@ -175,11 +189,12 @@ impl Machine {
         ensures room { OnOk result (rows_added self.old.state entry.ask ≤ self.new.spare) }
         ensures slot { OnOk result (settings_added self.old.state entry.ask ≤ self.new.slots) }
         ensures few { OnOk result (posted entry.ask.what ≤ most_solutions) }
+        ensures vote { IsTrue (is_accept entry.ask.what) → IsOk result }
     {
         let Some(caller) = caller else { unreachable!() };
         let made = self.made_for(caller, &entry.ask.what)?;
-        let proposed = self.ballot.made;
-        make_room(&mut self.book, &mut self.tolerances, &made.effect, proposed)?;
+        let planned = self.planned();
+        make_room(&mut self.book, &mut self.tolerances, &made.effect, planned)?;
         Ok(Ready::new(entry, made))
     }
 
@@ -196,6 +211,7 @@ impl Machine {
         ensures keeps { self.old.spare ≤ self.new.spare }
         ensures keeps_slots { self.old.slots ≤ self.new.slots }
         ensures decides { IfOk result (λ decision. IsDecision self.new entry decision) }
+        ensures vote { IsTrue (is_accept entry.ask.what) → IsOk result }
     {
         if !is_change(&entry.ask.what) {
             let answer = self.accepted(&entry.ask, caller)?;
@@ -207,13 +223,14 @@ impl Machine {
 
     /// Decides a command once: what is refused, and a read, is told its answer; a change is made ready, with all the room that
     /// it needs. What first asks for a version's problems makes them, and they are kept. The state stays, whatever the result; the
-    /// only error is want of memory.
+    /// only error is want of memory, and it never comes for an ACCEPT: its POST made the room, and each change since kept it.
     pub fn decide(&mut self, entry: Entry) -> Result<Decision, AllocError>
         requires { IsYoung self.old.state.cycle }
         ensures state { self.new.state ≡ self.old.state }
         ensures keeps { self.old.spare ≤ self.new.spare }
         ensures keeps_slots { self.old.slots ≤ self.new.slots }
         ensures decides { IfOk result (λ decision. IsDecision self.new entry decision) }
+        ensures vote { IsTrue (is_accept entry.ask.what) → IsOk result }
     {
         self.keep_problems(&entry.ask.what)?;
         let caller = self.caller_of(&entry.ask.by);
@@ -224,7 +241,7 @@ impl Machine {
     }
 
     /// Makes the room that an accepted change needs, and all that it is made with. The state stays, whatever the result; the only
-    /// error is want of memory.
+    /// error is want of memory, and it never comes for an ACCEPT.
     pub fn prepare(&mut self, entry: Entry) -> Result<Ready, AllocError>
         requires accepted { IsTrue (is_recorded entry.ask.what (answer_to self.old.state entry.ask)) }
         requires young { IsYoung self.old.state.cycle }
@@ -235,6 +252,7 @@ impl Machine {
         ensures ready { IfOk result (λ ready. IsReady self.old.state ready) }
         ensures room { OnOk result (rows_added self.old.state entry.ask ≤ self.new.spare) }
         ensures slot { OnOk result (settings_added self.old.state entry.ask ≤ self.new.slots) }
+        ensures vote { IsTrue (is_accept entry.ask.what) → IsOk result }
     {
         let decision = self.decide(entry)?;
         match decision {

@@ -1,13 +1,14 @@
 //! What a machine keeps of its proposal beside the cycle, so that a vote costs the same whatever the plan: whose votes the
 //! plan needs, who has voted, and how many trades it makes.
 
-ghost use Rattle.std.specs.Prelude.{◌≡◌, ◌↔◌, ℕ, ◌<◌, [], ◌∷◌, true, None, All, IsTrue, length};
+ghost use Rattle.std.specs.Prelude.{◌≡◌, ◌↔◌, ℕ, ◌<◌, ◌≤◌, [], ◌∷◌, true, None, All, IsTrue, length};
 ghost use Rattle.network_laws.specs.Solutions.{IsSolution};
 ghost use Rattle.command_types.specs.CycleRefusals.{has_voted};
 ghost use Rattle.command_types.specs.Cycles.{bad_post, is_solving, posted_plan};
 ghost use Rattle.command_types.specs.CycleSteps.{touched_in};
 ghost use Rattle.command_types.specs.Execution.{IsExecutable};
 ghost use Rattle.command_types.specs.Plans.{count_of, is_new};
+ghost use Rattle.cycle_states.specs.Ballot.{waiting};
 ghost use Rattle.cycle_states.specs.Machine.{state_in, IsMachine};
 ghost use Rattle.units_core.specs.declared.limits.TheConstants.{MOST_MEMBERS};
 
@@ -77,6 +78,7 @@ pub(super) fn ballot_on(
     ensures needed { result.0.votes.needed ≡ touched_in (state_in roster.now book.now.rows cycle.now) plan.now }
     ensures voted { result.0.votes.accepted ≡ [] }
     ensures made { result.0.made ≡ count_of is_new plan.now }
+    ensures room { length (waiting [] result.0.votes.needed) ≤ MOST_MEMBERS }
     ensures nobody { (result.1 ≡ true) ↔ (touched_in (state_in roster.now book.now.rows cycle.now) plan.now ≡ []) }
     ensures solutions { All IsSolution solutions.now }
     ensures executable { IsExecutable (length roster.now.members) (length roster.now.products) book.now.rows plan.now }

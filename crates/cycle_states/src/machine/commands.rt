@@ -26,8 +26,8 @@ mod trade;
 ghost use Rattle.std.specs.Prelude.{◌≡◌, IfOk, IsOk, IsTrue, None, Some};
 ghost use Rattle.std.specs.Result.{result_err};
 ghost use Rattle.command_types.specs.Machine.{command_refusals, first_of, party_answer, refusals};
+ghost use Rattle.command_types.specs.Told.{is_accept};
 ghost use Rattle.cycle_states.specs.Begun.{AreCheckedBy};
-ghost use Rattle.cycle_states.specs.Effects.{is_accept};
 ghost use Rattle.cycle_states.specs.Machine.{IsYoung};
 ghost use Rattle.cycle_states.specs.Party.{IsCaller};
 

@@ -11,9 +11,10 @@
 //!     solving --close, where the posting touches nobody--> none
 //! ```
 
-ghost use Rattle.std.specs.Prelude.{◌≡◌, ◌<◌, ◌^◌, [], ◌∷◌, ◌++◌, None, IfOk, IfSome};
+ghost use Rattle.std.specs.Prelude.{◌≡◌, ◌<◌, ◌^◌, [], ◌∷◌, ◌++◌, length, None, IfOk, IfSome};
 ghost use Rattle.command_types.specs.Cycles.{closed, opened, begun_with, proposed_with, declined, is_open, is_broken, is_solving, is_proposed, may_begin, may_break, has_limits, problems_of};
 ghost use Rattle.command_types.specs.CycleSteps.{is_frozen_and_marked, cycle_after_end};
+ghost use Rattle.units_core.specs.declared.limits.TheConstants.{MOST_MEMBERS};
 
 use super::begun::Begun;
 use command_types::{Mode, Phase, PlanRow, Roster, TradeRow};
@@ -23,7 +24,7 @@ use std::alloc::{AllocError, Global};
 use std::marker::Model;
 use std::snapshot::Snapshot;
 use tolerance_sets::Tolerances;
-use units_core::{Day, MemberNo};
+use units_core::{Day, MOST_MEMBERS, MemberNo};
 
 /// Whether a cycle is open in this phase.
 pub(super) fn is_open(phase: Phase) -> bool
@@ -106,6 +107,7 @@ pub(super) struct Cycle {
     begun: Begun,
     solutions: Vec<Solution>,
     plan: Vec<PlanRow>,
+    /// It has room for each member's vote from the beginning on.
     votes: Vec<MemberNo>,
     broken_by: Option<u64>,
 }
@@ -116,12 +118,17 @@ impl Model for Cycle {
     ghost Value = { CycleFigures };
 
     ghost view = { λ c. record { number = c.number; version = c.version; phase = c.phase; day = c.day; mode = c.mode; settings = c.settings.value.settings; begun = c.begun; solutions = c.solutions.items; plan = c.plan.items; votes = c.votes.items; broken_by = c.broken_by } };
+
+    ghost use Rattle.std.specs.Prelude.{◌≤◌, vec_capacity};
+    ghost use Rattle.units_core.specs.declared.limits.TheConstants.{MOST_MEMBERS};
+
+    ghost invariant = { λ c. MOST_MEMBERS ≤ vec_capacity c.votes };
 }
 
 impl Cycle {
-    /// Before the first cycle. It takes no memory.
-    pub(super) fn none(alloc: Global) -> Cycle
-        ensures { result ≡ closed 0 0 }
+    /// Before the first cycle. It takes the room for all votes now; the only error is want of memory.
+    pub(super) fn none(alloc: Global) -> Result<Cycle, AllocError>
+        ensures { IfOk result (λ cycle. cycle ≡ closed 0 0) }
     {
         let last = LastCycle {
             number: 0,
@@ -130,11 +137,11 @@ impl Cycle {
         Cycle::after(alloc, last)
     }
 
-    /// After this cycle, with none open. It takes no memory.
-    pub(super) fn after(alloc: Global, last: LastCycle) -> Cycle
-        ensures { result ≡ closed last.number last.version }
+    /// After this cycle, with none open. It takes the room for all votes now; the only error is want of memory.
+    pub(super) fn after(alloc: Global, last: LastCycle) -> Result<Cycle, AllocError>
+        ensures { IfOk result (λ cycle. cycle ≡ closed last.number last.version) }
     {
-        Cycle {
+        Ok(Cycle {
             number: last.number,
             version: last.version,
             phase: Phase::None,
@@ -144,9 +151,9 @@ impl Cycle {
             begun: Begun::none(alloc),
             solutions: Vec::new(alloc),
             plan: Vec::new(alloc),
-            votes: Vec::new(alloc),
+            votes: Vec::with_capacity(alloc, MOST_MEMBERS as usize)?,
             broken_by: None,
-        }
+        })
     }
 
     /// How many cycles were opened so far.
@@ -233,15 +240,6 @@ impl Cycle {
         self.plan.clone()
     }
 
-    /// The votes with this member's behind them. The only error is want of memory.
-    pub(super) fn votes_with(&self, member: MemberNo) -> Result<Vec<MemberNo>, AllocError>
-        ensures { IfOk result (λ votes. votes.items ≡ self.now.votes ++ member ∷ []) }
-    {
-        let mut votes = self.votes.clone()?;
-        votes.push(member)?;
-        Ok(votes)
-    }
-
     /// Where its memory comes from.
     pub(super) fn allocator(&self) -> Global {
         *self.plan.allocator()
@@ -311,11 +309,12 @@ impl Cycle {
         self.plan = plan;
     }
 
-    /// Puts these votes in place of those that it has. It takes no memory.
-    pub(super) fn set_votes(&mut self, votes: Vec<MemberNo>)
-        ensures { self.new ≡ record self.old { votes = votes.items } }
+    /// Puts this member's vote behind the others. It takes no memory.
+    pub(super) fn add_vote(&mut self, member: MemberNo)
+        requires { length self.old.votes < MOST_MEMBERS }
+        ensures { self.new ≡ record self.old { votes = self.old.votes ++ member ∷ [] } }
     {
-        self.votes = votes;
+        self.votes.push_reserved(member);
     }
 
     /// Drops the proposal and its version; the freeze stands. It takes no memory.

@@ -5,6 +5,7 @@ ghost use Rattle.command_types.specs.Execution.{IsExecutable};
 ghost use Rattle.command_types.specs.Plans.{count_of, executed, is_new, thawed};
 ghost use Rattle.command_types.specs.CycleRefusals.{is_crossed};
 ghost use Rattle.command_types.specs.Tolerances.{with_setting};
+ghost use Rattle.cycle_states.specs.Ballot.{planned_rows};
 ghost use Rattle.cycle_states.specs.Effects.{applied, rows_with, settings_with, taken_with, MayApply};
 ghost use Rattle.cycle_states.specs.Machine.{state_with, IsBookOf, IsYoung};
 
@@ -68,9 +69,9 @@ pub(super) enum Effect {
     },
     /// The last vote: the proposed plan is executed.
     Complete,
-    /// The votes once this one is counted.
+    /// The member's vote is put last.
     Vote {
-        votes: Listed<MemberNo>,
+        member: MemberNo,
     },
     /// The proposal is dropped.
     Decline,
@@ -123,12 +124,14 @@ pub(super) fn apply(
     requires book { IsBookOf roster.now book.old.members book.old.products }
     requires young { IsYoung cycle.old }
     requires may { MayApply (state_with roster.now book.old.rows tolerances.old.settings cycle.old) effect }
-    requires room { rows_with effect (count_of is_new cycle.old.plan) ≤ book.old.spare }
+    requires planned { planned_rows cycle.old ≤ book.old.spare }
+    requires room { rows_with effect (planned_rows cycle.old) ≤ book.old.spare }
     requires slot { settings_with effect ≤ tolerances.old.spare }
     ensures state { state_with roster.now book.new.rows tolerances.new.settings cycle.new ≡ applied (state_with roster.now book.old.rows tolerances.old.settings cycle.old) effect }
     ensures members { book.new.members ≡ book.old.members }
     ensures products { book.new.products ≡ book.old.products }
     ensures taken { tolerances.new.taken ≡ taken_with effect tolerances.old }
+    ensures planned { planned_rows cycle.new ≤ book.new.spare }
 {
     match effect {
         Effect::Allege {
@@ -168,7 +171,7 @@ pub(super) fn apply(
             execute(book, cycle.plan());
             cycle.close();
         }
-        Effect::Vote { votes } => cycle.set_votes(votes.into_rows()),
+        Effect::Vote { member } => cycle.add_vote(member),
         Effect::Decline => cycle.decline(),
         Effect::Cancel => {
             book.thaw();

@@ -1,10 +1,10 @@
 //! The problems of the version that stands, for the commands that ask for them.
 
-ghost use Rattle.std.specs.Prelude.{◌≡◌, IfOk, IsOk, IsTrue};
+ghost use Rattle.std.specs.Prelude.{◌≡◌, false, IfOk, IsOk, IsTrue};
 ghost use Rattle.std.specs.Cow.{cow_slice_items};
 ghost use Rattle.command_types.specs.Cycles.{has_limits, is_solving};
+ghost use Rattle.command_types.specs.Told.{is_accept};
 ghost use Rattle.cycle_states.specs.Begun.{AreCheckedBy};
-ghost use Rattle.cycle_states.specs.Effects.{is_accept};
 
 use super::Machine;
 use super::cycle::{has_limits, is_solving};
@@ -16,7 +16,9 @@ use std::alloc::AllocError;
 use std::borrow::CowSlice;
 
 // Whether what is told or made of the command follows from the version's problems.
-fn asks_problems(what: &What) -> bool {
+fn asks_problems(what: &What) -> bool
+    ensures { IsTrue (is_accept what.now) → result ≡ false }
+{
     matches!(
         what,
         What::Fetch { .. } | What::Limits { .. } | What::Post { .. } | What::Proof { .. }
@@ -98,16 +100,26 @@ impl Machine {
         Ok(())
     }
 
-    /// Has the cycle keep the version's problems, if they stand and the command asks for them, and the machine the networks that
-    /// they are made of. The only error is want of memory.
-    pub(super) fn keep_problems(&mut self, what: &What) -> Result<(), AllocError>
+    // Has the cycle keep the version's problems, if they stand, and the machine the networks that they are made of.
+    fn keep_standing(&mut self) -> Result<(), AllocError>
         ensures { self.new ≡ self.old }
     {
-        let stand = has_limits(self.cycle.phase());
-        if !stand || !asks_problems(what) || self.cycle.problems().is_some() {
+        if !has_limits(self.cycle.phase()) || self.cycle.problems().is_some() {
             return Ok(());
         }
         self.keep_frozen()?;
         self.keep_made()
+    }
+
+    /// Has the cycle keep the version's problems, if they stand and the command asks for them, and the machine the networks that
+    /// they are made of. The only error is want of memory, and it never comes for an ACCEPT.
+    pub(super) fn keep_problems(&mut self, what: &What) -> Result<(), AllocError>
+        ensures same { self.new ≡ self.old }
+        ensures vote { IsTrue (is_accept what.now) → IsOk result }
+    {
+        if !asks_problems(what) {
+            return Ok(());
+        }
+        self.keep_standing()
     }
 }

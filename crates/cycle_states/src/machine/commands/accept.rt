@@ -1,15 +1,16 @@
 //! ACCEPT: a member that the plan touches votes for it. The last vote executes the plan.
 
-ghost use Rattle.std.specs.Prelude.{[], ◌∷◌, ◌≡◌, length, IfOk, IsTrue};
+ghost use Rattle.std.specs.Prelude.{[], ◌∷◌, ◌≡◌, ◌<◌, length, IsTrue};
 ghost use Rattle.std.specs.Result.{result_err};
 ghost use Rattle.command_types.specs.CycleRefusals.{accept_refusals, has_voted, if_voted};
 ghost use Rattle.command_types.specs.CycleSteps.{accept_answer, after_accept, executed_answer, left_after};
 ghost use Rattle.command_types.specs.Cycles.{is_proposed};
 ghost use Rattle.command_types.specs.Execution.{IsExecutable};
 ghost use Rattle.command_types.specs.Machine.{first_of};
-ghost use Rattle.cycle_states.specs.Ballot.{IsBallotIn};
+ghost use Rattle.cycle_states.specs.Ballot.{IsBallotIn, MayVote};
 ghost use Rattle.cycle_states.specs.Effects.{accept_effect, MayApply};
 ghost use Rattle.cycle_states.specs.Party.{IsCaller};
+ghost use Rattle.units_core.specs.declared.limits.TheConstants.{MOST_MEMBERS};
 
 use crate::machine::Machine;
 use crate::machine::ballot::Ballot;
@@ -18,9 +19,8 @@ use crate::machine::cycle::{Cycle, is_proposed};
 use crate::machine::effect::Effect;
 use crate::machine::party::Caller;
 use crate::machine::ready::Made;
-use command_types::{Answer, Listed, Refusal};
+use command_types::{Answer, Refusal};
 use posting::counts_of;
-use std::alloc::AllocError;
 use units_core::MemberNo;
 
 // Whether the member is among those that have voted.
@@ -95,7 +95,8 @@ impl Machine {
     // frozen trades stand. It takes no memory.
     fn voted(&self, member: MemberNo) -> (Ballot, u32)
         requires { IsTrue (is_proposed self.now.state.cycle.phase) }
-        ensures ballot { IsBallotIn (after_accept self.now.state member) result.0 }
+        ensures ballot { MayVote self.now.state member → IsBallotIn (after_accept self.now.state member) result.0 }
+        ensures room { MayVote self.now.state member → length self.now.state.cycle.votes < MOST_MEMBERS }
         ensures left { result.1 ≡ length (left_after self.now.state member) }
         ensures executable { IsExecutable (length self.now.state.roster.members) (length self.now.state.roster.products) self.now.state.trades self.now.state.cycle.plan }
     {
@@ -118,28 +119,28 @@ impl Machine {
         }
     }
 
-    /// What the member's vote is answered, and what it does. Whose votes are left is found once, and no step of the plan is
-    /// looked at. The only error is want of memory.
-    pub(super) fn vote(&self, member: MemberNo) -> Result<Made, AllocError>
-        requires { IsTrue (is_proposed self.now.state.cycle.phase) }
-        ensures told { IfOk result (λ made. made.answer ≡ accept_answer self.now.state member) }
-        ensures does { IfOk result (λ made. made.effect ≡ accept_effect self.now.state member) }
-        ensures may { IfOk result (λ made. MayApply self.now.state made.effect) }
-        ensures ballot { IfOk result (λ made. IsBallotIn (after_accept self.now.state member) made.ballot) }
+    /// What the member's vote is answered, and what it does, where the plan waits for it. Whose votes are left is found once,
+    /// and no step of the plan is looked at. It takes no memory.
+    pub(super) fn vote(&self, member: MemberNo) -> Made
+        requires proposed { IsTrue (is_proposed self.now.state.cycle.phase) }
+        requires waits { MayVote self.now.state member }
+        ensures told { result.answer ≡ accept_answer self.now.state member }
+        ensures does { result.effect ≡ accept_effect self.now.state member }
+        ensures may { MayApply self.now.state result.effect }
+        ensures ballot { IsBallotIn (after_accept self.now.state member) result.ballot }
     {
         let (ballot, left) = self.voted(member);
         if left == 0 {
-            return Ok(Made {
+            return Made {
                 answer: executed_answer(&self.cycle),
                 effect: Effect::Complete,
                 ballot,
-            });
+            };
         }
-        let votes = Listed::new(self.cycle.votes_with(member)?);
-        Ok(Made {
+        Made {
             answer: counted(&self.cycle, left),
-            effect: Effect::Vote { votes },
+            effect: Effect::Vote { member },
             ballot,
-        })
+        }
     }
 }

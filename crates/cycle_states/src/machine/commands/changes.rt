@@ -1,7 +1,8 @@
 //! What the accepted changes do, each made once with its answer. A POST and an ACCEPT are made in their own files.
 
-ghost use Rattle.std.specs.Prelude.{◌≡◌, false, true, IfOk, None, Some};
+ghost use Rattle.std.specs.Prelude.{◌≡◌, false, true, IfOk, IsOk, IsTrue, None, Some};
 ghost use Rattle.command_types.specs.Machine.{changes, first_of, refusals, side_at, state_by_party};
+ghost use Rattle.command_types.specs.Told.{is_accept};
 ghost use Rattle.command_types.specs.Trades.{trade_numbered};
 ghost use Rattle.cycle_states.specs.Ballot.{IsBallotIn};
 ghost use Rattle.cycle_states.specs.Effects.{decides, effect_by, is_of_trade, MayApply};
@@ -134,7 +135,8 @@ impl Machine {
         self.ballot.copy()
     }
 
-    /// What a party's accepted change is answered, and what it does. The only error is want of memory.
+    /// What a party's accepted change is answered, and what it does. The only error is want of memory, and it never comes for
+    /// an ACCEPT.
     pub(in crate::machine) fn made_for(
         &self,
         caller: &Caller,
@@ -144,11 +146,12 @@ impl Machine {
         requires change { changes what.now ≡ true }
         requires caller { IsCaller self.now.state.roster caller.now }
         requires accepted { first_of (refusals self.now.state (Some caller.now.name) what.now) ≡ None }
-        ensures { IfOk result (λ made. IsMade self.now.state caller.now.name what.now made) }
+        ensures made { IfOk result (λ made. IsMade self.now.state caller.now.name what.now made) }
+        ensures vote { IsTrue (is_accept what.now) → IsOk result }
     {
         match what {
             What::Post { solutions, .. } => self.posting(solutions.rows()),
-            What::Accept { .. } => self.vote(self.place_of(caller)),
+            What::Accept { .. } => Ok(self.vote(self.place_of(caller))),
             _ => {
                 let answer = self.party_answer(caller, what)?;
                 let effect = self.effect(caller, what);

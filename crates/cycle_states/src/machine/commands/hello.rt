@@ -4,8 +4,8 @@ ghost use Rattle.std.specs.Prelude.{[], ◌∷◌, ◌≡◌, not, unwrap_or, If
 ghost use Rattle.std.specs.Result.{result_err};
 ghost use Rattle.command_types.specs.Machine.{accepted, command_refusals, first_of, refusals};
 ghost use Rattle.command_types.specs.Roster.{is_party};
+ghost use Rattle.command_types.specs.Told.{is_accept};
 ghost use Rattle.cycle_states.specs.Begun.{AreCheckedBy};
-ghost use Rattle.cycle_states.specs.Effects.{is_accept};
 ghost use Rattle.cycle_states.specs.Machine.{IsYoung};
 ghost use Rattle.cycle_states.specs.Party.{IsCallerOf};
 

@@ -5,9 +5,8 @@ use Rattle.command_types.specs.Machine.{accepted, answer_to, first_of, refusals,
 use Rattle.command_types.specs.History.{solutions_posted}
 use Rattle.cycle_states.specs.declared.machine.effect.Effect.{Effect}
 use Rattle.cycle_states.specs.Effects.{applied, rows_with, settings_with, taken_with}
-use Rattle.command_types.specs.Plans.{count_of, is_new}
 use Rattle.cycle_states.specs.declared.machine.ballot.Ballot.{Ballot}
-use Rattle.cycle_states.specs.Ballot.{IsBallotIn}
+use Rattle.cycle_states.specs.Ballot.{planned_rows, IsBallotIn}
 use Rattle.cycle_states.specs.Machine.{state_with, MachineView}
 use Rattle.cycle_states.proofs.MachineFacts.{recorded_changes, not_refused, accepted_answer}
 use Rattle.cycle_states.proofs.CycleFacts.{stays_unbroken}
@@ -31,7 +30,7 @@ apply-requires-clause-room c =
     let m = c.self.inside in
     let does = rw (← c.self.view_is) at c.requires.ready.effect in
     let given = rw (← c.self.view_is) at c.requires.room in
-    subst (λ (e : Effect). rows_with e (count_of is_new m.cycle.plan) ≤ m.book.spare) (sym (c.into_parts-entry.ensures.effect ∙ does)) given
+    subst (λ (e : Effect). rows_with e (planned_rows m.cycle) ≤ m.book.spare) (sym (c.into_parts-entry.ensures.effect ∙ does)) given
 
 pub apply-requires-clause-slot : goal.apply-requires-clause-slot
 apply-requires-clause-slot c =
@@ -64,6 +63,7 @@ invariant_of-self c =
       stays_taken s n ask m.tolerances c.apply.new.tolerances.taken on (c.apply.ensures.taken ∙ ap (λ (e : Effect). taken_with e m.tolerances) (c.into_parts-entry.ensures.effect ∙ does)) refl c.self.invariant.2,
       subst (λ (members : ℕ). AreOfFreeze members c.apply.new.book.rows c.apply.new.cycle.phase c.pass.new.self) (sym c.apply.ensures.members)
           (stays_frozen m.book.members s n ask m.frozen c.pass.new.self on (c.pass.ensures ∙ ap (λ (e : Effect). kept_with e m.frozen) (c.into_parts-entry.ensures.effect ∙ does)) none c.self.invariant.0.unbroken c.self.invariant.3),
+      c.apply.ensures.planned,
     )
 
 pub returns-clause-state : goal.returns-clause-state

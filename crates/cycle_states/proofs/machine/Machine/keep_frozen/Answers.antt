@@ -10,4 +10,4 @@ of-requires c =
     c.self.invariant.0.unbroken (limits_break m.cycle.phase on)
 
 pub invariant_of-self : goal.invariant_of-self
-invariant_of-self c = (c.self.invariant.0, c.self.invariant.1, c.self.invariant.2, λ may. c.in_ok-self-inside.ensures)
+invariant_of-self c = (c.self.invariant.0, c.self.invariant.1, c.self.invariant.2, λ may. c.in_ok-self-inside.ensures, c.self.invariant.4)

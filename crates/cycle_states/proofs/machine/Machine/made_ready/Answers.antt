@@ -1,30 +1,29 @@
-use Rattle.std.proofs.Common.{◌≡◌, ◌∙◌, ◌≤◌, [], true, List, ℕ, None, Option, unwrap_or, ap, sym, subst}
+use Rattle.std.proofs.Common.{◌≡◌, ◌∙◌, ◌≤◌, [], true, is_ok, List, ℕ, IsTrue, None, Option, unwrap_or, ap, sym, subst, arith}
+use Rattle.std.proofs.lemmas.Bool.{false≢true}
 use Rattle.command_types.specs.declared.figures.Cycle.{Cycle}
 use Rattle.command_types.specs.Machine.{answer_to, changes, first_of, party_answer, refusals, state_by_party}
-use Rattle.command_types.specs.Plans.{count_of, is_new}
 use Rattle.command_types.specs.Roster.{Rows}
 use Rattle.product_book.specs.Book.{BookView}
 use Rattle.tolerance_sets.specs.Settings.{TolerancesView}
 use Rattle.cycle_states.specs.declared.machine.ballot.Ballot.{Ballot}
 use Rattle.cycle_states.specs.declared.machine.effect.Effect.{Effect}
 use Rattle.cycle_states.specs.declared.machine.frozen.FrozenProduct.{FrozenProduct}
-use Rattle.cycle_states.specs.Ballot.{IsBallotIn}
-use Rattle.cycle_states.specs.Effects.{effect_by, rows_added, rows_with}
+use Rattle.cycle_states.specs.Ballot.{planned_rows, IsBallotIn}
+use Rattle.cycle_states.specs.Effects.{effect_by, is_vote, rows_added, rows_with}
 use Rattle.cycle_states.specs.Machine.{state_with, MachineView, IsWhole}
 use Rattle.cycle_states.specs.Ready.{IsMade, IsReady, ReadyView}
 use Rattle.cycle_states.proofs.MachineFacts.{accepted_answer, not_refused, recorded_changes}
-use Rattle.cycle_states.proofs.BallotFacts.{rows_by_ballot}
-use Rattle.cycle_states.proofs.EffectFacts.{change_told, few_rows}
+use Rattle.cycle_states.proofs.EffectFacts.{accept_votes, change_told, few_rows}
 use Rattle.cycle_states.proofs.PartyFacts.{caller_known, caller_named, change_asked}
 use Rattle.cycle_states.proofs.RecordFacts.{few_posted}
 use Rattle.cycle_states.proofs.machine.Machine.made_ready.Goals as goal
 
--- room changes nothing of what the machine keeps
-roomy : (roster : Rows) (book after : BookView) (taken more : TolerancesView) (cycle : Cycle) (ballot : Ballot) (frozen : List FrozenProduct) → after ≡ record book { spare = after.spare } → more ≡ record taken { spare = more.spare } →
+-- room takes away nothing of what the machine keeps
+roomy : (roster : Rows) (book after : BookView) (taken more : TolerancesView) (cycle : Cycle) (ballot : Ballot) (frozen : List FrozenProduct) → after ≡ record book { spare = after.spare } → more ≡ record taken { spare = more.spare } → book.spare ≤ after.spare →
     IsWhole roster book taken cycle ballot frozen → IsWhole roster after more cycle ballot frozen
-roomy roster book after taken more cycle ballot frozen same settings kept =
+roomy roster book after taken more cycle ballot frozen same settings keeps kept =
     subst (λ (b : BookView). IsWhole roster b more cycle ballot frozen) (sym same)
-    (subst (λ (t : TolerancesView). IsWhole roster (record book { spare = after.spare }) t cycle ballot frozen) (sym settings) kept)
+    (subst (λ (t : TolerancesView). IsWhole roster (record book { spare = after.spare }) t cycle ballot frozen) (sym settings) (kept.0, kept.1, kept.2, kept.3, omega (arith, kept.4, keeps)))
 
 pub unreachable-requires : goal.unreachable-requires
 unreachable-requires c =
@@ -52,13 +51,14 @@ make_room-requires c =
     let ask = c.args.entry.ask in
     let named = caller_named c.args.self.now.state.roster ask.by c.args.caller.now c.in-Some.caller c.requires.caller c.in-Some.is in
     let made = c.in_ok-made.made in
-    let is_made = subst (λ (view : MachineView). IsMade view.state c.in-Some.caller.name ask.what made) (sym c.self.view_is) c.in_ok-made.ensures in
+    let is_made = subst (λ (view : MachineView). IsMade view.state c.in-Some.caller.name ask.what made) (sym c.self.view_is) c.in_ok-made.ensures.made in
     let none : first_of (refusals s ask.by ask.what) ≡ None = not_refused s ask (rw (← c.self.view_is) at c.requires.accepted) in
-    let same : rows_with (effect_by s (unwrap_or ask.by []) ask.what) (count_of is_new m.cycle.plan) ≡ rows_with made.effect m.ballot.made =
-    sym (rows_by_ballot s ask.by ask.what m.ballot none c.self.invariant.1)
-    ∙ ap (λ (by : Option (List ℕ)). rows_with (effect_by s (unwrap_or by []) ask.what) m.ballot.made) named
-    ∙ ap (λ (effect : Effect). rows_with effect m.ballot.made) (sym is_made.does) in
-    subst (λ n. n ≤ 4194304) same (few_rows m.roster m.book.members m.book.products m.book.rows m.tolerances.settings m.cycle c.self.invariant.0 ask.by ask.what none)
+    let planned : planned_rows m.cycle ≡ c.planned-planned.result = ap (λ (view : MachineView). planned_rows view.state.cycle) c.self.view_is ∙ sym c.planned-planned.ensures in
+    let same : rows_with (effect_by s (unwrap_or ask.by []) ask.what) (planned_rows m.cycle) ≡ rows_with made.effect c.planned-planned.result =
+    ap (λ (by : Option (List ℕ)). rows_with (effect_by s (unwrap_or by []) ask.what) (planned_rows m.cycle)) named
+    ∙ ap (λ (effect : Effect). rows_with effect (planned_rows m.cycle)) (sym is_made.does)
+    ∙ ap (λ (n : ℕ). rows_with made.effect n) planned in
+    subst (λ n. n ≤ 4194305) same (few_rows m.roster m.book.members m.book.products m.book.rows m.tolerances.settings m.cycle c.self.invariant.0 ask.by ask.what none)
 
 pub returns-clause-room : goal.returns-clause-room
 returns-clause-room c =
@@ -67,20 +67,31 @@ returns-clause-room c =
     let ask = c.args.entry.ask in
     let named = caller_named c.args.self.now.state.roster ask.by c.args.caller.now c.in-Some.caller c.requires.caller c.in-Some.is in
     let made = c.in_ok-made.made in
-    let is_made = subst (λ (view : MachineView). IsMade view.state c.in-Some.caller.name ask.what made) (sym c.self.view_is) c.in_ok-made.ensures in
-    let none : first_of (refusals s ask.by ask.what) ≡ None = not_refused s ask (rw (← c.self.view_is) at c.requires.accepted) in
-    let same : rows_with made.effect m.ballot.made ≡ rows_added s ask =
-    ap (λ (effect : Effect). rows_with effect m.ballot.made) is_made.does
-    ∙ ap (λ (by : Option (List ℕ)). rows_with (effect_by s (unwrap_or by []) ask.what) m.ballot.made) (sym named)
-    ∙ rows_by_ballot s ask.by ask.what m.ballot none c.self.invariant.1 in
+    let is_made = subst (λ (view : MachineView). IsMade view.state c.in-Some.caller.name ask.what made) (sym c.self.view_is) c.in_ok-made.ensures.made in
+    let planned : c.planned-planned.result ≡ planned_rows m.cycle = c.planned-planned.ensures ∙ ap (λ (view : MachineView). planned_rows view.state.cycle) (sym c.self.view_is) in
+    let same : rows_with made.effect c.planned-planned.result ≡ rows_added s ask =
+    ap (λ (effect : Effect). rows_with effect c.planned-planned.result) is_made.does
+    ∙ ap (λ (by : Option (List ℕ)). rows_with (effect_by s (unwrap_or by []) ask.what) c.planned-planned.result) (sym named)
+    ∙ ap (λ (n : ℕ). rows_with (effect_by s (unwrap_or ask.by []) ask.what) n) planned in
     subst (λ (view : MachineView). rows_added view.state ask ≤ c.make_room.new.book.spare) c.self.view_is (subst (λ (n : ℕ). n ≤ c.make_room.new.book.spare) same c.in_ok-make_room.ensures.room)
+
+pub returns-in_err-make_room-clause-vote : goal.returns-in_err-make_room-clause-vote
+returns-in_err-make_room-clause-vote c = λ vote.
+    let s = c.args.self.now.state in
+    let ask = c.args.entry.ask in
+    let named = caller_named s.roster ask.by c.args.caller.now c.in-Some.caller c.requires.caller c.in-Some.is in
+    let made = c.in_ok-made.made in
+    let does : made.effect ≡ effect_by s (unwrap_or ask.by []) ask.what =
+    c.in_ok-made.ensures.made.does ∙ ap (λ (by : Option (List ℕ)). effect_by s (unwrap_or by []) ask.what) (sym named) in
+    let votes : IsTrue (is_vote made.effect) = ap is_vote does ∙ accept_votes s (unwrap_or ask.by []) ask.what vote in
+    absurd (false≢true (sym (ap is_ok c.in_err-make_room.was) ∙ c.make_room.ensures.vote votes))
 
 pub returns-clause-ready : goal.returns-clause-ready
 returns-clause-ready c =
     let s = c.args.self.now.state in
     let ask = c.args.entry.ask in
     let named = caller_named c.args.self.now.state.roster ask.by c.args.caller.now c.in-Some.caller c.requires.caller c.in-Some.is in
-    let made = c.in_ok-made.ensures in
+    let made = c.in_ok-made.ensures.made in
     let none = not_refused s ask c.requires.accepted in
     let change : changes ask.what ≡ true = recorded_changes ask.what (answer_to s ask) c.requires.accepted in
     subst (λ (ready : ReadyView). IsReady s ready) (sym c.new.ensures) (record {
@@ -101,9 +112,9 @@ returns-clause-few c =
 pub invariant_of-self : goal.invariant_of-self
 invariant_of-self c =
     let m = c.self.inside in
-    roomy m.roster m.book c.make_room.new.book m.tolerances c.make_room.new.tolerances m.cycle m.ballot m.frozen c.make_room.ensures.book c.make_room.ensures.tolerances c.self.invariant
+    roomy m.roster m.book c.make_room.new.book m.tolerances c.make_room.new.tolerances m.cycle m.ballot m.frozen c.make_room.ensures.book c.make_room.ensures.tolerances c.make_room.ensures.keeps c.self.invariant
 
 pub invariant_of-self-2 : goal.invariant_of-self-2
 invariant_of-self-2 c =
     let m = c.self.inside in
-    roomy m.roster m.book c.make_room.new.book m.tolerances c.make_room.new.tolerances m.cycle m.ballot m.frozen c.make_room.ensures.book c.make_room.ensures.tolerances c.self.invariant
+    roomy m.roster m.book c.make_room.new.book m.tolerances c.make_room.new.tolerances m.cycle m.ballot m.frozen c.make_room.ensures.book c.make_room.ensures.tolerances c.make_room.ensures.keeps c.self.invariant

@@ -27,4 +27,5 @@ invariant_of-self c =
       ballot_back (length m.roster.members) m.book.rows rows m.cycle m.ballot below (undone_parties m.book.rows c.args.undo.now may.trades) c.self.invariant.1,
       c.self.invariant.2,
       λ breaks. same_networks m.book.members m.book.rows rows m.frozen (may.frozen breaks) (c.self.invariant.3 breaks),
+      c.self.invariant.4,
     )

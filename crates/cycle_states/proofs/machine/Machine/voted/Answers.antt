@@ -1,4 +1,4 @@
-use Rattle.std.proofs.Common.{◌∙◌, length, IsTrue, refl, ap, subst}
+use Rattle.std.proofs.Common.{◌∙◌, ◌<◌, length, IsTrue, refl, ap, subst}
 use Rattle.command_types.specs.Cycles.{is_proposed}
 use Rattle.command_types.specs.CycleSteps.{after_accept, left_after}
 use Rattle.command_types.specs.Execution.{IsExecutable}
@@ -6,18 +6,25 @@ use Rattle.command_types.specs.Plans.{is_touched}
 use Rattle.posting.proofs.VoteFacts.{votes_left}
 use Rattle.cycle_states.specs.Ballot.{IsBallotIn}
 use Rattle.cycle_states.specs.Machine.{state_with, MachineView}
-use Rattle.cycle_states.proofs.BallotFacts.{voted_ballot}
+use Rattle.cycle_states.proofs.BallotFacts.{vote_room, voted_ballot}
 use Rattle.cycle_states.proofs.SettledFacts.{proposal_settled}
 use Rattle.cycle_states.proofs.machine.Machine.voted.Goals as goal
 
 pub returns-clause-ballot : goal.returns-clause-ballot
-returns-clause-ballot c =
+returns-clause-ballot c = λ waits.
     let m = c.self.inside in
     let s = state_with m.roster m.book.rows m.tolerances.settings m.cycle in
     let on : IsTrue (is_proposed m.cycle.phase) = rw (← c.self.view_is) at c.requires in
     let next = c.once_voted-ballot.ensures in
     subst (λ (view : MachineView). IsBallotIn (after_accept view.state c.args.member) c.once_voted-ballot.result) c.self.view_is
-    (voted_ballot s c.args.member (left_after s c.args.member) m.ballot c.once_voted-ballot.result on c.self.invariant.1 next.needed next.voted next.made)
+    (voted_ballot s c.args.member (left_after s c.args.member) m.ballot c.once_voted-ballot.result (rw (← c.self.view_is) at waits) on c.self.invariant.1 next.needed next.voted next.made)
+
+pub returns-clause-room : goal.returns-clause-room
+returns-clause-room c = λ waits.
+    let m = c.self.inside in
+    let s = state_with m.roster m.book.rows m.tolerances.settings m.cycle in
+    let on : IsTrue (is_proposed m.cycle.phase) = rw (← c.self.view_is) at c.requires in
+    subst (λ (view : MachineView). length view.state.cycle.votes < 256) c.self.view_is (vote_room s c.args.member m.ballot on c.self.invariant.1 (rw (← c.self.view_is) at waits))
 
 pub returns-clause-left : goal.returns-clause-left
 returns-clause-left c =

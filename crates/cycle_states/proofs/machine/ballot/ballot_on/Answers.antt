@@ -5,6 +5,7 @@ use Rattle.acceptance.specs.Parties.{IsPlanBelow}
 use Rattle.acceptance.specs.Votes.{left_of}
 use Rattle.posting.proofs.VoteFacts.{nobody_left}
 use Rattle.cycle_states.proofs.SettledFacts.{posting_settled, plan_below}
+use Rattle.cycle_states.proofs.VoteRooms.{first_fits}
 use Rattle.cycle_states.proofs.machine.ballot.ballot_on.Goals as goal
 
 pub touched-votes-requires : goal.touched-votes-requires
@@ -25,6 +26,9 @@ returns-clause-needed c =
     c.requires.solving c.requires.certified c.are_solutions.ensures c.requires.planned c.rows.ensures.trades c.rows.ensures.bounded in
     subst (λ (trades : List TradeRow). c.touched-votes.result.needed ≡ touched_by members trades plan) c.rows.ensures.rows
     (c.touched-votes.ensures.needed members c.requires.kept.few_members (subst (λ (trades : List TradeRow). IsPlanBelow trades members plan) (sym c.rows.ensures.rows) settled.parties))
+
+pub returns-clause-room : goal.returns-clause-room
+returns-clause-room c = first_fits (length c.args.roster.now.members) c.args.book.now.rows c.args.plan.now c.touched-votes.result.needed c.requires.kept.few_members (returns-clause-needed c)
 
 pub returns-clause-nobody : goal.returns-clause-nobody
 returns-clause-nobody c =
