@@ -6,7 +6,13 @@ use Rattle.command_types.specs.declared.plan.PlanRow.TheVariants.{New}
 use Rattle.command_types.specs.declared.trade.TradeRow.{TradeRow}
 use Rattle.command_types.specs.Books.{listed_below}
 use Rattle.command_types.specs.Plans.{falling, free_rows, pair_plan, product_plan, plan_from, plan_of}
+use Rattle.acceptance.specs.Planning.{pair_steps}
 use Rattle.acceptance.proofs.Pieces.{listed_alike, listed_same}
+
+-- a pair's steps rest on its free trades alone
+pub steps_same : (rows other : List TradeRow) (product : ℕ) (day : DayParts) (seller buyer before after : ℕ) → free_rows rows product seller buyer ≡ free_rows other product seller buyer → pair_steps product day rows seller buyer before after ≡ pair_steps product day other seller buyer before after
+steps_same rows other product day seller buyer before after alike =
+    ap (λ xs. if nat_lt after before then falling (before - after) xs else (if nat_lt before after then New product seller buyer (after - before) day ∷ [] else [])) alike
 
 -- the plan of a seller's pairs rests on the seller's free trades alone
 pub seller_same : (rows other : List TradeRow) (day : DayParts) (product : ℕ) (old new : NetworkData) (seller : ℕ) → ((buyer : ℕ) → buyer < old.members → free_rows rows product seller buyer ≡ free_rows other product seller buyer) →

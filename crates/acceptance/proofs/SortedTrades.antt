@@ -1,12 +1,13 @@
 -- Free trades that were sorted by pair: those of a pair are the same, in the same order, and stand side by side.
-use Rattle.std.proofs.Common.{◌≡◌, ◌≢◌, ℕ, suc, ◌+◌, ◌<◌, ◌≤◌, ◌++◌, ◌&&◌, not, Bool, true, false, cond, ltb, List, [], ◌∷◌, length, get_or, take, drop, refl, sym, ap, ◌∙◌, arith}
+use Rattle.std.proofs.Common.{◌≡◌, ◌≢◌, ℕ, suc, ◌+◌, ◌<◌, ◌≤◌, ◌++◌, ◌&&◌, not, Bool, true, false, cond, List, [], ◌∷◌, length, get_or, take, drop, refl, sym, ap, ◌∙◌, arith, ⊎_elim}
 use Rattle.std.specs.Prelude.{filter}
-use Rattle.std.specs.List.Sorted.{IsStableByKey, IsPartitionPoint, ties}
+use Rattle.std.specs.List.{AllWithin}
+use Rattle.std.specs.List.Sorted.{IsNonDecreasingBy, IsStableByKey, ties}
 use Rattle.std.specs.Ordering.{is_lt, nat_cmp}
 use Rattle.std.specs.Cmp.{nat_cmp_is}
 use Rattle.std.specs.declared.cmp.Ordering.TheVariants.{Equal}
-use Rattle.std.proofs.lemmas.Bool.{ltb-true, ltb-false, false_from_ne_true}
-use Rattle.std.proofs.lemmas.List.{append-nil, take-append-drop, get_or-take, get_or-drop, length-take-le, length-drop}
+use Rattle.std.proofs.lemmas.Bool.{cases_eq, false_from_ne_true}
+use Rattle.std.proofs.lemmas.List.{append-nil, take-append-drop, get_or_default, get_or-take, get_or-drop, length-take-le, length-drop}
 use Rattle.std.proofs.lemmas.List.Elements.{filter_agree, filter-append}
 use Rattle.command_types.specs.declared.trade.TradeRow.{TradeRow}
 use Rattle.command_types.specs.Books.{is_between, is_held}
@@ -62,35 +63,45 @@ none_pass : (P : TradeRow → Bool) (rows : List TradeRow) → ((k : ℕ) (d : T
 none_pass P [] none = refl
 none_pass P (row ∷ rows) none = ap (λ t. cond t (row ∷ filter P rows) (filter P rows)) (none 0 row (omega arith)) ∙ none_pass P rows (λ k d l. none (suc k) d (omega arith))
 
--- a part outside of which no trade passes
-pub part_passes : (P : TradeRow → Bool) (rows : List TradeRow) (first count : ℕ) → ((k : ℕ) (d : TradeRow) → k < length (take first rows) → P (get_or (take first rows) k d) ≡ false) →
-    ((k : ℕ) (d : TradeRow) → k < length (drop count (drop first rows)) → P (get_or (drop count (drop first rows)) k d) ≡ false) → filter P (take count (drop first rows)) ≡ filter P rows
-part_passes P rows first count before behind =
-    let later = drop first rows in
-    let whole : filter P later ≡ filter P (take count later) =
-    ap (filter P) (sym (take-append-drop count later)) ∙ filter-append P (take count later) (drop count later) ∙ ap (λ xs. filter P (take count later) ++ xs) (none_pass P (drop count later) behind) ∙ append-nil (filter P (take count later)) in
-    sym whole ∙ sym (ap (filter P) (sym (take-append-drop first rows)) ∙ filter-append P (take first rows) later ∙ ap (λ xs. xs ++ filter P later) (none_pass P (take first rows) before))
+-- a part in front of which, or behind which, no trade passes
+front_passes : (P : TradeRow → Bool) (rows : List TradeRow) (count : ℕ) → ((k : ℕ) (d : TradeRow) → k < length (take count rows) → P (get_or (take count rows) k d) ≡ false) → filter P (drop count rows) ≡ filter P rows
+front_passes P rows count none =
+    sym (ap (filter P) (sym (take-append-drop count rows)) ∙ filter-append P (take count rows) (drop count rows) ∙ ap (λ xs. xs ++ filter P (drop count rows)) (none_pass P (take count rows) none))
+
+back_passes : (P : TradeRow → Bool) (rows : List TradeRow) (count : ℕ) → ((k : ℕ) (d : TradeRow) → k < length (drop count rows) → P (get_or (drop count rows) k d) ≡ false) → filter P (take count rows) ≡ filter P rows
+back_passes P rows count none =
+    sym (ap (filter P) (sym (take-append-drop count rows)) ∙ filter-append P (take count rows) (drop count rows) ∙ ap (λ xs. filter P (take count rows) ++ xs) (none_pass P (drop count rows) none) ∙ append-nil (filter P (take count rows)))
 
 other_place : (product seller buyer : ℕ) (row : TradeRow) → trade_place row ≢ pair_place product seller buyer → is_free_between product seller buyer row ≡ false
 other_place product seller buyer row ne = false_from_ne_true (is_free_between product seller buyer row) (λ e. ne (free_place product seller buyer row e))
 
--- the part between the searches for two places that a pair's place is between
-pub part_is_all : (product seller buyer from to : ℕ) (rows later : List TradeRow) (first count : ℕ) → from ≤ pair_place product seller buyer → pair_place product seller buyer < to → later ≡ drop first rows → first ≤ length rows →
-    IsPartitionPoint (λ row. ltb (trade_place row) from ≡ true) (λ row. ltb (trade_place row) from ≡ false) rows first →
-    IsPartitionPoint (λ row. ltb (trade_place row) to ≡ true) (λ row. ltb (trade_place row) to ≡ false) later count → free_rows (take count later) product seller buyer ≡ free_rows rows product seller buyer
-part_is_all product seller buyer from to rows later first count low high e within below above =
-    ap (λ xs. free_rows (take count xs) product seller buyer) e ∙ part_passes (is_free_between product seller buyer) rows first count before behind
-  where
-    before : (k : ℕ) (d : TradeRow) → k < length (take first rows) → is_free_between product seller buyer (get_or (take first rows) k d) ≡ false
-    before k d l =
-        let k_first : k < first = omega (arith, length-take-le first rows within) in
-        let same = ap trade_place (get_or-take first rows k d k_first) in
-        let less = ltb-true (trade_place (get_or rows k d)) from (below.0 k d (omega arith) k_first) in
-        other_place product seller buyer (get_or (take first rows) k d) (λ q. omega (arith, same, less, q, low))
+-- the part from a place on, where a pair's is not in front of it
+pub from_is_all : (product seller buyer place : ℕ) (rows : List TradeRow) (count : ℕ) → place ≤ pair_place product seller buyer → count ≤ length rows → AllWithin (λ row. trade_place row < place) rows 0 count →
+    free_rows (drop count rows) product seller buyer ≡ free_rows rows product seller buyer
+from_is_all product seller buyer place rows count low within before =
+    front_passes (is_free_between product seller buyer) rows count (λ k d l.
+    let k_first : k < count = omega (arith, length-take-le count rows within) in
+    let same = ap trade_place (get_or-take count rows k d k_first) in
+    let less = before k d (omega arith) k_first in
+    other_place product seller buyer (get_or (take count rows) k d) (λ q. omega (arith, same, less, q, low)))
 
-    behind : (k : ℕ) (d : TradeRow) → k < length (drop count (drop first rows)) → is_free_between product seller buyer (get_or (drop count (drop first rows)) k d) ≡ false
-    behind k d l =
-        let inside : count + k < length later = omega (arith, length-drop count (drop first rows), ap (λ xs. length xs) e) in
-        let same = ap trade_place (get_or-drop count (drop first rows) k d ∙ ap (λ xs. get_or xs (count + k) d) (sym e)) in
-        let more = ltb-false (trade_place (get_or later (count + k) d)) to (above.1 (count + k) d (omega arith) inside) in
-        other_place product seller buyer (get_or (drop count (drop first rows)) k d) (λ q. omega (arith, same, more, q, high))
+-- the part up to a place, where a pair's is in front of it
+pub upto_is_all : (product seller buyer place : ℕ) (rows : List TradeRow) (count : ℕ) → pair_place product seller buyer < place → AllWithin (λ row. place ≤ trade_place row) rows count (length rows) →
+    free_rows (take count rows) product seller buyer ≡ free_rows rows product seller buyer
+upto_is_all product seller buyer place rows count high behind =
+    back_passes (is_free_between product seller buyer) rows count (λ k d l.
+    let inside : count + k < length rows = omega (arith, l, length-drop count rows) in
+    let same = ap trade_place (get_or-drop count rows k d) in
+    let more = behind (count + k) d (omega arith) inside in
+    other_place product seller buyer (get_or (drop count rows) k d) (λ q. omega (arith, same, more, q, high)))
+
+-- past one more trade that stands before the place
+pub one_passed : (rows : List TradeRow) (place count : ℕ) (here : TradeRow) → AllWithin (λ row. trade_place row < place) rows 0 count → count < length rows → trade_place (get_or rows count here) < place → AllWithin (λ row. trade_place row < place) rows 0 (count + 1)
+one_passed rows place count here before within less = λ k d l m.
+    ⊎_elim (λ (e : k ≡ count). omega (arith, less, ap trade_place (ap (λ j. get_or rows j d) e), ap trade_place (get_or_default rows count here d within))) (λ (ne : k ≢ count). before k d l (omega (arith, ne, m))) (cases_eq k count)
+
+-- from one that does not, none behind it does
+pub none_behind : (rows : List TradeRow) (place count : ℕ) (here : TradeRow) → IsNonDecreasingBy trade_place rows → (count < length rows → place ≤ trade_place (get_or rows count here)) → AllWithin (λ row. place ≤ trade_place row) rows count (length rows)
+none_behind rows place count here sorted first = λ k d l m.
+    let within : count < length rows = omega (arith, l, m) in
+    omega (arith, first within, ap trade_place (get_or_default rows count here d within), sorted count k d l m)

@@ -1,7 +1,8 @@
-//! The frozen trades that nobody holds, sorted by product, seller and buyer: those of a pair stand side by side, and are
-//! found by search.
+//! The frozen trades that nobody holds, sorted by product, seller and buyer: those of a pair stand side by side. A product's
+//! are found by search, those of its sellers and pairs by going past the ones in front of them.
 
-ghost use Rattle.std.specs.Prelude.{◌≡◌, ℕ, ◌≤◌, ◌<◌, IfOk};
+ghost use Rattle.std.specs.Prelude.{◌≡◌, ℕ, ◌≤◌, ◌<◌, length, IfOk};
+ghost use Rattle.std.specs.List.{AllWithin};
 ghost use Rattle.std.specs.List.Sorted.{IsNonDecreasingBy};
 ghost use Rattle.command_types.specs.Books.{is_between};
 ghost use Rattle.command_types.specs.Plans.{free_rows};
@@ -53,35 +54,64 @@ fn trade_place(row: TradeRow) -> u64
     pair_place(row.product.0, row.seller.0, row.buyer.0)
 }
 
-// The part of sorted trades in which those stand whose places are not below the one and below the other.
-fn part(rows: &[TradeRow], from: u64, to: u64) -> &[TradeRow]
+// How many sorted trades stand before a place, by going past them one by one.
+fn passed(rows: &[TradeRow], place: u64) -> usize
     requires { IsNonDecreasingBy trade_place rows.now }
-    ensures sorted { IsNonDecreasingBy trade_place result.now }
-    ensures free { (product seller buyer : ℕ) → from ≤ pair_place product seller buyer → pair_place product seller buyer < to → free_rows result.now product seller buyer ≡ free_rows rows.now product seller buyer }
+    ensures end { result ≤ length rows.now }
+    ensures before { AllWithin (λ row. trade_place row < place) rows.now 0 result }
+    ensures behind { AllWithin (λ row. place ≤ trade_place row) rows.now result (length rows.now) }
 {
-    let first = rows.partition_point(|row| trade_place(*row) < from);
-    let behind = &rows[first..];
-    let count = behind.partition_point(|row| trade_place(*row) < to);
-    &behind[..count]
+    let mut count = 0;
+    while count < rows.len() && trade_place(rows[count]) < place {
+        count += 1;
+    }
+    count
 }
 
-/// The part of a product's sorted trades in which those of a seller stand.
-pub(super) fn of_seller(rows: &[TradeRow], product: ProductNo, seller: u16) -> &[TradeRow]
+// Sorted trades without those that stand before a place.
+fn from_place(rows: &[TradeRow], place: u64) -> &[TradeRow]
     requires { IsNonDecreasingBy trade_place rows.now }
     ensures sorted { IsNonDecreasingBy trade_place result.now }
-    ensures free { (buyer : ℕ) → buyer < 65536 → free_rows result.now product seller buyer ≡ free_rows rows.now product seller buyer }
+    ensures free { (product seller buyer : ℕ) → place ≤ pair_place product seller buyer → free_rows result.now product seller buyer ≡ free_rows rows.now product seller buyer }
 {
-    let first = pair_place(product.0, seller, 0);
-    part(rows, first, first + 65536)
+    &rows[passed(rows, place)..]
 }
 
-/// The part of sorted trades in which those of a pair stand.
-pub(super) fn of_pair<'a>(rows: &'a [TradeRow], pair: &Pair) -> &'a [TradeRow]
+// The same, by binary search.
+fn search_place(rows: &[TradeRow], place: u64) -> &[TradeRow]
+    requires { IsNonDecreasingBy trade_place rows.now }
+    ensures sorted { IsNonDecreasingBy trade_place result.now }
+    ensures free { (product seller buyer : ℕ) → place ≤ pair_place product seller buyer → free_rows result.now product seller buyer ≡ free_rows rows.now product seller buyer }
+{
+    let first = rows.partition_point(|row| trade_place(*row) < place);
+    &rows[first..]
+}
+
+/// Sorted trades without those in front of a seller's in a product, which are gone past one by one.
+pub(super) fn from_seller(rows: &[TradeRow], product: ProductNo, seller: u16) -> &[TradeRow]
+    requires { IsNonDecreasingBy trade_place rows.now }
+    ensures sorted { IsNonDecreasingBy trade_place result.now }
+    ensures free { (later buyer : ℕ) → seller ≤ later → free_rows result.now product later buyer ≡ free_rows rows.now product later buyer }
+{
+    from_place(rows, pair_place(product.0, seller, 0))
+}
+
+/// Sorted trades without those in front of a pair's, which are gone past one by one.
+pub(super) fn from_pair<'a>(rows: &'a [TradeRow], pair: &Pair) -> &'a [TradeRow]
+    requires { IsNonDecreasingBy trade_place rows.now }
+    ensures sorted { IsNonDecreasingBy trade_place result.now }
+    ensures free { (later : ℕ) → pair.now.buyer ≤ later → free_rows result.now pair.now.product pair.now.seller later ≡ free_rows rows.now pair.now.product pair.now.seller later }
+{
+    from_place(rows, pair_place(pair.product.0, pair.seller, pair.buyer))
+}
+
+/// The part of sorted trades up to a pair's last.
+pub(super) fn up_to_pair<'a>(rows: &'a [TradeRow], pair: &Pair) -> &'a [TradeRow]
     requires { IsNonDecreasingBy trade_place rows.now }
     ensures { free_rows result.now pair.now.product pair.now.seller pair.now.buyer ≡ free_rows rows.now pair.now.product pair.now.seller pair.now.buyer }
 {
     let place = pair_place(pair.product.0, pair.seller, pair.buyer);
-    part(rows, place, place + 1)
+    &rows[..passed(rows, place + 1)]
 }
 
 /// The frozen trades that nobody holds, in the order by product, seller and buyer, and then that of their numbers.
@@ -118,12 +148,11 @@ impl FreeTrades {
         Ok(FreeTrades { rows })
     }
 
-    /// The part in which those of a product stand.
-    pub(super) fn of_product(&self, product: ProductNo) -> &[TradeRow]
+    /// The part from a product's first on.
+    pub(super) fn from_product(&self, product: ProductNo) -> &[TradeRow]
         ensures sorted { IsNonDecreasingBy trade_place result.now }
-        ensures free { (seller buyer : ℕ) → seller < 65536 → buyer < 65536 → free_rows result.now product seller buyer ≡ free_rows self.now product seller buyer }
+        ensures free { (seller buyer : ℕ) → free_rows result.now product seller buyer ≡ free_rows self.now product seller buyer }
     {
-        let first = pair_place(product.0, 0, 0);
-        part(&self.rows, first, first + 65536 * 65536)
+        search_place(&self.rows, pair_place(product.0, 0, 0))
     }
 }

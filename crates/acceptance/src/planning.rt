@@ -1,7 +1,6 @@
 //! The plan: what new networks change in the frozen trades. The free ones are sorted once for all products; of each product
 //! the pairs are looked at that have a row in the old network or in the new one, and for a pair that falls its trades. So a
-//! plan costs a sort of the free trades, a search for each row, and one for each product and seller; a pair's trades are searched
-//! among its seller's in the product.
+//! plan costs a sort of the free trades, a search for each product and seller, and a walk over rows and free trades in step.
 
 ghost use Rattle.std.specs.Prelude.{◌≡◌, ℕ, ◌-◌, ◌+◌, ◌*◌, ◌<◌, ◌≤◌, ◌++◌, length, IfOk, OnOk, OnErr};
 ghost use Rattle.std.specs.List.Sorted.{IsNonDecreasingBy};
@@ -11,7 +10,7 @@ ghost use Rattle.command_types.specs.Plans.{falling, free_rows, pair_plan, produ
 ghost use Rattle.acceptance.specs.Planning.{is_free_between, row_fall, pair_steps, trade_place};
 ghost use Rattle.units_core.specs.declared.limits.TheConstants.{MOST_GROSS};
 
-use crate::free_trades::{FreeTrades, Pair, is_free_between, of_pair, of_seller};
+use crate::free_trades::{FreeTrades, Pair, from_pair, from_seller, is_free_between, up_to_pair};
 use command_types::{PlanRow, TradeRow};
 use network_laws::{Network, Row, amount_at, first_row, next_row};
 use std::alloc::{AllocError, Global};
@@ -28,11 +27,11 @@ pub struct Change<'a> {
     pub new: &'a Network,
 }
 
-// A pair of members, with what the seller owes the buyer before and after.
+// What a pair's seller owes the buyer before and after, and the day of the trade that it makes.
 #[derive(Clone, Copy)]
 struct PairChange {
-    seller: u16,
-    buyer: u16,
+    pair: Pair,
+    day: Day,
     before: u64,
     after: u64,
 }
@@ -92,24 +91,19 @@ fn amount_of(n: u64) -> Amount
 fn add_pair(
     plan: &mut Vec<PlanRow>,
     free: &[TradeRow],
-    change: &Change,
-    pair: &PairChange,
+    change: &PairChange,
 ) -> Result<(), AllocError>
     requires sorted { IsNonDecreasingBy trade_place free.now }
-    requires bound { pair.now.after ≤ MOST_GROSS }
-    ensures { OnOk result (plan.new.items ≡ plan.old.items ++ pair_steps change.now.product change.now.day free.now pair.now.seller pair.now.buyer pair.now.before pair.now.after) }
+    requires bound { change.now.after ≤ MOST_GROSS }
+    ensures { OnOk result (plan.new.items ≡ plan.old.items ++ pair_steps change.now.pair.product change.now.day free.now change.now.pair.seller change.now.pair.buyer change.now.before change.now.after) }
 {
-    let (before, after) = (pair.before, pair.after);
+    let (before, after) = (change.before, change.after);
+    let pair = change.pair;
     if after < before {
-        let trades = Pair {
-            product: change.product,
-            seller: pair.seller,
-            buyer: pair.buyer,
-        };
-        add_fall(plan, of_pair(free, &trades), &trades, before - after)?;
+        add_fall(plan, up_to_pair(free, &pair), &pair, before - after)?;
     } else if before < after {
         plan.push(PlanRow::New {
-            product: change.product,
+            product: pair.product,
             seller: MemberNo(pair.seller),
             buyer: MemberNo(pair.buyer),
             amount: amount_of(after - before),
@@ -146,6 +140,7 @@ fn add_seller(
 {
     let (old, new) = (change.old.rows(), change.new.rows());
     let members = change.old.members();
+    let mut left = free;
     let mut from = 0;
     let mut old_at = first_row(old, seller, 0);
     let mut new_at = first_row(new, seller, 0);
@@ -155,13 +150,19 @@ fn add_seller(
         if buyer == members {
             return Ok(());
         }
-        let pair = PairChange {
+        let pair = Pair {
+            product: change.product,
             seller,
             buyer,
+        };
+        left = from_pair(left, &pair);
+        let pair_change = PairChange {
+            pair,
+            day: change.day,
             before: amount_at(old, old_at, seller, buyer),
             after: amount_at(new, new_at, seller, buyer),
         };
-        add_pair(plan, free, change, &pair)?;
+        add_pair(plan, left, &pair_change)?;
         old_at = next_row(old, old_at, seller, buyer);
         new_at = next_row(new, new_at, seller, buyer);
         from = buyer + 1;
@@ -177,10 +178,10 @@ fn add_product(
 ) -> Result<(), AllocError>
     ensures { OnOk result (plan.new.items ≡ plan.old.items ++ product_plan free.now change.now.day change.now.product change.now.old.now change.now.new.now) }
 {
-    let trades = free.of_product(change.product);
+    let mut left = free.from_product(change.product);
     for seller in 0..change.old.members() {
-        let own = of_seller(trades, change.product, seller);
-        add_seller(plan, own, change, seller)?;
+        left = from_seller(left, change.product, seller);
+        add_seller(plan, left, change, seller)?;
     }
     Ok(())
 }

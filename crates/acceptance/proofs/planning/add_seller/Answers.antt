@@ -3,9 +3,10 @@ use Rattle.network_laws.specs.declared.rows.Row.{Row}
 use Rattle.network_laws.specs.Networks.{amount_in, IsCursor}
 use Rattle.command_types.specs.declared.plan.PlanRow.{PlanRow}
 use Rattle.command_types.specs.Books.{listed_below}
-use Rattle.command_types.specs.Plans.{pair_plan}
+use Rattle.command_types.specs.Plans.{free_rows, pair_plan}
 use Rattle.acceptance.specs.Planning.{pair_steps}
 use Rattle.acceptance.proofs.PlanFacts.{one_more, amount_le}
+use Rattle.acceptance.proofs.SamePlans.{steps_same}
 use Rattle.acceptance.proofs.PairRows.{passed}
 use Rattle.acceptance.proofs.planning.add_seller.Goals as goal
 
@@ -40,9 +41,6 @@ returns-then-buyer-members c =
     }) in
     inv.steps ∙ ap (λ xs. c.args.plan.now.items ++ xs) (sym same ∙ ap (λ n. listed_below n f) (c.if-buyer-members.true ∙ c.members-members.ensures.value))
 
-pub add_pair-requires-clause-sorted : goal.add_pair-requires-clause-sorted
-add_pair-requires-clause-sorted c = c.requires
-
 pub add_pair-requires-clause-bound : goal.add_pair-requires-clause-bound
 add_pair-requires-clause-bound c =
     omega (arith, c.amount_at-in-loop-from.ensures, amount_le c.rows-new.result.now c.args.seller c.min-buyer.result, c.rows-new.ensures.rows.within)
@@ -69,10 +67,16 @@ loop-from-preserved c =
     let reached : before ≡ c.args.plan.now.items ++ listed_below to f = inv.steps ∙ ap (λ xs. c.args.plan.now.items ++ xs) (sym same) in
     let is_before = c.amount_at.ensures ∙ ap (λ (xs : List Row). amount_in xs i to) c.rows-old.ensures.value in
     let is_after = c.amount_at-in-loop-from.ensures ∙ ap (λ (xs : List Row). amount_in xs i to) c.rows-new.ensures.value in
-    let steps : List PlanRow = pair_steps change.product change.day c.args.free.now i to c.amount_at.result c.amount_at-in-loop-from.result in
-    let due : steps ≡ f to = ap (λ a. pair_steps change.product change.day c.args.free.now i to a c.amount_at-in-loop-from.result) is_before ∙ ap (pair_steps change.product change.day c.args.free.now i to (amount_in change.old.now.rows i to)) is_after in
+    let left = c.from_pair-left.result.now in
+    let same_left : (buyer : ℕ) → to ≤ buyer → free_rows left change.product i buyer ≡ free_rows c.args.free.now change.product i buyer = λ buyer le. c.from_pair-left.ensures.free buyer le ∙ inv.left buyer (omega (arith, up, le)) in
+    let steps : List PlanRow = pair_steps change.product change.day left i to c.amount_at.result c.amount_at-in-loop-from.result in
+    let due : steps ≡ f to =
+    steps_same left c.args.free.now change.product change.day i to c.amount_at.result c.amount_at-in-loop-from.result (same_left to (omega arith))
+    ∙ ap (λ a. pair_steps change.product change.day c.args.free.now i to a c.amount_at-in-loop-from.result) is_before ∙ ap (pair_steps change.product change.day c.args.free.now i to (amount_in change.old.now.rows i to)) is_after in
     record {
       steps = one_more to f c.args.plan.now.items before c.add_pair.new.plan.items steps reached c.in_ok-add_pair.ensures due;
+      sorted = c.from_pair-left.ensures.sorted;
+      left = λ buyer le. same_left buyer (omega (arith, le));
       within = omega (arith, c.min-buyer.ensures, c.buyer_at.ensures.end, c.if-buyer-members.false);
       old_end = subst (λ (xs : List Row). c.next_row-old_at.result ≤ length xs) c.rows-old.ensures.value c.next_row-old_at.ensures.end;
       old = subst (λ (xs : List Row). IsCursor xs c.next_row-old_at.result (i * 65536 + (to + 1))) c.rows-old.ensures.value c.next_row-old_at.ensures.cursor;
