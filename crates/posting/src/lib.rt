@@ -12,7 +12,7 @@ mod touching;
 pub use counts::{Counts, counts_of};
 pub use gross::{gross_after, gross_before};
 pub use laws::{plan_stays, posting_can_be_executed};
-pub use planned::posted_plan;
+pub use planned::{plan_from_free, posted_plan};
 pub use posted::bad_post;
 pub use steps::steps_of;
 pub use touching::add_vote;
