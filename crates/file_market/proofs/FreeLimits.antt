@@ -29,7 +29,7 @@ grows_apart members i j e = rw e refl
 stays_own : (members : List MemberRow) (i j : ℕ) → (i == j) ≡ true → may_grow Free members i j ≡ false
 stays_own members i j e = rw e refl
 
-none_kept : (now floor held : ℕ) → max floor held ≡ 0 → pair_lower now floor held ≡ 0
+pub none_kept : (now floor held : ℕ) → max floor held ≡ 0 → pair_lower now floor held ≡ 0
 none_kept now floor held none = omega (arith, min-le_right now (max floor held), none)
 
 -- the row of each pair
@@ -51,7 +51,7 @@ row_is_open rows product network i j none = by (i == j) refl
     by false e =
         other_row i j now low ceiling (may_grow Free rows.members i j) (none_kept now (pair_floor [] product i j) (at (empty_network rows) i j) refl) refl (grows_apart rows.members i j e) ∙ sym (rw e refl)
 
-listed_same : (n : ℕ) (f g : ℕ → List LimitRow) → ((k : ℕ) → f k ≡ g k) → listed_below n f ≡ listed_below n g
+pub listed_same : (n : ℕ) (f g : ℕ → List LimitRow) → ((k : ℕ) → f k ≡ g k) → listed_below n f ≡ listed_below n g
 listed_same zero f g each = refl
 listed_same (suc n) f g each = ap (λ xs. xs ++ f n) (listed_same n f g each) ∙ ap (λ xs. listed_below n g ++ xs) (each n)
 

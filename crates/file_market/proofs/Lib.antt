@@ -2,6 +2,8 @@ pub mod FailingFacts
 pub mod SolutionFacts
 pub mod PassFacts
 pub mod FreeLimits
+pub mod UntouchedWalk
+pub mod UntouchedLimits
 pub mod OneNetwork
 pub mod YesFacts
 pub mod SolvedFacts

@@ -1,4 +1,5 @@
 pub mod Market
+pub mod Untouched
 pub mod Check
 pub mod Verdict
 pub mod Solve

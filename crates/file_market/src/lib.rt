@@ -8,6 +8,7 @@ mod laws;
 mod limits;
 mod solving;
 mod summing;
+mod untouched;
 mod verdict_text;
 
 pub use checking::check;

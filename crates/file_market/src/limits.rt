@@ -1,8 +1,10 @@
 //! The limits of a product in the market of a trade file.
-ghost use Rattle.std.specs.Prelude.{◌≡◌, length, IfOk};
+ghost use Rattle.std.specs.Prelude.{◌≡◌, ◌↔◌, true, length, IfOk};
+ghost use Rattle.command_types.specs.declared.cycle.Mode.{Mode};
 ghost use Rattle.network_laws.specs.Limits.{IsWithinLimits};
 ghost use Rattle.file_market.specs.Market.{empty_network, market_limits};
 
+use crate::untouched::untouched_rows;
 use command_types::{Mode, Roster};
 use network_laws::{Limits, Network};
 use std::alloc::{AllocError, Global};
@@ -20,6 +22,13 @@ fn empty_network(alloc: Global, roster: &Roster) -> Network
     }
 }
 
+/// Whether a mode opens every pair.
+pub(crate) fn is_free(mode: Mode) -> bool
+    ensures { (result ≡ true) ↔ (mode ≡ Mode.Free) }
+{
+    matches!(mode, Mode::Free)
+}
+
 /// The limits of a product's network where no member set a floor or a ceiling and nothing is held.
 pub(crate) fn limits_for(
     alloc: Global,
@@ -32,6 +41,14 @@ pub(crate) fn limits_for(
     ensures limits { IfOk result (λ limits. limits ≡ market_limits roster.now mode product network.now) }
     ensures within { IfOk result (λ limits. IsWithinLimits limits network.now) }
 {
-    let held = empty_network(alloc, roster);
-    Tolerances::new(alloc).limits(mode, roster, product, network, &held)
+    if is_free(mode) {
+        let held = empty_network(alloc, roster);
+        return Tolerances::new(alloc).limits(mode, roster, product, network, &held);
+    }
+    let members = roster.members();
+    let rows = untouched_rows(alloc, mode, members, network.rows())?;
+    let Ok(limits) = Limits::from_rows(members.len() as u16, rows) else {
+        unreachable!()
+    };
+    Ok(limits)
 }

@@ -1,11 +1,10 @@
 //! The solution of a market, its products beside one another.
-ghost use Rattle.std.specs.Prelude.{◌≡◌, ◌<◌, ◌≤◌, ◌^◌, length, true, IfOk};
-ghost use Rattle.command_types.specs.declared.cycle.Mode.{Mode};
+ghost use Rattle.std.specs.Prelude.{◌≡◌, ◌<◌, ◌≤◌, ◌^◌, length, IfOk};
 ghost use Rattle.trade_file.specs.TradeFile.{AreFileTrades};
 ghost use Rattle.dual_certificate.specs.Writing.{HaveMembers};
 ghost use Rattle.file_market.specs.Solve.{problem_for, FirstHasLimits, AreProblemsOf, AreSolutions, IsSolvedText};
 
-use crate::limits::limits_for;
+use crate::limits::{is_free, limits_for};
 use command_types::{Mode, Roster};
 use dual_certificate::write_proposal;
 use network_laws::{Network, Problem, Solution, Solver};
@@ -15,12 +14,6 @@ use std::alloc::{AllocError, Global};
 use std::thread::Threads;
 use trade_file::{FileTrade, networks};
 use units_core::ProductNo;
-
-fn is_free(mode: Mode) -> bool
-    ensures { result ≡ true → mode ≡ Mode.Free }
-{
-    matches!(mode, Mode::Free)
-}
 
 // The next product's network, with the limits that it may be compressed within. In free mode these are the limits of the
 // first product, too.
