@@ -10,6 +10,7 @@ use Rattle.command_types.specs.contracts.ask.What as What
 use Rattle.command_types.specs.contracts.ask.Ask as Ask
 use Rattle.command_types.specs.contracts.ask.Entry as Entry
 use Rattle.command_types.specs.contracts.moment.Moment as Moment
+use Rattle.acceptance.specs.contracts.free_trades.FreeTrades as FreeTrades
 use Rattle.product_book.specs.contracts.book.Book as Book
 use Rattle.tolerance_sets.specs.contracts.settings.Settings as Settings
 use Rattle.tolerance_sets.specs.contracts.tolerances.Tolerances as Tolerances
@@ -43,8 +44,11 @@ begun_send = search (problem_send, sendable, crosses) depth 60
 cycle_send : IsSend Cycle.the_row
 cycle_send = search (begun_send, solution_send, sendable, crosses) depth 60 fits 100000
 
+free_send : IsSend FreeTrades.the_row
+free_send = search (sendable, crosses) depth 60
+
 frozen_send : IsSend Frozen.the_row
-frozen_send = search (sendable, crosses) depth 60
+frozen_send = search (free_send, sendable, crosses) depth 60 fits 100000
 
 pub machine_send : IsSend Machine.the_row
 machine_send = search (roster_send, book_send, tolerances_send, cycle_send, frozen_send, sendable, crosses) depth 60

@@ -15,9 +15,8 @@ use Rattle.product_book.specs.Book.{BookView}
 use Rattle.tolerance_sets.specs.Settings.{TolerancesView}
 use Rattle.units_core.specs.declared.limits.TheConstants.{MOST_MEMBERS, MOST_PRODUCTS}
 use Rattle.cycle_states.specs.declared.machine.ballot.Ballot.{Ballot}
-use Rattle.cycle_states.specs.declared.machine.frozen.FrozenProduct.{FrozenProduct}
 use Rattle.cycle_states.specs.Ballot.{IsBallot, planned_rows}
-use Rattle.cycle_states.specs.Frozen.{AreOfFreeze}
+use Rattle.cycle_states.specs.Frozen.{FrozenView, AreOfFreeze}
 
 -- the machine's state, and for how many more trades and settings there is room without memory
 pub record MachineView : Type 0 where
@@ -80,8 +79,8 @@ pub record IsMachine (roster : Rows) (members products : ℕ) (rows : List Trade
   pub unbroken : IsUnbroken cycle.phase rows
   pub cycle_kept : IsCycle roster rows cycle
 
--- and with it its ballot, the settings last taken, the freeze's networks, and room for the trades of the proposed plan
-abbrev pub IsWhole : Rows → BookView → TolerancesView → Cycle → Ballot → List FrozenProduct → Type 0
+-- and with it its ballot, the settings last taken, what is kept of the freeze, and room for the trades of the proposed plan
+abbrev pub IsWhole : Rows → BookView → TolerancesView → Cycle → Ballot → FrozenView → Type 0
 IsWhole roster book tolerances cycle ballot frozen =
     IsMachine roster book.members book.products book.rows cycle × IsBallot (length roster.members) book.rows cycle ballot
     × AreTaken cycle tolerances.taken × AreOfFreeze book.members book.rows cycle.phase frozen × (planned_rows cycle ≤ book.spare)

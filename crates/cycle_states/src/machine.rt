@@ -68,7 +68,7 @@ use std::marker::Model;
 use tolerance_sets::Tolerances;
 pub use undo::Undo;
 
-/// The machine: a roster, the trades and tolerances so far, the cycle, the ballot on its proposal, and its freeze's networks.
+/// The machine: a roster, the trades and tolerances so far, the cycle, the ballot on its proposal, and what is kept of its freeze.
 #[derive(Drop)]
 pub struct Machine {
     roster: Roster,

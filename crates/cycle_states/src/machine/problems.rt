@@ -50,7 +50,7 @@ fn problem_with(
 fn problem_now(version: &Version, product: ProductNo) -> Result<Problem, AllocError>
     requires book { IsBookOf version.now.roster.now version.now.book.now.members version.now.book.now.products }
     requires live { FrozenAreLive version.now.book.now.rows }
-    requires kept { AreFrozenOf version.now.book.now.members version.now.book.now.rows version.now.frozen.now }
+    requires kept { AreFrozenOf version.now.book.now.members version.now.book.now.rows version.now.frozen.now.networks }
     ensures { IfOk result (λ problem. problem ≡ problem_of version.now.roster.now version.now.book.now.rows version.now.tolerances.now.taken version.now.mode product) }
 {
     match version.frozen.product(product) {
@@ -66,7 +66,7 @@ fn problem_now(version: &Version, product: ProductNo) -> Result<Problem, AllocEr
 pub(super) fn problems_now(alloc: Global, version: &Version) -> Result<Vec<Problem>, AllocError>
     requires book { IsBookOf version.now.roster.now version.now.book.now.members version.now.book.now.products }
     requires live { FrozenAreLive version.now.book.now.rows }
-    requires kept { AreFrozenOf version.now.book.now.members version.now.book.now.rows version.now.frozen.now }
+    requires kept { AreFrozenOf version.now.book.now.members version.now.book.now.rows version.now.frozen.now.networks }
     ensures { IfOk result (λ problems. problems.items ≡ problems_of version.now.roster.now version.now.book.now.rows version.now.tolerances.now.taken version.now.mode) }
 {
     let products = version.roster.products().len() as u16;

@@ -10,6 +10,7 @@ ghost use Rattle.command_types.specs.Cycles.{bad_post, gross_of_all, is_solving,
 ghost use Rattle.command_types.specs.Machine.{first_of};
 ghost use Rattle.cycle_states.specs.Ballot.{IsBallotIn};
 ghost use Rattle.cycle_states.specs.Effects.{post_effect, MayApply};
+ghost use Rattle.cycle_states.specs.Frozen.{HaveTheirPlans};
 ghost use Rattle.cycle_states.specs.Party.{IsCaller};
 ghost use Rattle.units_core.specs.declared.limits.TheConstants.{MOST_PRODUCTS};
 
@@ -17,32 +18,40 @@ use crate::machine::Machine;
 use crate::machine::ballot::ballot_on;
 use crate::machine::cycle::{Cycle, is_solving};
 use crate::machine::effect::Effect;
+use crate::machine::frozen::Frozen;
 use crate::machine::parties::member_count;
 use crate::machine::party::Caller;
 use crate::machine::ready::Made;
 use crate::machine::solutions::copies;
 use command_types::{Answer, Listed, PlanRow, Refusal};
 use network_laws::{Problem, Solution};
-use posting::{bad_post, gross_after, gross_before, posted_plan};
+use posting::{bad_post, gross_after, gross_before, plan_from_free, posted_plan};
 use product_book::Book;
 use std::alloc::AllocError;
 
-// What solutions, one for each of the version's problems, change in the trades. The only error is want of memory.
+// What solutions, one for each of the version's problems, change in the trades, whose free ones are taken as they are kept, or
+// sorted for once. The only error is want of memory.
 fn plan_posted(
     book: &Book,
     cycle: &Cycle,
+    frozen: &Frozen,
     problems: &[Problem],
     solutions: &[Solution],
 ) -> Result<Vec<PlanRow>, AllocError>
     requires day { IsTrue (is_some cycle.now.day) }
+    requires free { HaveTheirPlans book.now.rows frozen.now.free }
     requires problems { problems.now ≡ cycle.now.begun }
     requires few { length cycle.now.begun ≤ MOST_PRODUCTS }
     requires one_each { length solutions.now ≡ length cycle.now.begun }
     ensures { IfOk result (λ plan. plan.items ≡ posted_plan cycle.now book.now.rows solutions.now) }
 {
+    let alloc = cycle.allocator();
     match cycle.day() {
         None => unreachable!(),
-        Some(day) => posted_plan(cycle.allocator(), book.rows(), problems, solutions, day),
+        Some(day) => match frozen.free() {
+            Some(free) => plan_from_free(alloc, free, problems, solutions, day),
+            None => posted_plan(alloc, book.rows(), problems, solutions, day),
+        },
     }
 }
 
@@ -113,7 +122,13 @@ impl Machine {
         ensures { IfOk result (λ answer. answer ≡ post_answer self.now.state solutions.now) }
     {
         let problems = self.problems()?;
-        let plan = plan_posted(&self.book, &self.cycle, problems.as_slice(), solutions)?;
+        let plan = plan_posted(
+            &self.book,
+            &self.cycle,
+            &self.frozen,
+            problems.as_slice(),
+            solutions,
+        )?;
         let (_, nobody) = ballot_on(&self.book, &self.roster, &self.cycle, solutions, &plan);
         if nobody {
             return Ok(nothing(&self.cycle));
@@ -133,7 +148,13 @@ impl Machine {
         ensures solutions { OnOk result (All IsSolution solutions.now) }
     {
         let problems = self.problems()?;
-        let plan = plan_posted(&self.book, &self.cycle, problems.as_slice(), solutions)?;
+        let plan = plan_posted(
+            &self.book,
+            &self.cycle,
+            &self.frozen,
+            problems.as_slice(),
+            solutions,
+        )?;
         let (ballot, nobody) = ballot_on(&self.book, &self.roster, &self.cycle, solutions, &plan);
         if nobody {
             let plan = Listed::new(plan);

@@ -25,7 +25,7 @@ pub problems_now-requires-clause-kept : goal.problems_now-requires-clause-kept
 problems_now-requires-clause-kept c =
     let m = c.self.inside in
     let on : IsTrue (has_limits m.cycle.phase) = rw (← c.self.view_is) at c.requires in
-    c.self.invariant.3 (limits_break m.cycle.phase on)
+    (c.self.invariant.3 (limits_break m.cycle.phase on)).networks
 
 pub returns : goal.returns
 returns c =

@@ -7,7 +7,7 @@ use Rattle.product_book.specs.Book.{BookView}
 use Rattle.tolerance_sets.specs.Settings.{TolerancesView}
 use Rattle.cycle_states.specs.declared.machine.ballot.Ballot.{Ballot}
 use Rattle.cycle_states.specs.declared.machine.effect.Effect.{Effect}
-use Rattle.cycle_states.specs.declared.machine.frozen.FrozenProduct.{FrozenProduct}
+use Rattle.cycle_states.specs.Frozen.{FrozenView}
 use Rattle.cycle_states.specs.Ballot.{planned_rows, IsBallotIn}
 use Rattle.cycle_states.specs.Effects.{effect_by, is_vote, rows_added, rows_with}
 use Rattle.cycle_states.specs.Machine.{state_with, MachineView, IsWhole}
@@ -19,7 +19,7 @@ use Rattle.cycle_states.proofs.RecordFacts.{few_posted}
 use Rattle.cycle_states.proofs.machine.Machine.made_ready.Goals as goal
 
 -- room takes away nothing of what the machine keeps
-roomy : (roster : Rows) (book after : BookView) (taken more : TolerancesView) (cycle : Cycle) (ballot : Ballot) (frozen : List FrozenProduct) → after ≡ record book { spare = after.spare } → more ≡ record taken { spare = more.spare } → book.spare ≤ after.spare →
+roomy : (roster : Rows) (book after : BookView) (taken more : TolerancesView) (cycle : Cycle) (ballot : Ballot) (frozen : FrozenView) → after ≡ record book { spare = after.spare } → more ≡ record taken { spare = more.spare } → book.spare ≤ after.spare →
     IsWhole roster book taken cycle ballot frozen → IsWhole roster after more cycle ballot frozen
 roomy roster book after taken more cycle ballot frozen same settings keeps kept =
     subst (λ (b : BookView). IsWhole roster b more cycle ballot frozen) (sym same)

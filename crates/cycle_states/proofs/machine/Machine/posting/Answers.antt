@@ -1,6 +1,6 @@
 use Rattle.std.proofs.Common.{◌∙◌, ap, sym}
 use Rattle.cycle_states.specs.Machine.{MachineView}
-use Rattle.cycle_states.proofs.CycleFacts.{solving_limits}
+use Rattle.cycle_states.proofs.CycleFacts.{limits_break, solving_limits}
 use Rattle.cycle_states.proofs.SettledFacts.{few_problems}
 use Rattle.cycle_states.proofs.machine.Machine.posting.Goals as goal
 
@@ -14,3 +14,9 @@ pub plan_posted-requires-clause-few : goal.plan_posted-requires-clause-few
 plan_posted-requires-clause-few c =
     let m = c.self.inside in
     few_problems m.roster m.book.members m.book.products m.book.rows m.cycle c.self.invariant.0 (solving_limits m.cycle.phase (rw (← c.self.view_is) at c.requires.solving))
+
+pub plan_posted-requires-clause-free : goal.plan_posted-requires-clause-free
+plan_posted-requires-clause-free c =
+    let m = c.self.inside in
+    let may = limits_break m.cycle.phase (solving_limits m.cycle.phase (rw (← c.self.view_is) at c.requires.solving)) in
+    (c.self.invariant.3 may).free

@@ -6,7 +6,7 @@ use Rattle.product_book.specs.Book.{gross_limit, AreTrades, BookView}
 use Rattle.cycle_states.specs.Machine.{IsWhole}
 use Rattle.cycle_states.specs.Undo.{rows_undone}
 use Rattle.cycle_states.proofs.BallotFacts.{ballot_back}
-use Rattle.cycle_states.proofs.FrozenFacts.{same_networks}
+use Rattle.cycle_states.proofs.FrozenFacts.{same_frozen_of}
 use Rattle.cycle_states.proofs.SettledFacts.{proposal_settled}
 use Rattle.cycle_states.proofs.UndoFacts.{machine_back, undone_parties}
 use Rattle.cycle_states.proofs.machine.Machine.undo.Goals as goal
@@ -26,6 +26,6 @@ invariant_of-self c =
       machine,
       ballot_back (length m.roster.members) m.book.rows rows m.cycle m.ballot below (undone_parties m.book.rows c.args.undo.now may.trades) c.self.invariant.1,
       c.self.invariant.2,
-      λ breaks. same_networks m.book.members m.book.rows rows m.frozen (may.frozen breaks) (c.self.invariant.3 breaks),
+      λ breaks. same_frozen_of m.book.members m.book.rows rows m.frozen (may.frozen breaks) (c.self.invariant.3 breaks),
       c.self.invariant.4,
     )

@@ -1,6 +1,6 @@
 use Rattle.std.proofs.Common.{length, arith, ap}
 use Rattle.cycle_states.proofs.FrozenFacts.{one_more}
-use Rattle.cycle_states.proofs.machine.frozen.Frozen.of.Goals as goal
+use Rattle.cycle_states.proofs.machine.frozen.frozen_products.Goals as goal
 
 pub loop-product-init : goal.loop-product-init
 loop-product-init c = (ap length c.new-kept.ensures.items, λ k d l. absurd (omega (arith, l, ap length c.new-kept.ensures.items)))
