@@ -1,10 +1,11 @@
 -- Whom a plan touches, as flags and as a list.
-use Rattle.std.proofs.Common.{◌≡◌, ℕ, zero, suc, ◌+◌, ◌-◌, ◌<◌, ◌≤◌, ◌++◌, [], Bool, true, false, ◌||◌, List, Option, Some, None, refl, sym, ap, subst, ◌∙◌, inl, inr, arith, eqb, ne_eqb, is_some}
+use Rattle.std.proofs.Common.{◌≡◌, ℕ, zero, suc, ◌+◌, ◌-◌, ◌<◌, ◌≤◌, ◌++◌, [], Bool, true, false, ◌||◌, nat_lt, List, take, drop, Option, Some, None, refl, sym, ap, subst, ◌∙◌, inl, inr, arith, eqb, eq-eqb, ne_eqb, lt-ltb, le-ltb, is_some}
 use Rattle.std.specs.Prelude.{IsTrue}
-use Rattle.std.proofs.lemmas.Bool.{cases_lt}
-use Rattle.std.proofs.lemmas.List.{append-nil}
+use Rattle.std.specs.List.{list_any}
+use Rattle.std.proofs.lemmas.Bool.{cases_eq, cases_lt}
+use Rattle.std.proofs.lemmas.List.{append-nil, take-append-drop}
 use Rattle.std.proofs.lemmas.List.Elements.{All-weaker}
-use Rattle.std.proofs.lemmas.List.Folds.{list_any_none}
+use Rattle.std.proofs.lemmas.List.Folds.{list_any_none, list_any-append}
 use Rattle.command_types.specs.declared.plan.PlanRow.{PlanRow}
 use Rattle.command_types.specs.declared.plan.PlanRow.TheVariants.{End, Cut, New}
 use Rattle.command_types.specs.declared.trade.TradeRow.{TradeRow}
@@ -53,6 +54,45 @@ step_past rows n m (New product seller buyer amount day) le (in_seller, in_buyer
 touched_past : (rows : List TradeRow) (n m : ℕ) (plan : List PlanRow) → n ≤ m → IsPlanBelow rows n plan → is_touched rows plan m ≡ false
 touched_past rows n m plan le h =
     list_any_none (is_in_step rows m) plan (All-weaker (IsStepBelow rows n) (λ step. is_in_step rows m step ≡ false) (λ step below. step_past rows n m step le below) plan h)
+
+parties_below : (n most : ℕ) (row : Option TradeRow) → n ≤ most → HasPartiesBelow n row → HasPartiesBelow most row
+parties_below n most None few below = below
+parties_below n most (Some row) few below = (omega (arith, few, below.0), omega (arith, few, below.1))
+
+pub step_below : (rows : List TradeRow) (n most : ℕ) → n ≤ most → (step : PlanRow) → IsStepBelow rows n step → IsStepBelow rows most step
+step_below rows n most few (End trade) below = parties_below n most (trade_numbered rows trade) few below
+step_below rows n most few (Cut trade from to) below = parties_below n most (trade_numbered rows trade) few below
+step_below rows n most few (New product seller buyer amount day) below = (omega (arith, few, below.0), omega (arith, few, below.1))
+
+-- members below a number are below a larger one
+pub plan_below : (rows : List TradeRow) (n most : ℕ) (plan : List PlanRow) → n ≤ most → IsPlanBelow rows n plan → IsPlanBelow rows most plan
+plan_below rows n most plan few below = All-weaker (IsStepBelow rows n) (IsStepBelow rows most) (step_below rows n most few) plan below
+
+or_last : (t : Bool) → (t || true) ≡ true
+or_last true = refl
+or_last false = refl
+
+-- those below one number more
+pub one_below : (k m : ℕ) → (eqb k m || nat_lt m k) ≡ nat_lt m (k + 1)
+one_below k m = elim (cases_lt m k) as (λ _. (eqb k m || nat_lt m k) ≡ nat_lt m (k + 1)) [
+  | inl less ↦ ap (λ t. eqb k m || t) (lt-ltb m k less) ∙ or_last (eqb k m) ∙ sym (lt-ltb m (k + 1) (omega arith))
+  | inr past ↦ elim (cases_eq k m) as (λ _. (eqb k m || nat_lt m k) ≡ nat_lt m (k + 1)) [
+    | inl same ↦ ap (λ t. t || nat_lt m k) (eq-eqb k m same) ∙ sym (lt-ltb m (k + 1) (omega arith))
+    | inr other ↦ ap (λ t. t || nat_lt m k) (ne_eqb k m other) ∙ le-ltb m k past ∙ sym (le-ltb m (k + 1) (omega (arith, other)))
+  ]
+]
+
+any_front : (test : PlanRow → Bool) (i : ℕ) (plan : List PlanRow) → list_any test (take i plan) ≡ true → list_any test plan ≡ true
+any_front test i plan e =
+    ap (list_any test) (sym (take-append-drop i plan)) ∙ list_any-append test (take i plan) (drop i plan) ∙ ap (λ t. t || list_any test (drop i plan)) e
+
+-- where all members are found in the first steps, no other step has further ones
+pub all_found : (words : List ℕ) (rows : List TradeRow) (plan : List PlanRow) (n i : ℕ) → IsPlanBelow rows n plan → ((m : ℕ) → is_flagged words m ≡ nat_lt m n) → ((m : ℕ) → is_flagged words m ≡ list_any (is_in_step rows m) (take i plan)) →
+    (m : ℕ) → is_flagged words m ≡ is_touched rows plan m
+all_found words rows plan n i below all front m = elim (cases_lt m n) as (λ _. is_flagged words m ≡ is_touched rows plan m) [
+  | inl within ↦ (let found : is_flagged words m ≡ true = all m ∙ lt-ltb m n within in found ∙ sym (any_front (is_in_step rows m) i plan (sym (front m) ∙ found)))
+  | inr past ↦ all m ∙ le-ltb m n past ∙ sym (touched_past rows n m plan past below)
+]
 
 -- lists of members by tests that agree
 pub listed_agree : (f g : ℕ → Bool) (n : ℕ) → ((m : ℕ) → f m ≡ g m) → listed_below n (marked f) ≡ listed_below n (marked g)

@@ -1,6 +1,6 @@
 //! A set of members below 256, one flag each, in four words.
 
-ghost use Rattle.std.specs.Prelude.{◌≡◌, ℕ, ◌<◌, ◌==◌, ◌||◌, false};
+ghost use Rattle.std.specs.Prelude.{◌≡◌, ℕ, ◌<◌, ◌≤◌, ◌==◌, ◌||◌, nat_lt, true, false};
 ghost use Rattle.acceptance.specs.Votes.{is_flagged};
 ghost use Rattle.units_core.specs.declared.limits.TheConstants.{MOST_MEMBERS};
 
@@ -18,6 +18,25 @@ impl Flags {
         ensures { (m : ℕ) → is_flagged result.words m ≡ false }
     {
         Flags { words: [0; 4] }
+    }
+
+    /// The members below so many are in the set.
+    pub(super) fn below(members: u16) -> Flags
+        requires { members ≤ MOST_MEMBERS }
+        ensures { (m : ℕ) → is_flagged result.words m ≡ nat_lt m members }
+    {
+        let mut all = Flags::none();
+        for place in 0..members {
+            all.insert(MemberNo(place));
+        }
+        all
+    }
+
+    /// Whether both sets have the same members.
+    pub(super) fn are(&self, other: &Flags) -> bool
+        ensures { result ≡ true → (m : ℕ) → is_flagged self.now.words m ≡ is_flagged other.now.words m }
+    {
+        self.words == other.words
     }
 
     /// Whether the member is in the set.

@@ -56,25 +56,31 @@ fn add_parties(members: &mut Flags, trades: &[TradeRow], step: &PlanRow)
     members.insert(buyer);
 }
 
-// The parties of all steps.
-fn all_parties(trades: &[TradeRow], plan: &[PlanRow]) -> Flags
-    requires { IsPlanBelow trades.now MOST_MEMBERS plan.now }
+// The parties of all steps, all below so many members: once all of these are found no further step is looked at.
+fn all_parties(trades: &[TradeRow], plan: &[PlanRow], members: u16) -> Flags
+    requires few { members ≤ MOST_MEMBERS }
+    requires below { IsPlanBelow trades.now members plan.now }
     ensures { (m : ℕ) → is_flagged result.words m ≡ is_touched trades.now plan.now m }
 {
-    let mut members = Flags::none();
+    let everyone = Flags::below(members);
+    let mut found = Flags::none();
     for step in plan {
-        add_parties(&mut members, trades, step);
+        if found.are(&everyone) {
+            return found;
+        }
+        add_parties(&mut found, trades, step);
     }
-    members
+    found
 }
 
-/// The votes that a plan needs: those of the members that are a party of a step of it. Nobody has accepted. The
+/// The votes that a plan needs: those of the members, of so many, that are a party of a step of it. Nobody has accepted. The
 /// trades that it ends or cuts are among `trades`, whose numbers count from 1. It takes no memory.
-pub fn touched(trades: &[TradeRow], plan: &[PlanRow]) -> Votes
-    requires { IsPlanBelow trades.now MOST_MEMBERS plan.now }
+pub fn touched(trades: &[TradeRow], plan: &[PlanRow], members: u16) -> Votes
+    requires few { members ≤ MOST_MEMBERS }
+    requires below { IsPlanBelow trades.now members plan.now }
     ensures touched { (m : ℕ) → has_voted result.needed m ≡ is_touched trades.now plan.now m }
     ensures needed { (n : ℕ) → n ≤ MOST_MEMBERS → IsPlanBelow trades.now n plan.now → result.needed ≡ touched_by n trades.now plan.now }
     ensures accepted { result.accepted ≡ [] }
 {
-    Votes::of(all_parties(trades, plan))
+    Votes::of(all_parties(trades, plan, members))
 }

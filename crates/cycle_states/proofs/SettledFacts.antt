@@ -89,19 +89,6 @@ module _ (roster : Rows) (members products : ℕ) (rows : List TradeRow) (cycle 
   pub as_many : (solutions : List SolutionData) → bad_post (length roster.members) cycle.begun solutions ≡ None → length solutions ≡ length cycle.begun
   as_many solutions certified = shape_size (length roster.members) cycle.begun solutions (shaped (length roster.members) cycle.begun solutions certified)
 
-parties_below : (n most : ℕ) (row : Option TradeRow) → n ≤ most → HasPartiesBelow n row → HasPartiesBelow most row
-parties_below n most None few below = below
-parties_below n most (Some row) few below = (omega (arith, few, below.0), omega (arith, few, below.1))
-
-step_below : (rows : List TradeRow) (n most : ℕ) → n ≤ most → (step : PlanRow) → IsStepBelow rows n step → IsStepBelow rows most step
-step_below rows n most few (End trade) below = parties_below n most (trade_numbered rows trade) few below
-step_below rows n most few (Cut trade from to) below = parties_below n most (trade_numbered rows trade) few below
-step_below rows n most few (New product seller buyer amount day) below = (omega (arith, few, below.0), omega (arith, few, below.1))
-
--- members below a number are below a larger one
-pub plan_below : (rows : List TradeRow) (n most : ℕ) (plan : List PlanRow) → n ≤ most → IsPlanBelow rows n plan → IsPlanBelow rows most plan
-plan_below rows n most plan few below = All-weaker (IsStepBelow rows n) (IsStepBelow rows most) (step_below rows n most few) plan below
-
 -- the first is executed at once, and the other is proposed
 pub done_after : (s : State) (solutions : List SolutionData) (plan : List PlanRow) (touched : List ℕ) → touched ≡ [] → after_execution s plan ≡ proposed_or_done s solutions plan touched
 done_after s solutions plan [] is = refl

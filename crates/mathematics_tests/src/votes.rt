@@ -46,7 +46,7 @@ fn a_new_trade_needs_both_parties() -> Result<(), Fail> {
         amount,
         day,
     }];
-    let mut votes = touched(&[], &plan);
+    let mut votes = touched(&[], &plan, 256);
     let before = [
         (FIRST, true, false),
         (OTHER, false, false),
@@ -65,7 +65,7 @@ fn a_new_trade_needs_both_parties() -> Result<(), Fail> {
 
 #[test]
 fn an_empty_plan_needs_nobody() -> Result<(), Fail> {
-    let votes = touched(&[], &[]);
+    let votes = touched(&[], &[], 256);
     so(stand(&votes, 0, &[(FIRST, false, false)]), "it needs votes")
 }
 

@@ -13,6 +13,7 @@ ghost use Rattle.cycle_states.specs.Machine.{state_in, IsMachine};
 ghost use Rattle.units_core.specs.declared.limits.TheConstants.{MOST_MEMBERS};
 
 use super::cycle::Cycle;
+use super::parties::member_count;
 use super::solutions::are_solutions;
 use acceptance::{Votes, touched};
 use command_types::{PlanRow, Roster};
@@ -84,7 +85,7 @@ pub(super) fn ballot_on(
     ensures executable { IsExecutable (length roster.now.members) (length roster.now.products) book.now.rows plan.now }
 {
     are_solutions(solutions);
-    let votes = touched(book.rows(), plan);
+    let votes = touched(book.rows(), plan, member_count(roster));
     let nobody = votes.left() == 0;
     let made = counts_of(plan).made;
     (Ballot { votes, made }, nobody)

@@ -4,18 +4,19 @@ use Rattle.command_types.specs.Plans.{touched_by}
 use Rattle.acceptance.specs.Parties.{IsPlanBelow}
 use Rattle.acceptance.specs.Votes.{left_of}
 use Rattle.posting.proofs.VoteFacts.{nobody_left}
-use Rattle.cycle_states.proofs.SettledFacts.{posting_settled, plan_below}
+use Rattle.cycle_states.proofs.SettledFacts.{posting_settled}
 use Rattle.cycle_states.proofs.VoteRooms.{first_fits}
 use Rattle.cycle_states.proofs.machine.ballot.ballot_on.Goals as goal
 
-pub touched-votes-requires : goal.touched-votes-requires
-touched-votes-requires c =
+pub touched-votes-requires-clause-below : goal.touched-votes-requires-clause-below
+touched-votes-requires-clause-below c =
     let members = length c.args.roster.now.members in
     let rows = c.args.book.now.rows in
     let plan = c.args.plan.now in
     let settled = posting_settled c.args.roster.now c.args.book.now.members c.args.book.now.products rows c.args.cycle.now c.requires.kept c.args.solutions.now plan
     c.requires.solving c.requires.certified c.are_solutions.ensures c.requires.planned c.rows.ensures.trades c.rows.ensures.bounded in
-    subst (λ (trades : List TradeRow). IsPlanBelow trades 256 plan) (sym c.rows.ensures.rows) (plan_below rows members 256 plan c.requires.kept.few_members settled.parties)
+    subst (λ (n : ℕ). IsPlanBelow c.rows.result.now n plan) (sym c.member_count.ensures.count)
+    (subst (λ (trades : List TradeRow). IsPlanBelow trades members plan) (sym c.rows.ensures.rows) settled.parties)
 
 pub returns-clause-needed : goal.returns-clause-needed
 returns-clause-needed c =
