@@ -1,63 +1,55 @@
 -- The rows of pairs where no member set anything and nothing is held.
-use Rattle.std.proofs.Common.{◌≡◌, ℕ, ◌+◌, ◌-◌, ◌<◌, ◌≤◌, ◌==◌, ◌++◌, Bool, true, false, List, [], length, None, refl, sym, ap, ◌∙◌, subst, arith}
+use Rattle.std.proofs.Common.{◌≡◌, ◌≢◌, ℕ, ◌≤◌, ◌==◌, Bool, true, false, List, [], ◌∷◌, length, None, refl, sym, ap, ◌∙◌, arith}
 use Rattle.std.specs.Prelude.{◌&&◌, not, slice_get}
-use Rattle.std.proofs.lemmas.Bool.{eqb-true}
+use Rattle.std.proofs.lemmas.Bool.{ne_eqb}
 use Rattle.network_laws.specs.declared.rows.LimitRow.{LimitRow}
 use Rattle.network_laws.specs.declared.rows.Row.{Row}
-use Rattle.network_laws.specs.Networks.{NetworkData, IsNetwork, amount_in, at}
+use Rattle.network_laws.specs.Networks.{NetworkData, at}
 use Rattle.command_types.specs.Books.{listed_below, listed_pairs}
 use Rattle.command_types.specs.declared.cycle.Mode.{Mode}
 use Rattle.command_types.specs.declared.roster.MemberRow.{MemberRow}
 use Rattle.command_types.specs.Roster.{Rows}
 use Rattle.command_types.specs.Tolerances.{is_dealer_row, limit_row, may_grow, pair_limit, pair_upper}
-use Rattle.tolerance_sets.specs.OpenPairs.{open_row, listed_from}
-use Rattle.tolerance_sets.proofs.OpenPairs.{none_owed, open_up_to}
-use Rattle.tolerance_sets.proofs.Walk.{limits_by, one_more}
+use Rattle.tolerance_sets.specs.OpenPairs.{boundless}
+use Rattle.tolerance_sets.proofs.Walk.{limits_by}
 use Rattle.file_market.specs.Market.{empty_network, market_limits}
-use Rattle.file_market.specs.Untouched.{AreSales, kept_row, untouched_row, seller_row, market_row}
+use Rattle.file_market.specs.Untouched.{grows_with, row_with, seller_row, market_row}
 use Rattle.file_market.proofs.FreeLimits.{listed_same, none_kept}
-
-pub are_sales : (network : NetworkData) → IsNetwork network → AreSales network.rows
-are_sales network good = record {
-  rising = good.rows.rising;
-  few = λ k d l. omega (arith, (good.rows.good k d l).buyer, good.few);
-  positive = λ k d l. (good.rows.good k d l).positive;
-  apart = none_owed network.members network.rows good.few good.rows.good;
-}
 
 and_false : (b : Bool) → (b && false) ≡ false
 and_false true = refl
 and_false false = refl
 
--- a pair that may not grow
-pub is_kept : (sells : Bool) (members : List MemberRow) (network : List Row) (i j : ℕ) → (sells && is_dealer_row (slice_get members j)) ≡ false → seller_row sells members network i j ≡ kept_row network i j
-is_kept sells members network i j still =
-    ap (λ grows. untouched_row grows network i j) (ap (λ b. not (i == j) && b) still ∙ and_false (not (i == j)))
+-- no pair of a seller grows who may sell no more, nor one with a customer
+pub grows_not : (sells : Bool) (members : List MemberRow) (i j : ℕ) → (sells && is_dealer_row (slice_get members j)) ≡ false → grows_with sells members i j ≡ false
+grows_not sells members i j still = ap (λ b. not (i == j) && b) still ∙ and_false (not (i == j))
 
--- a dealer's pair with a seller who may sell more
-pub is_open : (members : List MemberRow) (network : List Row) (i j : ℕ) → AreSales network → is_dealer_row (slice_get members j) ≡ true → seller_row true members network i j ≡ open_row i j
-is_open members network i j sales dealer = by (i == j) refl
+-- of two different members a dealer's does
+pub grows_apart : (members : List MemberRow) (i j : ℕ) → i ≢ j → is_dealer_row (slice_get members j) ≡ true → grows_with true members i j ≡ true
+grows_apart members i j ne dealer = rw (ne_eqb i j ne, dealer) refl
+
+-- one without trades that may not grow has no row
+pub none_unsold : (sells : Bool) (members : List MemberRow) (i j : ℕ) → grows_with sells members i j ≡ false → row_with sells members i j 0 ≡ []
+none_unsold sells members i j still = ap (λ grows. limit_row i j 0 (pair_upper grows 0 None)) still
+
+pub own_unsold : (members : List MemberRow) (i j : ℕ) → (i == j) ≡ true → row_with true members i j 0 ≡ []
+own_unsold members i j e = rw e refl
+
+pub one_unsold : (members : List MemberRow) (i j : ℕ) → grows_with true members i j ≡ true → row_with true members i j 0 ≡ boundless i j ∷ []
+one_unsold members i j grows = ap (λ b. limit_row i j 0 (pair_upper b 0 None)) grows
+
+-- the row of a pair with trades
+pub one_sold : (sells : Bool) (members : List MemberRow) (i j amount : ℕ) → 1 ≤ amount → row_with sells members i j amount ≡ record { seller = i; buyer = j; lower = 0; upper = pair_upper (grows_with sells members i j) amount None } ∷ []
+one_sold sells members i j amount some = by (grows_with sells members i j)
   where
-    by : (same : Bool) → (i == j) ≡ same → seller_row true members network i j ≡ open_row i j
-    by true e =
-        let none : amount_in network i j ≡ 0 = subst (λ k. amount_in network i k ≡ 0) (eqb-true i j e) (sales.apart i) in
-        rw (e, none) refl
-    by false e = rw (e, dealer) refl
-
--- the rows up to that of a dealer, where those behind an earlier place may not grow
-pub up_to_dealer : (members : List MemberRow) (network : List Row) (start before after : List LimitRow) (i j up buyer : ℕ) → AreSales network → j ≡ i → up ≤ buyer → ((k : ℕ) → up ≤ k → k < buyer → is_dealer_row (slice_get members k) ≡ false) → is_dealer_row (slice_get members buyer) ≡ true → before ≡ start ++ listed_below up (seller_row true members network i) → after ≡ (before ++ listed_from up (buyer - up) (kept_row network j)) ++ open_row j buyer → after ≡ start ++ listed_below (buyer + 1) (seller_row true members network i)
-up_to_dealer members network start before after i j up buyer sales own le still dealer e e' =
-    let f = seller_row true members network i in
-    let kept : List LimitRow = before ++ listed_from up (buyer - up) (kept_row network i) in
-    one_more buyer f start kept after (open_row i buyer)
-    (open_up_to start before kept f (kept_row network i) up buyer le (λ k lk l. is_kept true members network i k (still k lk l)) e refl)
-    (e' ∙ ap (λ s. (before ++ listed_from up (buyer - up) (kept_row network s)) ++ open_row s buyer) own)
-    (sym (is_open members network i buyer sales dealer))
+    by : (grows : Bool) → limit_row i j 0 (pair_upper grows amount None) ≡ record { seller = i; buyer = j; lower = 0; upper = pair_upper grows amount None } ∷ []
+    by true = refl
+    by false = rw (ne_eqb amount 0 (λ e. omega (arith, e, some))) refl
 
 -- in a mode that a seller's growth fits
-pub seller_rows : (n : ℕ) (sells : Bool) (mode : Mode) (members : List MemberRow) (network : List Row) (i : ℕ) → ((j : ℕ) → (not (i == j) && (sells && is_dealer_row (slice_get members j))) ≡ may_grow mode members i j) → listed_below n (seller_row sells members network i) ≡ listed_below n (market_row mode members network i)
+pub seller_rows : (n : ℕ) (sells : Bool) (mode : Mode) (members : List MemberRow) (network : List Row) (i : ℕ) → ((j : ℕ) → grows_with sells members i j ≡ may_grow mode members i j) → listed_below n (seller_row sells members network i) ≡ listed_below n (market_row mode members network i)
 seller_rows n sells mode members network i same =
-    listed_same n (seller_row sells members network i) (market_row mode members network i) (λ j. ap (λ grows. untouched_row grows network i j) (same j))
+    listed_same n (seller_row sells members network i) (market_row mode members network i) (λ j. ap (λ grows. limit_row i j 0 (pair_upper grows (at (record { members = n; rows = network }) i j) None)) (same j))
 
 pair_row : (mode : Mode) (rows : Rows) (product : ℕ) (network : NetworkData) (i j : ℕ) → market_row mode rows.members network.rows i j ≡ pair_limit mode rows.members [] product network (empty_network rows) i j
 pair_row mode rows product network i j =

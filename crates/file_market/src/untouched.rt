@@ -1,16 +1,17 @@
-//! The rows of a product's limits where no member set a floor or a ceiling, nothing is held, and not every pair is open: a
-//! seller's rows and the dealers are gone over together.
+//! The rows of a product's limits where no member set a floor or a ceiling, nothing is held, and not every pair is open: the
+//! rows of a seller's trades, and between them those of the dealers to whom he may sell more.
 
-ghost use Rattle.std.specs.Prelude.{◌≡◌, ◌≢◌, ℕ, ◌+◌, ◌-◌, ◌<◌, ◌≤◌, ◌++◌, true, length, slice_get, IfOk, OnOk};
+ghost use Rattle.std.specs.Prelude.{◌≡◌, ◌≢◌, ℕ, ◌-◌, ◌≤◌, ◌++◌, [], true, length, slice_get, None, IfSome, IfOk, OnOk};
+ghost use Rattle.network_laws.specs.Networks.{AreRows, IsGoodRow};
 ghost use Rattle.command_types.specs.Books.{listed_below, listed_pairs};
 ghost use Rattle.command_types.specs.declared.cycle.Mode.{Mode};
-ghost use Rattle.command_types.specs.Tolerances.{is_dealer_row, may_grow};
-ghost use Rattle.tolerance_sets.specs.OpenPairs.{open_row, listed_from};
-ghost use Rattle.file_market.specs.Untouched.{AreSales, IsAtPlace, AreNoDealers, kept_row, grows_with, seller_row, market_row};
+ghost use Rattle.command_types.specs.Tolerances.{is_dealer_row, may_grow, pair_upper};
+ghost use Rattle.tolerance_sets.specs.OpenPairs.{listed_from};
+ghost use Rattle.file_market.specs.Untouched.{IsNext, HasNoNext, grows_with, row_with, seller_row, market_row};
 ghost use Rattle.units_core.specs.declared.limits.TheConstants.{MOST_MEMBERS};
 
 use command_types::{MemberRow, Mode, Role};
-use network_laws::{LimitRow, Row, first_row, next_row};
+use network_laws::{LimitRow, Row, first_row};
 use std::alloc::{AllocError, Global};
 use units_core::MOST_DEALERS;
 
@@ -20,80 +21,6 @@ pub(super) struct SellerPlace {
     pub seller: u16,
     pub buyer: u16,
     pub row_at: usize,
-}
-
-// Adds the rows of a seller's pairs up to a buyer, where none of them may grow.
-fn add_kept(
-    rows: &mut Vec<LimitRow>,
-    network: &[Row],
-    from: SellerPlace,
-    to: u16,
-) -> Result<SellerPlace, AllocError>
-    requires sales { AreSales network.now }
-    requires place { IsAtPlace network.now from }
-    requires to { from.buyer ≤ to }
-    ensures rows { OnOk result (rows.new.items ≡ rows.old.items ++ listed_from from.buyer (to - from.buyer) (kept_row network.now from.seller)) }
-    ensures place { IfOk result (IsAtPlace network.now) }
-    ensures seller { IfOk result (λ at. at.seller ≡ from.seller) }
-    ensures buyer { IfOk result (λ at. at.buyer ≡ to) }
-{
-    let mut at = from;
-    while at.row_at < network.len() {
-        let row = network[at.row_at];
-        if row.seller != from.seller || row.buyer >= to {
-            break;
-        }
-        rows.push(LimitRow {
-            seller: row.seller,
-            buyer: row.buyer,
-            lower: 0,
-            upper: Some(row.amount),
-        })?;
-        at.buyer = row.buyer + 1;
-        at.row_at += 1;
-    }
-    Ok(SellerPlace { buyer: to, ..at })
-}
-
-// Adds the row of a pair that may come to any amount; nobody sells to himself.
-fn add_open(rows: &mut Vec<LimitRow>, seller: u16, buyer: u16) -> Result<(), AllocError>
-    ensures { OnOk result (rows.new.items ≡ rows.old.items ++ open_row seller buyer) }
-{
-    if seller == buyer {
-        return Ok(());
-    }
-    rows.push(LimitRow {
-        seller,
-        buyer,
-        lower: 0,
-        upper: None,
-    })?;
-    Ok(())
-}
-
-// Adds the rows of a seller's pairs up to that with a dealer, of which this one alone may grow.
-fn add_dealer(
-    rows: &mut Vec<LimitRow>,
-    network: &[Row],
-    from: SellerPlace,
-    dealer: u16,
-) -> Result<SellerPlace, AllocError>
-    requires sales { AreSales network.now }
-    requires place { IsAtPlace network.now from }
-    requires to { from.buyer ≤ dealer }
-    requires few { dealer < MOST_MEMBERS }
-    ensures rows { OnOk result (rows.new.items ≡ (rows.old.items ++ listed_from from.buyer (dealer - from.buyer) (kept_row network.now from.seller)) ++ open_row from.seller dealer) }
-    ensures place { IfOk result (IsAtPlace network.now) }
-    ensures seller { IfOk result (λ at. at.seller ≡ from.seller) }
-    ensures buyer { IfOk result (λ at. at.buyer ≡ dealer + 1) }
-{
-    let at = add_kept(rows, network, from, dealer)?;
-    add_open(rows, from.seller, dealer)?;
-    Ok(SellerPlace {
-        seller: from.seller,
-        buyer: dealer + 1,
-        row_at: next_row(network, at.row_at, from.seller, dealer),
-    })
 }
 
 // Whether a place is a dealer's.
@@ -106,30 +33,98 @@ fn is_dealer(members: &[MemberRow], place: u16) -> bool
     }
 }
 
-// Adds the rows of the pairs of a seller who may sell more to dealers, up to that with the last one.
-fn add_dealers(
+// Adds the row of a pair without trades, if it has one. The seller may sell more to dealers.
+fn add_unsold(
     rows: &mut Vec<LimitRow>,
-    network: &[Row],
     members: &[MemberRow],
-    first: SellerPlace,
-) -> Result<SellerPlace, AllocError>
-    requires sales { AreSales network.now }
-    requires place { IsAtPlace network.now first }
-    requires first { first.buyer ≡ 0 }
-    requires few { length members.now ≤ MOST_MEMBERS }
-    ensures rows { IfOk result (λ at. rows.new.items ≡ rows.old.items ++ listed_below at.buyer (seller_row true members.now network.now first.seller)) }
-    ensures place { IfOk result (IsAtPlace network.now) }
-    ensures seller { IfOk result (λ at. at.seller ≡ first.seller) }
-    ensures end { IfOk result (λ at. at.buyer ≤ length members.now) }
-    ensures last { IfOk result (λ at. AreNoDealers members.now at.buyer) }
+    seller: u16,
+    buyer: u16,
+) -> Result<(), AllocError>
+    ensures { OnOk result (rows.new.items ≡ rows.old.items ++ row_with true members.now seller buyer 0) }
 {
-    let mut at = first;
-    for buyer in 0..members.len() as u16 {
-        if is_dealer(members, buyer) {
-            at = add_dealer(rows, network, at, buyer)?;
-        }
+    if !is_dealer(members, buyer) {
+        return Ok(());
     }
-    Ok(at)
+    if seller == buyer {
+        return Ok(());
+    }
+    rows.push(LimitRow {
+        seller,
+        buyer,
+        lower: 0,
+        upper: None,
+    })?;
+    Ok(())
+}
+
+// Adds the rows of a seller's pairs without trades, from one on and below another.
+fn add_all_unsold(
+    rows: &mut Vec<LimitRow>,
+    members: &[MemberRow],
+    from: SellerPlace,
+    to: u16,
+    sells: bool,
+) -> Result<(), AllocError>
+    requires { from.buyer ≤ to }
+    ensures { OnOk result (rows.new.items ≡ rows.old.items ++ listed_from from.buyer (to - from.buyer) (seller_row sells members.now [] from.seller)) }
+{
+    if !sells {
+        return Ok(());
+    }
+    for buyer in from.buyer..to {
+        add_unsold(rows, members, from.seller, buyer)?;
+    }
+    Ok(())
+}
+
+// The most of a pair with this amount.
+fn upper_of(members: &[MemberRow], row: Row, sells: bool) -> Option<u64>
+    requires { row.seller ≢ row.buyer }
+    ensures { result ≡ pair_upper (grows_with sells members.now row.seller row.buyer) row.amount None }
+{
+    if !sells {
+        return Some(row.amount);
+    }
+    if is_dealer(members, row.buyer) {
+        None
+    } else {
+        Some(row.amount)
+    }
+}
+
+// Adds the row of a pair with trades.
+fn add_sold(
+    rows: &mut Vec<LimitRow>,
+    members: &[MemberRow],
+    row: Row,
+    sells: bool,
+) -> Result<(), AllocError>
+    requires { IsGoodRow (length members.now) row }
+    ensures { OnOk result (rows.new.items ≡ rows.old.items ++ row_with sells members.now row.seller row.buyer row.amount) }
+{
+    rows.push(LimitRow {
+        seller: row.seller,
+        buyer: row.buyer,
+        lower: 0,
+        upper: upper_of(members, row, sells),
+    })?;
+    Ok(())
+}
+
+// The row at the cursor, if it is the seller's.
+fn next_sold(network: &[Row], at: SellerPlace) -> Option<Row>
+    ensures next { IfSome result (IsNext network.now at) }
+    ensures none { result ≡ None → HasNoNext network.now at }
+{
+    if at.row_at >= network.len() {
+        return None;
+    }
+    let row = network[at.row_at];
+    if row.seller == at.seller {
+        Some(row)
+    } else {
+        None
+    }
 }
 
 // Adds the rows of a seller's pairs, where he may sell more to dealers or to nobody.
@@ -140,22 +135,22 @@ fn add_seller(
     seller: u16,
     sells: bool,
 ) -> Result<(), AllocError>
-    requires sales { AreSales network.now }
+    requires sales { AreRows (length members.now) network.now }
     requires few { length members.now ≤ MOST_MEMBERS }
     ensures { OnOk result (rows.new.items ≡ rows.old.items ++ listed_below (length members.now) (seller_row sells members.now network.now seller)) }
 {
-    let end = members.len() as u16;
-    let first = SellerPlace {
+    let mut at = SellerPlace {
         seller,
         buyer: 0,
         row_at: first_row(network, seller, 0),
     };
-    if !sells {
-        add_kept(rows, network, first, end)?;
-        return Ok(());
+    while let Some(row) = next_sold(network, at) {
+        add_all_unsold(rows, members, at, row.buyer, sells)?;
+        add_sold(rows, members, row, sells)?;
+        at.buyer = row.buyer + 1;
+        at.row_at += 1;
     }
-    let last = add_dealers(rows, network, members, first)?;
-    add_kept(rows, network, last, end)?;
+    add_all_unsold(rows, members, at, members.len() as u16, sells)?;
     Ok(())
 }
 
@@ -188,7 +183,7 @@ pub(super) fn untouched_rows(
 ) -> Result<Vec<LimitRow>, AllocError>
     requires mode { mode ≢ Mode.Free }
     requires few { length members.now ≤ MOST_MEMBERS }
-    requires sales { AreSales network.now }
+    requires sales { AreRows (length members.now) network.now }
     ensures { IfOk result (λ rows. rows.items ≡ listed_pairs (length members.now) (market_row mode members.now network.now)) }
 {
     let mut rows = Vec::with_capacity(alloc, room_for(mode, members, network))?;

@@ -1,15 +1,15 @@
-use Rattle.std.proofs.Common.{◌∙◌, ◌≤◌, List, [], length, sym, subst}
+use Rattle.std.proofs.Common.{◌∙◌, ◌≤◌, List, [], length, sym, ap, subst}
 use Rattle.std.proofs.lemmas.Bool.{false≢true}
+use Rattle.network_laws.specs.Networks.{AreRows}
 use Rattle.network_laws.specs.Limits.{AreLimits, IsWithinLimits}
 use Rattle.command_types.specs.declared.roster.MemberRow.{MemberRow}
 use Rattle.tolerance_sets.proofs.PairLimits.{limits_are_good, network_is_within}
 use Rattle.file_market.specs.Market.{empty_network}
-use Rattle.file_market.specs.Untouched.{AreSales}
-use Rattle.file_market.proofs.UntouchedLimits.{are_sales, limits_from}
+use Rattle.file_market.proofs.UntouchedLimits.{limits_from}
 use Rattle.file_market.proofs.limits.limits_for.Goals as goal
 
 pub untouched_rows-requires-clause-sales : goal.untouched_rows-requires-clause-sales
-untouched_rows-requires-clause-sales c = subst AreSales (sym c.rows.ensures.value) (are_sales c.args.network.now c.rows.ensures.network)
+untouched_rows-requires-clause-sales c = subst (λ n. AreRows n c.rows.result.now) (c.requires ∙ sym (ap length c.members-members.ensures.rows)) c.rows.ensures.rows
 
 pub unreachable-requires : goal.unreachable-requires
 unreachable-requires c =

@@ -1,32 +1,52 @@
-use Rattle.std.proofs.Common.{◌-◌, ◌++◌, length, sym, ap, ◌∙◌}
-use Rattle.std.specs.Prelude.{◌&&◌, slice_get, true}
-use Rattle.command_types.specs.Books.{listed_below}
-use Rattle.command_types.specs.Tolerances.{is_dealer_row}
+use Rattle.std.proofs.Common.{◌≢◌, ℕ, ◌+◌, ◌-◌, ◌*◌, ◌<◌, ◌++◌, [], length, get_or, sym, ap, ◌∙◌, subst, arith}
+use Rattle.network_laws.specs.declared.rows.Row.{Row}
+use Rattle.network_laws.specs.Networks.{IsCursor}
 use Rattle.tolerance_sets.specs.OpenPairs.{listed_from}
-use Rattle.tolerance_sets.proofs.OpenPairs.{all_open, open_up_to}
-use Rattle.file_market.specs.Untouched.{kept_row, seller_row}
-use Rattle.file_market.proofs.UntouchedLimits.{is_kept}
+use Rattle.file_market.specs.Untouched.{seller_row}
+use Rattle.file_market.proofs.UntouchedWalk.{at_row, not_behind, past_all, past_row, unsold_up_to, up_to_row}
 use Rattle.file_market.proofs.untouched.add_seller.Goals as goal
 
-pub returns-then-not-sells : goal.returns-then-not-sells
-returns-then-not-sells c =
-    let members = c.args.members.now in
+pub loop-row-preserved : goal.loop-row-preserved
+loop-row-preserved c =
     let network = c.args.network.now in
+    let members = c.args.members.now in
+    let n : ℕ = length members in
+    let sales = c.requires.sales in
     let i = c.args.seller in
-    c.in_ok-add_kept.ensures.rows
-    ∙ ap (λ xs. c.args.rows.now.items ++ xs) (all_open (seller_row c.args.sells members network i) (kept_row network i) (length members)
-    (λ k l. is_kept c.args.sells members network i k (ap (λ b. b && is_dealer_row (slice_get members k)) c.if-not-sells.true)))
+    let at = c.loop-row.at in
+    let m = at.row_at in
+    let row = c.in-Some.row in
+    let walk = c.loop-row.invariant in
+    let next = c.in-Some.ensures.next in
+    let seller = next.seller ∙ walk.seller in
+    let cursor = subst (λ s. IsCursor network m (s * 65536 + at.buyer)) walk.seller walk.place.row in
+    let behind = not_behind n network sales i m row next.within next.is seller at.buyer cursor in
+    let here = at_row n network sales i m row next.within next.is seller at.buyer cursor behind in
+    let before = c.loop-row.rows.items in
+    let between = c.in_ok-add_all_unsold.ensures ∙ ap (λ s. before ++ listed_from at.buyer (row.buyer - at.buyer) (seller_row c.args.sells members [] s)) walk.seller in
+    record {
+      seller = walk.seller;
+      end = omega (arith, (sales.good m row next.within).buyer, ap (λ (r : Row). r.buyer) next.is);
+      place = record {
+        row_end = omega (arith, next.within);
+        row = subst (λ s. IsCursor network (m + 1) (s * 65536 + (row.buyer + 1))) (sym walk.seller) (past_row n network sales i m row next.within next.is seller here);
+      };
+      rows = up_to_row n network sales i m row next.within next.is seller c.args.sells members c.args.rows.now.items before c.add_all_unsold.new.rows.items c.add_sold.new.rows.items at.buyer cursor walk.rows between c.in_ok-add_sold.ensures;
+    }
 
 pub returns : goal.returns
 returns c =
-    let start = c.args.rows.now.items in
-    let members = c.args.members.now in
     let network = c.args.network.now in
+    let members = c.args.members.now in
+    let n : ℕ = length members in
+    let sales = c.requires.sales in
     let i = c.args.seller in
-    let last = c.in_ok-last.last in
-    let before = c.add_dealers.new.rows.items in
-    let after = c.add_kept-2.new.rows.items in
-    let more = c.in_ok-add_kept-2.ensures.rows ∙ ap (λ s. before ++ listed_from last.buyer (length members - last.buyer) (kept_row network s)) c.in_ok-last.ensures.seller in
-    open_up_to start before after (seller_row true members network i) (kept_row network i) last.buyer (length members) c.in_ok-last.ensures.end
-    (λ k le l. is_kept true members network i k (c.in_ok-last.ensures.last k le l)) c.in_ok-last.ensures.rows more
-    ∙ ap (λ b. start ++ listed_below (length members) (seller_row b members network i)) (sym c.if-not-sells.false)
+    let at = c.loop-row.at in
+    let m = at.row_at in
+    let walk = c.loop-row.invariant in
+    let cursor = subst (λ s. IsCursor network m (s * 65536 + at.buyer)) walk.seller walk.place.row in
+    let other = λ (d : Row) (l : m < length network). subst (λ s. (get_or network m d).seller ≢ s) walk.seller (c.next_sold.ensures.none c.in_default.is d l) in
+    let end = past_all n network sales i m at.buyer c.requires.few cursor walk.end other in
+    let before = c.loop-row.rows.items in
+    let after = c.in_ok-add_all_unsold-2.ensures ∙ ap (λ s. before ++ listed_from at.buyer (n - at.buyer) (seller_row c.args.sells members [] s)) walk.seller in
+    unsold_up_to n network sales i m c.args.sells members c.args.rows.now.items before c.add_all_unsold-2.new.rows.items at.buyer n cursor end walk.end walk.rows after
