@@ -27,10 +27,15 @@ use Rattle.compress_server.specs.declared.serve.ServiceEnd.{ServiceEnd}
 use Rattle.compress_server.specs.declared.serve.ServiceEnd.TheVariants.{ListenerFault, Memory}
 use Rattle.compress_server.specs.declared.solve.SolveEnd.{SolveEnd}
 use Rattle.compress_server.specs.declared.solve.SolveEnd.TheVariants as solves
+use Rattle.compress_server.specs.declared.following.StandbyEnd.{StandbyEnd}
+use Rattle.compress_server.specs.declared.following.StandbyEnd.TheVariants as standbys
+use Rattle.standby.specs.declared.follow.FollowEnd.{FollowEnd}
+use Rattle.standby.specs.declared.follow.FollowEnd.TheVariants as follows
 use Rattle.compress_server.specs.Check.{check_end, CheckRuns}
 use Rattle.compress_server.specs.Complete.{IsFormUnread, HasFault, IsUndisturbed, statuses_of, IsAmong, IsAnswered, AnswersWhatItCan}
 use Rattle.compress_server.specs.Ending.{Runs}
 use Rattle.compress_server.specs.Files.{FilesState, IsMarketUnread}
+use Rattle.compress_server.specs.Follow.{Follows, standby_end, StandbyRuns}
 use Rattle.compress_server.specs.Gen.{gen_end, GenRuns}
 use Rattle.compress_server.specs.Housed.{DiskState, OpeningFails}
 use Rattle.compress_server.specs.Replay.{IsUnread, replay_end, ReplayRuns}
@@ -41,7 +46,7 @@ use Rattle.compress_server.specs.Serve.{ServicePlan, IsWritten, history_line, en
 use Rattle.compress_server.specs.Solve.{solve_end, SolveRuns}
 use Rattle.compress_server.specs.Statuses.{load_end, journal_end, status_of, wants_memory}
 use Rattle.compress_server.specs.Telling.{TellsEnd}
-use Rattle.program_words.specs.Words.{Market, Form, ServiceNumbers}
+use Rattle.program_words.specs.Words.{Market, Form, ServiceNumbers, Standby}
 
 -- ---- what is told of an end
 
@@ -72,6 +77,7 @@ files_rose files files' (Form.Gen number workers) role is = absurd is
 files_rose files files' (Form.Replay roster journal) role is = is.1
 files_rose files files' (Form.Roll roster journal new_roster matured) role (inl is) = is.1
 files_rose files files' (Form.Roll roster journal new_roster matured) role (inr (rows, says, is)) = is.1
+files_rose files files' (Form.Follow standby) role is = is.1
 
 -- a fault is one of the files as they were
 faulty_before : (files files' : FilesState) (form : Form) (role : FileRole) (fault : FileFault) → IsFormUnread files files' form (Faulty role fault) → IsFormUnread files files form (Faulty role fault)
@@ -82,6 +88,7 @@ faulty_before files files' (Form.Solve market workers) role fault is = is
 faulty_before files files' (Form.Gen number workers) role fault is = is
 faulty_before files files' (Form.Replay roster journal) role fault is = is
 faulty_before files files' (Form.Roll roster journal new_roster matured) role fault is = is
+faulty_before files files' (Form.Follow standby) role fault is = is
 
 module _ (files files' : FilesState) (form : Form) (held : Rose files.faults files'.faults → ⊥) where
   load_answered : (fault : LoadFault) → IsFormUnread files files' form fault → IsAnswered files form (status_of (load_end fault))
@@ -168,6 +175,25 @@ module _ (files files' : FilesState) (output output' : OutputState) (no_files : 
     roll_answered roster journal new_roster matured rolls.SinkFault (says, rose) = absurd (no_output rose)
     roll_answered roster journal new_roster matured rolls.Memory is = inr (inr (inl refl))
 
+module _ (standby : Standby) (files files' : FilesState) (before after : Streams) (disk left : DiskState)
+    (no_files : Rose files.faults files'.faults → ⊥) (no_input : Rose before.input.faults after.input.faults → ⊥) (no_output : Rose before.output.faults after.output.faults → ⊥) (no_disk : Rose disk.faults left.faults → ⊥) where
+  -- a standby that followed
+  followed_answered : (v w : HouseView) (end : FollowEnd) → (is_stopped w ≡ true → Rose disk.faults left.faults) → Follows standby before after v w end
+      → IsAnswered files (Form.Follow standby) (status_of (standby_end (standbys.Followed end)))
+  followed_answered v w follows.Caught stops is = inl refl
+  followed_answered v w (follows.Refused number) stops is = inr (inr (inr (inr (inl refl))))
+  followed_answered v w (follows.Broken at) stops is = inr (inr (inr (inr (inr (inl refl)))))
+  followed_answered v w (follows.Full size) stops is = inr (inr (inr (inr (inr (inr (inl refl))))))
+  followed_answered v w follows.SourceFault stops is = absurd (no_input is.counted)
+  followed_answered v w follows.SinkFault stops is = absurd (no_output is.counted)
+  followed_answered v w follows.DiskFault stops is = absurd (no_disk (stops is.ends.1))
+  followed_answered v w follows.Memory stops is = inr (inr (inl refl))
+
+  standby_answered : (own : StandbyEnd) → StandbyRuns standby files files' before after disk left own → IsAnswered files (Form.Follow standby) (status_of (standby_end own))
+  standby_answered (standbys.Unloaded fault) (unread, kept, is) = load_answered files files' (Form.Follow standby) no_files fault is
+  standby_answered (standbys.Unopened fault) (unread, (rows, says, are, fails)) = opening_answered rows disk left no_disk files (Form.Follow standby) (inl refl) fault fails
+  standby_answered (standbys.Followed end) (rows, says, are, (v, w, housed, is)) = followed_answered v w end housed.stopped is
+
 -- ---- a service
 
 -- the output's count rose where the line was not written whole
@@ -231,6 +257,8 @@ end_answered clock visits (Form.Replay roster journal) before after end (unread,
     told_as replay_end before.files (Form.Replay roster journal) end own e (replay_answered before.files after.files before.seen.output after.seen.output held.files_held held.output_held before.seen.disk after.seen.disk held.disk_held roster journal own runs)
 end_answered clock visits (Form.Roll roster journal new_roster matured) before after end (unread, same, (own, e, runs)) held =
     told_as roll_end before.files (Form.Roll roster journal new_roster matured) end own e (roll_answered before.files after.files before.seen.output after.seen.output held.files_held held.output_held before.seen.disk after.seen.disk held.disk_held roster journal new_roster matured own runs)
+end_answered clock visits (Form.Follow standby) before after end (same, (own, e, runs)) held =
+    told_as standby_end before.files (Form.Follow standby) end own e (standby_answered standby before.files after.files _ _ before.seen.disk after.seen.disk held.files_held held.input_held held.output_held held.disk_held own runs)
 
 pub answers_what_it_can : {D : Type 0} (visits : D → Option Visits) → AnswersWhatItCan visits
 answers_what_it_can visits clock form before after status ends held =

@@ -8,6 +8,7 @@ use Rattle.compress_server.specs.declared.load.LoadFault.{LoadFault}
 use Rattle.compress_server.specs.declared.load.LoadFault.TheVariants.{Faulty}
 use Rattle.compress_server.specs.Check.{check_statuses}
 use Rattle.compress_server.specs.Files.{FilesState, IsRosterUnread, IsMarketUnread, IsCheckUnread, IsRollUnread}
+use Rattle.compress_server.specs.Follow.{standby_statuses}
 use Rattle.compress_server.specs.Replay.{replay_statuses}
 use Rattle.compress_server.specs.Roll.{roll_statuses}
 use Rattle.compress_server.specs.Script.{script_statuses}
@@ -25,6 +26,7 @@ IsFormUnread files files' (Form.Solve market workers) = IsMarketUnread files fil
 IsFormUnread files files' (Form.Gen number workers) = λ fault. ⊥
 IsFormUnread files files' (Form.Replay roster journal) = IsRosterUnread files files' roster
 IsFormUnread files files' (Form.Roll roster journal new_roster matured) = IsRollUnread files files' roster new_roster
+IsFormUnread files files' (Form.Follow standby) = IsRosterUnread files files' standby.roster
 
 -- a file of the form has a fault, and those that are read before it have none
 abbrev pub HasFault : FilesState → Form → Type 0
@@ -47,12 +49,13 @@ statuses_of (Form.Solve market workers) = []
 statuses_of (Form.Gen number workers) = []
 statuses_of (Form.Replay roster journal) = replay_statuses
 statuses_of (Form.Roll roster journal new_roster matured) = roll_statuses
+statuses_of (Form.Follow standby) = standby_statuses
 
 abbrev pub IsAmong : List ℕ → ℕ → Type 0
 IsAmong [] status = ⊥
 IsAmong (own ∷ others) status = (status ≡ own) ⊎ IsAmong others status
 
--- The work was done; or a file has a fault, or there was no memory; or it ended in one of the form's own ways: a check says no, a journal is damaged, a script is at its limit, a roll is refused.
+-- The work was done; or a file has a fault, or there was no memory; or it ended in one of the form's own ways: a check says no, a journal is damaged, a script is at its limit, a roll is refused, a standby could not go on.
 abbrev pub IsAnswered : FilesState → Form → ℕ → Type 0
 IsAnswered files form status = (status ≡ 0) ⊎ (((status ≡ 3) × HasFault files form) ⊎ ((status ≡ 9) ⊎ IsAmong (statuses_of form) status))
 

@@ -5,6 +5,7 @@ use Rattle.compress_server.specs.declared.ending.End.{End}
 use Rattle.compress_server.specs.declared.ending.End.TheVariants.{BadWords}
 use Rattle.compress_server.specs.Check.{check_end, CheckRuns}
 use Rattle.compress_server.specs.Files.{FilesState}
+use Rattle.compress_server.specs.Follow.{standby_end, StandbyRuns}
 use Rattle.compress_server.specs.Gen.{gen_end, GenRuns}
 use Rattle.compress_server.specs.Replay.{replay_end, ReplayRuns}
 use Rattle.compress_server.specs.Roll.{roll_end, RollRuns}
@@ -18,7 +19,7 @@ use Rattle.program_words.specs.Words.{Form}
 abbrev pub EndsAs : {E : Type 0} → (E → End) → (E → Type 0) → End → Type 0
 EndsAs {E = E} end_of P end = (own : E) × (end ≡ end_of own) × P own
 
--- by the end of the program: only a script reads the input, and only a service asks the listener
+-- by the end of the program: only a script and a standby read the input, and only a service asks the listener
 module _ {D : Type 0} (clock : ℕ → Bool) (visits : D → Option Visits) where
   abbrev pub Runs : Option Form → FilesState → FilesState → InputState → InputState → Seen → Seen → End → Type 0
   Runs None files files' input input' before after end = (end ≡ BadWords) × (input' ≡ input) × (after ≡ before)
@@ -36,3 +37,5 @@ module _ {D : Type 0} (clock : ℕ → Bool) (visits : D → Option Visits) wher
       (input' ≡ input) × (after.listener ≡ before.listener) × EndsAs replay_end (ReplayRuns roster files files' before.output after.output before.disk after.disk) end
   Runs (Some (Form.Roll roster journal new_roster matured)) files files' input input' before after end =
       (input' ≡ input) × (after.listener ≡ before.listener) × EndsAs roll_end (RollRuns roster new_roster matured files files' before.output after.output before.disk after.disk) end
+  Runs (Some (Form.Follow standby)) files files' input input' before after end =
+      (after.listener ≡ before.listener) × EndsAs standby_end (StandbyRuns standby files files' (streams_of input before.output) (streams_of input' after.output) before.disk after.disk) end

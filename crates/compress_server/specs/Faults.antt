@@ -1,4 +1,4 @@
--- The lines that tell a file's fault, a journal's damage, and what keeps a market from going on.
+-- The lines that tell a file's fault, a journal's damage, how a standby ended, and what keeps a market from going on.
 use Rattle.std.specs.Prelude.{ℕ, List, ◌++◌, codes, decimal}
 use Rattle.command_types.specs.declared.file_fault.FileFault.{FileFault}
 use Rattle.command_types.specs.declared.file_fault.FileFault.TheVariants.{TooLong, Columns, BadName, BadRole, BadAmount, BadDay, Twice, UnknownName, SameParty, GrossLimit, RowLimit, BadLine, Memory}
@@ -42,6 +42,18 @@ number_line text number = text ++ decimal number ++ codes "\n"
 -- the line of a journal that is damaged at this place
 abbrev pub damage_line : ℕ → List ℕ
 damage_line place = number_line (codes "damaged at ") place
+
+-- the line of a primary that refused, with a number
+abbrev pub refused_line : ℕ → List ℕ
+refused_line number = number_line (codes "peer refused ") number
+
+-- the line of a primary that said what may not stand at an offset
+abbrev pub broken_line : ℕ → List ℕ
+broken_line at = number_line (codes "peer broken at ") at
+
+-- the line of a standby's journal that has no room at its size
+abbrev pub full_line : ℕ → List ℕ
+full_line size = number_line (codes "journal full at ") size
 
 -- a cause with the number of a trade in it
 abbrev pub trade_text : List ℕ → ℕ → List ℕ → List ℕ

@@ -14,6 +14,7 @@ pub mod Gen
 pub mod Told
 pub mod Replay
 pub mod Roll
+pub mod Follow
 pub mod Ending
 pub mod Telling
 pub mod Complete

@@ -5,8 +5,8 @@ use Rattle.journal_core.specs.declared.fault.JournalFault.TheVariants as faults
 use Rattle.compress_server.specs.declared.load.LoadFault.{LoadFault}
 use Rattle.compress_server.specs.declared.load.LoadFault.TheVariants as loads
 use Rattle.compress_server.specs.declared.ending.End.{End}
-use Rattle.compress_server.specs.declared.ending.End.TheVariants.{Done, No, BadWords, Faulty, SourceFault, SinkFault, DiskFault, Damaged, Limit, Memory, ListenerFault, FilesFault, Unrolled}
-use Rattle.compress_server.specs.Faults.{fault_line, damage_line, obstacle_line}
+use Rattle.compress_server.specs.declared.ending.End.TheVariants.{Done, No, BadWords, Faulty, SourceFault, SinkFault, DiskFault, Damaged, Limit, Memory, ListenerFault, FilesFault, PeerRefused, PeerBroken, JournalFull, Unrolled}
+use Rattle.compress_server.specs.Faults.{fault_line, damage_line, refused_line, broken_line, full_line, obstacle_line}
 
 -- the end where a file could not be had
 abbrev pub load_end : LoadFault → End
@@ -47,6 +47,9 @@ notice_of Limit = fixed 8 (codes "session limit\n")
 notice_of Memory = fixed 9 (codes "memory\n")
 notice_of ListenerFault = fixed 10 (codes "listener fault\n")
 notice_of FilesFault = fixed 11 (codes "file fault\n")
+notice_of (PeerRefused number) = made 12 (refused_line number)
+notice_of (PeerBroken at) = made 13 (broken_line at)
+notice_of (JournalFull size) = made 14 (full_line size)
 notice_of (Unrolled obstacle) = made 15 (obstacle_line obstacle)
 
 -- the status of an end

@@ -9,7 +9,7 @@ ghost use Rattle.compress_server.specs.Seen.{output_by};
 ghost use Rattle.compress_server.specs.Statuses.{load_end, journal_end};
 ghost use Rattle.compress_server.specs.Telling.{IsReported, IsTold, TellsEnd};
 
-use crate::faults::{damage_line, fault_line};
+use crate::faults::{broken_line, damage_line, fault_line, full_line, refused_line};
 use crate::load::{FileRole, LoadFault};
 use crate::obstacles::obstacle_line;
 use command_types::FileFault;
@@ -56,6 +56,12 @@ pub enum End {
     ListenerFault,
     /// The files failed.
     FilesFault,
+    /// A standby's primary refused, with this number.
+    PeerRefused(u8),
+    /// A standby's primary said what may not stand at this offset of the input.
+    PeerBroken(u64),
+    /// A standby's journal, which has so many bytes, has no room for an entry.
+    JournalFull(u64),
     /// The market of the journal can't go on over the new roster.
     Unrolled(Obstacle),
 }
@@ -122,6 +128,9 @@ pub fn tell_end<E: Sink>(alloc: Global, errors: &mut E, end: End) -> u8
         End::Memory => tell(errors, 9, b"memory\n"),
         End::ListenerFault => tell(errors, 10, b"listener fault\n"),
         End::FilesFault => tell(errors, 11, b"file fault\n"),
+        End::PeerRefused(number) => tell_made(errors, 12, refused_line(alloc, number)),
+        End::PeerBroken(at) => tell_made(errors, 13, broken_line(alloc, at)),
+        End::JournalFull(size) => tell_made(errors, 14, full_line(alloc, size)),
         End::Unrolled(obstacle) => tell_made(errors, 15, obstacle_line(alloc, obstacle)),
     }
 }

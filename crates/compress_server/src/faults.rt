@@ -1,7 +1,7 @@
-//! The lines that tell a file's fault on the errors.
+//! The lines that tell on the errors a file's fault, a journal's damage, and how a standby ended.
 
 ghost use Rattle.std.specs.Prelude.{◌≡◌, ◌++◌, IfOk, codes};
-ghost use Rattle.compress_server.specs.Faults.{role_name, row_line, fault_line, number_line, damage_line};
+ghost use Rattle.compress_server.specs.Faults.{role_name, row_line, fault_line, number_line, damage_line, refused_line, broken_line, full_line};
 
 use crate::load::FileRole;
 use command_types::FileFault;
@@ -84,4 +84,25 @@ pub fn damage_line(alloc: Global, place: u64) -> Result<Vec<u8>, AllocError>
     ensures { IfOk result (λ line. line.items ≡ damage_line place) }
 {
     number_line(alloc, b"damaged at ", place)
+}
+
+/// The line of a primary that refused, with this number. The only error is want of memory, as below.
+pub fn refused_line(alloc: Global, number: u8) -> Result<Vec<u8>, AllocError>
+    ensures { IfOk result (λ line. line.items ≡ refused_line number) }
+{
+    number_line(alloc, b"peer refused ", u64::from(number))
+}
+
+/// The line of a primary that said what may not stand at this offset.
+pub fn broken_line(alloc: Global, at: u64) -> Result<Vec<u8>, AllocError>
+    ensures { IfOk result (λ line. line.items ≡ broken_line at) }
+{
+    number_line(alloc, b"peer broken at ", at)
+}
+
+/// The line of a standby's journal that has no room at this size.
+pub fn full_line(alloc: Global, size: u64) -> Result<Vec<u8>, AllocError>
+    ensures { IfOk result (λ line. line.items ≡ full_line size) }
+{
+    number_line(alloc, b"journal full at ", size)
 }

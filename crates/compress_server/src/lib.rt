@@ -4,6 +4,7 @@
 mod check;
 mod ending;
 mod faults;
+mod following;
 mod generated;
 mod laws;
 mod load;

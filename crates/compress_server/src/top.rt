@@ -10,6 +10,7 @@ ghost use Rattle.compress_server.specs.Telling.{Ends};
 
 use crate::check::run_check;
 use crate::ending::{End, tell_end};
+use crate::following::run_follow;
 use crate::generated::run_gen;
 use crate::replay::{ReplayWords, run_replay};
 use crate::resources::Resources;
@@ -131,6 +132,10 @@ fn run_form<
             let end = run_roll(with.alloc, files, &words, output, &mut disk);
             (End::from(end), disk)
         }
+        Some(Form::Follow { standby }) => {
+            let (end, disk) = run_follow(with.alloc, files, &standby, input, output, disk);
+            (End::from(end), disk)
+        }
     }
 }
 
@@ -151,20 +156,24 @@ fn run_form<
 /// - `roll ROSTER JOURNAL NEW-ROSTER [--matured DAY]`: a journal over the new roster, with which the market of this one goes
 ///   on: one position further, with its open trades, numbered from 1, and the settings of members and products that are
 ///   there. With DAY the trades of products that mature by it are left out. Nothing is written to the disk.
+/// - `follow ROSTER JOURNAL NAME KEY [--compare]`: a standby. It greets a primary at the other end of input and output as NAME with
+///   KEY, and asks for one entry after another, from the journal's end on; each is in the journal before the next is asked for. With
+///   `--compare` it first asks for its last entry again.
 ///
 /// MODE is `conservative`, `hybrid` or `free`. W workers solve, from 1 to 64; N is from 1 to 64, C from 1 to 1,000,000,
 /// and SECONDS from 1 to 86,400. Where the option is not given, W and N are 4, C is 1,000,000, and a call may wait without
-/// end. DAY is `YYYY-MM-DD`. An option is `--name V` or `--name=V`, at any place behind the form's name, at most once; `--` ends the options.
+/// end. DAY is `YYYY-MM-DD`. An option is `--name V` or `--name=V`, `--compare` has no value; it stands at any place behind the form's name, at most once; `--` ends the options.
 ///
 /// The files are read in the order of the words of the form, the proposal last, a roll's journal behind both rosters, and the
 /// first that can't be had ends the call. The disk, which a script attaches to its journal, has to be settled: a crash now would leave what a read gives. It is
 /// handed back in each case. A worker passes the gate before it solves a piece. It answers the status:
 ///
-/// - 0: all was done and written: a script's input was read to its end, or a BYE was accepted; a check says yes;
+/// - 0: all was done and written: a script's input was read to its end, or a BYE was accepted; a check says yes; a standby has
+///   all that its primary had;
 /// - 1: a check says no;
 /// - 2: the words are out of form;
 /// - 3: a file has a fault, and the files before it have none;
-/// - 4: the input of a script failed; its whole lines up to there are replied to;
+/// - 4: the input of a script failed; its whole lines up to there are replied to; or that of a standby;
 /// - 5: the output failed; a front of what was to be written is there. Lines of a script whose replies are not may be
 ///   answered, and their changes made, if they were read together with one whose reply was cut off;
 /// - 6: the disk failed: at the opening, and nothing was read or written; or later, and the session or all seats ended as
@@ -174,9 +183,12 @@ fn run_form<
 /// - 9: memory was not to be had; where a seat found none, the others served on;
 /// - 10: the listener failed, and no seat began; or the door of a seat, and the others served on;
 /// - 11: the files failed at one of them, and the files before it have no fault;
+/// - 12: a standby's primary refused, with the number that is told;
+/// - 13: a standby's primary said what may not stand at the offset that is told, or nothing more;
+/// - 14: a standby's journal is full, at the size that is told;
 /// - 15: the market of a roll can't go on over the new roster, for the cause that is told.
 ///
-/// At 2, 3, 7, 9, 11 and 15 nothing was read from the input or written to the output. A check, a solve, a gen, a replay and a
+/// At 2, 3, 7, 9, 11 and 15 nothing was read from the input or written to the output, but by a standby at 9. A check, a solve, a gen, a replay and a
 /// roll read no input; the first three leave the disk alone. For each status but 0 and 1 one line goes to the errors. The moment of each
 /// command is one that the clock tells.
 pub fn run<

@@ -1,10 +1,12 @@
 -- The words that the program is called with, and what they ask for.
-use Rattle.std.specs.Prelude.{ℕ, ◌&&◌, Bool, List, [], ◌∷◌, Option, Some, None, option_map, option_and_then, unwrap_or, is_none, codes, bytes_eq, if◌then◌else◌}
+use Rattle.std.specs.Prelude.{ℕ, ◌&&◌, not, Bool, List, [], ◌∷◌, Option, Some, None, option_map, option_and_then, unwrap_or, is_none, codes, bytes_eq, if◌then◌else◌}
 use Rattle.units_core.specs.Day.{DayParts}
+use Rattle.units_core.specs.Name.{is_name}
 use Rattle.command_types.specs.declared.cycle.Mode.{Mode}
 use Rattle.command_types.specs.Grammar.{mode_word}
 use Rattle.program_words.specs.Parting.{Options, Parts, most_connections, count_of, parts_of}
 use Rattle.program_words.specs.declared.words.MarketFiles.{MarketFiles}
+use Rattle.program_words.specs.declared.words.StandbyWords.{StandbyWords}
 use Rattle.program_words.specs.declared.words.Form.{Form as ReadForm}
 use Rattle.program_words.specs.declared.words.Form.TheVariants as read
 use Rattle.units_core.specs.declared.limits.TheConstants.{MOST_NUMBER}
@@ -22,6 +24,14 @@ pub record ServiceNumbers : Type 0 where
   pub workers : ℕ
   pub idle : Option ℕ
 
+-- a standby: the names of its two files, the name and the key with which it greets its primary, and whether it first compares its last entry
+pub record Standby : Type 0 where
+  pub roster : List ℕ
+  pub journal : List ℕ
+  pub name : List ℕ
+  pub key : List ℕ
+  pub compare : Bool
+
 -- what the program is to do, with the names of its files and the numbers of its options
 pub data Form : Type 0 where
   Script : (roster journal : List ℕ) (workers : ℕ) → Form
@@ -31,6 +41,7 @@ pub data Form : Type 0 where
   Gen : (number workers : ℕ) → Form
   Replay : (roster journal : List ℕ) → Form
   Roll : (roster journal new_roster : List ℕ) (matured : Option DayParts) → Form
+  Follow : (standby : Standby) → Form
 
 -- the numbers where the option is not given
 abbrev pub workers_of : Options → ℕ
@@ -49,13 +60,21 @@ numbers_of options = record { seats = seats_of options; connections = connection
 abbrev pub has_no_service : Options → Bool
 has_no_service options = (is_none options.seats && is_none options.connections) && is_none options.idle
 
+-- no option of a roll or of a standby is given
+abbrev pub has_no_other : Options → Bool
+has_no_other options = is_none options.matured && not options.compare
+
 -- no option is given, but perhaps the workers
 abbrev pub has_workers_alone : Options → Bool
-has_workers_alone options = is_none options.matured && has_no_service options
+has_workers_alone options = has_no_other options && has_no_service options
 
 -- no option is given, but perhaps the day of a roll
 abbrev pub has_matured_alone : Options → Bool
-has_matured_alone options = is_none options.workers && has_no_service options
+has_matured_alone options = (is_none options.workers && not options.compare) && has_no_service options
+
+-- no option is given, but perhaps that of a standby
+abbrev pub has_compare_alone : Options → Bool
+has_compare_alone options = (is_none options.workers && is_none options.matured) && has_no_service options
 
 abbrev pub has_none : Options → Bool
 has_none options = is_none options.workers && has_workers_alone options
@@ -71,7 +90,7 @@ script_of options plain = None
 
 -- `serve ROSTER JOURNAL ADDRESS [--seats N] [--connections C] [--workers W] [--idle SECONDS]`
 abbrev pub serve_of : Options → List (List ℕ) → Option Form
-serve_of options (roster ∷ journal ∷ address ∷ []) = if is_none options.matured then Some (Form.Serve roster journal address (numbers_of options)) else None
+serve_of options (roster ∷ journal ∷ address ∷ []) = if has_no_other options then Some (Form.Serve roster journal address (numbers_of options)) else None
 serve_of options plain = None
 
 -- `check ROSTER TRADES MODE PROPOSAL`
@@ -107,6 +126,17 @@ roll_of options (roster ∷ journal ∷ new_roster ∷ []) =
     if has_matured_alone options then Some (Form.Roll roster journal new_roster options.matured) else None
 roll_of options plain = None
 
+-- a standby of these words; none where its name or its key is no name
+abbrev pub standby_of : Bool → List ℕ → List ℕ → List ℕ → List ℕ → Option Form
+standby_of compare roster journal name key =
+    if is_name name && is_name key then Some (Form.Follow (record { roster = roster; journal = journal; name = name; key = key; compare = compare })) else None
+
+-- `follow ROSTER JOURNAL NAME KEY [--compare]`
+abbrev pub follow_of : Options → List (List ℕ) → Option Form
+follow_of options (roster ∷ journal ∷ name ∷ key ∷ []) =
+    if has_compare_alone options then standby_of options.compare roster journal name key else None
+follow_of options plain = None
+
 -- the form of this name, with these words behind it
 abbrev pub form_named : List ℕ → Parts → Option Form
 form_named name parts =
@@ -117,7 +147,8 @@ form_named name parts =
     else (if bytes_eq name (codes "gen") then gen_of parts.options parts.plain
     else (if bytes_eq name (codes "replay") then replay_of parts.options parts.plain
     else (if bytes_eq name (codes "roll") then roll_of parts.options parts.plain
-    else None))))))
+    else (if bytes_eq name (codes "follow") then follow_of parts.options parts.plain
+    else None)))))))
 
 -- what the words ask for; none where they are out of form
 abbrev pub form_of : List (List ℕ) → Option Form
@@ -134,6 +165,10 @@ idle_after (Some other) before = before
 abbrev pub read_market : MarketFiles → Market
 read_market market = record { roster = market.roster.now; trades = market.trades.now; mode = market.mode }
 
+-- the standby of the code's words
+abbrev pub read_standby : StandbyWords → Standby
+read_standby standby = record { roster = standby.roster.now; journal = standby.journal.now; name = standby.name; key = standby.key; compare = standby.compare }
+
 -- the form of the code's words
 abbrev pub read_form : ReadForm → Form
 read_form (read.Script roster journal workers) = Form.Script roster.now journal.now workers.value
@@ -144,3 +179,4 @@ read_form (read.Solve market workers) = Form.Solve (read_market market) workers.
 read_form (read.Gen number workers) = Form.Gen number workers.value
 read_form (read.Replay roster journal) = Form.Replay roster.now journal.now
 read_form (read.Roll roster journal new_roster matured) = Form.Roll roster.now journal.now new_roster.now matured
+read_form (read.Follow standby) = Form.Follow (read_standby standby)

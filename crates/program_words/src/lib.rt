@@ -6,4 +6,4 @@ mod parting;
 mod words;
 
 pub use count::Count;
-pub use words::{Form, MarketFiles, read_words};
+pub use words::{Form, MarketFiles, StandbyWords, read_words};

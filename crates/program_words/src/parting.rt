@@ -1,12 +1,13 @@
 //! The words behind a form's name: the plain ones, and the options.
 //!
 //!     --name V, --name=V       an option with its value, a number or a day
+//!     --compare                an option that has none
 //!     --                       ends the options: all words behind it are plain
 //!     -, words without a dash  plain
 
 ghost use Rattle.std.specs.Prelude.{◌≡◌, ◌≤◌, ◌<◌, ◌==◌, Some, IfSome, map, take, drop, position, option_map, string_bytes, length};
 ghost use Rattle.units_core.specs.Day.{day_of};
-ghost use Rattle.program_words.specs.Parting.{most_workers, most_seats, most_connections, most_idle, count_of, once, with_option, option_word, is_dashed, with_plain, with_value, with_dashed, with_next, with_word, no_parts, parts_of, read_options, read_parts};
+ghost use Rattle.program_words.specs.Parting.{most_workers, most_seats, most_connections, most_idle, count_of, once, with_option, option_word, is_dashed, with_plain, with_value, with_compare, with_name, with_dashed, with_next, with_word, no_parts, parts_of, read_options, read_parts};
 
 use crate::count::Count;
 use arrayvec::ArrayVec;
@@ -30,6 +31,7 @@ pub struct Options {
     pub connections: Option<u64>,
     pub idle: Option<u64>,
     pub matured: Option<Day>,
+    pub compare: bool,
 }
 
 /// The most seconds that a connection of a service may be silent: a day.
@@ -173,6 +175,7 @@ impl<'a> Parts<'a> {
                 connections: None,
                 idle: None,
                 matured: None,
+                compare: false,
             },
             waiting: None,
             ended: false,
@@ -200,6 +203,28 @@ impl<'a> Parts<'a> {
         }
     }
 
+    // Puts the option that has no value; none where it was given.
+    fn put_compare(&mut self) -> Option<()>
+        ensures { option_map (λ done. read_parts self.new) result ≡ with_compare (read_parts self.old) }
+    {
+        if self.options.compare {
+            return None;
+        }
+        self.options.compare = true;
+        Some(())
+    }
+
+    // Puts a word with dashes and no value; none where it is no option.
+    fn put_name(&mut self, word: &[u8]) -> Option<()>
+        ensures { option_map (λ done. read_parts self.new) result ≡ with_name (read_parts self.old) word.now }
+    {
+        if word == b"--compare".as_slice() {
+            return self.put_compare();
+        }
+        self.waiting = Some(option_word(word)?);
+        Some(())
+    }
+
     // Puts a word with dashes; none where it is no option.
     fn put_dashed(&mut self, word: &[u8]) -> Option<()>
         ensures { option_map (λ done. read_parts self.new) result ≡ with_dashed (read_parts self.old) word.now (position (λ byte. byte == 61) word.now) }
@@ -209,10 +234,7 @@ impl<'a> Parts<'a> {
                 let name = option_word(&word[..at])?;
                 self.put_value(name, &word[at + 1..])
             }
-            None => {
-                self.waiting = Some(option_word(word)?);
-                Some(())
-            }
+            None => self.put_name(word),
         }
     }
 

@@ -2,13 +2,13 @@
 //! `specs/Words` has them.
 
 ghost use Rattle.std.specs.Prelude.{◌≡◌, map, string_bytes, option_map};
-ghost use Rattle.program_words.specs.Words.{market_of, script_of, serve_of, check_of, solve_of, gen_of, replay_of, roll_of, workers_of, seats_of, connections_of, has_none, has_no_service, has_matured_alone, has_workers_alone, form_named, form_of, read_market, read_form};
+ghost use Rattle.program_words.specs.Words.{market_of, script_of, serve_of, check_of, solve_of, gen_of, replay_of, roll_of, standby_of, follow_of, workers_of, seats_of, connections_of, has_none, has_no_service, has_no_other, has_matured_alone, has_compare_alone, has_workers_alone, form_named, form_of, read_market, read_form};
 ghost use Rattle.program_words.specs.Parting.{read_options, read_parts};
 
 use crate::count::Count;
 use crate::parting::{Options, Parts, count_of, parts_of};
 use command_types::Mode;
-use units_core::{Day, MOST_CONNECTIONS, MOST_NUMBER};
+use units_core::{Day, MOST_CONNECTIONS, MOST_NUMBER, Name};
 
 /// The names of a market's two files, and the mode in which it is compressed.
 #[derive(Clone, Copy)]
@@ -16,6 +16,17 @@ pub struct MarketFiles<'a> {
     pub roster: &'a str,
     pub trades: &'a str,
     pub mode: Mode,
+}
+
+/// The names of a standby's two files, the name and the key with which it greets its primary, and whether it first compares its
+/// last entry.
+#[derive(Clone, Copy)]
+pub struct StandbyWords<'a> {
+    pub roster: &'a str,
+    pub journal: &'a str,
+    pub name: Name,
+    pub key: Name,
+    pub compare: bool,
 }
 
 /// What the program is to do, with the names of its files and the numbers of its options.
@@ -64,6 +75,10 @@ pub enum Form<'a> {
         new_roster: &'a str,
         matured: Option<Day>,
     },
+    /// A journal that follows that of a primary.
+    Follow {
+        standby: StandbyWords<'a>,
+    },
 }
 
 impl Options {
@@ -92,18 +107,32 @@ impl Options {
         self.seats.is_none() && self.connections.is_none() && self.idle.is_none()
     }
 
+    // Whether no option of a roll or of a standby is given.
+    fn has_no_other(&self) -> bool
+        ensures { result ≡ has_no_other (read_options self.now) }
+    {
+        self.matured.is_none() && !self.compare
+    }
+
     // Whether no option is given, but perhaps the workers.
     fn has_workers_alone(&self) -> bool
         ensures { result ≡ has_workers_alone (read_options self.now) }
     {
-        self.matured.is_none() && self.has_no_service()
+        self.has_no_other() && self.has_no_service()
     }
 
     // Whether no option is given, but perhaps the day of a roll.
     fn has_matured_alone(&self) -> bool
         ensures { result ≡ has_matured_alone (read_options self.now) }
     {
-        self.workers.is_none() && self.has_no_service()
+        self.workers.is_none() && !self.compare && self.has_no_service()
+    }
+
+    // Whether no option is given, but perhaps that of a standby.
+    fn has_compare_alone(&self) -> bool
+        ensures { result ≡ has_compare_alone (read_options self.now) }
+    {
+        self.workers.is_none() && self.matured.is_none() && self.has_no_service()
     }
 
     fn has_none(&self) -> bool
@@ -144,7 +173,7 @@ fn read_serve<'a>(options: &Options, plain: &[&'a str]) -> Option<Form<'a>>
     ensures { option_map read_form result ≡ serve_of (read_options options.now) (map (λ word. word.now) plain.now) }
 {
     match plain {
-        [roster, journal, address] if options.matured.is_none() => {
+        [roster, journal, address] if options.has_no_other() => {
             Some(Form::Serve {
                 roster,
                 journal,
@@ -224,6 +253,39 @@ fn read_roll<'a>(options: &Options, plain: &[&'a str]) -> Option<Form<'a>>
     }
 }
 
+// A standby of these words; none where its name or its key is no name.
+fn read_standby<'a>(
+    compare: bool,
+    roster: &'a str,
+    journal: &'a str,
+    name: &str,
+    key: &str,
+) -> Option<Form<'a>>
+    ensures { option_map read_form result ≡ standby_of compare roster.now journal.now name.now key.now }
+{
+    let name = Name::read(name.as_bytes())?;
+    let key = Name::read(key.as_bytes())?;
+    let standby = StandbyWords {
+        roster,
+        journal,
+        name,
+        key,
+        compare,
+    };
+    Some(Form::Follow { standby })
+}
+
+fn read_follow<'a>(options: &Options, plain: &[&'a str]) -> Option<Form<'a>>
+    ensures { option_map read_form result ≡ follow_of (read_options options.now) (map (λ word. word.now) plain.now) }
+{
+    match plain {
+        [roster, journal, name, key] if options.has_compare_alone() => {
+            read_standby(options.compare, roster, journal, name, key)
+        }
+        _ => None,
+    }
+}
+
 // The form of this name, with these words behind it.
 fn form_named<'a>(name: &str, parts: &Parts<'a>) -> Option<Form<'a>>
     ensures { option_map read_form result ≡ form_named name.now (read_parts parts.now) }
@@ -243,6 +305,8 @@ fn form_named<'a>(name: &str, parts: &Parts<'a>) -> Option<Form<'a>>
         read_replay(&parts.options, plain)
     } else if name == "roll" {
         read_roll(&parts.options, plain)
+    } else if name == "follow" {
+        read_follow(&parts.options, plain)
     } else {
         None
     }

@@ -8,6 +8,8 @@ mod file_faults;
 #[cfg(test)]
 mod folds;
 #[cfg(test)]
+mod follows;
+#[cfg(test)]
 mod gates;
 #[cfg(test)]
 mod gathering;

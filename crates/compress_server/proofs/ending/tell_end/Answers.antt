@@ -1,5 +1,5 @@
 use Rattle.std.proofs.Common.{refl}
-use Rattle.compress_server.specs.declared.ending.End.TheVariants.{BadWords, SourceFault, SinkFault, DiskFault, Damaged, Limit, ListenerFault, FilesFault, Unrolled}
+use Rattle.compress_server.specs.declared.ending.End.TheVariants.{BadWords, SourceFault, SinkFault, DiskFault, Damaged, Limit, ListenerFault, FilesFault, PeerRefused, PeerBroken, JournalFull, Unrolled}
 use Rattle.compress_server.specs.Seen.{output_by}
 use Rattle.compress_server.proofs.StatusFacts.{fixed_told, made_told}
 use Rattle.compress_server.proofs.ending.tell_end.Goals as goal
@@ -32,3 +32,15 @@ returns-in-Damaged g c =
 pub returns-in-Unrolled : goal.returns-in-Unrolled
 returns-in-Unrolled g c =
     made_told (λ v. v.items) (output_by g.E.Sink c.args.errors.now) (output_by g.E.Sink c.tell_made-in-Unrolled.new.errors) c.args.end (Unrolled c.in-Unrolled.obstacle) c.tell_made-in-Unrolled.result c.obstacle_line.result c.in-Unrolled.is refl c.obstacle_line.ensures c.tell_made-in-Unrolled.ensures.told c.tell_made-in-Unrolled.ensures.memory
+
+pub returns-in-PeerRefused : goal.returns-in-PeerRefused
+returns-in-PeerRefused g c =
+    made_told (λ v. v.items) (output_by g.E.Sink c.args.errors.now) (output_by g.E.Sink c.tell_made-in-PeerRefused.new.errors) c.args.end (PeerRefused c.in-PeerRefused.number) c.tell_made-in-PeerRefused.result c.refused_line.result c.in-PeerRefused.is refl c.refused_line.ensures c.tell_made-in-PeerRefused.ensures.told c.tell_made-in-PeerRefused.ensures.memory
+
+pub returns-in-PeerBroken : goal.returns-in-PeerBroken
+returns-in-PeerBroken g c =
+    made_told (λ v. v.items) (output_by g.E.Sink c.args.errors.now) (output_by g.E.Sink c.tell_made-in-PeerBroken.new.errors) c.args.end (PeerBroken c.in-PeerBroken.at) c.tell_made-in-PeerBroken.result c.broken_line.result c.in-PeerBroken.is refl c.broken_line.ensures c.tell_made-in-PeerBroken.ensures.told c.tell_made-in-PeerBroken.ensures.memory
+
+pub returns-in-JournalFull : goal.returns-in-JournalFull
+returns-in-JournalFull g c =
+    made_told (λ v. v.items) (output_by g.E.Sink c.args.errors.now) (output_by g.E.Sink c.tell_made-in-JournalFull.new.errors) c.args.end (JournalFull c.in-JournalFull.size) c.tell_made-in-JournalFull.result c.full_line.result c.in-JournalFull.is refl c.full_line.ensures c.tell_made-in-JournalFull.ensures.told c.tell_made-in-JournalFull.ensures.memory
