@@ -26,7 +26,7 @@ COMMANDS = ["compress-audit", "compress-check-mine", "compress-check-proposal", 
 COMMANDS += ["compress-journal", "compress-many", "compress-public-roster", "compress-report", "compress-roll", "compress-wait-ready", "compress_cli"]
 
 TYPED: list[tuple[list[str], list[str]]] = [
-    (["compress_cli", ""], ["check", "gen", "replay", "roll", "script", "serve", "solve"]),
+    (["compress_cli", ""], ["check", "follow", "gen", "replay", "roll", "script", "serve", "solve"]),
     (["compress_cli", "gen", ""], []),
     (["compress_cli", "s"], ["script", "serve", "solve"]),
     (["compress_cli", "serve", "a", "hub-r"], ["hub-roster.csv"]),
@@ -37,6 +37,9 @@ TYPED: list[tuple[list[str], list[str]]] = [
     (["compress_cli", "check", "a", "b", "hybrid", "c", ""], []),
     (["compress_cli", "roll", "a", "b", "hub-r"], ["hub-roster.csv"]),
     (["compress_cli", "roll", "-"], ["--matured"]),
+    (["compress_cli", "follow", "hub-r"], ["hub-roster.csv"]),
+    (["compress_cli", "follow", "--c"], ["--compare"]),
+    (["compress_cli", "follow", "a", "b", ""], []),
     (["compress_cli", "what", ""], []),
     (["compress_cli", "-"], []),
     (["compress_cli", "script", "--w"], ["--workers"]),
