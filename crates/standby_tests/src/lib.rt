@@ -2,6 +2,8 @@
 #![tactic(auto)]
 
 #[cfg(test)]
+mod compares;
+#[cfg(test)]
 mod follows;
 #[cfg(test)]
 mod houses;
@@ -9,3 +11,5 @@ mod houses;
 mod replies;
 #[cfg(test)]
 mod streams;
+#[cfg(test)]
+mod trials;
