@@ -34,7 +34,7 @@ module _ (writing : WritingIsRead) (only : OnlyTheSameIsRead) (refusals : Refusa
       let one : (reply, behind) ≡ (read, rest) = ap (read_or (reply, behind)) (sym heard ∙ ap (λ v. reply_to question (v ++ rest)) is ∙ back) in
       (ap (λ p. p.1) one, subst (λ (r : Reply). All (Fits entries) (offered question r)) (sym (ap (λ p. p.0) one)) fits)
 
-  read_one : (question : Question) (text rest behind : List ℕ) (reply : Reply) → Answers rows entries question text → reply_to question (text ++ rest) ≡ Ok (reply, behind)
+  pub read_one : (question : Question) (text rest behind : List ℕ) (reply : Reply) → Answers rows entries question text → reply_to question (text ++ rest) ≡ Ok (reply, behind)
       → (behind ≡ rest) × All (Fits entries) (offered question reply)
   read_one (Hello name) text rest behind reply (at, small, inl refused) heard =
       known (Hello name) text (reply_text rows (record { at = at; answer = answers.No refused.refusal })) rest behind reply (replies.Refused refused.number) refused.is

@@ -189,6 +189,11 @@ module _ (login : Login) (first : Streams) (w0 : WireView) (hearing : HearingVie
       greeted = over end w is (starts ∙ goes.start) (cut ∙ ap (λ b. is_cut_by b (Some end)) goes.cut);
       asked = w1.said;
       hearing = w1.hearing;
+      fresh = record {
+        first = goes.is.hears.first ∙ ap (λ (s : WireStart). s.hearing.first) (goes.start ∙ begun) ∙ fresh.first;
+        first_faults = goes.is.hears.first_faults ∙ ap (λ (s : WireStart). s.hearing.first_faults) (goes.start ∙ begun) ∙ fresh.first_faults;
+      };
+      heard = goes.is.hearing;
       replied = goes.replied;
       reads = read_here None goes w.start (starts ∙ goes.start);
       begins = begins login old new runs keeps (follows.follows.held old (omega arith) (held_now old keeps runs)) w1.hearing w1.said goes.replied None (compared None goes);

@@ -4,3 +4,5 @@ pub mod AskFacts
 pub mod FollowedFacts
 pub mod AnswerFacts
 pub mod TextFacts
+pub mod ForkFacts
+pub mod CrashFacts

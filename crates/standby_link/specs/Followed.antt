@@ -140,6 +140,8 @@ pub record Followed (login : Login) (first now : Streams) (old new : HouseView) 
   pub greeted : Greeted login first now end
   pub asked : List Sent
   pub hearing : HearingView
+  pub fresh : IsFresh first hearing
+  pub heard : IsHearing hearing
   pub replied : List Replied
   pub reads : hearing.replied ≡ greeted.wire.start.hearing.replied ++ replied
   pub begins : Begins login old new hearing asked replied None

@@ -1,5 +1,5 @@
 -- What holds of a standby that reads a primary's answers.
-use Rattle.std.specs.Prelude.{◌≡◌, ◌⊎◌, ℕ, ◌+◌, ◌<◌, ◌≤◌, ◌^◌, List, [], ◌∷◌, ◌++◌, length, Some}
+use Rattle.std.specs.Prelude.{◌≡◌, ◌⊎◌, ℕ, ◌+◌, ◌<◌, ◌≤◌, ◌^◌, true, List, [], ◌∷◌, ◌++◌, length, All, Some, None}
 use Rattle.units_core.specs.declared.limits.TheConstants.{MOST_NUMBER, MOST_JOURNAL}
 use Rattle.command_types.specs.declared.answer.Answer.TheVariants as answers
 use Rattle.command_types.specs.declared.ask.Entry.{Entry}
@@ -7,16 +7,23 @@ use Rattle.command_types.specs.declared.refusal.Refusal.{Refusal}
 use Rattle.command_types.specs.declared.spelling.Spelling.TheVariants.{Second}
 use Rattle.command_types.specs.Details.{reply_text}
 use Rattle.command_types.specs.Roster.{Rows}
-use Rattle.command_types.specs.Spelling.{Spells}
-use Rattle.house.specs.House.{HouseView}
+use Rattle.command_types.specs.Spelling.{Spells, spelling}
+use Rattle.outside.specs.Disk as disks
+use Rattle.outside.specs.Disk.{left_since}
+use Rattle.house.specs.House.{HouseView, Keeps}
+use Rattle.house.specs.Storing.{moment_of}
 use Rattle.standby_wire.specs.Laws.{number_of, IsSmall}
 use Rattle.standby_wire.specs.Replied.{Replied}
 use Rattle.standby_wire.specs.declared.reply.Question.{Question}
 use Rattle.standby_wire.specs.declared.reply.Question.TheVariants.{Hello, Next, Again}
-use Rattle.standby.specs.Link.{Fits}
-use Rattle.standby.specs.Lists.{IsHistoryOf, BeginsWith}
+use Rattle.standby_wire.specs.declared.reply.Reply.TheVariants as replies
+use Rattle.standby.specs.Link.{Fits, World, AreAmong, moved, IsSound}
+use Rattle.standby.specs.Lists.{IsHistoryOf, StandsForList, BeginsWith}
+use Rattle.standby.specs.Sent.{Sent, numbers_in}
 use Rattle.standby.specs.declared.follow.FollowEnd.{FollowEnd}
+use Rattle.standby_link.specs.Compared.{AreReply, HasNone, IsLastOf}
 use Rattle.standby_link.specs.Followed.{Streams, Followed}
+use Rattle.standby_link.specs.declared.comparing.TheConstants.{GONE}
 use Rattle.standby_link.specs.declared.login.Login.{Login}
 
 -- the text that tells the entry behind a position, which is one of these, by the bytes that spell it
@@ -65,3 +72,25 @@ FollowersHoldAPrefix =
     (roster : Rows) (primary before : List Entry) → AreAnswers roster primary f.greeted.wire.hearing.replied f.greeted.is.hearing.taken
     → IsHistoryOf roster old.history before → BeginsWith primary before
     → (after : List Entry) × IsHistoryOf roster new.history after × BeginsWith primary after
+
+-- one of the entries, behind a position, is spelled by these bytes
+abbrev pub HasAlike : List Entry → ℕ → List ℕ → Type 0
+HasAlike entries position bytes = (entry : Entry) × Fits entries (record { position = position + 1; entry = entry }) × (bytes ≡ spelling Second entry)
+
+-- A standby that compares, and has a last entry behind its base that its house tells it, follows over a primary's answers only where the primary has that entry at that place, or only entries behind it.
+abbrev pub ForksAreSeen : Type 0
+ForksAreSeen =
+    (login : Login) (first now : Streams) (old new : HouseView) (end : FollowEnd) (f : Followed login first now old new end)
+    (roster : Rows) (primary : List Entry) → AreAnswers roster primary f.hearing.replied f.heard.taken
+    → login.compare ≡ true → (HasNone old login.name → ⊥)
+    → (position : ℕ) × (bytes : List ℕ) × IsLastOf old position bytes × (HasAlike primary position bytes ⊎ AreReply position bytes f.replied (replies.Refused GONE))
+
+-- What a crash leaves of a standby's journal at any moment since it was to follow, after some of its lines were said, stands for entries with which the world is sound again, with all numbers that were said by then.
+abbrev pub CrashesLeaveSoundWorlds : Type 0
+CrashesLeaveSoundWorlds =
+    (login : Login) (first now : Streams) (old new : HouseView) (end : FollowEnd) (f : Followed login first now old new end)
+    (roster : Rows) (w : World) → IsSound w → IsHistoryOf roster old.history w.standby → AreAmong f.follows.follows.offers w.sent
+    → Keeps old → old.kept ≡ None
+    → (said others : List Sent) → f.greeted.wire.said ≡ said ++ others → (disk : disks.History) → new.disk ≡ Some disk
+    → (image : List ℕ) → left_since disk (moment_of old.disk) image → All (λ sent. left_since disk (moment_of sent.house.disk) image) said
+    → (entries : List Entry) × StandsForList image entries × IsSound (moved w entries (numbers_in said))

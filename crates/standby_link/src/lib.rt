@@ -14,5 +14,7 @@ mod login;
 mod wire;
 
 pub use following::follow;
-pub use laws::{caught_up_text, followers_hold_a_prefix};
+pub use laws::{
+    caught_up_text, crashes_leave_sound_worlds, followers_hold_a_prefix, forks_are_seen,
+};
 pub use login::Login;
