@@ -39,7 +39,7 @@ fn push_trades(
 }
 
 /// A file with slots of so many trades, each alleged and affirmed.
-fn file_of(alloc: Global, trades: u64) -> Result<Vec<u8>, AllocError> {
+pub fn file_of(alloc: Global, trades: u64) -> Result<Vec<u8>, AllocError> {
     let mut file = BEGUN.to_vec(alloc)?;
     push_trades(&mut file, 1, trades, &TRADE, &AFFIRM)?;
     Ok(file)

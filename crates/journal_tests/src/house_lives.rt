@@ -4,7 +4,7 @@ ghost use Rattle.std.specs.Prelude.{◌≡◌, Some, IfSome};
 ghost use Rattle.outside.specs.Disk.{IsSettled};
 
 use crate::houses::{content_of, crashed, day, large_disk_of, large_failing_disk, named, opened};
-use command_types::{Answer, Ask, Listed, Mode, Moment, Refusal, Reply, What};
+use command_types::{Answer, Ask, Listed, Mode, Moment, Refusal, What};
 use house::House;
 use journal_core::JournalFault;
 use network_laws::{Network, Solution};
@@ -35,6 +35,8 @@ pub enum Said {
     PostNothing,
     Vote,
     Nets,
+    /// That it wants the entry behind this position.
+    Next(u64),
 }
 
 /// What it is told.
@@ -46,6 +48,9 @@ pub enum Told {
     Gross(u64),
     /// What it owes, and what it is owed.
     Own(u64, u64),
+    /// The entry at this position, as these bytes.
+    Entry(u64, &'static [u8]),
+    NoNext,
 }
 
 /// A party says something at noon on 2026-03-31, and is told so at this position.
@@ -125,28 +130,40 @@ fn what_of(rt: &impl Abort, alloc: Global, by: Party, said: Said) -> Option<What
         Said::Nets => What::Nets {
             product: named(b"P"),
         },
+        Said::Next(position) => What::Next { position },
     })
 }
 
-fn told_of(reply: &Reply) -> Told {
-    match &reply.answer {
+fn told_of(answer: &Answer) -> Told {
+    match answer {
         Answer::No(refusal) => Told::No(*refusal),
         Answer::Market { gross, .. } => Told::Gross(*gross),
         Answer::Own { out, into, .. } => Told::Own(*out, *into),
+        Answer::NoNext => Told::NoNext,
         _ => Told::Done,
+    }
+}
+
+/// Whether the answer is what a step tells.
+fn is_answer(answer: &Answer, told: &Told) -> bool {
+    match (told, answer) {
+        (Told::Entry(at, wanted), Answer::EntryBytes { position, bytes }) => {
+            position == at && bytes.rows() == *wanted
+        }
+        _ => told_of(answer) == *told,
     }
 }
 
 /// Whether a house tells this step as it stands.
 fn is_told(rt: &impl Abort, alloc: Global, house: &mut House<MemoryDisk>, step: &Step) -> bool {
-    let (party, said, at, told) = *step;
-    let Some(what) = what_of(rt, alloc, party, said) else {
+    let (party, said, at, told) = step;
+    let Some(what) = what_of(rt, alloc, *party, *said) else {
         return false;
     };
-    let by = Some(name_of(party));
+    let by = Some(name_of(*party));
     let moment = Moment::new(1_774_958_400);
     let reply = house.call(0, Ask { by, what, moment });
-    reply.at == at && told_of(&reply) == told
+    reply.at == *at && is_answer(&reply.answer, told)
 }
 
 /// Whether a house tells these steps as they stand.

@@ -37,6 +37,8 @@ mod houses;
 #[cfg(test)]
 mod lives;
 #[cfg(test)]
+mod offers;
+#[cfg(test)]
 mod openings;
 #[cfg(test)]
 mod pools;
