@@ -1,26 +1,32 @@
 -- What a standby that compared its last entry knows of its primary.
-use Rattle.std.proofs.Common.{◌≡◌, ℕ, true, List, [], ◌∷◌, ◌++◌, None, Ok, sym, ap, ◌∙◌, subst, inl, inr}
+use Rattle.std.proofs.Common.{◌≡◌, ◌⊎◌, ℕ, true, List, [], ◌∷◌, ◌++◌, None, Ok, Err, sym, ap, ◌∙◌, subst, inl, inr}
 use Rattle.std.proofs.lemmas.Bool.{false≢true}
 use Rattle.command_types.specs.declared.answer.Answer.TheVariants as answers
 use Rattle.command_types.specs.declared.ask.Entry.{Entry}
 use Rattle.command_types.specs.Details.{reply_text}
 use Rattle.command_types.specs.Roster.{Rows}
 use Rattle.house.specs.House.{HouseView}
+use Rattle.standby_wire.specs.Seen.{Seen}
 use Rattle.standby_wire.specs.Laws.{OnlyTheSameIsRead, WritingIsRead, RefusalsAreRead}
 use Rattle.standby_wire.specs.Replies.{reply_to}
 use Rattle.standby_wire.specs.Replied.{Replied, AreRead}
 use Rattle.standby_wire.specs.Taking.{Pending}
 use Rattle.standby_wire.specs.declared.reply.Question.{Question}
 use Rattle.standby_wire.specs.declared.reply.Question.TheVariants.{Hello, Again}
+use Rattle.standby_wire.specs.declared.reply.Reply.{Reply}
 use Rattle.standby_wire.specs.declared.reply.Reply.TheVariants as replies
 use Rattle.standby_link.specs.Compared.{AreReply, AsksAgain, ComesTo, Compares, HasNone, IsLastOf}
 use Rattle.standby_link.specs.Laws.{Answers, AreAnswers, HasAlike, ForksAreSeen}
 use Rattle.standby_link.specs.declared.comparing.TheConstants.{GONE}
 use Rattle.standby_link.proofs.AnswerFacts.{read_one}
 
+abbrev reply_in : Seen Reply → Reply
+reply_in (Ok read) = read.0
+reply_in (Err stop) = replies.Greeted
+
 module _ (writing : WritingIsRead) (only : OnlyTheSameIsRead) (refusals : RefusalsAreRead) (rows : Rows) (entries : List Entry) where
-  refused_not : (number : ℕ) (rest behind : List ℕ) → Ok (replies.Refused number, rest) ≡ Ok (replies.Same, behind) → ⊥
-  refused_not number rest behind is = absurd cc
+  refused_not : (number : ℕ) (rest behind : List ℕ) → ◌≡◌ {A = Seen Reply} (Ok (replies.Refused number, rest)) (Ok (replies.Same, behind)) → ⊥
+  refused_not number rest behind is = let e : replies.Refused number ≡ replies.Same = ap reply_in is in absurd cc
 
   -- what is read as the same entry is the primary's
   alike : (position : ℕ) (bytes text rest behind : List ℕ) → Answers rows entries (Again position bytes) text
@@ -59,6 +65,6 @@ forks_seen writing only refusals login first now old new end f roster primary wr
 
     by_compared : Compares login old f.hearing f.asked f.replied None
         → (position : ℕ) × (bytes : List ℕ) × IsLastOf old position bytes × (HasAlike primary position bytes ⊎ AreReply position bytes f.replied (replies.Refused GONE))
-    by_compared (inl (none, unread, inl no)) = absurd (false≢true (sym no ∙ compares))
+    by_compared (inl (none, unread, inl off)) = absurd (false≢true (sym off ∙ compares))
     by_compared (inl (none, unread, inr nothing)) = absurd (some nothing)
     by_compared (inr (does, asks)) = (asks.position, asks.bytes, asks.last, by_reply asks.position asks.bytes asks.came)
