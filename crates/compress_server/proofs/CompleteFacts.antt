@@ -178,7 +178,7 @@ module _ (files files' : FilesState) (output output' : OutputState) (no_files : 
 module _ (standby : Standby) (files files' : FilesState) (before after : Streams) (disk left : DiskState)
     (no_files : Rose files.faults files'.faults → ⊥) (no_input : Rose before.input.faults after.input.faults → ⊥) (no_output : Rose before.output.faults after.output.faults → ⊥) (no_disk : Rose disk.faults left.faults → ⊥) where
   -- a standby that followed
-  followed_answered : (v w : HouseView) (end : FollowEnd) → (is_stopped w ≡ true → Rose disk.faults left.faults) → Follows standby before after v w end
+  followed_answered : (v w : HouseView) (end : FollowEnd) → (is_stopped w ≡ true → Rose disk.faults left.faults) → Follows standby before after left v w end
       → IsAnswered files (Form.Follow standby) (status_of (standby_end (standbys.Followed end)))
   followed_answered v w follows.Caught stops is = inl refl
   followed_answered v w (follows.Refused number) stops is = inr (inr (inr (inr (inl refl))))

@@ -14,3 +14,4 @@ pub mod ReplayFacts
 pub mod RollFacts
 pub mod AnsweredFacts
 pub mod IdleFacts
+pub mod StandbyFacts

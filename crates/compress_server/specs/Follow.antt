@@ -1,6 +1,6 @@
 -- How a standby ends.
 use Rattle.std.specs.Prelude.{◌≡◌, ℕ, List, [], ◌∷◌, Some}
-use Rattle.house.specs.House.{HouseView}
+use Rattle.house.specs.House.{HouseView, Keeps}
 use Rattle.standby.specs.Following.{EndsSo}
 use Rattle.standby.specs.declared.follow.FollowEnd.{FollowEnd}
 use Rattle.standby.specs.declared.follow.FollowEnd.TheVariants as follows
@@ -46,15 +46,17 @@ link_of streams = record {
   sink_faults = streams.output.faults;
 }
 
--- From v to w, a house followed a primary over the input and the output, up to this end.
-pub record Follows (standby : Standby) (before after : Streams) (v w : HouseView) (end : FollowEnd) : Type 0 where
+-- From v to w, a house followed a primary over the input and the output, up to this end, and this is left of its disk.
+pub record Follows (standby : Standby) (before after : Streams) (left : DiskState) (v w : HouseView) (end : FollowEnd) : Type 0 where
   pub over : FollowsOver (login_of standby) (link_of before) (link_of after) v w end
   pub counted : IsCounted (link_of before) (link_of after) end
   pub ends : EndsSo v w (Some end)
+  pub keeps : Keeps v
+  pub disk : left.history ≡ w.disk
 
 -- by the end of a standby
 module _ (standby : Standby) (files files' : FilesState) (before after : Streams) (disk left : DiskState) where
   abbrev pub StandbyRuns : StandbyEnd → Type 0
   StandbyRuns (Unloaded fault) = (after ≡ before) × (left ≡ disk) × IsRosterUnread files files' standby.roster fault
   StandbyRuns (Unopened fault) = (after ≡ before) × OverRoster files.folder standby.roster (λ rows. OpeningFails rows disk left fault)
-  StandbyRuns (Followed end) = OverJournal files.folder standby.roster disk left (λ v w. Follows standby before after v w end)
+  StandbyRuns (Followed end) = OverJournal files.folder standby.roster disk left (λ v w. Follows standby before after left v w end)

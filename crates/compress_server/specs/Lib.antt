@@ -15,6 +15,7 @@ pub mod Told
 pub mod Replay
 pub mod Roll
 pub mod Follow
+pub mod StandbyLaws
 pub mod Ending
 pub mod Telling
 pub mod Complete

@@ -1,9 +1,12 @@
-//! The laws on statuses and on lines, the contracts of functions that do nothing.
+//! The laws on statuses, on lines and on standbys, the contracts of functions that do nothing.
 ghost use Rattle.compress_server.specs.Answered.{ScriptsAreAnswered, ServicesAreAnswered};
 ghost use Rattle.compress_server.specs.Complete.{AnswersWhatItCan};
+ghost use Rattle.compress_server.specs.StandbyLaws.{StandbysHoldPrefixes, StandbysLeaveSoundWorlds};
 ghost use Rattle.compress_server.specs.Telling.{StatusesTellTheEnd};
 
 use doors::Listener;
+use standby::folds_keep_the_list;
+use standby_link::crashes_leave_sound_worlds;
 
 /// The status that is told of an end is the end's, or that of want of memory where there was none for its line.
 pub fn statuses_tell_the_end()
@@ -11,7 +14,7 @@ pub fn statuses_tell_the_end()
 {}
 
 /// Where the words are in form and nothing outside fails, the status is 0; or 1 of a check, 3 where a file of the form has a fault, 7
-/// of a journal that is damaged, 8 of a script at its limit, or 9.
+/// of a journal that is damaged, 8 of a script at its limit, 12 to 14 of a standby that can't go on, 15 of a refused roll, or 9.
 pub fn answers_what_it_can<L: Listener>()
     ensures { AnswersWhatItCan L.Door.visits }
 {}
@@ -24,3 +27,20 @@ pub fn every_line_is_answered<L: Listener>()
     ensures scripts { ScriptsAreAnswered L.Door.visits }
     ensures services { ServicesAreAnswered L.Door.visits }
 {}
+
+/// Where the journal of a standby stood for a prefix of the entries of a primary, and it read what that primary sent at any time, what a
+/// crash at any moment of its run leaves stands for a prefix again.
+pub fn standbys_hold_prefixes()
+    ensures { StandbysHoldPrefixes }
+{
+    folds_keep_the_list();
+}
+
+/// And, since its house was opened, for at least as many entries as each number that it had said by then: the next run begins in a sound
+/// world.
+pub fn standbys_leave_sound_worlds()
+    ensures { StandbysLeaveSoundWorlds }
+{
+    folds_keep_the_list();
+    crashes_leave_sound_worlds();
+}

@@ -21,5 +21,8 @@ mod serve;
 mod solve;
 mod top;
 
-pub use laws::{answers_what_it_can, every_line_is_answered, statuses_tell_the_end};
+pub use laws::{
+    answers_what_it_can, every_line_is_answered, standbys_hold_prefixes,
+    standbys_leave_sound_worlds, statuses_tell_the_end,
+};
 pub use top::run;

@@ -1,11 +1,6 @@
 use Rattle.std.proofs.Common.{refl}
-use Rattle.compress_server.proofs.HousedFacts.{housed, runs_yet}
+use Rattle.compress_server.proofs.HousedFacts.{housed}
 use Rattle.compress_server.proofs.following.run_follow.Goals as goal
-
-pub follow-end-requires-clause-runs : goal.follow-end-requires-clause-runs
-follow-end-requires-clause-runs g c =
-    let at = c.in-Ok-open_house in
-    runs_yet c.in-Ok.roster (g.D.Disk.history c.args.disk) (g.D.Disk.fault_count c.args.disk) at.house at.ensures.opened
 
 pub returns-clause-runs : goal.returns-clause-runs
 returns-clause-runs g c =
@@ -18,8 +13,23 @@ returns-clause-runs g c =
     let v = c.in-Ok-open_house.house in
     let w = c.follow-end.new.house in
     let e = c.follow-end.ensures in
-    let over = housed rows was left n count are v w c.in-Ok-open_house.ensures.opened c.in-Ok-open_house.ensures.keeps c.end.ensures.keeps e.figures c.end.ensures.disk c.end.ensures.faults in
-    (rows, c.in-Ok.ensures.says, are, (v, w, over, record { over = e.follows; counted = e.counted; ends = e.ends }))
+    let over = housed rows was left n count are v w c.in-Ok-open_house.ensures.opened c.in-Ok-open_house.ensures.keeps c.end.ensures.keeps e.figures c.end.ensures.disk c.end.ensures.faults in (
+      rows,
+      c.in-Ok.ensures.says,
+      are,
+      (
+        v,
+        w,
+        over,
+        record {
+          over = e.follows;
+          counted = e.counted;
+          ends = e.ends;
+          keeps = c.in-Ok-open_house.ensures.keeps;
+          disk = c.end.ensures.disk;
+        },
+      ),
+    )
 
 -- no house was opened
 pub returns-in-Err-open_house-clause-runs : goal.returns-in-Err-open_house-clause-runs
