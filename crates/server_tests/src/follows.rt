@@ -70,7 +70,7 @@ const ENDS: &[Trial<'static>] = &[
     },
     Trial {
         input: WHOLE,
-        disk: b"OTCJRNL1\x07\0",
+        disk: b"OTCJRNL1\x01\x19",
         status: 7,
         output: Text::Is(b""),
         errors: b"damaged at 8\n",
