@@ -1,6 +1,7 @@
 """A `serve` of the program that was built, for the tests."""
 
 import os
+import random
 import re
 import signal
 import socket
@@ -9,7 +10,7 @@ import sys
 import tempfile
 import unittest
 from pathlib import Path
-from typing import Callable, NamedTuple
+from typing import Callable, NamedTuple, Sequence
 
 from running import EXAMPLES, PATIENCE, TOOLS, Ran, program, run
 
@@ -18,6 +19,10 @@ sys.path.insert(0, str(TOOLS))
 from delkwoan.session import Session
 
 ROSTER = EXAMPLES / "roster.csv"
+PORTS_OF_CLIENTS = Path("/proc/sys/net/ipv4/ip_local_port_range")
+LEAST_PORT = 16_384
+"""Above the ports that services have names for."""
+TRIES = 100
 
 
 def has_serve(built: Path) -> bool:
@@ -33,13 +38,21 @@ def serving_program() -> Path:
 
 
 def free_port() -> int:
-    with socket.socket() as unbound:
-        unbound.bind(("127.0.0.1", 0))
-        port: int = unbound.getsockname()[1]
-        return port
+    """A port that is free, and that the system hands out to no client where there are such: so who is started again gets it again."""
+    first, last = map(int, PORTS_OF_CLIENTS.read_text().split())
+    ports = [*range(LEAST_PORT, first), *range(last + 1, 1 << 16)]
+    for port in [*random.sample(ports, min(len(ports), TRIES)), 0]:
+        with socket.socket() as unbound:
+            try:
+                unbound.bind(("127.0.0.1", port))
+            except OSError:
+                continue
+            found: int = unbound.getsockname()[1]
+            return found
+    raise AssertionError("no port is free")
 
 
-def started(words: list[str | Path], settings: dict[str, str] | None = None, limit: Callable[[], None] | None = None) -> subprocess.Popen[bytes]:
+def started(words: Sequence[str | Path], settings: dict[str, str] | None = None, limit: Callable[[], None] | None = None) -> subprocess.Popen[bytes]:
     """A program that is started without input, with these settings, and below a limit."""
     pipe = subprocess.PIPE
     return subprocess.Popen(words, stdin=subprocess.DEVNULL, stdout=pipe, stderr=pipe, env=settings, preexec_fn=limit)

@@ -16,6 +16,7 @@ FORMS: dict[str, list[str]] = {
     "gen": ["1"],
     "replay": ["T", "j"],
     "roll": ["T", "j", "N"],
+    "follow": ["T", "j", "OPS", "KO"],
 }
 OPTIONS: dict[str, dict[str, int]] = {
     "script": {"workers": 64},
@@ -25,6 +26,7 @@ OPTIONS: dict[str, dict[str, int]] = {
     "gen": {"workers": 64},
     "replay": {},
     "roll": {},
+    "follow": {},
 }
 """The options of each form, and the most that each may be."""
 
@@ -67,6 +69,8 @@ class Words(unittest.TestCase):
                 self.assert_out_of_form(form, f"--{name}=1", *words)
             if form != "roll":
                 self.assert_out_of_form(form, *words, "--matured", "2027-03-01")
+            if form != "follow":
+                self.assert_out_of_form(form, *words, "--compare")
 
     def test_days_of_a_roll(self) -> None:
         words = ["roll", *FORMS["roll"]]
@@ -75,6 +79,13 @@ class Words(unittest.TestCase):
             self.assert_out_of_form(*words, "--matured", day)
             self.assert_out_of_form(*words, f"--matured={day}")
         self.assert_out_of_form(*words, "--matured", "2027-03-01", "--matured=2027-03-01")
+
+    def test_names_of_a_standby(self) -> None:
+        for bad in ["", "ops", "A" * 17, "A B", "Ä", "A_B"]:
+            self.assert_out_of_form("follow", "T", "j", bad, "KO")
+            self.assert_out_of_form("follow", "T", "j", "OPS", bad)
+        for options in (["--compare", "--compare"], ["--compare=yes"], ["--compare="], ["--compare", "yes"]):
+            self.assert_out_of_form("follow", *FORMS["follow"], *options)
 
     def test_a_word_that_is_no_text(self) -> None:
         for form, words in FORMS.items():

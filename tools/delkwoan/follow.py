@@ -1,0 +1,101 @@
+"""The command compress-follow: keeps a standby of a service, which has each change on a disk of its own.
+
+    compress-follow --connect HOST:PORT ROSTER JOURNAL NAME KEY-FILE [--pause MILLISECONDS] [--behind FILE] [--seed FILE] [--compare]
+        [--program FILE]
+
+It stands between `compress_cli follow`, which keeps the journal, and the service, its primary: it asks the primary anew where that has
+nothing more, and connects anew where the connection breaks. It ends where it is told to by SIGTERM or SIGINT, with 0 where the standby
+has all that the primary has; or where the program ends, with its status.
+"""
+
+import os
+import re
+import selectors
+from argparse import Namespace
+from typing import NoReturn
+
+from .address import named_address
+from .behind import Behind
+from .client import found_program
+from .ending import Stop, read_file, run
+from .following import Following, Manner
+from .placing import locked
+from .primary import Primary
+from .seed import seed
+from .standby import Standby
+from .words import Once, Words, flag, text
+
+MOST_PAUSE = 60_000
+PAUSE = 20
+KEY = re.compile(rb"([A-Z0-9-]{1,16})\r?\n?")
+
+
+def milliseconds(word: str) -> int:
+    if not (word.isascii() and word.isdigit() and len(word) <= len(str(MOST_PAUSE)) and 0 < int(word) <= MOST_PAUSE):
+        raise ValueError(word)
+    return int(word)
+
+
+def words() -> Words:
+    parser = Words(
+        "compress-follow",
+        "Keeps a standby of a service: each change is asked of the service, and has its place in a journal here as soon as it is there. "
+        "The standby becomes a service by `compress_cli serve` over its journal.",
+        ["[--pause MILLISECONDS] [--behind FILE] [--seed FILE] [--compare] [--program FILE] --connect HOST:PORT ROSTER JOURNAL NAME KEY-FILE"],
+    )
+    parser.add_argument("--connect", metavar="HOST:PORT", action=Once, type=named_address, help="where the service listens")
+    pause = f"how long to wait before a service that has nothing more is asked again, from 1 to {MOST_PAUSE}; {PAUSE} where it is absent"
+    parser.add_argument("--pause", metavar="MILLISECONDS", action=Once, type=milliseconds, help=pause)
+    parser.add_argument("--behind", metavar="FILE", action=Once, type=text, help="tell in this file how far the standby is behind")
+    seeded = "the service's journal, as a copy of which the standby's begins where that is not there or empty"
+    parser.add_argument("--seed", metavar="FILE", action=Once, type=text, help=seeded)
+    flag(parser, "--compare", "ask for the last change again at the start and over each new connection, and end where it is another one")
+    parser.add_argument("--program", metavar="FILE", action=Once, help="the program that keeps the journal")
+    parser.add_argument("roster", metavar="ROSTER", type=text, help="the roster of the service")
+    parser.add_argument("journal", metavar="JOURNAL", type=text, help="the standby's journal; it is made where there is none")
+    parser.add_argument("name", metavar="NAME", type=text, help="the operator's name")
+    parser.add_argument("key", metavar="KEY-FILE", type=text, help="a file whose one line is the operator's key")
+    return parser
+
+
+def read_words(line: list[str]) -> Namespace:
+    parser = words()
+    given = parser.parse_args(line)
+    if given.connect is None:
+        parser.error("no service")
+    return given
+
+
+def key_of(name: str) -> bytes:
+    """The key that a file has."""
+    found = KEY.fullmatch(read_file(name, 64))
+    if found is None:
+        raise Stop(3, "key row 1: bad-name")
+    return found[1]
+
+
+def standby_of(given: Namespace, program: str, selector: selectors.BaseSelector) -> Standby:
+    """The program over the journal, which nobody else may have."""
+    if os.path.isfile(given.journal):
+        locked(given.journal).close()
+    options = ["--compare"] if given.compare else []
+    # (a key on a command line is seen by all who use the machine: the name stands for it, and the greeting goes out from here)
+    return Standby([program, "follow", *options, "--", given.roster, given.journal, given.name, given.name], selector)
+
+
+def main(line: list[str]) -> int:
+    given = read_words(line)
+    program = given.program or found_program()
+    greeting = b"HELLO %s %s\n" % (given.name.encode(), key_of(given.key))
+    behind = Behind(given.behind)
+    if given.seed is not None:
+        seed(given.seed, given.journal)
+    selector = selectors.DefaultSelector()
+    standby = standby_of(given, program, selector)
+    manner = Manner(greeting, (given.pause or PAUSE) / 1000, given.compare)
+    Following(standby, Primary(given.connect, selector), behind, manner).run()
+    return 0
+
+
+def command() -> NoReturn:
+    run(main)
