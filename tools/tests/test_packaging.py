@@ -12,7 +12,8 @@ import unittest
 from pathlib import Path
 
 from running import EXAMPLES, PATIENCE, ROOT, TOOLS, Ran, program, run
-from serving import InService, has_serve
+from serving import InService, has_serve, started
+from standing import WithStandby
 from test_journal import ONE, WHOLE
 
 sys.path.insert(0, str(TOOLS))
@@ -21,8 +22,8 @@ from delkwoan import __version__
 
 PACKAGING = ROOT / "packaging"
 HUB = [str(EXAMPLES / "hub-roster.csv"), str(EXAMPLES / "hub-trades.csv"), "hybrid", str(EXAMPLES / "hub-proposal.txt")]
-TOOL_FILES = ["audit", "check_mine", "check_proposal", "client", "compress_many", "gateway", "journal", "public_roster", "report", "roll", "wait-ready"]
-COMMANDS = ["compress-audit", "compress-check-mine", "compress-check-proposal", "compress-client", "compress-gateway"]
+TOOL_FILES = ["audit", "check_mine", "check_proposal", "client", "compress_many", "follow", "gateway", "journal", "public_roster", "report", "roll", "wait-ready"]
+COMMANDS = ["compress-audit", "compress-check-mine", "compress-check-proposal", "compress-client", "compress-follow", "compress-gateway"]
 COMMANDS += ["compress-journal", "compress-many", "compress-public-roster", "compress-report", "compress-roll", "compress-wait-ready", "compress_cli"]
 
 TYPED: list[tuple[list[str], list[str]]] = [
@@ -50,6 +51,8 @@ TYPED: list[tuple[list[str], list[str]]] = [
     (["compress-client", "-"], ["--about", "--connect", "--program", "--raw"]),
     (["compress-client", "--connect", ""], []),
     (["compress-client", "--connect", "127.0.0.1:7000", "rost"], ["roster.csv"]),
+    (["compress-follow", "-"], ["--behind", "--compare", "--connect", "--pause", "--program", "--seed"]),
+    (["compress-follow", "--compare", "--seed", "x", "a", "b", "OPS", "hub-r"], ["hub-roster.csv"]),
     (["compress-gateway", "--c"], ["--certificate", "--clients"]),
     (["compress-gateway", "--key", "rost"], ["roster.csv"]),
     (["compress-wait-ready", ""], []),
@@ -163,7 +166,7 @@ class Pages(Made):
             for option in set(re.findall(r"^  --(\w+)", shown.output.decode(), re.MULTILINE)) - {"version"}:
                 self.assertRegex(page, rf"(?m)^\.It Fl -{option}\b")
                 told += 1
-        self.assertEqual(told, 28)
+        self.assertEqual(told, 34)
 
     def test_the_programs_forms_are_those_of_its_page(self) -> None:
         page = (PACKAGING / "man/compress_cli.1").read_text()
@@ -271,7 +274,7 @@ class Types(unittest.TestCase):
         self.assertEqual((ran.status, ran.errors), (0, b""), ran.output)
 
 
-UNITS = ["delkwoan.service", "delkwoan-gateway.service", "delkwoan-restart.service", "delkwoan-restart.timer"]
+UNITS = ["delkwoan.service", "delkwoan-gateway.service", "delkwoan-restart.service", "delkwoan-restart.timer", "delkwoan-standby.service"]
 
 
 def settings_of(unit: Path, name: str) -> list[str]:
@@ -288,7 +291,7 @@ class Unit(Made):
         need("systemd-analyze")
         prefix = self.folder / "prefix"
         (prefix / "bin").mkdir(parents=True)
-        for name in ("compress_cli", "compress-gateway", "compress-wait-ready"):
+        for name in ("compress_cli", "compress-follow", "compress-gateway", "compress-wait-ready"):
             shutil.copy2(self.program, prefix / "bin" / name)
         self.assertEqual(run([PACKAGING / "generate", "--prefix", prefix, self.made]), Ran(0, b"", b""))
         units = [self.made / name for name in UNITS]
@@ -308,10 +311,19 @@ class Unit(Made):
 
     def test_statuses_are_those_of_the_table(self) -> None:
         """No other start where a person is wanted: statuses of the operator's table, and that of a missing credential."""
-        (kept,) = settings_of(self.unit, "RestartPreventExitStatus")
         table = (ROOT / "docs/OPERATIONS.md").read_text()
-        for status in kept.split():
-            self.assertTrue(f"\n| {status} | `" in table or status == "243", status)
+        for unit in (self.unit, self.made / "delkwoan-standby.service"):
+            (kept,) = settings_of(unit, "RestartPreventExitStatus")
+            for status in kept.split():
+                self.assertTrue(f"\n| {status} | `" in table or status == "243", status)
+
+
+def commands_of(unit: Path, name: str, values: dict[str, object]) -> list[list[str]]:
+    """The unit's commands of a kind, as systemd would make them of these values and the unit's own."""
+    (defaults,) = settings_of(unit, "Environment")
+    given: dict[str, object] = {**dict(setting.split("=", 1) for setting in defaults.split()), **values}
+    lines = [line.removeprefix("-").split() for line in settings_of(unit, name)]
+    return [[re.sub(r"\$\{?(\w+)\}?", lambda found: str(given[str(found[1])]), word) for word in line] for line in lines]
 
 
 class UnitServes(InService):
@@ -326,24 +338,38 @@ class UnitServes(InService):
         (root / "bin/compress-wait-ready").symlink_to(TOOLS / "wait-ready")
         self.assertEqual(run([PACKAGING / "generate", "--prefix", root, made]), Ran(0, b"", b""))
         unit = made / "delkwoan.service"
-        (defaults,) = settings_of(unit, "Environment")
-        values: dict[str, object] = {**dict(setting.split("=", 1) for setting in defaults.split())}
-        values |= {"CREDENTIALS_DIRECTORY": credentials, "STATE_DIRECTORY": state, "ADDRESS": self.address}
-        values |= {"SEATS": 2, "IDLE": 3}
-
-        def commands(name: str) -> list[list[str]]:
-            lines = [line.removeprefix("-").split() for line in settings_of(unit, name)]
-            return [[re.sub(r"\$\{(\w+)\}", lambda found: str(values[str(found[1])]), word) for word in line] for line in lines]
-
-        (start,) = commands("ExecStart")
+        values: dict[str, object] = {"CREDENTIALS_DIRECTORY": credentials, "STATE_DIRECTORY": state, "ADDRESS": self.address, "SEATS": 2, "IDLE": 3}
+        (start,) = commands_of(unit, "ExecStart", values)
         self.service = subprocess.Popen(start, stdout=subprocess.PIPE, stderr=subprocess.PIPE)
-        for command in commands("ExecStartPost"):
+        for command in commands_of(unit, "ExecStartPost", values):
             self.assertEqual(run(command), Ran(0, b"", b""))
         self.assertEqual([path.name for path in state.iterdir()], ["journal"])
         with socket.create_connection(("127.0.0.1", self.port), PATIENCE) as silent:
             self.assertEqual(silent.recv(64), b"")
         self.service.terminate()
         self.assertEqual(self.service.communicate(timeout=PATIENCE), (b"", b""))
+
+
+class StandbyUnit(WithStandby):
+    """The command of the standby's unit, with the program that was built."""
+
+    def test_its_command(self) -> None:
+        root, state, credentials, made = (self.folder / name for name in ("root", "state", "credentials", "made"))
+        for folder in (state, credentials, root / "bin"):
+            folder.mkdir(parents=True)
+        shutil.copyfile(EXAMPLES / "roster.csv", credentials / "roster")
+        shutil.copyfile(self.key, credentials / "key")
+        (root / "bin/compress-follow").symlink_to(TOOLS / "follow")
+        self.assertEqual(run([PACKAGING / "generate", "--prefix", root, made]), Ran(0, b"", b""))
+        values: dict[str, object] = {"CREDENTIALS_DIRECTORY": credentials, "STATE_DIRECTORY": state, "PRIMARY": self.address}
+        (command,) = commands_of(made / "delkwoan-standby.service", "ExecStart", values)
+        self.start()
+        self.trade(10, 20)
+        self.standby, self.behind = state / "journal", state / "behind"
+        self.following = started(command, {**os.environ, "COMPRESS_CLI": str(self.program)})
+        self.wait_for(2)
+        self.assertEqual(self.stopped(), Ran(0, b"", b""))
+        self.assertEqual(sorted(path.name for path in state.iterdir()), ["behind", "journal"])
 
 
 class Completion(Made):
