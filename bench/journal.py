@@ -1,8 +1,9 @@
 #!/usr/bin/env python3
-"""journal.py FILE BYTES
+"""journal.py FILE BYTES [MOMENT]
 
 Writes a journal of at most so many bytes for the roster examples/roster.csv: two live trades of A and B, and then HOLD and
-FREE of both by either, again and again, in records of 20 bytes with their frames. Says how many records it has.
+FREE of both by either, again and again, in records of 20 bytes with their frames; where a MOMENT is given, behind a turn and of
+28 bytes, of this moment. Says how many records it has.
 """
 
 import struct
@@ -13,17 +14,21 @@ def name(text: bytes) -> bytes:
     return bytes([len(text)]) + text
 
 
-def frame(by: bytes, tag: int, fields: bytes) -> bytes:
-    record = struct.pack("<I", 0) + name(by) + bytes([tag]) + fields
+def frame(record: bytes) -> bytes:
     return b"\x01" + struct.pack("<I", len(record)) + record
 
 
-def main(path: str, most: int) -> None:
+def main(path: str, most: int, *moments: str) -> None:
+    dated = b"".join(struct.pack("<Q", int(moment)) for moment in moments)
+
+    def change(by: bytes, tag: int, fields: bytes) -> bytes:
+        return frame(dated + struct.pack("<I", 0) + name(by) + bytes([tag]) + fields)
+
     trade = name(b"A") + name(b"B") + name(b"P") + struct.pack("<Q", 10) + struct.pack("<HBB", 2026, 3, 2)
-    start = b"OTCJRNL1"
+    start = b"OTCJRNL1" + (frame(b"MOMENTS2") if moments else b"")
     for number in (1, 2):
-        start += frame(b"A", 1, trade) + frame(b"B", 2, struct.pack("<Q", number))
-    turn = b"".join(frame(by, tag, struct.pack("<Q", number)) for number in (1, 2) for by in (b"A", b"B") for tag in (4, 5))
+        start += change(b"A", 1, trade) + change(b"B", 2, struct.pack("<Q", number))
+    turn = b"".join(change(by, tag, struct.pack("<Q", number)) for number in (1, 2) for by in (b"A", b"B") for tag in (4, 5))
     turns = (most - len(start) - 1) // len(turn)
     with open(path, "wb") as file:
         file.write(start)
@@ -34,4 +39,4 @@ def main(path: str, most: int) -> None:
 
 
 if __name__ == "__main__":
-    main(sys.argv[1], int(sys.argv[2]))
+    main(sys.argv[1], int(sys.argv[2]), *sys.argv[3:4])
