@@ -16,7 +16,7 @@ use Rattle.command_types.specs.declared.figures.State.{State}
 use Rattle.command_types.specs.Machine.{answer_to, first_of}
 use Rattle.command_types.specs.History.{end_of, longer, recorded, is_recorded, replayed}
 use Rattle.command_types.specs.Sizes.{journal_limit, frame_size}
-use Rattle.command_types.specs.Told.{IsTold, house_refusals}
+use Rattle.command_types.specs.Told.{is_accept, IsTold, house_refusals}
 use Rattle.command_types.specs.Offers.{answer_at, first_behind, with_entries}
 use Rattle.command_types.proofs.HistoryFacts.{told_memory, told_read}
 use Rattle.cycle_states.specs.Offers.{open_ask}
@@ -26,6 +26,7 @@ use Rattle.house.specs.House.{HouseView, JournalNow, figures_of, first_of as fir
 use Rattle.house.specs.Calling.{is_disk_fault, Calls, IsFilled}
 use Rattle.house.proofs.StoringFacts.{still, stored_now}
 use Rattle.house.proofs.StopFacts.{machine_plain}
+use Rattle.house.proofs.VoteFacts.{asks_no_vote}
 use Rattle.house.proofs.ToldFacts.{first_full, first_stopped, told_by_journal, no_refusal_recorded, room_told}
 
 pub none_of : {A : Type 0} (o : Option A) → is_some o ≡ false → o ≡ None
@@ -83,19 +84,19 @@ with_plain base entries (Proof cycle) (ProofRows head rows) plain = refl
 with_plain base entries what machine plain = plain
 
 module _ (s : State) (now : JournalNow) (v : HouseView) (house : IsHouse s now v) (seat : ℕ) (ask : Ask) where
-  -- there is no memory
-  pub memory_call : (at : ℕ) (reply : Reply) → at ≡ end_of v.history → reply ≡ record { at = at; answer = No Memory } → Calls v v seat ask reply
-  memory_call at reply place is =
+  -- there is no memory, for a command that is no ACCEPT
+  pub memory_call : (at : ℕ) (reply : Reply) → is_accept ask.what ≡ false → at ≡ end_of v.history → reply ≡ record { at = at; answer = No Memory } → Calls v v seat ask reply
+  memory_call at reply no_vote place is =
       let told_at : reply.at ≡ end_of v.history = ap (λ (r : Reply). r.at) is ∙ place in
       let answer : reply.answer ≡ No Memory = ap (λ (r : Reply). r.answer) is in
-      unchanged v seat ask reply house.keeps told_at (told_memory (figures_of v) (is_stopped v) (is_stopped v) v.history seat ask reply told_at (record { same = answer; takes = λ vote. refl }))
+      unchanged v seat ask reply house.keeps told_at (told_memory (figures_of v) (is_stopped v) (is_stopped v) v.history seat ask reply told_at (record { same = answer; takes = λ vote. absurd (false≢true (sym no_vote ∙ vote)) }))
       (ap (λ a. is_recorded ask.what a) answer ∙ no_refusal_recorded ask Memory) (ap is_disk_fault answer)
 
   -- the machine refuses the command, or it is a read, and the history is told in its answer
   pub read_call : (at : ℕ) (machine answer : Answer) → at ≡ end_of v.history → machine ≡ answer_to s ask → is_recorded ask.what machine ≡ false → IsFilled v.history (open_ask ask.what) machine answer
       → Calls v v seat ask (record { at = at; answer = answer })
   read_call at machine answer place answers unrecorded (inl memory) =
-      memory_call at (record { at = at; answer = answer }) place (ap (λ (a : Answer). record { at = at; answer = a }) memory)
+      memory_call at (record { at = at; answer = answer }) (asks_no_vote ask.what memory.1) place (ap (λ (a : Answer). record { at = at; answer = a }) memory.0)
   read_call at machine answer place answers unrecorded (inr tells) =
       let h = v.history in
       let is : answer ≡ with_entries h.base h.entries ask.what machine = tells ask.what refl in

@@ -5,6 +5,7 @@ pub mod StopFacts
 pub mod ToldFacts
 pub mod ChronicleFacts
 pub mod OfferFacts
+pub mod VoteFacts
 pub mod CallingFacts
 pub mod ChangeFacts
 pub mod ReplayFacts

@@ -1,5 +1,5 @@
 -- Which change of a history began a version last, with one change more.
-use Rattle.std.proofs.Common.{◌≡◌, ℕ, ◌+◌, true, false, cond, List, [], ◌∷◌, ◌++◌, length, sym, ◌∙◌, ap}
+use Rattle.std.proofs.Common.{◌≡◌, ◌+◌, true, false, cond, List, [], ◌∷◌, ◌++◌, length, sym, ◌∙◌, ap}
 use Rattle.command_types.specs.declared.ask.Entry.{Entry}
 use Rattle.command_types.specs.Offers.{is_begin, last_begin}
 use Rattle.command_types.proofs.OfferFacts.{last_begin_on}

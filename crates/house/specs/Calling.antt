@@ -1,5 +1,5 @@
 -- What a call of a house leaves.
-use Rattle.std.specs.Prelude.{◌≡◌, ◌⊎◌, ℕ, ◌≤◌, not, ◌||◌, Bool, true, false, IsTrue, Some}
+use Rattle.std.specs.Prelude.{◌≡◌, ◌≢◌, ◌⊎◌, ℕ, ◌≤◌, not, ◌||◌, Bool, true, false, IsTrue, Some}
 use Rattle.command_types.specs.declared.ask.Ask.{Ask}
 use Rattle.command_types.specs.declared.answer.Answer.{Answer}
 use Rattle.command_types.specs.declared.answer.Answer.TheVariants.{No}
@@ -11,14 +11,16 @@ use Rattle.command_types.specs.Offers.{with_entries}
 use Rattle.command_types.specs.Told.{IsTold}
 use Rattle.cycle_states.specs.Offers.{open_ask}
 use Rattle.cycle_states.specs.declared.offers.OpenAsk.{OpenAsk}
+use Rattle.cycle_states.specs.declared.offers.OpenAsk.TheVariants as asks
 use Rattle.outside.specs.Faults.{Rose}
 use Rattle.journal_core.specs.Moments.{LeavesOnly}
 use Rattle.house.specs.Storing.{StandsForEither}
 use Rattle.house.specs.House.{HouseView, figures_of, is_stopped, Keeps}
 
--- the answer has what the history tells of a command that asks this of it, and that a machine answers so; or there was no memory for an entry
+-- the answer has what the history tells of a command that asks this of it, and that a machine answers so; or it asks for an entry, for
+-- which there was no memory
 abbrev pub IsFilled : History → OpenAsk → Answer → Answer → Type 0
-IsFilled h asked machine answer = (answer ≡ No Memory) ⊎ ((what : What) → open_ask what ≡ asked → answer ≡ with_entries h.base h.entries what machine)
+IsFilled h asked machine answer = ((answer ≡ No Memory) × (asked ≢ asks.Other)) ⊎ ((what : What) → open_ask what ≡ asked → answer ≡ with_entries h.base h.entries what machine)
 
 -- the disk failed in this call
 abbrev pub is_disk_fault : Answer → Bool

@@ -1,7 +1,6 @@
 -- When a house opens with the fold of the history for which its disk stands.
 use Rattle.std.specs.Prelude.{◌≡◌, ◌⊎◌, ℕ, ◌≤◌, List, length, Option, Some, None, Bool, true, false}
 use Rattle.units_core.specs.declared.limits.TheConstants.{MOST_NUMBER}
-use Rattle.command_types.specs.declared.spelling.Spelling.{Spelling}
 use Rattle.command_types.specs.declared.spelling.Spelling.TheVariants.{Second}
 use Rattle.command_types.specs.Bases.{base_spelling, spelling_behind, written}
 use Rattle.command_types.specs.Folds.{IsAtRest, folded}

@@ -1,5 +1,5 @@
 -- What contracts see of a house, and what it keeps.
-use Rattle.std.specs.Prelude.{◌≡◌, ℕ, ◌+◌, ◌≤◌, Bool, true, is_some, take, drop, length, Option, Some, None}
+use Rattle.std.specs.Prelude.{◌≡◌, ℕ, ◌+◌, ◌≤◌, Bool, true, false, is_some, take, drop, length, Option, Some, None}
 use Rattle.command_types.specs.declared.ask.Entry.{Entry}
 use Rattle.command_types.specs.declared.figures.Figures.{Figures}
 use Rattle.command_types.specs.declared.figures.JournalFigures.{JournalFigures}
@@ -27,7 +27,7 @@ pub record HouseView : Type 0 where
 
 -- what it was when it was made
 abbrev pub figures_of : HouseView → Figures
-figures_of v = record { base = v.history.base; opening = v.history.base.position + v.opening; journal = Some v.journal; votes_take_memory = true }
+figures_of v = record { base = v.history.base; opening = v.history.base.position + v.opening; journal = Some v.journal; votes_take_memory = false }
 
 -- a disk fault stopped it
 abbrev pub is_stopped : HouseView → Bool

@@ -3,6 +3,7 @@ pub mod Storing
 pub mod Folding
 pub mod Due
 pub mod Chronicle
+pub mod Pools
 pub mod House
 pub mod Opening
 pub mod Journals

@@ -11,7 +11,6 @@ use command_types::{Answer, Ask, Entry, Refusal, Reply};
 use cycle_states::{Decision, OpenAsk, filled, open_ask};
 use outside::Disk;
 use record_codec::length;
-use std::alloc::Global;
 
 // The reply that refuses a command.
 fn refused(at: u64, refusal: Refusal) -> Reply
@@ -25,7 +24,7 @@ fn refused(at: u64, refusal: Refusal) -> Reply
 
 // The machine's answer to a command that asks this of the history, with what the history tells in it, or that there is no memory
 // for an entry.
-fn told(alloc: Global, past: &Chronicle, asked: OpenAsk, answer: Answer) -> Answer
+fn told(past: &Chronicle, asked: OpenAsk, answer: Answer) -> Answer
     ensures { IsFilled past.now.history asked answer result }
 {
     match filled(answer, asked, past.places()) {
@@ -34,15 +33,15 @@ fn told(alloc: Global, past: &Chronicle, asked: OpenAsk, answer: Answer) -> Answ
             let OpenAsk::Next { position } = asked else {
                 unreachable!()
             };
-            past.entry_behind(alloc, position)
+            past.entry_behind(position)
         }
     }
 }
 
 impl<D: Disk> House<D> {
     /// Answers a command of this seat as the machine does. A change that the machine accepts is refused where the journal has
-    /// no room for it; where a disk fault stopped the house before; where there is no memory; and where the disk fails, which
-    /// stops the house. Else it is made once its record is on the disk.
+    /// no room for it; where a disk fault stopped the house before; where there is no memory, which never comes of an ACCEPT; and
+    /// where the disk fails, which stops the house. Else it is made once its record is on the disk.
     pub fn call(&mut self, seat: u32, ask: Ask) -> Reply
         ensures calls { Calls self.old self.new seat ask result }
         ensures short { end_of self.new.history < 2 ^ 63 }
@@ -52,7 +51,7 @@ impl<D: Disk> House<D> {
         let ready = match self.machine.decide(Entry { seat, ask }) {
             Err(_) => return refused(at, Refusal::Memory),
             Ok(Decision::Told(answer)) => {
-                let answer = told(self.alloc, &self.past, asked, answer);
+                let answer = told(&self.past, asked, answer);
                 return Reply { at, answer };
             }
             Ok(Decision::Ready(ready)) => ready,
@@ -65,10 +64,10 @@ impl<D: Disk> House<D> {
             return refused(at, Refusal::Stopped { at });
         }
         match store(
-            self.alloc,
             &mut self.machine,
             &mut self.past,
             &mut self.journal,
+            &mut self.short,
             ready,
         ) {
             Ok(answer) => Reply { at: at + 1, answer },

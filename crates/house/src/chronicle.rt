@@ -1,5 +1,5 @@
 //! The history of a house, and the records of its changes.
-ghost use Rattle.std.specs.Prelude.{◌≡◌, ◌⊎◌, ◌<◌, ◌≤◌, ◌+◌, ◌-◌, ◌^◌, [], ◌∷◌, List, length, drop, IsTrue, IfOk, OnOk, OnErr};
+ghost use Rattle.std.specs.Prelude.{◌≡◌, ◌⊎◌, ◌<◌, ◌≤◌, ◌+◌, ◌-◌, ◌^◌, [], ◌∷◌, length, drop, IsTrue, OnOk, OnErr};
 ghost use Rattle.command_types.specs.declared.answer.Answer.TheVariants.{No};
 ghost use Rattle.command_types.specs.declared.refusal.Refusal.TheVariants.{Memory};
 ghost use Rattle.command_types.specs.declared.spelling.Spelling.TheVariants.{Second};
@@ -8,45 +8,42 @@ ghost use Rattle.command_types.specs.Offers.{first_behind};
 ghost use Rattle.command_types.specs.Spelling.{Spells};
 ghost use Rattle.cycle_states.specs.Offers.{ArePlaces};
 ghost use Rattle.cycle_states.specs.Replayed.{IsReplayed, IsSmall};
-ghost use Rattle.recovery.specs.declared.entries.EntryAt.{EntryAt};
-ghost use Rattle.recovery.specs.Reading.{entries_in, file_of, HasRead, IsRead};
-ghost use Rattle.house.specs.Chronicle.{AreRecords};
+ghost use Rattle.house.specs.Chronicle.{AreRecords, HasVoteRoom};
+ghost use Rattle.house.specs.Pools.{HaveVotesRoom};
+ghost use Rattle.house.specs.declared.chronicle.TheConstants.{VOTES_ROOM};
 ghost use Rattle.house.specs.Folding.{MayBeFolded, opened_with};
 
 use crate::past::Past;
+use crate::pools::Pools;
 use command_types::{Answer, Entry, Listed, Refusal};
 use cycle_states::{Machine, Places};
 use record_pool::Pool;
-use recovery::Entries;
 use std::alloc::{AllocError, Global};
 use std::marker::Model;
 
-/// The records from which entries were read. The only error is want of memory.
-pub(crate) fn pool_of(alloc: Global, read: Entries) -> Result<Pool, AllocError>
-    requires { HasRead read }
-    ensures { IfOk result (λ pool. (list : List EntryAt) → IsRead (file_of read) list → AreRecords pool.changes (entries_in list)) }
-{
-    let (records, start) = read.into_records();
-    let pool = Pool::opened(alloc, records, start)?;
-    Ok(pool)
-}
+/// The bytes of a vote's record in memory: 46 at most, and the five of its frame.
+pub(crate) const VOTE_ROOM: u64 = 51;
+
+/// Those of the votes of 256 members.
+pub(crate) const VOTES_ROOM: u64 = 13_056;
 
 /// A history from any base on, and each change's record. Contracts see the history, and for how many more bytes of records, each
-/// with five more than it has, there is room.
+/// with five more than it has, there is room: while a plan is proposed, for the votes that are missing.
 #[derive(Drop)]
 pub(crate) struct Chronicle {
+    alloc: Global,
     past: Past,
     pool: Pool,
 }
 
 impl Model for Chronicle {
-    ghost use Rattle.house.specs.Chronicle.{ChronicleView, AreRecords};
+    ghost use Rattle.house.specs.Chronicle.{ChronicleView, AreRecords, HasVoteRoom};
 
     ghost Value = { ChronicleView };
 
     ghost view = { λ c. record { history = c.past; room = c.pool.room } };
 
-    ghost invariant = { λ c. AreRecords c.pool.changes c.past.entries };
+    ghost invariant = { λ c. AreRecords c.pool.changes c.past.entries × HasVoteRoom c.past c.pool.room };
 }
 
 impl Chronicle {
@@ -56,21 +53,27 @@ impl Chronicle {
         alloc: Global,
         machine: &Machine,
         past: Past,
-        pool: Pool,
+        pools: Pools,
         folded: bool,
     ) -> Chronicle
-        requires records { AreRecords pool.changes past.entries }
+        requires records { AreRecords pools.read.changes past.entries }
+        requires pools { HaveVotesRoom pools }
         requires replayed { IsReplayed machine.now.state past }
         requires small { IsTrue folded → MayBeFolded past }
         ensures { result.history ≡ opened_with folded past }
     {
         if folded {
             return Chronicle {
+                alloc,
                 past: Past::at(machine, past.length()),
-                pool: Pool::new(alloc),
+                pool: pools.empty,
             };
         }
-        Chronicle { past, pool }
+        Chronicle {
+            alloc,
+            past,
+            pool: pools.read,
+        }
     }
 
     /// How many changes it has, fewer than 2^62.
@@ -98,23 +101,39 @@ impl Chronicle {
         self.past.places()
     }
 
-    /// Makes room for a record of so many bytes. The only error is want of memory, which changes nothing.
-    pub(crate) fn make_room(&mut self, alloc: Global, bytes: usize) -> Result<(), AllocError>
+    /// Where its memory comes from.
+    pub(crate) fn allocator(&self) -> Global {
+        self.alloc
+    }
+
+    /// That there is room for the votes that are missing. It does nothing.
+    pub(crate) fn has_vote_room(&self)
+        ensures { HasVoteRoom self.now.history self.now.room }
+    {
+        let _pool = &self.pool;
+    }
+
+    /// Makes room for a record of so many bytes, and for the votes of all members behind it. The only error is want of memory,
+    /// which changes nothing.
+    pub(crate) fn make_room(&mut self, bytes: usize) -> Result<(), AllocError>
         requires { bytes < 2 ^ 32 }
         ensures history { self.new.history ≡ self.old.history }
-        ensures room { OnOk result (5 + bytes ≤ self.new.room) }
+        ensures room { OnOk result (5 + bytes + VOTES_ROOM ≤ self.new.room) }
         ensures err { OnErr result (self.new ≡ self.old) }
     {
-        self.pool.make_room(alloc, bytes as u64 + 5)?;
+        self.pool
+            .make_room(self.alloc, bytes as u64 + 5 + VOTES_ROOM)?;
         Ok(())
     }
 
-    /// Puts a change behind the others, with its record, for which there is room. It takes no memory.
+    /// Puts a change behind the others, with its record, for which there is room, and for the votes that are missing then. It takes
+    /// no memory.
     pub(crate) fn push(&mut self, entry: &Entry, record_bytes: &[u8])
         requires few { length self.old.history.entries + 1 < 2 ^ 62 }
         requires spells { Spells Second record_bytes.now entry.now }
         requires small { length record_bytes.now < 2 ^ 32 }
         requires room { 5 + length record_bytes.now ≤ self.old.room }
+        requires votes { HasVoteRoom (longer self.old.history (entry.now ∷ [])) (self.old.room - (5 + length record_bytes.now)) }
         ensures { self.new.history ≡ longer self.old.history (entry.now ∷ []) }
     {
         self.past.push(entry);
@@ -122,13 +141,13 @@ impl Chronicle {
     }
 
     /// The entry behind a position where there is one, or that there is no memory for it.
-    pub(crate) fn entry_behind(&self, alloc: Global, position: u64) -> Answer
+    pub(crate) fn entry_behind(&self, position: u64) -> Answer
         requires from { self.now.history.base.position ≤ position }
         requires within { position < end_of self.now.history }
         ensures { (result ≡ No Memory) ⊎ (result ≡ first_behind position (drop (position - self.now.history.base.position) self.now.history.entries)) }
     {
         let places = self.places();
-        match self.pool.get(alloc, position - places.base) {
+        match self.pool.get(self.alloc, position - places.base) {
             Ok(bytes) => Answer::EntryBytes {
                 position: position + 1,
                 bytes: Listed::new(bytes),

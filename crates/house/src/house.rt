@@ -5,9 +5,8 @@ use crate::chronicle::Chronicle;
 use crate::past::Past;
 use command_types::{Ask, Desk, Entry, Reply};
 use cycle_states::Machine;
-use journal_core::Journal;
+use journal_core::{Frame, Journal};
 use outside::Disk;
-use std::alloc::Global;
 use std::marker::Model;
 use std::snapshot::Snapshot;
 
@@ -15,10 +14,11 @@ use std::snapshot::Snapshot;
 /// answered. After a fault of the disk it makes no change any more, and is to be opened again.
 #[derive(Drop)]
 pub struct House<D: Disk> {
-    pub(crate) alloc: Global,
     pub(crate) machine: Machine,
     pub(crate) past: Chronicle,
     pub(crate) journal: Journal<D>,
+    // The frame of an ACCEPT, which takes no memory.
+    pub(crate) short: Frame,
     // The change on which the disk failed.
     pub(crate) kept: Option<Entry>,
     // How many entries there were at the opening.
@@ -75,10 +75,10 @@ impl<D: Disk> House<D> {
         ensures keeps { Keeps self }
     {
         let House {
-            alloc: _,
             machine: _,
             past: _,
             journal,
+            short: _,
             kept: _,
             opening: _,
             first: _,

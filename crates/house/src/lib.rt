@@ -8,6 +8,7 @@ mod folding;
 mod house;
 mod opening;
 mod past;
+mod pools;
 mod recovering;
 mod storing;
 mod turning;

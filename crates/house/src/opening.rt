@@ -13,29 +13,31 @@ ghost use Rattle.journal_core.specs.declared.fault.JournalFault.TheVariants.{Dis
 ghost use Rattle.house.specs.Chronicle.{AreRecords};
 ghost use Rattle.house.specs.Due.{IsDue};
 ghost use Rattle.house.specs.Folding.{LeavesOpenedAs, MayBeFolded, OpensOn, StandsForOne, opened_with};
+ghost use Rattle.house.specs.Pools.{HaveVotesRoom};
 ghost use Rattle.house.specs.Opening.{LeavesOpened, StandsForNone, FindsFault, IsOpened};
 ghost use Rattle.house.specs.Storing.{AreStoredIn, ContentStandsFor, StoresTurned, TurnsOnly, end_turned};
 
-use crate::chronicle::{Chronicle, pool_of};
+use crate::chronicle::Chronicle;
 use crate::folding::Folding;
 use crate::past::Past;
+use crate::pools::{Pools, pools_of};
 use crate::recovering::{Recovered, recover};
-use crate::turning::{turn_frame, turned};
+use crate::turning::{frames, turned};
 use crate::{Executions, House};
 use command_types::{Roster, Spelling};
 use cycle_states::Machine;
 use journal_core::{Form, Frame, Journal, JournalFault};
 use outside::{Disk, Failed};
-use record_pool::Pool;
 use std::alloc::Global;
 use std::snapshot::Snapshot;
 
-// What a house needs of it, the fold that is due, and the frame of the record that turns the journal.
+// What a house needs of it, the fold that is due, the frame of the record that turns the journal, and that of an ACCEPT.
 #[derive(Drop)]
 pub(crate) struct Reopened {
     machine: Machine,
     past: Past,
-    pool: Pool,
+    pools: Pools,
+    short: Frame,
     form: Form,
     end: u64,
     spelling: Spelling,
@@ -47,7 +49,8 @@ pub(crate) struct Reopened {
 fn reopen<D: Disk>(alloc: Global, roster: Roster, disk: &mut D) -> Result<Reopened, JournalFault>
     ensures stands { IfOk result (λ r. ContentStandsFor (D.history disk.old) r.past) }
     ensures replayed { IfOk result (λ r. IsReplayed r.machine.state r.past) }
-    ensures records { IfOk result (λ r. AreRecords r.pool.changes r.past.entries) }
+    ensures records { IfOk result (λ r. AreRecords r.pools.read.changes r.past.entries) }
+    ensures room { IfOk result (λ r. HaveVotesRoom r.pools) }
     ensures base { IfOk result (λ r. IsWritable roster r.past.base.state) }
     ensures few { IfOk result (λ r. length r.past.entries ≤ journal_limit) }
     ensures ends { IfOk result (λ r. EndsAt (D.history disk.old) r.form r.end) }
@@ -69,10 +72,10 @@ fn reopen<D: Disk>(alloc: Global, roster: Roster, disk: &mut D) -> Result<Reopen
         spelling,
         executions: _,
     } = recovered;
-    let Ok(pool) = pool_of(alloc, read) else {
+    let Ok(pools) = pools_of(alloc, read) else {
         return Err(JournalFault::Memory);
     };
-    let Ok(turn) = turn_frame(alloc) else {
+    let Ok((turn, short)) = frames(alloc) else {
         return Err(JournalFault::Memory);
     };
     let Ok(folding) = Folding::of(alloc, &machine, &past, form) else {
@@ -81,7 +84,8 @@ fn reopen<D: Disk>(alloc: Global, roster: Roster, disk: &mut D) -> Result<Reopen
     Ok(Reopened {
         machine,
         past,
-        pool,
+        pools,
+        short,
         form,
         end,
         spelling,
@@ -179,16 +183,16 @@ impl<D: Disk> House<D> {
         match start(disk, &read) {
             Ok((journal, folded)) => {
                 let first = Snapshot::of(&read.past);
-                let (past, pool) = (read.past, read.pool);
-                let past = Chronicle::opened(alloc, &read.machine, past, pool, folded);
+                let (past, pools) = (read.past, read.pools);
+                let past = Chronicle::opened(alloc, &read.machine, past, pools, folded);
                 Ok(House {
-                    alloc,
                     opening: past.count(),
                     machine: read.machine,
                     past,
                     first,
                     opened: Snapshot::of(&journal),
                     journal,
+                    short: read.short,
                     kept: None,
                     taken,
                 })

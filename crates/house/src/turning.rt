@@ -10,11 +10,20 @@ use journal_core::{Frame, Journal};
 use outside::{Disk, Failed};
 use std::alloc::{AllocError, Global};
 
-/// The frame of the record that turns a journal. The only error is want of memory.
-pub(crate) fn turn_frame(alloc: Global) -> Result<Frame, AllocError>
+// The frame of the record that turns a journal. The only error is want of memory.
+fn turn_frame(alloc: Global) -> Result<Frame, AllocError>
     ensures { IfOk result (λ frame. frame ≡ spellings.turn) }
 {
     Frame::of(alloc, b"MOMENTS2")
+}
+
+/// That frame, and one for the records of ACCEPTs. The only error is want of memory.
+pub(crate) fn frames(alloc: Global) -> Result<(Frame, Frame), AllocError>
+    ensures { IfOk result (λ f. f.0 ≡ spellings.turn) }
+{
+    let turn = turn_frame(alloc)?;
+    let short = Frame::short(alloc)?;
+    Ok((turn, short))
 }
 
 /// The journal, turned if it goes on in the first spelling and has room for that, in four calls of the disk and without memory. A

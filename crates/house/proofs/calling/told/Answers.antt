@@ -1,4 +1,4 @@
-use Rattle.std.proofs.Common.{◌≡◌, inr, ◌∙◌, ap, sym}
+use Rattle.std.proofs.Common.{inr, ◌∙◌, ap, sym}
 use Rattle.cycle_states.specs.Offers.{filled_at}
 use Rattle.cycle_states.specs.declared.offers.OpenAsk.{OpenAsk}
 use Rattle.cycle_states.proofs.OfferFacts.{filled_is}

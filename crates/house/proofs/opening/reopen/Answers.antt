@@ -13,4 +13,4 @@ returns-in_default-of-clause-fault g c = memory_found c.args.roster (g.D.Disk.hi
 pub returns-clause-records : goal.returns-clause-records
 returns-clause-records g c =
     let read = c.in_ok-recovered.ensures.read in
-    subst (λ (entries : List Entry). AreRecords c.in-Ok.pool.changes entries) (sym (c.in_ok-recovered.ensures.entries read.0 read.1)) (c.in-Ok.ensures read.0 read.1)
+    subst (λ (entries : List Entry). AreRecords c.in-Ok.pools.read.changes entries) (sym (c.in_ok-recovered.ensures.entries read.0 read.1)) (c.in-Ok.ensures.records read.0 read.1)

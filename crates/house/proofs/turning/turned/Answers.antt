@@ -1,7 +1,5 @@
-use Rattle.std.proofs.Common.{◌≡◌, ◌∙◌, length, ap, sym, subst, arith}
+use Rattle.std.proofs.Common.{◌∙◌, length, ap, sym, subst, arith}
 use Rattle.command_types.specs.declared.spelling.Spelling.{Spelling}
-use Rattle.command_types.specs.declared.spelling.Spelling.TheVariants.{First, Second}
-use Rattle.outside.specs.Disk as disks
 use Rattle.journal_core.specs.Journal.{disk_of, form_of, size_of}
 use Rattle.house.specs.Storing.{StoresTurned, TurnsOnly, end_turned}
 use Rattle.house.proofs.TurnFacts.{written_still, second_stored, full_stored, turned_stored, turned_leaves, is_full, has_turn_room, full_end, room_end}

@@ -1,4 +1,4 @@
-use Rattle.std.proofs.Common.{◌≡◌, inr, ℕ, ◌+◌, ◌-◌, ◌<◌, List, length, drop, ap, sym, ◌∙◌, arith}
+use Rattle.std.proofs.Common.{◌≡◌, inr, ℕ, ◌+◌, ◌-◌, ◌<◌, List, length, drop, ap, ◌∙◌, arith}
 use Rattle.command_types.specs.declared.answer.Answer.TheVariants.{EntryBytes}
 use Rattle.command_types.specs.declared.ask.Entry.{Entry}
 use Rattle.command_types.specs.Offers.{first_behind}
@@ -10,7 +10,7 @@ pub get-requires : goal.get-requires
 get-requires c =
     let i = c.self.inside in
     let same = ap (λ (v : ChronicleView). v.history.entries) c.self.view_is in
-    omega (arith, ap length same, as_many i.pool.changes i.past.entries c.self.invariant)
+    omega (arith, ap length same, as_many i.pool.changes i.past.entries c.self.invariant.0)
 
 pub returns-in-Ok : goal.returns-in-Ok
 returns-in-Ok c =
@@ -21,6 +21,6 @@ returns-in-Ok c =
     let same : i.past.entries ≡ h.entries = ap (λ (v : ChronicleView). v.history.entries) c.self.view_is in
     let within : number < length i.past.entries = omega (arith, ap length same) in
     inr (ap (EntryBytes (position + 1)) (c.new.ensures ∙ c.in-Ok.ensures)
-    ∙ behind position number i.pool.changes i.past.entries c.self.invariant within
+    ∙ behind position number i.pool.changes i.past.entries c.self.invariant.0 within
     ∙ ap (λ (es : List Entry). first_behind position (drop number es)) same
     ∙ ap (λ (n : ℕ). first_behind position (drop (position - n) h.entries)) c.places-places.ensures.base_at)

@@ -1,10 +1,12 @@
 use Rattle.std.proofs.Common.{◌≡◌, ◌∙◌, ◌+◌, [], ◌∷◌, true, false, Some, None, is_some, IsTrue, arith, ap, sym, subst, length-append}
+use Rattle.std.proofs.lemmas.Bool.{false≢true}
 use Rattle.command_types.specs.declared.ask.Entry.{Entry}
 use Rattle.command_types.specs.declared.figures.JournalFigures.{JournalFigures}
 use Rattle.command_types.specs.declared.figures.State.{State}
 use Rattle.command_types.specs.Machine.{answer_to}
 use Rattle.command_types.specs.History.{end_of, is_recorded}
 use Rattle.command_types.specs.Sizes.{record_size}
+use Rattle.command_types.specs.Told.{is_accept}
 use Rattle.journal_core.specs.Journal.{disk_of, form_of, size_of}
 use Rattle.cycle_states.proofs.CycleFacts.{young_small}
 use Rattle.house.specs.House.{HouseView, house_of, journal_of, now_of}
@@ -12,6 +14,7 @@ use Rattle.house.specs.Calling.{Calls}
 use Rattle.house.proofs.JournalFacts.{stored_ready}
 use Rattle.house.proofs.ToldFacts.{no_room, has_room, room_told}
 use Rattle.house.proofs.CallingFacts.{none_of, stays, memory_call, read_call, full_call, stopped_call, house_stored}
+use Rattle.house.proofs.VoteFacts.{never}
 use Rattle.house.proofs.ChangeFacts.{made_house, made, broken_house, failed_call, entries_within}
 use Rattle.house.proofs.house.House.call.Goals as goal
 
@@ -25,7 +28,8 @@ returns-in-Err-clause-calls g c =
     house_of i.past.history i.opening (journal_of (size_of i.opened.value) (g.D.Disk.fault_count (disk_of i.opened.value)) (g.D.Disk.history i.taken.value) (g.D.Disk.history (disk_of i.opened.value)) i.first.value) i.kept
     (g.D.Disk.history (disk_of i.journal)) (g.D.Disk.fault_count (disk_of i.journal)) in
     subst (λ (v : HouseView). Calls v here c.args.seat c.args.ask c.refused.result) c.self.view_is
-    (memory_call i.machine.state (now_of i.journal) _ c.self.invariant c.args.seat c.args.ask c.length-at.result c.refused.result c.length-at.ensures.length c.refused.ensures)
+    (memory_call i.machine.state (now_of i.journal) _ c.self.invariant c.args.seat c.args.ask c.length-at.result c.refused.result (never (is_accept c.args.ask.what) (λ vote. false≢true (rw c.in-Err.is at (c.decide.ensures.vote vote))))
+    c.length-at.ensures.length c.refused.ensures)
 
 pub returns-in-Ok-Told-clause-calls : goal.returns-in-Ok-Told-clause-calls
 returns-in-Ok-Told-clause-calls g c =
@@ -86,6 +90,9 @@ store-requires-clause-may g c =
 pub store-requires-clause-young : goal.store-requires-clause-young
 store-requires-clause-young g c =
     rw c.decide.ensures.state (young_small c.self.inside.machine.state c.self.inside.past.history c.self.invariant.replayed c.length-at.ensures.small c.length-at.ensures.few)
+
+pub store-requires-clause-replayed : goal.store-requires-clause-replayed
+store-requires-clause-replayed g c = rw c.decide.ensures.state c.self.invariant.replayed
 
 pub store-requires-clause-ready : goal.store-requires-clause-ready
 store-requires-clause-ready g c =
@@ -189,6 +196,7 @@ invariant_of-self-in-Err-Memory g c =
 pub returns-in-Err-Memory-clause-calls : goal.returns-in-Err-Memory-clause-calls
 returns-in-Err-Memory-clause-calls g c =
     let i = c.self.inside in
+    let decided = rw c.in-Ok-Ready.field-0-is at c.in-Ok-Ready.ensures.decides in
     let memory = rw c.in-Err-Memory.field-0-is at c.in-Err-Memory.is in
     let same = c.store.ensures.same_disk memory in
     let done : HouseView =
@@ -196,7 +204,9 @@ returns-in-Err-Memory-clause-calls g c =
     (g.D.Disk.history (disk_of c.store.new.journal)) (g.D.Disk.fault_count (disk_of c.store.new.journal)) in
     subst (λ (v : HouseView). Calls v done c.args.seat c.args.ask c.refused-in-Err-Memory.result) c.self.view_is
     (rw (c.in-Err-Memory.ensures.same_past, same.0, same.1)
-    (memory_call i.machine.state (now_of i.journal) _ c.self.invariant c.args.seat c.args.ask c.length-at.result c.refused-in-Err-Memory.result c.length-at.ensures.length c.refused-in-Err-Memory.ensures))
+    (memory_call i.machine.state (now_of i.journal) _ c.self.invariant c.args.seat c.args.ask c.length-at.result c.refused-in-Err-Memory.result
+    (never (is_accept c.args.ask.what) (λ vote. c.store.ensures.vote (subst (λ (e : Entry). IsTrue (is_accept e.ask.what)) (sym decided.0) vote) memory))
+    c.length-at.ensures.length c.refused-in-Err-Memory.ensures))
 
 pub invariant_of-self-in-Err-Failed : goal.invariant_of-self-in-Err-Failed
 invariant_of-self-in-Err-Failed g c =
