@@ -3,6 +3,7 @@
  *     REFUSE_ACCEPT=ERROR:COUNT    the first COUNT calls for a connection fail with this number
  *     REFUSE_THREAD=ERROR:COUNT    so do the first COUNT calls for a thread
  *     REFUSE_MEMORY=N              the request for memory with this number is refused, the first being 1
+ *     REFUSE_MEMORY_WITH=FILE      each request for memory is refused while this file is there
  *     REFUSED=FILE                 this file is made when a request for memory, or a call to a file, is refused
  *     REFUSE_DISK=N                of the calls to the file that was locked last the one with this number fails
  *     MOMENT=SECONDS               the clock tells these seconds since 1970
@@ -42,9 +43,20 @@ static int has_number(const char *name, atomic_long *calls) {
     return 1;
 }
 
-/* Whether this request for memory is the one that is refused. */
+/* Whether the file of this setting is there. */
+static int has_file(const char *name) {
+    const char *file = getenv(name);
+    if (file == NULL)
+        return 0;
+    int error = errno;
+    int there = access(file, F_OK) == 0;
+    errno = error;
+    return there;
+}
+
+/* Whether this request for memory is refused. */
 static int is_refused(void) {
-    if (!has_number("REFUSE_MEMORY", &requests))
+    if (!has_number("REFUSE_MEMORY", &requests) && !has_file("REFUSE_MEMORY_WITH"))
         return 0;
     errno = ENOMEM;
     return 1;
