@@ -5,6 +5,7 @@ pub mod BoundOwners
 pub mod SettingOrder
 mod PutOver
 pub mod NoCeiling
+pub mod NoSetting
 pub mod Passed
 pub mod OpenPairs
 pub mod ModeLaws

@@ -1,9 +1,9 @@
 -- What contracts see of the settings of all members, and how they are kept.
-use Rattle.std.specs.Prelude.{◌≡◌, ℕ, ◌+◌, ◌*◌, ◌<◌, ◌≤◌, ◌==◌, ◌&&◌, Bool, List, [], ◌∷◌, None}
+use Rattle.std.specs.Prelude.{◌≡◌, ℕ, ◌+◌, ◌*◌, ◌%◌, ◌<◌, ◌≤◌, ◌==◌, ◌&&◌, Bool, false, List, [], ◌∷◌, None, slice_index_or}
 use Rattle.std.specs.Option.{is_some}
 use Rattle.command_types.specs.declared.trade.Side.{Side}
 use Rattle.command_types.specs.declared.tolerance.ToleranceRow.{ToleranceRow}
-use Rattle.command_types.specs.Tolerances.{setting_place, with_setting, ceiling_in}
+use Rattle.command_types.specs.Tolerances.{setting_place, with_setting, floor_in, ceiling_in}
 
 -- settings in their order, how many were kept, and for how many more there is room
 pub record SettingsView : Type 0 where
@@ -60,3 +60,15 @@ sets_ceiling product row = (row.product == product) && is_some row.ceiling
 -- no member set a ceiling in a product
 abbrev pub HaveNoCeiling : List ToleranceRow → ℕ → Type 0
 HaveNoCeiling settings product = (member other : ℕ) (side : Side) → ceiling_in settings member product other side ≡ None
+
+-- the setting is one of a product, and the member's own
+abbrev pub sets_in : ℕ → ℕ → ToleranceRow → Bool
+sets_in product member row = (row.product == product) && (row.member == member)
+
+-- the member set nothing in the product
+abbrev pub SetsNothing : List ToleranceRow → ℕ → ℕ → Type 0
+SetsNothing settings product member = (other : ℕ) (side : Side) → (floor_in settings member product other side ≡ 0) × (ceiling_in settings member product other side ≡ None)
+
+-- a member without a mark set nothing in the product
+abbrev pub AreMarked : List ToleranceRow → ℕ → List Bool → Type 0
+AreMarked settings product marks = (member : ℕ) → slice_index_or marks (member % 256) false ≡ false → SetsNothing settings product member

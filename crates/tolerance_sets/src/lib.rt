@@ -6,6 +6,7 @@ mod limits;
 mod open_pairs;
 mod open_rows;
 mod pair_cursor;
+mod product_settings;
 mod settings;
 mod tolerances;
 

@@ -10,7 +10,7 @@ ghost use Rattle.units_core.specs.declared.limits.TheConstants.{MOST_MEMBERS};
 
 use crate::open_pairs::{is_unbounded, open_limits};
 use crate::pair_cursor::PairCursor;
-use crate::settings::Settings;
+use crate::product_settings::ProductSettings;
 use command_types::{Level, MemberRow, Mode, Role, Side};
 use network_laws::{LimitRow, Row, amount_at};
 use std::alloc::{AllocError, Global};
@@ -23,7 +23,7 @@ pub(super) struct Market<'a> {
     pub members: &'a [MemberRow],
     /// The place behind the last dealer's, or one behind that.
     pub dealers_end: u16,
-    pub settings: &'a Settings,
+    pub settings: &'a ProductSettings<'a>,
     pub product: ProductNo,
     /// What members owe one another.
     pub network: &'a [Row],
@@ -100,7 +100,7 @@ fn upper_of(grows: bool, amount: u64, ceiling: Option<Level>) -> Option<u64>
 // The row of a pair with this amount, so much of it held; none where it may come to nothing but 0.
 #[inline(always)]
 fn pair_limit(
-    settings: &Settings,
+    settings: &ProductSettings,
     product: ProductNo,
     seller: u16,
     buyer: u16,

@@ -5,8 +5,9 @@ ghost use Rattle.command_types.specs.Tolerances.{side_place, setting_place, is_s
 ghost use Rattle.std.specs.List.{list_any};
 ghost use Rattle.std.specs.BTreeMap.{values as ordered_values};
 ghost use Rattle.indexmap.specs.IndexMap.{spare, values};
-ghost use Rattle.tolerance_sets.specs.Settings.{place_of, settings_of, put_over, IsKeptBy, AreKept, AtPlaces, sets_ceiling, HaveNoCeiling};
+ghost use Rattle.tolerance_sets.specs.Settings.{place_of, settings_of, put_over, IsKeptBy, AreKept, AtPlaces, sets_ceiling, AreMarked, HaveNoCeiling};
 
+use crate::product_settings::marks_of;
 use command_types::{Level, Side, ToleranceRow};
 use indexmap::IndexMap;
 use std::alloc::{AllocError, Global};
@@ -219,6 +220,13 @@ impl Settings {
                 ceiling: None,
             },
         }
+    }
+
+    /// For each member whether it may have set anything in a product.
+    pub(super) fn marks(&self, product: ProductNo) -> [bool; 256]
+        ensures { AreMarked self.now.settings product result }
+    {
+        marks_of(&self.rows, product)
     }
 
     /// All of them, once these were put over them, in the order of their places. The only error is want of memory.

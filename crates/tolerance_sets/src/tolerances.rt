@@ -7,6 +7,7 @@ ghost use Rattle.command_types.specs.Tolerances.{with_setting, floor_in, ceiling
 ghost use Rattle.command_types.specs.CycleRefusals.{is_crossed};
 
 use crate::limits::{Market, all_limits, dealers_end};
+use crate::product_settings::ProductSettings;
 use crate::settings::Settings;
 use command_types::{Level, Mode, Roster, Side, ToleranceRow};
 use network_laws::{Limits, Network};
@@ -181,11 +182,12 @@ impl Tolerances {
         ensures within { IfOk result (λ limits. IsWithinLimits limits network.now) }
     {
         let members = roster.members();
+        let settings = ProductSettings::of(&self.taken, product);
         let market = Market {
             mode,
             members,
             dealers_end: dealers_end(members),
-            settings: &self.taken,
+            settings: &settings,
             product,
             network: network.rows(),
             held: held.rows(),

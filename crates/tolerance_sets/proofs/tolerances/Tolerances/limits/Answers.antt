@@ -17,7 +17,7 @@ all_limits-requires-clause-market c = record {
 pub unreachable-requires : goal.unreachable-requires
 unreachable-requires c =
     let members = c.members-members.result.now in
-    let settings = c.self.inside.taken.settings in
+    let settings = c.of-settings.result.settings in
     let network = c.args.network.now in
     let held = c.args.held.now in
     let made = limits_from c.args.mode members settings c.args.product network held c.rows.result.now c.rows-2.result.now c.in_ok-rows.rows.items c.rows.ensures.value c.rows-2.ensures.value c.in_ok-rows.ensures in
@@ -26,7 +26,7 @@ unreachable-requires c =
 pub returns-clause-within : goal.returns-clause-within
 returns-clause-within c =
     let members = c.members-members.result.now in
-    let settings = c.self.inside.taken.settings in
+    let settings = c.of-settings.result.settings in
     let network = c.args.network.now in
     let held = c.args.held.now in
     let made = limits_from c.args.mode members settings c.args.product network held c.rows.result.now c.rows-2.result.now c.in_ok-rows.rows.items c.rows.ensures.value c.rows-2.ensures.value c.in_ok-rows.ensures in
