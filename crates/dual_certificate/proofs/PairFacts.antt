@@ -13,7 +13,7 @@ use Rattle.network_laws.proofs.Clashes.{first_below-none, first_below-found}
 use Rattle.network_laws.proofs.LimitOrder.{is_for-other, lookup_none}
 use Rattle.network_laws.proofs.RowOrder.{amount_none}
 use Rattle.dual_certificate.specs.declared.pair_cursor.Pairs.{Pairs}
-use Rattle.dual_certificate.specs.Walks.{ArePairs, HasNoRow, HaveNoRow, no_pair, limit_or_end, row_or_end, rows_price_clash}
+use Rattle.dual_certificate.specs.Walks.{ArePairs, HasNoRow, HaveNoRow, no_pair, limit_or_end, row_or_end, rows_bounds_clash, rows_price_clash}
 
 abbrev pub no_limit : LimitRow
 no_limit = record { seller = 0; buyer = 0; lower = 0; upper = None }
@@ -114,6 +114,9 @@ have_no_row pairs limit_at row_at from to first last first' last' i j le l = rec
 -- a test finds nothing at a pair without a row
 abbrev pub FindsRows : Pairs → (ℕ → ℕ → Option Clash) → Type 0
 FindsRows pairs f = (i j : ℕ) → HasNoRow pairs i j → f i j ≡ None
+
+pub bounds_find_rows : (pairs : Pairs) → FindsRows pairs (rows_bounds_clash pairs.limits.now pairs.rows.now)
+bounds_find_rows pairs i j h = rw (h.amount, h.lower, h.upper) refl
 
 pub prices_find_rows : (pairs : Pairs) (p : List ℤ) → FindsRows pairs (rows_price_clash pairs.limits.now pairs.rows.now p)
 prices_find_rows pairs p i j h = rw (h.amount, h.lower, h.upper) refl

@@ -62,6 +62,10 @@ module _ (limits : LimitsData) (old new : NetworkData) (p : List ℤ) where
   pub first_of_prices : (r : Option Clash) → first_pair old.members (pair_bounds_clash limits new) ≡ None → first_below old.members (net_clash old new) ≡ None → r ≡ first_pair old.members (pair_price_clash limits new p) → r ≡ first_clash limits old new p
   first_of_prices r e e' e'' = e'' ∙ sym (first_of_rest e ∙ ap (λ o. option_or o (first_pair old.members (pair_price_clash limits new p))) e')
 
+  pub first_where_clean : (r : Option Clash) → first_pair old.members (pair_bounds_clash limits new) ≡ None → first_pair old.members (pair_price_clash limits new p) ≡ None → r ≡ first_below old.members (net_clash old new) → r ≡ first_clash limits old new p
+  first_where_clean None e e' e'' = first_of_prices None e (sym e'') (sym e')
+  first_where_clean (Some c) e e' e'' = first_of_nets c e (sym e'')
+
   pub certified_iff : limits.members ≡ old.members → new.members ≡ old.members → (r : Option Clash) → r ≡ first_clash limits old new p → IsNone r ↔ IsCertified limits old new p
   certified_iff m m' None e =
       let law = no_clash_is_certified limits old new p m m' in

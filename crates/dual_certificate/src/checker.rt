@@ -5,6 +5,7 @@ ghost use Rattle.network_laws.specs.Limits.{IsCertified};
 ghost use Rattle.network_laws.specs.Clash.{first_clash};
 
 use crate::bounds_test::first_bounds_clash;
+use crate::clean_test::are_clean;
 use crate::net_test::first_net_clash;
 use crate::pair_cursor::Pairs;
 use crate::price_test::first_price_clash;
@@ -31,6 +32,9 @@ pub fn check(limits: &Limits, old: &Network, new: &Network, potentials: &[i32]) 
         limits: limit_rows,
         rows,
     };
+    if are_clean(&pairs, potentials) {
+        return first_net_clash(old, new);
+    }
     if let Some(clash) = first_bounds_clash(&pairs) {
         return Some(clash);
     }

@@ -9,6 +9,7 @@
 
 mod bounds_test;
 mod checker;
+mod clean_test;
 mod cost;
 mod dual;
 mod laws;
