@@ -53,7 +53,7 @@ returns-in-Ok-serve_house-clause-serves g c =
     let ended = subst (λ ps. c.end_of_seats-end.result ≡ end_of_seats (list_any (λ place. had_no_memory place.end) ps) (list_any (λ place. had_door_fault place.end) ps) c.is_stopped.result c.tell_history-written.result) (c.deref.ensures.value ∙ anew) c.end_of_seats-end.ensures in
     let failed = subst (λ ps. list_any (λ place. nat_lt 0 (g.L.Door.Door.faults place.door)) ps ≡ true → Rose (faults c.take_places.new.listener) (faults c.give_back-in-Ok-serve_house.new.listener)) anew back.failed in
     inr (record {
-      seats = _;
+      seats = runs_of places;
       served = out.served;
       returned = seats_returned visits c.args.self.now.words.now.address.now _ _ _ _ (length old.items) places (count ∙ sym told.all) c.in_default-bind.ensures.binds told.lends taken_back;
       given = bound_given visits (g.L.Listener.doors c.args.listener.now) c.args.self.now.words.now.address.now (g.L.Listener.doors c.bind.new.self) c.in_default-bind.ensures.binds 0 (runs_of places)
