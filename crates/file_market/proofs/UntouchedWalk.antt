@@ -1,5 +1,6 @@
 -- The walk over a seller's rows: the cursor, and the rows so far.
-use Rattle.std.proofs.Common.{◌≡◌, ◌≢◌, ℕ, zero, suc, ◌+◌, ◌-◌, ◌*◌, ◌<◌, ◌≤◌, ◌++◌, Bool, List, [], length, get_or, refl, sym, ap, ◌∙◌, subst, arith}
+use Rattle.std.proofs.Common.{◌≡◌, ◌≢◌, ℕ, zero, suc, ◌+◌, ◌-◌, ◌*◌, ◌<◌, ◌≤◌, ◌++◌, List, [], length, get_or, refl, sym, ap, ◌∙◌, subst, arith, ⊎_elim}
+use Rattle.std.proofs.lemmas.Bool.{cases_eq}
 use Rattle.std.proofs.lemmas.List.{append-nil, append_assoc, get_or_default}
 use Rattle.network_laws.specs.declared.rows.LimitRow.{LimitRow}
 use Rattle.network_laws.specs.declared.rows.Row.{Row}
@@ -14,10 +15,20 @@ use Rattle.tolerance_sets.proofs.Passed.{cursor_raised, none_between}
 use Rattle.tolerance_sets.proofs.Walk.{one_more}
 use Rattle.file_market.specs.Untouched.{row_with, seller_row}
 
--- numbers that give nothing
-pub none_from : (f : ℕ → List LimitRow) (from n : ℕ) → ((k : ℕ) → f k ≡ []) → listed_from from n f ≡ []
-none_from f from zero none = refl
-none_from f from (suc n) none = ap (λ xs. xs ++ f (from + n)) (none_from f from n none) ∙ none (from + n)
+-- numbers that give nothing add nothing
+none_ahead : (f : ℕ → List LimitRow) (from n m : ℕ) → n ≤ m → ((k : ℕ) → from + n ≤ k → k < from + m → f k ≡ []) → listed_from from m f ≡ listed_from from n f
+none_ahead f from n zero le none = let e : zero ≡ n = omega (arith, le) in ap (λ k. listed_from from k f) e
+none_ahead f from n (suc m) le none =
+    ⊎_elim (λ (e : n ≡ suc m). ap (λ k. listed_from from k f) (sym e))
+    (λ (ne : n ≢ suc m).
+    ap (λ xs. listed_from from m f ++ xs) (none (from + m) (omega (arith, le, ne)) (omega arith)) ∙ append-nil (listed_from from m f)
+    ∙ none_ahead f from n m (omega (arith, le, ne)) (λ k lk l. none k lk (omega (arith, l))))
+    (cases_eq n (suc m))
+
+-- behind the last number that gives something
+pub up_to : (start now : List LimitRow) (f : ℕ → List LimitRow) (from up to : ℕ) → from ≤ up → up ≤ to → ((k : ℕ) → up ≤ k → k < to → f k ≡ []) → now ≡ start ++ listed_from from (up - from) f → now ≡ start ++ listed_from from (to - from) f
+up_to start now f from up to le le' none e =
+    e ∙ ap (λ xs. start ++ xs) (sym (none_ahead f from (up - from) (to - from) (omega (arith, le, le')) (λ k lk l. none k (omega (arith, lk, le)) (omega (arith, l, le, le')))))
 
 -- no number yet
 pub start_from : (start : List LimitRow) (f : ℕ → List LimitRow) (from : ℕ) → start ≡ start ++ listed_from from (from - from) f
@@ -43,17 +54,17 @@ module _ (n : ℕ) (network : List Row) (sales : AreRows n network) (i m : ℕ) 
   past_all up few cursor le other =
       raised up n cursor le (λ d l. omega (arith, few, other d l, cursor.behind m d (omega arith) l, (sales.good m d l).buyer))
 
-  module _ (sells : Bool) (members : List MemberRow) where
+  module _ (buyers : List MemberRow) where
     abbrev rows_of : ℕ → List LimitRow
-    rows_of = seller_row sells members network i
+    rows_of = seller_row buyers network i
 
     abbrev blanks : ℕ → List LimitRow
-    blanks = seller_row sells members [] i
+    blanks = seller_row buyers [] i
 
     -- between two pairs that have the same cursor nothing was sold
     pub unsold_up_to : (start before after : List LimitRow) (up to : ℕ) → IsCursor network m (i * 65536 + up) → IsCursor network m (i * 65536 + to) → up ≤ to → before ≡ start ++ listed_below up rows_of → after ≡ before ++ listed_from up (to - up) blanks → after ≡ start ++ listed_below to rows_of
     unsold_up_to start before after up to first last le e e' =
-        open_up_to start before after rows_of blanks up to le (λ k lk l. ap (row_with sells members i k) (none_between network m i up to k first last lk l)) e e'
+        open_up_to start before after rows_of blanks up to le (λ k lk l. ap (row_with buyers i k) (none_between network m i up to k first last lk l)) e e'
 
   module _ (row : Row) (within : m < length network) (is : row ≡ get_or network m row) (seller : row.seller ≡ i) where
     placed : (d : Row) → place (get_or network m d) ≡ i * 65536 + row.buyer
@@ -77,9 +88,9 @@ module _ (n : ℕ) (network : List Row) (sales : AreRows n network) (i m : ℕ) 
     amount cursor = amount_here network i row.buyer m row within sales.rising cursor.before cursor.behind ∙ ap (pair_part i row.buyer) (sym is) ∙ pair_part-is i row.buyer row seller refl
 
     -- the rows with this one
-    pub up_to_row : (sells : Bool) (members : List MemberRow) (start before between after : List LimitRow) (up : ℕ) → IsCursor network m (i * 65536 + up) → before ≡ start ++ listed_below up (seller_row sells members network i) → between ≡ before ++ listed_from up (row.buyer - up) (seller_row sells members [] i) → after ≡ between ++ row_with sells members row.seller row.buyer row.amount → after ≡ start ++ listed_below (row.buyer + 1) (seller_row sells members network i)
-    up_to_row sells members start before between after up cursor e e' e'' =
+    pub up_to_row : (buyers : List MemberRow) (start before between after : List LimitRow) (up : ℕ) → IsCursor network m (i * 65536 + up) → before ≡ start ++ listed_below up (seller_row buyers network i) → between ≡ before ++ listed_from up (row.buyer - up) (seller_row buyers [] i) → after ≡ between ++ row_with buyers row.seller row.buyer row.amount → after ≡ start ++ listed_below (row.buyer + 1) (seller_row buyers network i)
+    up_to_row buyers start before between after up cursor e e' e'' =
         let here = at_row up cursor (not_behind up cursor) in
-        one_more row.buyer (seller_row sells members network i) start between after (row_with sells members row.seller row.buyer row.amount)
-        (unsold_up_to sells members start before between up row.buyer cursor here (not_behind up cursor) e e')
-        e'' (ap (λ s. row_with sells members s row.buyer row.amount) seller ∙ sym (ap (row_with sells members i row.buyer) (amount here)))
+        one_more row.buyer (seller_row buyers network i) start between after (row_with buyers row.seller row.buyer row.amount)
+        (unsold_up_to buyers start before between up row.buyer cursor here (not_behind up cursor) e e')
+        e'' (ap (λ s. row_with buyers s row.buyer row.amount) seller ∙ sym (ap (row_with buyers i row.buyer) (amount here)))

@@ -23,18 +23,17 @@ pub record IsNext (network : List Row) (at : SellerPlace) (row : Row) : Type 0 w
 abbrev pub HasNoNext : List Row → SellerPlace → Type 0
 HasNoNext network at = (d : Row) → at.row_at < length network → (slice_index_or network at.row_at d).seller ≢ at.seller
 
--- the pair may grow: two different members, of whom the seller may sell more and the buyer is a dealer
-abbrev pub grows_with : Bool → List MemberRow → ℕ → ℕ → Bool
-grows_with sells members seller buyer = not (seller == buyer) && (sells && is_dealer_row (slice_get members buyer))
+-- the pair may grow: two different members, of whom the buyer is a dealer among these buyers
+abbrev pub grows_with : List MemberRow → ℕ → ℕ → Bool
+grows_with buyers seller buyer = not (seller == buyer) && is_dealer_row (slice_get buyers buyer)
 
 -- the row of a pair with this amount
-abbrev pub row_with : Bool → List MemberRow → ℕ → ℕ → ℕ → List LimitRow
-row_with sells members seller buyer amount =
-    limit_row seller buyer 0 (pair_upper (grows_with sells members seller buyer) amount None)
+abbrev pub row_with : List MemberRow → ℕ → ℕ → ℕ → List LimitRow
+row_with buyers seller buyer amount = limit_row seller buyer 0 (pair_upper (grows_with buyers seller buyer) amount None)
 
--- the row of a pair whose seller may sell more to dealers or to nobody
-abbrev pub seller_row : Bool → List MemberRow → List Row → ℕ → ℕ → List LimitRow
-seller_row sells members network seller buyer = row_with sells members seller buyer (amount_in network seller buyer)
+-- the row of a pair of a network
+abbrev pub seller_row : List MemberRow → List Row → ℕ → ℕ → List LimitRow
+seller_row buyers network seller buyer = row_with buyers seller buyer (amount_in network seller buyer)
 
 -- the row of a pair in a mode
 abbrev pub market_row : Mode → List MemberRow → List Row → ℕ → ℕ → List LimitRow

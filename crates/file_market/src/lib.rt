@@ -2,6 +2,7 @@
 //! member set a floor or a ceiling and no trade is held. A proposal is checked against it, or made for it.
 #![tactic(auto)]
 
+mod buyers;
 mod checking;
 mod failing;
 mod laws;

@@ -1,16 +1,17 @@
 //! The rows of a product's limits where no member set a floor or a ceiling, nothing is held, and not every pair is open: the
 //! rows of a seller's trades, and between them those of the dealers to whom he may sell more.
 
-ghost use Rattle.std.specs.Prelude.{◌≡◌, ◌≢◌, ℕ, ◌-◌, ◌≤◌, ◌++◌, [], true, length, slice_get, None, IfSome, IfOk, OnOk};
+ghost use Rattle.std.specs.Prelude.{◌≡◌, ◌≢◌, ◌-◌, ◌≤◌, ◌++◌, [], length, None, IfSome, IfOk, OnOk};
 ghost use Rattle.network_laws.specs.Networks.{AreRows, IsGoodRow};
 ghost use Rattle.command_types.specs.Books.{listed_below, listed_pairs};
 ghost use Rattle.command_types.specs.declared.cycle.Mode.{Mode};
-ghost use Rattle.command_types.specs.Tolerances.{is_dealer_row, may_grow, pair_upper};
+ghost use Rattle.command_types.specs.Tolerances.{pair_upper};
 ghost use Rattle.tolerance_sets.specs.OpenPairs.{listed_from};
 ghost use Rattle.file_market.specs.Untouched.{IsNext, HasNoNext, grows_with, row_with, seller_row, market_row};
 ghost use Rattle.units_core.specs.declared.limits.TheConstants.{MOST_MEMBERS};
 
-use command_types::{MemberRow, Mode, Role};
+use crate::buyers::{buyers_of, is_dealer, with_dealers};
+use command_types::{MemberRow, Mode};
 use network_laws::{LimitRow, Row, first_row};
 use std::alloc::{AllocError, Global};
 use units_core::MOST_DEALERS;
@@ -23,26 +24,16 @@ pub(super) struct SellerPlace {
     pub row_at: usize,
 }
 
-// Whether a place is a dealer's.
-fn is_dealer(members: &[MemberRow], place: u16) -> bool
-    ensures { result ≡ is_dealer_row (slice_get members.now place) }
-{
-    match members.get(place as usize) {
-        None => false,
-        Some(row) => row.role == Role::Dealer,
-    }
-}
-
-// Adds the row of a pair without trades, if it has one. The seller may sell more to dealers.
+// Adds the row of a pair without trades, if it has one. Of these buyers the seller may sell more to dealers.
 fn add_unsold(
     rows: &mut Vec<LimitRow>,
-    members: &[MemberRow],
+    buyers: &[MemberRow],
     seller: u16,
     buyer: u16,
 ) -> Result<(), AllocError>
-    ensures { OnOk result (rows.new.items ≡ rows.old.items ++ row_with true members.now seller buyer 0) }
+    ensures { OnOk result (rows.new.items ≡ rows.old.items ++ row_with buyers.now seller buyer 0) }
 {
-    if !is_dealer(members, buyer) {
+    if !is_dealer(buyers, buyer) {
         return Ok(());
     }
     if seller == buyer {
@@ -60,32 +51,26 @@ fn add_unsold(
 // Adds the rows of a seller's pairs without trades, from one on and below another.
 fn add_all_unsold(
     rows: &mut Vec<LimitRow>,
-    members: &[MemberRow],
+    buyers: &[MemberRow],
     from: SellerPlace,
     to: u16,
-    sells: bool,
 ) -> Result<(), AllocError>
-    requires { from.buyer ≤ to }
-    ensures { OnOk result (rows.new.items ≡ rows.old.items ++ listed_from from.buyer (to - from.buyer) (seller_row sells members.now [] from.seller)) }
+    requires to { from.buyer ≤ to }
+    requires few { length buyers.now ≤ MOST_MEMBERS }
+    ensures { OnOk result (rows.new.items ≡ rows.old.items ++ listed_from from.buyer (to - from.buyer) (seller_row buyers.now [] from.seller)) }
 {
-    if !sells {
-        return Ok(());
-    }
-    for buyer in from.buyer..to {
-        add_unsold(rows, members, from.seller, buyer)?;
+    for buyer in from.buyer..to.min(buyers.len() as u16) {
+        add_unsold(rows, buyers, from.seller, buyer)?;
     }
     Ok(())
 }
 
-// The most of a pair with this amount.
-fn upper_of(members: &[MemberRow], row: Row, sells: bool) -> Option<u64>
+// The most of a pair with trades.
+fn upper_of(buyers: &[MemberRow], row: Row) -> Option<u64>
     requires { row.seller ≢ row.buyer }
-    ensures { result ≡ pair_upper (grows_with sells members.now row.seller row.buyer) row.amount None }
+    ensures { result ≡ pair_upper (grows_with buyers.now row.seller row.buyer) row.amount None }
 {
-    if !sells {
-        return Some(row.amount);
-    }
-    if is_dealer(members, row.buyer) {
+    if is_dealer(buyers, row.buyer) {
         None
     } else {
         Some(row.amount)
@@ -93,20 +78,15 @@ fn upper_of(members: &[MemberRow], row: Row, sells: bool) -> Option<u64>
 }
 
 // Adds the row of a pair with trades.
-fn add_sold(
-    rows: &mut Vec<LimitRow>,
-    members: &[MemberRow],
-    row: Row,
-    sells: bool,
-) -> Result<(), AllocError>
-    requires { IsGoodRow (length members.now) row }
-    ensures { OnOk result (rows.new.items ≡ rows.old.items ++ row_with sells members.now row.seller row.buyer row.amount) }
+fn add_sold(rows: &mut Vec<LimitRow>, buyers: &[MemberRow], row: Row) -> Result<(), AllocError>
+    requires { IsGoodRow MOST_MEMBERS row }
+    ensures { OnOk result (rows.new.items ≡ rows.old.items ++ row_with buyers.now row.seller row.buyer row.amount) }
 {
     rows.push(LimitRow {
         seller: row.seller,
         buyer: row.buyer,
         lower: 0,
-        upper: upper_of(members, row, sells),
+        upper: upper_of(buyers, row),
     })?;
     Ok(())
 }
@@ -127,17 +107,18 @@ fn next_sold(network: &[Row], at: SellerPlace) -> Option<Row>
     }
 }
 
-// Adds the rows of a seller's pairs, where he may sell more to dealers or to nobody.
+// Adds the rows of a seller's pairs with so many members, of whom he may sell more to the dealers among these buyers.
 fn add_seller(
     rows: &mut Vec<LimitRow>,
     network: &[Row],
-    members: &[MemberRow],
+    buyers: &[MemberRow],
     seller: u16,
-    sells: bool,
+    members: u16,
 ) -> Result<(), AllocError>
-    requires sales { AreRows (length members.now) network.now }
-    requires few { length members.now ≤ MOST_MEMBERS }
-    ensures { OnOk result (rows.new.items ≡ rows.old.items ++ listed_below (length members.now) (seller_row sells members.now network.now seller)) }
+    requires sales { AreRows members network.now }
+    requires few { members ≤ MOST_MEMBERS }
+    requires few_buyers { length buyers.now ≤ MOST_MEMBERS }
+    ensures { OnOk result (rows.new.items ≡ rows.old.items ++ listed_below members (seller_row buyers.now network.now seller)) }
 {
     let mut at = SellerPlace {
         seller,
@@ -145,24 +126,13 @@ fn add_seller(
         row_at: first_row(network, seller, 0),
     };
     while let Some(row) = next_sold(network, at) {
-        add_all_unsold(rows, members, at, row.buyer, sells)?;
-        add_sold(rows, members, row, sells)?;
+        add_all_unsold(rows, buyers, at, row.buyer)?;
+        add_sold(rows, buyers, row)?;
         at.buyer = row.buyer + 1;
         at.row_at += 1;
     }
-    add_all_unsold(rows, members, at, members.len() as u16, sells)?;
+    add_all_unsold(rows, buyers, at, members)?;
     Ok(())
-}
-
-// Whether a seller's pairs with dealers may grow, where a mode does not open every pair.
-fn may_sell(mode: Mode, members: &[MemberRow], seller: u16) -> bool
-    requires { mode ≢ Mode.Free }
-    ensures { (buyer : ℕ) → grows_with result members.now seller buyer ≡ may_grow mode members.now seller buyer }
-{
-    match mode {
-        Mode::Hybrid => is_dealer(members, seller),
-        Mode::Conservative | Mode::Free => false,
-    }
 }
 
 // How many rows to make room for: those of trades, and one for each two dealers.
@@ -187,9 +157,10 @@ pub(super) fn untouched_rows(
     ensures { IfOk result (λ rows. rows.items ≡ listed_pairs (length members.now) (market_row mode members.now network.now)) }
 {
     let mut rows = Vec::with_capacity(alloc, room_for(mode, members, network))?;
+    let all = with_dealers(members);
     for seller in 0..members.len() as u16 {
-        let sells = may_sell(mode, members, seller);
-        add_seller(&mut rows, network, members, seller, sells)?;
+        let buyers = buyers_of(mode, members, all, seller);
+        add_seller(&mut rows, network, buyers, seller, members.len() as u16)?;
     }
     Ok(rows)
 }

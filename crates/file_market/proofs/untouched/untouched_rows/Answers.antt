@@ -12,7 +12,7 @@ loop-seller-preserved c =
     let network = c.args.network.now in
     let n : ℕ = length members in
     let i = c.loop-seller.seller in
-    let sells = c.may_sell-sells.result in
+    let buyers = c.buyers_of-buyers.result.now in
     let all : ℕ → List LimitRow = λ k. listed_below n (market_row c.args.mode members network k) in
-    c.in_ok-add_seller.ensures ∙ ap (λ xs. xs ++ listed_below n (seller_row sells members network i)) c.loop-seller.invariant
-    ∙ ap (λ xs. listed_below i all ++ xs) (seller_rows n sells c.args.mode members network i c.may_sell-sells.ensures) ∙ sym (listed_below-next i all)
+    c.in_ok-add_seller.ensures ∙ ap (λ xs. xs ++ listed_below n (seller_row buyers network i)) c.loop-seller.invariant
+    ∙ ap (λ xs. listed_below i all ++ xs) (seller_rows n buyers c.args.mode members network i c.buyers_of-buyers.ensures.grows) ∙ sym (listed_below-next i all)
