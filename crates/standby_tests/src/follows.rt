@@ -95,17 +95,31 @@ fn a_fault_of_its_disk_stops_it(rt: HostRuntime) -> Result<(), Fail> {
     Ok(())
 }
 
+// The disk of a standby that took these entries, all that its peer has.
+fn disk_behind(
+    rt: &impl Abort,
+    alloc: Global,
+    entries: VecDeque<Entry>,
+) -> Result<MemoryDisk, Fail> {
+    let mut house = house_on(rt, alloc, large_disk_of(alloc, b"")?)?;
+    if house.is_stopped() {
+        return Err(Fail::new("the house is stopped"));
+    }
+    let mut peer: MemoryPeer<MemoryDisk> = MemoryPeer::new(alloc, entries);
+    let end = follow_over(&mut house, &mut peer, &mut (), &mut ());
+    let disk = disk_below(house);
+    if end != FollowEnd::Caught {
+        return Err(Fail::new("it ended otherwise"));
+    }
+    Ok(disk)
+}
+
 // Slots and turn have 43 bytes, the records with their frames 38 and 28. The first record begins at byte 47.
 #[test]
 fn an_entry_is_kept_with_its_moment(rt: HostRuntime) -> Result<(), Fail> {
     let alloc = rt.alloc();
-    let mut house = house_on(&rt, alloc, large_disk_of(alloc, b"")?)?;
-    if house.is_stopped() {
-        return Err(Fail::new("the house is stopped"));
-    }
-    let mut peer: MemoryPeer<MemoryDisk> = MemoryPeer::new(alloc, two_entries(&rt, alloc, b"B")?);
-    assert!(rt; follow_over(&mut house, &mut peer, &mut (), &mut ()) == FollowEnd::Caught);
-    let mut disk = disk_below(house);
+    let entries = two_entries(&rt, alloc, b"B")?;
+    let mut disk = disk_behind(&rt, alloc, entries)?;
     let mut moment = [0; 8];
     let is_read = disk.read(47, &mut moment)? == 8;
     assert!(rt; is_read && u64::from_le_bytes(moment) == 1_774_958_400 && disk.length()? == 109);
