@@ -29,3 +29,10 @@ returns-clause-ends g c =
     (first_at c.args.house pass e.figures e.seat.0 e.seen (e.stop ∙ c.requires.running) e.left)
     (closed_on c.args.house c.close.result after c.requires.opened (ap (λ (s : Seat). s.number) seat ∙ e.seat.0) (ap (λ (s : Seat). s.figures) seat ∙ e.figures) done.figures done.seen after.mine done.made done.numbers done.stop done.lone)
     ends
+
+pub returns-clause-figures : goal.returns-clause-figures
+returns-clause-figures g c =
+    let pass = c.in-Ok.lock.1 in
+    let after = c.serve-end.result.1 in
+    let seat = seat_stays (g.T.Clock.tells c.args.self.now.with.now.clock.now) (of_pass pass) _ _ _ _ (of_pass after) c.serve-end.result.0 c.serve-end.ensures.ends in
+    c.close.ensures.figures ∙ (ap (λ (s : Seat). s.figures) seat ∙ c.in-Ok.ensures.figures)
