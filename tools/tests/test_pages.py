@@ -29,7 +29,7 @@ BROKEN: list[tuple[str, str, str, str]] = [
     ("crates/doors/README.md", "## Limits", "## Bounds", "crates/doors/README.md: its headings are not The parts, A caller,"),
     ("crates/base_tests/README.md", "## Limits", "## Bounds", "crates/base_tests/README.md: its headings are not The parts, Limits"),
     ("crates/session/README.md", "", "\n" + "a. " * 1000, "crates/session/README.md: 1"),
-    ("crates/posting/README.md", "Some(day) => posted_plan(", "Some(day) => planned(", "crates/posting/README.md: crates/cycle_states/src/machine/commands/post.rt has no"),
+    ("crates/posting/README.md", "None => posted_plan(", "None => planned(", "crates/posting/README.md: crates/cycle_states/src/machine/commands/post.rt has no"),
     ("crates/outside/README.md", "From `crates/", "From `crate/", "crates/outside/README.md: lines of no file: 'disk.write_at"),
     ("crates/trade_file/README.md", "", UNNAMED, "crates/trade_file/README.md: lines of no file: 'let unnamed"),
 ]
