@@ -18,6 +18,7 @@ pub mod Spelling
 pub mod Bases
 pub mod Offers
 pub mod Told
+pub mod InTurn
 pub mod Laws
 pub mod Lines
 pub mod CutLines

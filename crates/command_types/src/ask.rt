@@ -1,4 +1,5 @@
 //! Commands, and the changes that the history keeps.
+ghost use Rattle.std.specs.Prelude.{◌≡◌};
 
 use crate::cycle::Mode;
 use crate::level::Level;
@@ -6,6 +7,7 @@ use crate::listed::Listed;
 use crate::moment::Moment;
 use crate::trade::Side;
 use network_laws::Solution;
+use std::mem;
 use units_core::{Amount, Day, Name};
 
 /// A command.
@@ -141,4 +143,21 @@ pub struct Ask {
 pub struct Entry {
     pub seat: u32,
     pub ask: Ask,
+}
+
+impl Entry {
+    /// This command, taken out. A BYE of nobody is left in its place.
+    pub fn take(&mut self) -> Entry
+        ensures { result ≡ self.old }
+    {
+        let blank = Entry {
+            seat: 0,
+            ask: Ask {
+                by: None,
+                what: What::Bye,
+                moment: Moment::new(0),
+            },
+        };
+        mem::replace(self, blank)
+    }
 }

@@ -1,13 +1,18 @@
 //! What a lock keeps, and what a session asks.
 
-ghost use Rattle.std.specs.Prelude.{◌≡◌, ◌≤◌, ◌<◌, ◌^◌, Bool, IsTrue, true, false};
+ghost use Rattle.std.specs.Prelude.{◌≡◌, ◌≤◌, ◌<◌, ◌^◌, Bool, IsTrue, true, false, length, take, drop, vec_len, vec_capacity};
 ghost use Rattle.command_types.specs.declared.figures.Figures.{Figures};
 ghost use Rattle.command_types.specs.History.{History, IsLegal, end_of, longer, recorded, is_recorded};
 ghost use Rattle.command_types.specs.Roster.{IsRoster};
 ghost use Rattle.command_types.specs.Told.{IsTold};
+ghost use Rattle.command_types.specs.InTurn.{AreToldInTurn};
+ghost use Rattle.command_types.specs.declared.desk.TheConstants.{MOST_TOGETHER};
 
 use crate::answer::Reply;
-use crate::ask::Ask;
+use crate::ask::{Ask, Entry};
+
+/// How many commands are asked together at most.
+pub const MOST_TOGETHER: usize = 64;
 
 /// One history, and the machine that answers from its end.
 pub trait Desk: Send + Drop {
@@ -32,6 +37,23 @@ pub trait Desk: Send + Drop {
         ensures opening { (figures self.new).opening ≤ end_of (history self.new) }
         ensures figures { figures self.new ≡ figures self.old }
         ensures stays { stopped self.old ≡ true → stopped self.new ≡ true };
+
+    /// Answers a front of these commands, at least the first, each as if it were asked alone behind the one before it. What is
+    /// answered may be taken out of the commands. The replies take the place of those before.
+    fn ask_all(&mut self, commands: &mut [Entry], replies: &mut Vec<Reply>)
+        requires some { 0 < length commands.old }
+        requires few { length commands.old ≤ MOST_TOGETHER }
+        requires room { length commands.old ≤ vec_capacity replies.old }
+        ensures some { 0 < vec_len replies.new }
+        ensures few { vec_len replies.new ≤ length commands.old }
+        ensures rest { drop (vec_len replies.new) commands.new ≡ drop (vec_len replies.new) commands.old }
+        ensures told { AreToldInTurn (figures self.old) (stopped self.old) (stopped self.new) (history self.old) (take (vec_len replies.new) commands.old) replies.new.items (history self.new) }
+        ensures capacity { vec_capacity replies.new ≡ vec_capacity replies.old }
+        ensures base { (history self.new).base ≡ (figures self.new).base }
+        ensures legal { IsLegal (history self.new) }
+        ensures short { end_of (history self.new) < 2 ^ 63 }
+        ensures opening { (figures self.new).opening ≤ end_of (history self.new) }
+        ensures figures { figures self.new ≡ figures self.old };
 
     /// The length of the history. It takes no memory.
     fn length(&self) -> u64

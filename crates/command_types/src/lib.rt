@@ -28,7 +28,7 @@ pub use answer::{Answer, Reply};
 pub use ask::{Ask, Entry, What};
 pub use base::Base;
 pub use cycle::{Mode, Phase};
-pub use desk::Desk;
+pub use desk::{Desk, MOST_TOGETHER};
 pub use figures::{Cycle, Figures, JournalFigures, Start, State};
 pub use file_fault::FileFault;
 pub use laws::{cut_lines_join, told_cases_exclude};

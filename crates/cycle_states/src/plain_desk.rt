@@ -149,6 +149,13 @@ impl Desk for PlainDesk {
         Reply { at: at + 1, answer }
     }
 
+    fn ask_all(&mut self, commands: &mut [Entry], replies: &mut Vec<Reply>) {
+        replies.clear();
+        let Entry { seat, ask } = commands[0].take();
+        let reply = self.ask(seat, ask);
+        replies.push_reserved(reply);
+    }
+
     fn length(&self) -> u64 {
         // A roster's members say that it keeps its limits.
         let _members = self.machine.roster().members();

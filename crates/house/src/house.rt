@@ -103,6 +103,13 @@ impl<D: Disk + Send> Desk for House<D> {
         self.call(seat, ask)
     }
 
+    fn ask_all(&mut self, commands: &mut [Entry], replies: &mut Vec<Reply>) {
+        replies.clear();
+        let Entry { seat, ask } = commands[0].take();
+        let reply = self.call(seat, ask);
+        replies.push_reserved(reply);
+    }
+
     fn length(&self) -> u64 {
         House::length(self)
     }
