@@ -22,7 +22,7 @@ from .session import Session
 from .shell import Prompt, Shell
 from .words import Once, Words, flag, plain
 
-MOST_ROSTER_BYTES = 67_108_865
+MOST_FILE = 67_108_864
 PROGRAM = "compress_cli"
 
 
@@ -79,7 +79,7 @@ def opened(given: Namespace) -> Session:
 
 def main(line: list[str]) -> int:
     given = read_words(line)
-    roster = read_file(given.roster, MOST_ROSTER_BYTES)
+    roster = read_file(given.roster, MOST_FILE + 1)
     names = Names(roster, about_of(given.roster, given.about))
     prompt = Prompt(names)
     if prompt.is_terminal:

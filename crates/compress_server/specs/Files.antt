@@ -1,5 +1,6 @@
 -- What the program's files say, and why one could not be had.
-use Rattle.std.specs.Prelude.{◌≡◌, ◌⊎◌, ℕ, List, Option, Result, Ok, Err}
+use Rattle.std.specs.Prelude.{◌≡◌, ◌⊎◌, ℕ, ◌+◌, List, Option, Result, Ok, Err}
+use Rattle.units_core.specs.declared.limits.TheConstants.{MOST_FILE}
 use Rattle.outside.specs.Faults.{Rose}
 use Rattle.outside.specs.Files.{Folder, IsFront}
 use Rattle.outside.specs.declared.files.Files.{Ghosts as FilesTells}
@@ -27,7 +28,7 @@ files_by tells files = record { folder = tells.folder files; faults = tells.faul
 
 -- as many bytes of a file as are read: one more than a file may have
 abbrev pub file_front : ℕ
-file_front = 67108865
+file_front = MOST_FILE + 1
 
 -- the file under this name reads as this
 abbrev pub Reads : {A : Type 0} → Option Folder → List ℕ → (List ℕ → Result A FileFault) → Result A FileFault → Type 0
