@@ -1,9 +1,6 @@
 -- What a call has done, from what its steps told.
-use Rattle.std.proofs.Common.{◌≡◌, ◌≢◌, ℕ, suc, ◌+◌, ◌<◌, ◌≤◌, ◌^◌, nat_lt, length, length-append, Bool, true, false, cond, ◌||◌, List, [], ◌∷◌, ◌++◌, drop, sym, refl, ap, ◌∙◌, subst, arith, append_assoc}
-use Rattle.std.specs.Prelude.{Option, Some, MatchBool, if◌then◌else◌}
-use Rattle.std.proofs.lemmas.Bool.Decides.{nat_tests}
-use Rattle.std.proofs.lemmas.Bool.{eq-eqb, ne_eqb}
-use Rattle.std.proofs.lemmas.List.{append-nil}
+use Rattle.std.proofs.Common.{◌≡◌, ℕ, ◌+◌, ◌<◌, ◌≤◌, ◌^◌, length, length-append, Bool, true, false, ◌||◌, List, [], ◌∷◌, ◌++◌, drop, sym, refl, ap, ◌∙◌, subst, arith, append_assoc}
+use Rattle.std.specs.Prelude.{Option, Some}
 use Rattle.command_types.specs.declared.ask.Entry.{Entry}
 use Rattle.command_types.specs.declared.figures.Figures.{Figures}
 use Rattle.cycle_lock.specs.declared.rule.Account.{Account}
@@ -12,10 +9,13 @@ use Rattle.command_types.specs.declared.ask.Ask.{Ask}
 use Rattle.command_types.specs.declared.answer.Reply.{Reply}
 use Rattle.command_types.specs.Told.{IsTold}
 use Rattle.command_types.specs.History.{History, IsLegal, end_of, longer}
+use Rattle.command_types.specs.InTurn.{AreToldInTurn}
 use Rattle.cycle_lock.specs.Accounts.{whole, by, times, Extends, opening_count}
 use Rattle.cycle_lock.specs.Views.{resting, account_of, merged}
+use Rattle.cycle_lock.specs.Passes.{Continues}
 use Rattle.cycle_lock.specs.Plays.{Newer, Sat, Took, Becomes, settled, noted, passed}
 use Rattle.cycle_lock.proofs.Joins.{by_more}
+use Rattle.cycle_lock.proofs.Owners.{AreOf}
 use Rattle.cycle_lock.proofs.Numbers.{times-append}
 use Rattle.cycle_lock.proofs.Steps.{taken}
 
@@ -70,6 +70,12 @@ module _ {T : Type 0} (history : T → History) (figures_of : T → Figures) (st
       subst (λ (x : Account). Called x (account_of views) (figures_of d) (history d') (stopped d) (stopped d') added) from
       (in_turn turn.0 (account_of views) (figures_of d) (history d) (history d') (stopped d) (stopped d') added took.1 t.2 t.0 grows t.1 to)
 
+  -- the desk that was asked goes on from what the pass had seen
+  pub asked_behind : (a : Account) (turn : Sat T) (slots rest : List (ℕ × Option T)) (d : T) → turn.0.account ≡ a → Took history figures_of stopped slots turn → turn.1 ≡ (0, Some d) ∷ rest → Continues (history d) (whole a.figures a.seen)
+  asked_behind a turn slots rest d from took has =
+      let t = taken history figures_of stopped (figures_of d) slots rest turn d took has in
+      subst (λ (x : Account). Continues (history d) (whole x.figures x.seen)) from (took.1.begins.0, t.0 ∙ ap (whole turn.0.account.figures) took.1.begins.1)
+
 -- what the reply tells of the desk is true of what the pass has seen
 pub told_of : (a a' : Account) (f : Figures) (h' : History) (was is : Bool) (added : List Entry) (t : Called a a' f h' was is added) (seat : ℕ) (ask : Ask) (reply : Reply) → IsTold f was is h' seat ask reply → (was ≡ true → is ≡ true)
     → (before : Bool) × (a.stop ≡ true → before ≡ true) × (before ≡ true → a'.stop ≡ true) × IsTold a'.figures before a'.stop (whole a'.figures a'.seen) seat ask reply
@@ -80,58 +86,31 @@ told_of a a' f h' was is added t seat ask reply told stays = (
   subst (λ (x : Figures × Bool × History). IsTold x.0 was x.1 x.2 seat ask reply) (λ i. (t.desk i, t.stop i, t.history i)) told,
 )
 
-matched_true : (A B : Type 0) (b : Bool) → b ≡ true → A → MatchBool b A B
-matched_true A B true e a = a
-matched_true A B false e a = absurd (cc)
-
-matched_false : (A B : Type 0) (b : Bool) → b ≡ false → B → MatchBool b A B
-matched_false A B true e x = absurd (cc)
-matched_false A B false e x = x
-
-is_less : (m n : ℕ) → n ≡ suc m → nat_lt m n ≡ true
-is_less m n e = grind (arith, nat_tests)
-
-is_not_less : (m n : ℕ) → n ≡ m → nat_lt m n ≡ false
-is_not_less m n e = grind (arith, nat_tests)
-
--- the position tells whether the history grew
-grown_by : (figures : Figures) (known : List Entry) (number : ℕ) (h' : History) (seat : ℕ) (ask : Ask) (b : Bool) (start at : ℕ) → seat ≡ number → start ≡ figures.base.position + length known → at ≡ end_of h'
-    → h' ≡ whole figures (known ++ (if b then record { seat = seat; ask = ask } ∷ [] else []))
-    → MatchBool (nat_lt start at) ((e : Entry) × (e.seat ≡ number) × (h' ≡ whole figures (known ++ e ∷ []))) (h' ≡ whole figures known)
-grown_by figures known number h' seat ask true start at own s a is = let e : Entry = record { seat = seat; ask = ask } in
-    let f : end_of h' ≡ figures.base.position + length (known ++ e ∷ []) = ap end_of is in
-    let more : at ≡ suc start = omega (arith, length-append known (e ∷ [])) in
-    matched_true ((e : Entry) × (e.seat ≡ number) × (h' ≡ whole figures (known ++ e ∷ []))) (h' ≡ whole figures known) (nat_lt start at) (is_less start at more) (e, own, is)
-grown_by figures known number h' seat ask false start at own s a is =
-    let same : h' ≡ whole figures known = is ∙ ap (whole figures) (append-nil known) in
-    let f : end_of h' ≡ figures.base.position + length known = ap end_of same in
-    let still : at ≡ start = omega arith in
-    matched_false ((e : Entry) × (e.seat ≡ number) × (h' ≡ whole figures (known ++ e ∷ []))) (h' ≡ whole figures known) (nat_lt start at) (is_not_less start at still) same
-
 module _ {T : Type 0} (history : T → History) (figures_of : T → Figures) (stopped : T → Bool) where
-  pub becomes : (turn take : Sat T) (slots rest gone : List (ℕ × Option T)) (d d' : T) (seat : ℕ) (ask : Ask) (b : Bool) (start at : ℕ) → Took history figures_of stopped slots turn → turn.1 ≡ (0, Some d) ∷ rest → take ≡ (turn.0, gone)
-      → turn.0.account.spent ≡ false → turn.0.account.number ≡ seat → start ≡ end_of (history d) → at ≡ end_of (history d') → history d' ≡ longer (history d) (if b then record { seat = seat; ask = ask } ∷ [] else [])
-      → IsLegal (history d') → end_of (history d') < 2 ^ 63 → (stopped d ≡ true → stopped d' ≡ true) → Becomes history stopped take.0 (nat_lt start at) d'
-  becomes turn take slots rest gone d d' seat ask b start at took has left live number s a grows legal short stays =
+  -- the desk that was taken has become longer by entries of the seat's own number
+  pub becomes : (turn take : Sat T) (slots rest gone : List (ℕ × Option T)) (d d' : T) (added : List Entry) → Took history figures_of stopped slots turn → turn.1 ≡ (0, Some d) ∷ rest → take ≡ (turn.0, gone)
+      → turn.0.account.spent ≡ false → AreOf turn.0.account.number added → history d' ≡ longer (history d) added
+      → IsLegal (history d') → end_of (history d') < 2 ^ 63 → (stopped d ≡ true → stopped d' ≡ true) → Becomes history stopped take.0 added d'
+  becomes turn take slots rest gone d d' added took has left live own grows legal short stays =
       let t = taken history figures_of stopped (figures_of d) slots rest turn d took has in
-      let added : List Entry = if b then record { seat = seat; ask = ask } ∷ [] else [] in
-      subst (λ (m : Sat T). Becomes history stopped m.0 (nat_lt start at) d') (sym left) record {
+      subst (λ (m : Sat T). Becomes history stopped m.0 added d') (sym left) record {
         live = live;
         mine = took.1.mine;
-        grown = grown_by turn.0.account.figures turn.0.known turn.0.account.number (history d') seat ask b start at (sym number) (s ∙ ap end_of t.0) a (grows ∙ ap (λ (x : History). longer x added) t.0);
+        own = own;
+        grown = grows ∙ ap (λ (x : History). longer x added) t.0;
         legal = legal;
         short = short;
         still = λ e. stays (t.1 ∙ e);
       }
 
--- the entry that a call adds is of its seat alone
-pub by_self : (seat : ℕ) (ask : Ask) (b : Bool) → by seat (if b then record { seat = seat; ask = ask } ∷ [] else []) ≡ (if b then record { seat = seat; ask = ask } ∷ [] else [])
-by_self seat ask true = ap (λ (b : Bool). cond b (record { seat = seat; ask = ask } ∷ []) []) (eq-eqb seat seat refl)
-by_self seat ask false = refl
+-- and so is what several replies tell
+pub told_all_of : (a a' : Account) (f : Figures) (h h' : History) (was is : Bool) (added : List Entry) (t : Called a a' f h' was is added) (commands : List Entry) (replies : List Reply)
+    → AreToldInTurn f was is h commands replies h' → AreToldInTurn a'.figures was a'.stop h commands replies (whole a'.figures a'.seen)
+told_all_of a a' f h h' was is added t commands replies told = subst (λ (x : Figures × Bool × History). AreToldInTurn x.0 was x.1 h commands replies x.2) (λ i. (t.desk i, t.stop i, t.history i)) told
 
-pub by_others : (n seat : ℕ) (ask : Ask) (b : Bool) → n ≢ seat → by n (if b then record { seat = seat; ask = ask } ∷ [] else []) ≡ []
-by_others n seat ask true ne = ap (λ (b : Bool). cond b (record { seat = seat; ask = ask } ∷ []) []) (ne_eqb seat n (λ e. ne (sym e)))
-by_others n seat ask false ne = refl
+-- the position tells by how much the history grew
+pub grown_by : (h h' : History) (added : List Entry) (start at : ℕ) → start ≡ end_of h → at ≡ end_of h' → h' ≡ longer h added → at ≡ start + length added
+grown_by h h' added start at from to grows = let e : end_of h' ≡ end_of (longer h added) = ap end_of grows in omega (arith, length-append h.entries added)
 
 -- what one account takes in of another
 abbrev pub Takes : Account → Account → Type 0

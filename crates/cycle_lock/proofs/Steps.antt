@@ -1,6 +1,6 @@
 -- Each step keeps the rule.
-use Rattle.std.proofs.Common.{◌≡◌, ◌≢◌, ℕ, suc, zero, ◌+◌, ◌%◌, ◌^◌, ◌<◌, ◌≤◌, Bool, true, false, cond, ◌==◌, ◌||◌, List, [], ◌∷◌, ◌++◌, length, get_or, drop, set, sym, refl, ap, ◌∙◌, subst, ⊎_elim, arith, length-set, length-append, get_or-set_same, get_or-set_other, append_assoc}
-use Rattle.std.specs.Prelude.{Option, Some, None, MatchBool}
+use Rattle.std.proofs.Common.{◌≡◌, ◌≢◌, ℕ, suc, zero, ◌+◌, ◌%◌, ◌^◌, ◌<◌, ◌≤◌, Bool, true, false, ◌==◌, ◌||◌, List, [], ◌∷◌, ◌++◌, length, get_or, drop, set, sym, refl, ap, ◌∙◌, subst, ⊎_elim, arith, length-set, length-append, get_or-set_same, get_or-set_other, append_assoc}
+use Rattle.std.specs.Prelude.{Option, Some, None}
 use mathlib.Core.Option.{some, none, some-injective, some-ne-none}
 use mathlib.Core.Option as maybe
 use mathlib.Core.Logic.{dite}
@@ -10,7 +10,6 @@ use Rattle.atomic_table.specs.Table.{State, step, keeps, takes, gives, Allows, S
 use Rattle.atomic_table.proofs.Lists.{at_set, set_here, set_else, at_longer}
 use Rattle.std.proofs.lemmas.List.{append-nil, drop-append-le}
 use Rattle.std.proofs.lemmas.List.Elements.{filter-append}
-use Rattle.std.proofs.lemmas.Bool.{ne_eqb}
 use Rattle.command_types.specs.declared.ask.Entry.{Entry}
 use Rattle.command_types.specs.declared.figures.Figures.{Figures}
 use Rattle.cycle_lock.specs.declared.rule.View.{View}
@@ -26,7 +25,8 @@ use Rattle.cycle_lock.specs.Numbers.{Counted}
 use Rattle.cycle_lock.specs.Plays.{Becomes, Sat, drew, Took, looked, looked_behind, rang, numbered, settled, noted, passed}
 use Rattle.cycle_lock.specs.declared.rule.Account.{Account}
 use Rattle.cycle_lock.proofs.Histories.{from_base}
-use Rattle.cycle_lock.proofs.Joins.{longer_over, between}
+use Rattle.cycle_lock.proofs.Joins.{longer_over, between, by_more}
+use Rattle.cycle_lock.proofs.Owners.{AreOf, by_others}
 use Rattle.cycle_lock.proofs.Numbers.{total_at, times-append, times_here, times_there, one_owner, was_drawn, counted_kept, counted_draws, counted_splits, counted_joins}
 use Rattle.cycle_lock.proofs.Line.{line_kept, line_rests, line_draws, line_passes, line_served, line_alone, line_one, line_more, at_new}
 
@@ -68,10 +68,9 @@ knows_other log log' stop stop' figures known halted Passed n k = tt
 knows_other log log' stop stop' figures known halted Drawn n k = tt
 knows_other log log' stop stop' figures known halted Joined n k = tt
 
--- an entry of another number is no entry of this one
-pub by_other : (n opening : ℕ) (log : List Entry) (e : Entry) → opening ≤ length log → e.seat ≢ n → by n (drop opening (log ++ e ∷ [])) ≡ by n (drop opening log)
-by_other n opening log e le ne = ap (by n) (drop-append-le opening log (e ∷ []) le) ∙ (filter-append (λ (x : Entry). x.seat == n) (drop opening log) (e ∷ [])
-    ∙ (ap (λ b. by n (drop opening log) ++ cond b (e ∷ []) []) (ne_eqb e.seat n ne) ∙ append-nil (by n (drop opening log))))
+-- entries of another number are no entries of this one
+pub by_other : (n number opening : ℕ) (log more : List Entry) → opening ≤ length log → AreOf number more → n ≢ number → by n (drop opening (log ++ more)) ≡ by n (drop opening log)
+by_other n number opening log more le own ne = by_more n opening log more le ∙ (ap (λ (x : List Entry). by n (drop opening log) ++ x) (by_others n number more own ne) ∙ append-nil (by n (drop opening log)))
 
 account_first : (n : ℕ) (a b : Account) (st : Stage) → 1 ≤ times n a.stands → 1 ≤ times n (owned st a b)
 account_first n a b Resting h = h
@@ -329,22 +328,23 @@ module _ {T : Type 0} (history : T → History) (figures_of : T → Figures) (st
         (refl, refl, refl, refl, refl),
       )
 
-  pub records : (size id : ℕ) (me : Sat T) (log : List Entry) (stop : Bool) (e : Entry) → me.0.stage ≡ HasTurn → log ≡ me.0.known ++ e ∷ [] → (me.0.halted ≡ true → stop ≡ true)
-      → e.seat ≡ me.0.account.number → 1 ≤ times me.0.account.number me.0.account.stands → me.0.account.spent ≡ false → IsLegal (whole me.0.account.figures log) → end_of (whole me.0.account.figures log) < 2 ^ 63 → Allows Rule size id me 0 (λ n. (n + 1) % 2 ^ 64) (λ n w. noted log stop me w)
-  records size id me log stop e st grew still number mine live legal short s k long at small = let v : View = me.0 in let n : ℕ = (get_or s.words 0 0 + 1) % 2 ^ 64 in let ws' : List ℕ = set s.words 0 n in let wide = k.line.wide in
+  pub records : (size id : ℕ) (me : Sat T) (log : List Entry) (stop : Bool) (more : List Entry) (many : ℕ) → many ≡ length more → me.0.stage ≡ HasTurn → log ≡ me.0.known ++ more → (me.0.halted ≡ true → stop ≡ true)
+      → AreOf me.0.account.number more → 1 ≤ times me.0.account.number me.0.account.stands → me.0.account.spent ≡ false → IsLegal (whole me.0.account.figures log) → end_of (whole me.0.account.figures log) < 2 ^ 63
+      → Allows Rule size id me 0 (λ n. (n + many) % 2 ^ 64) (λ n w. noted log stop me w)
+  records size id me log stop more many count st grew still own mine live legal short s k long at small = let v : View = me.0 in let n : ℕ = (get_or s.words 0 0 + many) % 2 ^ 64 in let ws' : List ℕ = set s.words 0 n in let wide = k.line.wide in
       let knows = subst (λ (z : Stage). KnowsDesk k.log k.stop figures z v.known v.halted) st (k.each_seat id v at).knows in
-      let grown : log ≡ k.log ++ e ∷ [] = grew ∙ ap (λ (x : List Entry). x ++ e ∷ []) knows.0 in
-      let same = (k.each_seat id v at).own.same live in let count : n ≡ figures.base.position + length log = let c = k.counts in let a = ap length grown in let m = length-append k.log (e ∷ []) in let f = ap (λ (x : Figures). x.base.position) same in omega arith in
+      let grown : log ≡ k.log ++ more = grew ∙ ap (λ (x : List Entry). x ++ more) knows.0 in
+      let same = (k.each_seat id v at).own.same live in let word : n ≡ figures.base.position + length log = let c = k.counts in let a = ap length grown in let m = length-append k.log more in let f = ap (λ (x : Figures). x.base.position) same in omega arith in
       let owner : 1 ≤ owns v.account.number v = account_first v.account.number v.account v.guest v.stage mine in let since : List Entry = drop (opening_count figures) k.log in (
         noting log stop me,
         keeps,
         tt,
-        shown s k ws' id v (noting log stop me) log (e ∷ []) stop at st refl grown (λ f. still (knows.1 ∙ f))
+        shown s k ws' id v (noting log stop me) log more stop at st refl grown (λ f. still (knows.1 ∙ f))
             (λ j u ne p m h. ap (λ (x : List Entry). by m (drop (opening_count figures) x)) grown
-            ∙ by_other m (opening_count figures) k.log e k.later (λ f. ne (one_owner (get_or s.words 3 0) s.views since k.numbers m j id u v p at h (subst (λ (z : ℕ). 1 ≤ owns z v) (sym number ∙ f) owner))))
+            ∙ by_other m v.account.number (opening_count figures) k.log more k.later own (λ f. ne (one_owner (get_or s.words 3 0) s.views since k.numbers m j id u v p at h (subst (λ (z : ℕ). 1 ≤ owns z v) (sym f) owner))))
             (λ m le. ap (λ (x : List Entry). by m (drop (opening_count figures) x)) grown
-            ∙ by_other m (opening_count figures) k.log e k.later (λ f. let b = was_drawn (get_or s.words 3 0) s.views since k.numbers v.account.number id v at owner in omega arith))
-            (length-set s.words 0 n) (get_or-set_same s.words 0 n 0 (omega arith) ∙ count)
+            ∙ by_other m v.account.number (opening_count figures) k.log more k.later own (λ f. let b = was_drawn (get_or s.words 3 0) s.views since k.numbers v.account.number id v at owner in omega arith))
+            (length-set s.words 0 n) (get_or-set_same s.words 0 n 0 (omega arith) ∙ word)
             (get_or-set_other s.words 0 1 n 0 (λ e. omega arith)) (get_or-set_other s.words 0 2 n 0 (λ e. omega arith)) (get_or-set_other s.words 0 3 n 0 (λ e. omega arith)) (subst (λ (x : Figures). IsLegalFrom x.base.state log) same legal),
         (refl, refl, refl, refl, refl),
       )
@@ -496,31 +496,22 @@ module _ {T : Type 0} (history : T → History) (figures_of : T → Figures) (st
         ),
       )
 
-  grown_true : (A B : Type 0) (b : Bool) → b ≡ true → MatchBool b A B → A
-  grown_true A B true e h = h
-  grown_true A B false e h = absurd (cc)
+  nothing_added : (more : List Entry) → length more ≡ 0 → more ≡ []
+  nothing_added [] e = refl
+  nothing_added (x ∷ more) e = absurd (omega arith)
 
-  grown_false : (A B : Type 0) (b : Bool) → b ≡ false → MatchBool b A B → B
-  grown_false A B true e h = absurd (cc)
-  grown_false A B false e h = h
+  pub records_if : (size id : ℕ) (me : Sat T) (d : T) (log : List Entry) (stop : Bool) (more : List Entry) (many : ℕ) → many ≡ length more → me.0.stage ≡ HasTurn → log ≡ (history d).entries → stop ≡ stopped d → Becomes history stopped me.0 more d
+      → Allows Rule size id me 0 (λ n. (n + many) % 2 ^ 64) (λ n w. noted log stop me w)
+  records_if size id me d log stop more many count st is is' b =
+      let to : log ≡ me.0.known ++ more = is ∙ ap (λ (h : History). h.entries) b.grown in
+      let grown_to : history d ≡ whole me.0.account.figures log = b.grown ∙ ap (whole me.0.account.figures) (sym to) in
+      records size id me log stop more many count st to (λ e. is' ∙ b.still e) b.own b.mine b.live (subst IsLegal grown_to b.legal) (subst (λ (h : History). end_of h < 2 ^ 63) grown_to b.short)
 
-  abbrev One : Sat T → T → Type 0
-  One me d = (e : Entry) × (e.seat ≡ me.0.account.number) × (history d ≡ whole me.0.account.figures (me.0.known ++ e ∷ []))
-
-  abbrev Same : Sat T → T → Type 0
-  Same me d = history d ≡ whole me.0.account.figures me.0.known
-
-  pub records_if : (size id : ℕ) (me : Sat T) (d : T) (log : List Entry) (stop : Bool) (grew : Bool) → grew ≡ true → me.0.stage ≡ HasTurn → log ≡ (history d).entries → stop ≡ stopped d → Becomes history stopped me.0 grew d
-      → Allows Rule size id me 0 (λ n. (n + 1) % 2 ^ 64) (λ n w. noted log stop me w)
-  records_if size id me d log stop grew yes' st is is' b = let t = grown_true (One me d) (Same me d) grew yes' b.grown in
-      let to : log ≡ me.0.known ++ t.0 ∷ [] = is ∙ ap (λ (h : History). h.entries) t.2 in
-      let grown_to : history d ≡ whole me.0.account.figures log = t.2 ∙ ap (whole me.0.account.figures) (sym to) in
-      records size id me log stop t.0 st to (λ e. is' ∙ b.still e) t.1 b.mine b.live (subst IsLegal grown_to b.legal) (subst (λ (h : History). end_of h < 2 ^ 63) grown_to b.short)
-
-  pub reads_if : (size id : ℕ) (me : Sat T) (d : T) (log : List Entry) (stop : Bool) (grew : Bool) → grew ≡ false → me.0.stage ≡ HasTurn → log ≡ (history d).entries → stop ≡ stopped d → Becomes history stopped me.0 grew d
+  pub reads_if : (size id : ℕ) (me : Sat T) (d : T) (log : List Entry) (stop : Bool) (more : List Entry) → length more ≡ 0 → me.0.stage ≡ HasTurn → log ≡ (history d).entries → stop ≡ stopped d → Becomes history stopped me.0 more d
       → Allows Rule size id me 0 (λ n. n) (λ n w. noted log stop me w)
-  reads_if size id me d log stop grew not' st is is' b =
-      reads size id me log stop st (is ∙ ap (λ (h : History). h.entries) (grown_false (One me d) (Same me d) grew not' b.grown)) (λ e. is' ∙ b.still e)
+  reads_if size id me d log stop more empty st is is' b =
+      let same : (history d).entries ≡ me.0.known = ap (λ (h : History). h.entries) b.grown ∙ (ap (λ (x : List Entry). me.0.known ++ x) (nothing_added more empty) ∙ append-nil me.0.known) in
+      reads size id me log stop st (is ∙ same) (λ e. is' ∙ b.still e)
 
   abbrev first_slot : List (ℕ × Option T) → Option T
   first_slot [] = None

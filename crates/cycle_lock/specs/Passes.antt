@@ -3,7 +3,9 @@ use Rattle.std.specs.Prelude.{◌≡◌, ℕ, ◌≤◌, nat_lt, Bool, true, Lis
 use Rattle.atomic_table.specs.Seated.{TableId}
 use Rattle.command_types.specs.declared.ask.Entry.{Entry}
 use Rattle.command_types.specs.declared.figures.Figures.{Figures}
+use Rattle.command_types.specs.declared.answer.Reply.{Reply}
 use Rattle.command_types.specs.History.{History, longer, entries_of_seat}
+use Rattle.command_types.specs.InTurn.{AreToldInTurn}
 use Rattle.cycle_lock.specs.declared.pass.Pass.{Pass}
 use Rattle.cycle_lock.specs.declared.turns.Turns.{Turns}
 use Rattle.cycle_lock.specs.Accounts.{whole, times}
@@ -69,3 +71,11 @@ pub record Includes (p q : Pass) : Type 0 where
   pub stands_too : (n : ℕ) → StandsFor q n → StandsFor p n
   pub same_entries : (n : ℕ) → StandsFor q n → made_by n p ≡ made_by n q
   pub stop_too : saw_stop q ≡ true → saw_stop p ≡ true
+
+-- In one turn of the pass, which was p and is q, these commands were answered, each behind the one before it. The first was asked at the end of a history that goes on from what p had seen, of a desk that was stopped if p had seen so. What q has seen is what the last left.
+pub record AreToldInOneTurn (p q : Pass) (commands : List Entry) (replies : List Reply) : Type 0 where
+  pub from : History
+  pub before : Bool
+  pub goes_on : Continues from (seen p)
+  pub knew : saw_stop p ≡ true → before ≡ true
+  pub told : AreToldInTurn (figures_of q) before (saw_stop q) from commands replies (seen q)

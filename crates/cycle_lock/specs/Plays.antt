@@ -1,5 +1,5 @@
 -- What each step tells the seat that makes it.
-use Rattle.std.specs.Prelude.{◌≡◌, ◌≢◌, ℕ, ◌+◌, ◌%◌, ◌^◌, ◌<◌, ◌≤◌, Bool, true, false, List, [], ◌∷◌, ◌++◌, length, MatchBool, Option, Some, drop}
+use Rattle.std.specs.Prelude.{◌≡◌, ◌≢◌, ℕ, ◌+◌, ◌%◌, ◌^◌, ◌<◌, ◌≤◌, Bool, true, false, List, [], ◌∷◌, ◌++◌, length, All, Option, Some, drop}
 use Rattle.atomic_table.specs.Table.{Me, Step, rest}
 use Rattle.command_types.specs.declared.ask.Entry.{Entry}
 use Rattle.command_types.specs.declared.figures.Figures.{Figures}
@@ -67,13 +67,12 @@ module _ {T : Type 0} where
   stop_in stopped ((k, Some d) ∷ slots) = stopped d
   stop_in stopped slots = false
 
-  -- the desk has the history that the seat knows, with one entry of its number if it grew
-  pub record Becomes (history : T → History) (stopped : T → Bool) (v : View) (grew : Bool) (d : T) : Type 0 where
+  -- the desk has the history that the seat knows, with these entries more, all of the seat's own number
+  pub record Becomes (history : T → History) (stopped : T → Bool) (v : View) (more : List Entry) (d : T) : Type 0 where
     pub live : v.account.spent ≡ false
     pub mine : 1 ≤ times v.account.number v.account.stands
-    pub grown : MatchBool grew
-        ((e : Entry) × (e.seat ≡ v.account.number) × (history d ≡ whole v.account.figures (v.known ++ e ∷ [])))
-        (history d ≡ whole v.account.figures v.known)
+    pub own : All (λ (e : Entry). e.seat ≡ v.account.number) more
+    pub grown : history d ≡ whole v.account.figures (v.known ++ more)
     pub legal : IsLegal (history d)
     pub short : end_of (history d) < 2 ^ 63
     pub still : v.halted ≡ true → stopped d ≡ true

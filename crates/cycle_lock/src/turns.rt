@@ -12,6 +12,7 @@ mod calls;
 mod ends;
 mod shares;
 mod steps;
+mod together;
 
 /// A ticket lock with a desk in it. Nothing is claimed of how long a call waits, or of who comes first.
 #[derive(Drop)]

@@ -48,7 +48,7 @@ impl<T: Desk> Turns<T> {
         };
         let before = desk.length();
         let reply = desk.ask(pass.number, ask);
-        self.note::<Brand>(&mut seat, reply.at > before);
+        self.note::<Brand>(&mut seat, reply.at - before);
         let ticket = self.table.shared.fetch_add::<PassOn>(&mut seat, 2, 1);
         self.wake(&mut seat, ticket.wrapping_add(1));
         pass.badge = seat.into_badge();

@@ -1,5 +1,6 @@
 //! One turn, step by step.
 ghost use Rattle.std.specs.Prelude.{◌≡◌, ℕ, ◌+◌, ◌%◌, ◌^◌, ◌<◌, ◌≤◌, Bool, true, false, List, [], ◌∷◌, ◌++◌, length, drop, Some, None};
+ghost use Rattle.command_types.specs.declared.ask.Entry.{Entry};
 ghost use Rattle.cycle_lock.specs.declared.rule.Stage.TheVariants.{Resting, HasTurn, Passed};
 ghost use Rattle.cycle_lock.specs.Line.{bell};
 ghost use Rattle.cycle_lock.specs.Plays.{Took, noted, Becomes};
@@ -124,16 +125,16 @@ impl<T: Desk> Turns<T> {
         }
     }
 
-    // The history's length follows the desk in the slot, and what the desk has become is seen.
-    pub(super) fn note<M: Outcome>(&self, seat: &mut SeatOf<T>, grew: bool)
+    // The history's length follows the desk in the slot, which has so many entries more, and what the desk has become is seen.
+    pub(super) fn note<M: Outcome>(&self, seat: &mut SeatOf<T>, more: u64)
         requires own { seat.old.table_id ≡ self.now.table.shared.table_id }
         requires turn { seat.old.me.0.stage ≡ HasTurn }
-        requires desk { (d : T) × (seat.old.me.1 ≡ (0, Some d) ∷ []) × (M.log ≡ (T.history d).entries) × (M.stop ≡ T.stopped d) × Becomes T.history T.stopped seat.old.me.0 grew d }
+        requires desk { (d : T) × (added : List Entry) × (more ≡ length added) × (seat.old.me.1 ≡ (0, Some d) ∷ []) × (M.log ≡ (T.history d).entries) × (M.stop ≡ T.stopped d) × Becomes T.history T.stopped seat.old.me.0 added d }
         ensures own { (seat.new.table_id ≡ seat.old.table_id) × (seat.new.id ≡ seat.old.id) }
         ensures noted { noted M.log M.stop seat.old.me seat.new.me }
     {
-        if grew {
-            self.table.shared.fetch_add::<Note<M>>(seat, 0, 1);
+        if more > 0 {
+            self.table.shared.fetch_add::<Note<M>>(seat, 0, more);
         } else {
             self.table.shared.load::<Note<M>>(seat, 0);
         }

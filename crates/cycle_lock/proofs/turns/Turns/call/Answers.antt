@@ -1,6 +1,6 @@
 use Rattle.std.proofs.Common.{rules, ◌∙◌, ◌≡◌, ◌≤◌, ℕ, List, [], ◌∷◌, Some, sym, ap, subst, ◌++◌, drop, refl, arith}
 use Rattle.atomic_table.specs.Table.{rest}
-use Rattle.command_types.specs.History.{is_recorded, recorded}
+use Rattle.command_types.specs.History.{recorded}
 use Rattle.command_types.specs.declared.ask.Entry.{Entry}
 use Rattle.cycle_lock.specs.Accounts.{by, times, opening_count}
 use Rattle.cycle_lock.specs.Views.{account_of}
@@ -8,7 +8,8 @@ use Rattle.std.proofs.lemmas.List.{append-nil}
 use Rattle.cycle_lock.proofs.Joins.{made_later}
 use Rattle.command_types.proofs.StopFacts.{told_stop}
 use Rattle.cycle_lock.proofs.Steps.{passes_after}
-use Rattle.cycle_lock.proofs.Calls.{rested, becomes, called, told_of, by_self, by_others, Called}
+use Rattle.cycle_lock.proofs.Owners.{by_self, by_others, recorded_of}
+use Rattle.cycle_lock.proofs.Calls.{rested, becomes, grown_by, called, told_of, Called}
 use Rattle.cycle_lock.proofs.turns.Turns.call.Given.{Over}
 use Rattle.cycle_lock.proofs.turns.Turns.call.Goals as goal
 
@@ -21,14 +22,17 @@ note-requires-clause-desk g c κs within =
     let is = rested p.badge.views _ c.into_seat-seat.result.me.0 p.rests (ap (λ b. b.views) c.replace.ensures.value) c.into_seat-seat.ensures.2 in
     let from : c.enter.new.seat.me.0.account ≡ account_of p.badge.views = c.enter.ensures.same ∙ ap (λ v. v.account) is in
     let alone : slots ≡ [] = ap rest c.enter.ensures.took.2.1 ∙ c.into_seat-seat.ensures.3 in
-    let here : c.enter.new.seat.me.1 ≡ (0, Some c.in-Some.desk) ∷ slots = c.slot_mut.ensures.value ∙ ap (λ o. (0, o) ∷ slots) c.in-Some.is in (
+    let here : c.enter.new.seat.me.1 ≡ (0, Some c.in-Some.desk) ∷ slots = c.slot_mut.ensures.value ∙ ap (λ o. (0, o) ∷ slots) c.in-Some.is in
+    let added : List Entry = recorded p.number c.args.ask c.ask-reply.result.answer in
+    let grown = grown_by _ _ added _ _ c.length-before.ensures.length ask.place ask.grows in (
       d',
+      added,
+      omega (arith, grown),
       ap (λ l. (0, Some d') ∷ l) alone,
       refl,
       refl,
-      becomes g.T.Desk.history g.T.Desk.figures g.T.Desk.stopped c.enter.new.seat.me (c.enter.new.seat.me.0, slots) _ _ _ c.in-Some.desk d' p.number c.args.ask (is_recorded c.args.ask.what c.ask-reply.result.answer)
-          c.length-before.result c.ask-reply.result.at c.enter.ensures.took here refl (ap (λ a. a.spent) from ∙ p.live) (ap (λ a. a.number) from ∙ p.numbered)
-          c.length-before.ensures.length ask.place ask.grows ask.legal ask.short ask.stays,
+      becomes g.T.Desk.history g.T.Desk.figures g.T.Desk.stopped c.enter.new.seat.me (c.enter.new.seat.me.0, slots) _ _ _ c.in-Some.desk d' added c.enter.ensures.took here refl (ap (λ a. a.spent) from ∙ p.live)
+          (recorded_of p.number c.enter.new.seat.me.0.account.number c.args.ask c.ask-reply.result.answer (sym (ap (λ a. a.number) from ∙ p.numbered))) ask.grows ask.legal ask.short ask.stays,
     )
 
 pub fetch_add-ticket-requires : goal.fetch_add-ticket-requires
@@ -65,12 +69,12 @@ pub returns-clause-made : goal.returns-clause-made
 returns-clause-made g c =
     let p = c.args.pass.now in let a = account_of p.badge.views in let t = done g c in
     t.made p.number (subst (λ (n : ℕ). 1 ≤ times n a.stands) p.numbered t.mine)
-    ∙ ap (λ (x : List Entry). by p.number (drop (opening_count a.figures) a.seen) ++ x) (by_self p.number c.args.ask (is_recorded c.args.ask.what c.ask-reply.result.answer))
+    ∙ ap (λ (x : List Entry). by p.number (drop (opening_count a.figures) a.seen) ++ x) (by_self p.number _ (recorded_of p.number p.number c.args.ask c.ask-reply.result.answer refl))
 
 pub returns-clause-others : goal.returns-clause-others
 returns-clause-others g c =
     let p = c.args.pass.now in let a = account_of p.badge.views in let t = done g c in
-    λ n own ne. t.made n own ∙ (ap (λ (x : List Entry). by n (drop (opening_count a.figures) a.seen) ++ x) (by_others n p.number c.args.ask (is_recorded c.args.ask.what c.ask-reply.result.answer) ne) ∙ append-nil _)
+    λ n own ne. t.made n own ∙ (ap (λ (x : List Entry). by n (drop (opening_count a.figures) a.seen) ++ x) (by_others n p.number _ (recorded_of p.number p.number c.args.ask c.ask-reply.result.answer refl) ne) ∙ append-nil _)
 
 pub returns-clause-stop : goal.returns-clause-stop
 returns-clause-stop g c = λ tells. sym (done g c).stop ∙ told_stop _ _ _ _ _ _ _ c.ask-reply.ensures.told c.ask-reply.ensures.stays tells
@@ -80,4 +84,4 @@ returns-clause-later g c =
     let p = c.args.pass.now in let a = account_of p.badge.views in let t = done g c in
     made_later a.figures _ p.number a.seen _ _ t.figures (omega (arith, p.opened, p.place)) t.extends
     (t.made p.number (subst (λ (n : ℕ). 1 ≤ times n a.stands) p.numbered t.mine)
-    ∙ ap (λ (x : List Entry). by p.number (drop (opening_count a.figures) a.seen) ++ x) (by_self p.number c.args.ask (is_recorded c.args.ask.what c.ask-reply.result.answer)))
+    ∙ ap (λ (x : List Entry). by p.number (drop (opening_count a.figures) a.seen) ++ x) (by_self p.number _ (recorded_of p.number p.number c.args.ask c.ask-reply.result.answer refl)))
