@@ -5,7 +5,7 @@ ghost use Rattle.std.specs.List.{flat_map};
 ghost use Rattle.network_laws.specs.Solutions.{IsSolution};
 ghost use Rattle.command_types.specs.Spelling.{row_spelling, potential_spelling, solution_spelling, solutions_spelling, most_solutions};
 
-use crate::put::{put_number, put_short};
+use crate::put::put_short;
 use crate::size::rows_of;
 use network_laws::{Row, Solution};
 use std::alloc::AllocError;
@@ -17,12 +17,23 @@ fn put_word(out: &mut Vec<u8>, number: u32) -> Result<(), AllocError>
     Ok(())
 }
 
+// The twelve bytes of a row.
+fn row_bytes(row: Row) -> [u8; 12]
+    ensures { result ≡ row_spelling row }
+{
+    let s = row.seller.to_le_bytes();
+    let b = row.buyer.to_le_bytes();
+    let a = row.amount.to_le_bytes();
+    [
+        s[0], s[1], b[0], b[1], a[0], a[1], a[2], a[3], a[4], a[5], a[6], a[7],
+    ]
+}
+
 fn put_row(out: &mut Vec<u8>, row: Row) -> Result<(), AllocError>
     ensures { OnOk result (out.new.items ≡ out.old.items ++ row_spelling row) }
 {
-    put_short(out, row.seller)?;
-    put_short(out, row.buyer)?;
-    put_number(out, row.amount)
+    out.extend_from_slice(&row_bytes(row))?;
+    Ok(())
 }
 
 fn put_rows(out: &mut Vec<u8>, rows: &[Row]) -> Result<(), AllocError>
