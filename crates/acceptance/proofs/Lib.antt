@@ -18,3 +18,4 @@ pub mod PairTotals
 pub mod Positions
 pub mod NetLaws
 pub mod FrozenRows
+pub mod RowCursors

@@ -1,7 +1,8 @@
 -- A plan as it is made: the free trades are sorted by pair, and then each pair is looked at that has a row in one of the networks.
-use Rattle.std.specs.Prelude.{◌≡◌, ℕ, ◌+◌, ◌-◌, ◌*◌, ◌==◌, ◌&&◌, not, nat_lt, nat_le, Bool, List, [], ◌∷◌, if◌then◌else◌}
+use Rattle.std.specs.Prelude.{◌≡◌, ℕ, ◌+◌, ◌-◌, ◌*◌, ◌<◌, ◌≤◌, ◌==◌, ◌&&◌, not, nat_lt, nat_le, Bool, List, [], ◌∷◌, length, slice_index_or, if◌then◌else◌}
 use Rattle.units_core.specs.Day.{DayParts}
-use Rattle.network_laws.specs.Networks.{NetworkData}
+use Rattle.network_laws.specs.declared.rows.Row.{Row}
+use Rattle.network_laws.specs.Networks.{NetworkData, place}
 use Rattle.command_types.specs.declared.plan.PlanRow.{PlanRow}
 use Rattle.command_types.specs.declared.plan.PlanRow.TheVariants.{End, Cut, New}
 use Rattle.command_types.specs.declared.trade.TradeRow.{TradeRow}
@@ -22,6 +23,11 @@ pair_place product seller buyer = (product * 65536 + seller) * 65536 + buyer
 
 abbrev pub trade_place : TradeRow → ℕ
 trade_place row = pair_place row.product row.seller row.buyer
+
+-- the first m rows stand before a place
+pub record AreBefore (rows : List Row) (m w : ℕ) : Type 0 where
+  pub end : m ≤ length rows
+  pub before : (k : ℕ) (d : Row) → k < m → place (slice_index_or rows k d) < w
 
 -- the free trades of some trades have the same plans
 abbrev pub HasPlansOf : List TradeRow → List TradeRow → Type 0

@@ -1,6 +1,7 @@
 //! Plans: what new networks change in the trades, and whose votes that needs.
 #![tactic(auto)]
 
+mod cursors;
 mod flags;
 mod free_trades;
 mod laws;

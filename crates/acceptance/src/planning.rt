@@ -1,18 +1,19 @@
 //! The plan: what new networks change in the frozen trades. The free ones are sorted once for all products; of each product
 //! the pairs are looked at that have a row in the old network or in the new one, and for a pair that falls its trades. So a
-//! plan costs a sort of the free trades, a search for each product and seller, and a walk over rows and free trades in step.
+//! plan costs a sort of the free trades, a search among them for each product, and a walk over rows and free trades in step.
 
 ghost use Rattle.std.specs.Prelude.{◌≡◌, ℕ, ◌-◌, ◌+◌, ◌*◌, ◌<◌, ◌≤◌, ◌++◌, length, IfOk, OnOk, OnErr};
 ghost use Rattle.std.specs.List.Sorted.{IsNonDecreasingBy};
 ghost use Rattle.network_laws.specs.Networks.{IsCursor, IsRising};
 ghost use Rattle.command_types.specs.Books.{listed_below, listed_pairs};
 ghost use Rattle.command_types.specs.Plans.{falling, free_rows, pair_plan, product_plan, plan_of};
-ghost use Rattle.acceptance.specs.Planning.{is_free_between, row_fall, pair_steps, trade_place};
+ghost use Rattle.acceptance.specs.Planning.{is_free_between, row_fall, pair_steps, trade_place, AreBefore};
 ghost use Rattle.units_core.specs.declared.limits.TheConstants.{MOST_GROSS};
 
+use crate::cursors::{Cursors, buyer_at, seller_row};
 use crate::free_trades::{FreeTrades, Pair, from_pair, from_seller, is_free_between, up_to_pair};
 use command_types::{PlanRow, TradeRow};
-use network_laws::{Network, Row, amount_at, first_row, next_row};
+use network_laws::{Network, amount_at, next_row};
 use std::alloc::{AllocError, Global};
 use units_core::{Amount, Day, MemberNo, ProductNo};
 
@@ -113,42 +114,35 @@ fn add_pair(
     Ok(())
 }
 
-// The buyer of a seller's row at a cursor, or the number of members where the cursor is past the seller's rows.
-fn buyer_at(rows: &[Row], at: usize, seller: u16, members: u16) -> u16
-    requires rising { IsRising rows.now }
-    ensures end { result ≤ members }
-    ensures from { (buyer : ℕ) → buyer ≤ members → IsCursor rows.now at (seller * 65536 + buyer) → buyer ≤ result }
-    ensures cursor { (buyer : ℕ) → buyer ≤ result → IsCursor rows.now at (seller * 65536 + buyer) → (to : ℕ) → buyer ≤ to → to ≤ result → IsCursor rows.now at (seller * 65536 + to) }
-{
-    if at >= rows.len() {
-        return members;
-    }
-    let place = rows[at].seller as u32 * 65536 + rows[at].buyer as u32;
-    let ahead = place.saturating_sub(seller as u32 * 65536);
-    ahead.min(members as u32) as u16
-}
-
-// Adds the steps of a seller's pairs: of those that have a row in one of the networks. Their free trades are among these.
+// Adds the steps of a seller's pairs: of those that have a row in one of the networks. Their free trades are among these, and
+// rows of earlier sellers alone have been gone past. It says how many rows have been gone past then.
 fn add_seller(
     plan: &mut Vec<PlanRow>,
     free: &[TradeRow],
     change: &Change,
     seller: u16,
-) -> Result<(), AllocError>
-    requires { IsNonDecreasingBy trade_place free.now }
-    ensures { OnOk result (plan.new.items ≡ plan.old.items ++ listed_below change.now.old.now.members (pair_plan free.now change.now.day change.now.product change.now.old.now change.now.new.now seller)) }
+    passed: Cursors,
+) -> Result<Cursors, AllocError>
+    requires sorted { IsNonDecreasingBy trade_place free.now }
+    requires old { AreBefore change.now.old.now.rows passed.old (seller * 65536) }
+    requires new { AreBefore change.now.new.now.rows passed.new (seller * 65536) }
+    ensures steps { OnOk result (plan.new.items ≡ plan.old.items ++ listed_below change.now.old.now.members (pair_plan free.now change.now.day change.now.product change.now.old.now change.now.new.now seller)) }
+    ensures old { IfOk result (λ at. AreBefore change.now.old.now.rows at.old (seller * 65536 + 65536)) }
+    ensures new { IfOk result (λ at. AreBefore change.now.new.now.rows at.new (seller * 65536 + 65536)) }
 {
     let (old, new) = (change.old.rows(), change.new.rows());
     let members = change.old.members();
     let mut left = free;
     let mut from = 0;
-    let mut old_at = first_row(old, seller, 0);
-    let mut new_at = first_row(new, seller, 0);
+    let mut at = Cursors {
+        old: seller_row(old, passed.old, seller),
+        new: seller_row(new, passed.new, seller),
+    };
     while from < members {
-        let old_buyer = buyer_at(old, old_at, seller, members);
-        let buyer = buyer_at(new, new_at, seller, members).min(old_buyer);
+        let old_buyer = buyer_at(old, at.old, seller, members);
+        let buyer = buyer_at(new, at.new, seller, members).min(old_buyer);
         if buyer == members {
-            return Ok(());
+            return Ok(at);
         }
         let pair = Pair {
             product: change.product,
@@ -159,15 +153,15 @@ fn add_seller(
         let pair_change = PairChange {
             pair,
             day: change.day,
-            before: amount_at(old, old_at, seller, buyer),
-            after: amount_at(new, new_at, seller, buyer),
+            before: amount_at(old, at.old, seller, buyer),
+            after: amount_at(new, at.new, seller, buyer),
         };
         add_pair(plan, left, &pair_change)?;
-        old_at = next_row(old, old_at, seller, buyer);
-        new_at = next_row(new, new_at, seller, buyer);
+        at.old = next_row(old, at.old, seller, buyer);
+        at.new = next_row(new, at.new, seller, buyer);
         from = buyer + 1;
     }
-    Ok(())
+    Ok(at)
 }
 
 // Adds the steps of all pairs of a product.
@@ -179,9 +173,10 @@ fn add_product(
     ensures { OnOk result (plan.new.items ≡ plan.old.items ++ product_plan free.now change.now.day change.now.product change.now.old.now change.now.new.now) }
 {
     let mut left = free.from_product(change.product);
+    let mut passed = Cursors { old: 0, new: 0 };
     for seller in 0..change.old.members() {
         left = from_seller(left, change.product, seller);
-        add_seller(plan, left, change, seller)?;
+        passed = add_seller(plan, left, change, seller, passed)?;
     }
     Ok(())
 }

@@ -12,10 +12,10 @@ invariant-loop-from l = record {
   sorted : IsNonDecreasingBy trade_place l.left;
   left : (buyer : ℕ) → l.from ≤ buyer → free_rows l.left l.change.product l.seller buyer ≡ free_rows l.free l.change.product l.seller buyer;
   within : l.from ≤ l.members;
-  old_end : l.old_at ≤ length l.change.old.now.rows;
-  old : IsCursor l.change.old.now.rows l.old_at (l.seller * 65536 + l.from);
-  new_end : l.new_at ≤ length l.change.new.now.rows;
-  new : IsCursor l.change.new.now.rows l.new_at (l.seller * 65536 + l.from);
+  old_end : l.at.old ≤ length l.change.old.now.rows;
+  old : IsCursor l.change.old.now.rows l.at.old (l.seller * 65536 + l.from);
+  new_end : l.at.new ≤ length l.change.new.now.rows;
+  new : IsCursor l.change.new.now.rows l.at.new (l.seller * 65536 + l.from);
 }
 
 abbrev pub decreases-loop-from : goal.decreases-loop-from

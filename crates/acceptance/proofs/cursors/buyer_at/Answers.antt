@@ -3,7 +3,7 @@ use Rattle.std.proofs.lemmas.Bool.{cases_eq}
 use Rattle.std.proofs.lemmas.List.{get_or_default}
 use Rattle.network_laws.specs.declared.rows.Row.{Row}
 use Rattle.network_laws.specs.Networks.{place}
-use Rattle.acceptance.proofs.planning.buyer_at.Goals as goal
+use Rattle.acceptance.proofs.cursors.buyer_at.Goals as goal
 
 pub returns-clause-cursor : goal.returns-clause-cursor
 returns-clause-cursor c = λ buyer le cursor to up most.
@@ -15,7 +15,7 @@ returns-clause-cursor c = λ buyer le cursor to up most.
     record {
       before = λ k d l. omega (arith, up, cursor.before k d l);
       behind = λ k d mk l.
-          ⊎_elim (λ (e : k ≡ m). omega (arith, here, most, c.saturating_sub-ahead.ensures, c.min.ensures, ap (λ j. place (get_or rows j d)) e, ap place (get_or_default rows m none d within)))
-          (λ (ne : k ≢ m). omega (arith, here, most, c.saturating_sub-ahead.ensures, c.min.ensures, ap place (get_or_default rows m none d within), c.requires.rising m k d (omega arith) l))
+          ⊎_elim (λ (e : k ≡ m). omega (arith, here, most, c.saturating_sub-ahead.ensures, c.place_of.ensures, c.min.ensures, ap (λ j. place (get_or rows j d)) e, ap place (get_or_default rows m none d within)))
+          (λ (ne : k ≢ m). omega (arith, here, most, c.saturating_sub-ahead.ensures, c.place_of.ensures, c.min.ensures, ap place (get_or_default rows m none d within), c.requires.rising m k d (omega arith) l))
           (cases_eq k m);
     }
