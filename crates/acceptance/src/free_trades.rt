@@ -148,6 +148,13 @@ impl FreeTrades {
         Ok(FreeTrades { rows })
     }
 
+    /// How many they are.
+    pub fn count(&self) -> usize
+        ensures { result ≡ length self.now }
+    {
+        self.rows.len()
+    }
+
     /// The part from a product's first on.
     pub(super) fn from_product(&self, product: ProductNo) -> &[TradeRow]
         ensures sorted { IsNonDecreasingBy trade_place result.now }

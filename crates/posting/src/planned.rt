@@ -24,7 +24,8 @@ pub fn plan_from_free(
     requires one_each { length solutions.now ≡ length problems.now }
     ensures { IfOk result (λ plan. plan.items ≡ plan_of free.now (old_networks problems.now) (new_networks solutions.now) day) }
 {
-    let mut plan = Vec::new(alloc);
+    // A step for each free trade mostly, so that the plan is moved to larger memory seldom.
+    let mut plan = Vec::with_capacity(alloc, free.count())?;
     for place in 0..problems.len() {
         let change = Change {
             product: ProductNo(place as u16),
