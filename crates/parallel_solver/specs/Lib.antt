@@ -2,3 +2,4 @@ pub mod Places
 pub mod Cuts
 pub mod Pieces
 pub mod Jobs
+pub mod Made

@@ -3,6 +3,7 @@
 
 mod found;
 mod job;
+mod made;
 mod pieces;
 mod solving;
 mod workers;

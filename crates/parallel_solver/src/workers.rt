@@ -1,13 +1,15 @@
 //! Who solves: workers beside one another, and the pieces that each of them solves.
 
-ghost use Rattle.std.specs.Prelude.{◌≡◌, ◌≤◌, ◌<◌, All, IfOk, length};
+ghost use Rattle.std.specs.Prelude.{◌≡◌, ℕ, ◌≤◌, ◌<◌, All, IfOk, length, vec_len};
 ghost use Rattle.network_laws.specs.Solved.{AreSolved};
 ghost use Rattle.parallel_solver.specs.Places.{SolvesAt};
 ghost use Rattle.parallel_solver.specs.Jobs.{MayWork, HasWorked};
+ghost use Rattle.parallel_solver.specs.Made.{AreMade};
 ghost use Rattle.units_core.specs.declared.limits.TheConstants.{MOST_WORKERS};
 
 use crate::found::{collected, places, put_jobs};
 use crate::job::{Done, Job, jobs};
+use crate::made::made_by;
 use crate::pieces::Pieces;
 use claim_counter::Counter;
 use network_laws::{Solution, Solver};
@@ -39,6 +41,21 @@ impl<'a, R: Threads + Sync, V: Solver, G: Gate> Workers<'a, R, V, G> {
             solver,
             gate,
         }
+    }
+
+    /// What a call gives at each place below a count, in order, by these workers, who share out the places in runs of the
+    /// same length. No gate is passed. The only error is want of memory, of a call or here.
+    pub fn make_all<T: Send + Drop, F: Fn(usize) -> Result<T, AllocError> + Sync>(
+        &self,
+        alloc: Global,
+        count: usize,
+        make: &F,
+    ) -> Result<Vec<T>, AllocError>
+        requires { (place : ℕ) → place < count → F.pre make.now place }
+        ensures count { IfOk result (λ made. vec_len made ≡ count) }
+        ensures made { IfOk result (λ made. AreMade F.Fn make.now made.items) }
+    {
+        made_by(self.rt, alloc, self.count as usize, count, make)
     }
 
     // Solves the piece of a place.
