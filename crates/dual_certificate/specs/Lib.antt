@@ -1,6 +1,7 @@
 pub mod Walks
 pub mod Bounds
 pub mod ProposalText
+pub mod Joining
 pub mod SummaryText
 pub mod Writing
 pub mod ProposalLine

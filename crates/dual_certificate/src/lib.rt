@@ -37,5 +37,5 @@ pub use own_laws::{
 };
 pub use proposal_part::ProposalPart;
 pub use proposal_reader::read_proposal;
-pub use proposal_writer::write_proposal;
+pub use proposal_writer::{join_parts, write_part};
 pub use summary_writer::write_summary;

@@ -1,10 +1,13 @@
 //! Writing a proposal's text.
-ghost use Rattle.std.specs.Prelude.{◌≡◌, ◌<◌, ◌++◌, OnOk, IfOk, All, length, codes, decimal};
+ghost use Rattle.std.specs.Prelude.{◌≡◌, ◌<◌, ◌++◌, List, OnOk, IfOk, length, codes, decimal};
 ghost use Rattle.std.specs.Fmt.{signed_decimal};
-ghost use Rattle.network_laws.specs.Networks.{gross as gross_of, floor_m as floor_of, bilateral};
+ghost use Rattle.network_laws.specs.Networks.{NetworkData};
+ghost use Rattle.network_laws.specs.Solutions.{SolutionData};
+ghost use Rattle.command_types.specs.Roster.{Rows};
 ghost use Rattle.command_types.specs.Text.{member_name, product_name};
-ghost use Rattle.dual_certificate.specs.ProposalText.{product_text, row_text, rows_text, pot_text, pots_text, part_text, proposal_text};
-ghost use Rattle.dual_certificate.specs.Writing.{HasMembers, HaveMembers, SolveMembers};
+ghost use Rattle.dual_certificate.specs.ProposalText.{product_text, row_text, rows_text, pot_text, pots_text, part_text, parts_below, proposal_text};
+ghost use Rattle.dual_certificate.specs.Joining.{ArePartTexts};
+ghost use Rattle.dual_certificate.specs.Writing.{HasMembers};
 
 use command_types::Roster;
 use net_positions::{bilateral_gross, floor_m, gross};
@@ -133,32 +136,51 @@ fn put_part(
     Ok(())
 }
 
-/// The text of a proposal: for each product of the roster its original network's figures, the rows of its solution, and
-/// its potentials. The only error is want of memory.
-pub fn write_proposal(
+/// The lines of a product in a proposal: its original network's figures, the rows of its solution, and its potentials. The
+/// only error is want of memory.
+pub fn write_part(
     alloc: Global,
     roster: &Roster,
-    old: &[Network],
-    solutions: &[Solution],
+    product: usize,
+    old: &Network,
+    new: &Solution,
 ) -> Result<Vec<u8>, AllocError>
-    requires networks { length old.now ≡ length roster.now.products }
-    requires solutions { length solutions.now ≡ length roster.now.products }
-    requires members { HaveMembers roster.now old.now }
-    requires solved { SolveMembers roster.now solutions.now }
-    ensures { IfOk result (λ text. text.items ≡ proposal_text roster.now old.now solutions.now) }
+    requires product { product < length roster.now.products }
+    requires members { HasMembers roster.now new.now.network }
+    ensures { IfOk result (λ text. text.items ≡ part_text roster.now product old.now new.now) }
 {
     let mut out = Vec::new(alloc);
-    let products = roster.products().len();
-    for product in 0..products {
-        put_part(
-            &mut out,
-            roster,
-            product,
-            &old[product],
-            &solutions[product],
-        )?;
+    put_part(&mut out, roster, product, old, new)?;
+    Ok(out)
+}
+
+// How many bytes to make room for: those of the parts and of the last line.
+fn room_for(parts: &[Vec<u8>]) -> usize {
+    let mut room = 32_usize;
+    for part in parts {
+        room = room.saturating_add(part.len());
     }
-    put_number(&mut out, b"end ", products as u64)?;
+    room
+}
+
+// The lines of all products behind one another.
+fn joined(alloc: Global, parts: &[Vec<u8>]) -> Result<Vec<u8>, AllocError>
+    ensures { IfOk result (λ text. (roster : Rows) (olds : List NetworkData) (news : List SolutionData) → ArePartTexts roster olds news parts.now → text.items ≡ parts_below roster olds news (length parts.now)) }
+{
+    let mut out = Vec::with_capacity(alloc, room_for(parts))?;
+    for product in 0..parts.len() {
+        out.extend_from_slice(&parts[product])?;
+    }
+    Ok(out)
+}
+
+/// The text of a proposal, from the lines of its products in their order, whatever networks and solutions they tell of. The
+/// only error is want of memory.
+pub fn join_parts(alloc: Global, parts: &[Vec<u8>]) -> Result<Vec<u8>, AllocError>
+    ensures { IfOk result (λ text. (roster : Rows) (olds : List NetworkData) (news : List SolutionData) → ArePartTexts roster olds news parts.now → text.items ≡ proposal_text roster olds news) }
+{
+    let mut out = joined(alloc, parts)?;
+    put_number(&mut out, b"end ", parts.len() as u64)?;
     out.extend_from_slice(b"\n")?;
     Ok(out)
 }

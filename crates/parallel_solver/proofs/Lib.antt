@@ -1,3 +1,4 @@
 pub mod Placed
 pub mod Pieced
 pub mod Rights
+pub mod MadeFacts

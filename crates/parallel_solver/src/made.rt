@@ -1,6 +1,6 @@
 //! What workers make beside one another, one result for each place.
 
-ghost use Rattle.std.specs.Prelude.{◌≡◌, ◌<◌, Ok, Some, List, map, length, vec_len, slice_index_or, IfOk, IfSome};
+ghost use Rattle.std.specs.Prelude.{◌≡◌, ℕ, ◌<◌, Ok, Some, map, length, vec_len, slice_index_or, IfOk, IfSome};
 ghost use Rattle.std.specs.Fn.{FnReturns};
 ghost use Rattle.parallel_solver.specs.Made.{AreMade};
 
@@ -71,5 +71,6 @@ pub fn made_by<R: Threads + Sync, T: Send + Drop, F: Fn(usize) -> Result<T, Allo
 {
     let mut found = empty_places(alloc, count)?;
     fill(rt, workers, &mut found, make);
-    all_found(alloc, found)
+    let made = all_found(alloc, found)?;
+    Ok(made)
 }

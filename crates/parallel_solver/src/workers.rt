@@ -43,6 +43,14 @@ impl<'a, R: Threads + Sync, V: Solver, G: Gate> Workers<'a, R, V, G> {
         }
     }
 
+    /// How many they are.
+    pub fn count(&self) -> u32
+        ensures few { (1 ≤ result) × (result ≤ MOST_WORKERS) }
+        ensures is { result ≡ self.now.count }
+    {
+        self.count
+    }
+
     /// What a call gives at each place below a count, in order, by these workers, who share out the places in runs of the
     /// same length. No gate is passed. The only error is want of memory, of a call or here.
     pub fn make_all<T: Send + Drop, F: Fn(usize) -> Result<T, AllocError> + Sync>(
