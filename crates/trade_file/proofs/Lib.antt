@@ -12,4 +12,5 @@ pub mod PlainFacts
 pub mod PlainTradeFacts
 pub mod PlainReadFacts
 pub mod FoundFacts
+pub mod PieceFacts
 mod GeneratedFacts

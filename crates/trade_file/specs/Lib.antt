@@ -9,3 +9,4 @@ pub mod Networks
 pub mod Laws
 pub mod Piles
 pub mod Generated
+pub mod Pieces

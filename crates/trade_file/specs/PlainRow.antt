@@ -1,5 +1,5 @@
 -- What a row says that is cut at its commas and its line's end alone, as rows without quotes are.
-use Rattle.std.specs.Prelude.{◌≡◌, ◌⊎◌, ℕ, ◌==◌, ◌||◌, Bool, true, false, List, [], ◌∷◌, ◌++◌, Option, Some, Ok}
+use Rattle.std.specs.Prelude.{◌≡◌, ◌⊎◌, ℕ, ◌<◌, ◌==◌, ◌||◌, Bool, true, false, List, [], ◌∷◌, ◌++◌, Option, Some, Ok}
 use Rattle.csv.specs.Machine.{Read, next_record, ends_at_end, carriage_return, line_feed}
 use Rattle.csv.specs.Reading.{default_config}
 use Rattle.csv.specs.declared.parser.State.{State}
@@ -8,6 +8,7 @@ use Rattle.units_core.specs.Number.{amount_of}
 use Rattle.command_types.specs.Roster.{Rows}
 use Rattle.trade_file.specs.declared.file_trade.FileTrade.{FileTrade}
 use Rattle.trade_file.specs.TradeFile.{is_trade_header, trade_of, with_trade_record}
+use Rattle.units_core.specs.declared.limits.TheConstants.{MOST_PRODUCTS}
 
 -- the byte that ends a field behind which another one stands
 abbrev pub comma : ℕ
@@ -44,3 +45,14 @@ TakesTrade rows n trades text more rest = (fields : List (List ℕ)) × TakesRec
 -- the text's first record, whatever its number, writes this trade
 abbrev pub ReadsTrade : Rows → List ℕ → FileTrade → List ℕ → Type 0
 ReadsTrade rows text trade rest = (n : ℕ) → (fields : List (List ℕ)) × TakesRecord text fields rest × (trade_of rows n fields ≡ Ok trade)
+
+-- the text's first record writes this trade, of a product that a draft has a sum for
+pub record ReadsRow (rows : Rows) (text : List ℕ) (trade : FileTrade) (rest : List ℕ) : Type 0 where
+  pub trade_is : ReadsTrade rows text trade rest
+  pub product : trade.product < MOST_PRODUCTS
+
+-- the text's first record goes to the trades as the last of them
+pub record TakesRow (rows : Rows) (text : List ℕ) (trades all : List FileTrade) (rest : List ℕ) : Type 0 where
+  pub trade : FileTrade
+  pub reads : ReadsRow rows text trade rest
+  pub all_are : all ≡ trades ++ trade ∷ []

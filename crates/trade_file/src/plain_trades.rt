@@ -1,20 +1,21 @@
-//! Reading a trade file without quotes and faults where it stands, with no record in between.
-ghost use Rattle.std.specs.Prelude.{◌≡◌, ◌≢◌, ◌<◌, Ok, IfOk, IfSome, codes};
+//! The header and the rows of a trade file without quotes and faults, read where they stand, with no record in between.
+ghost use Rattle.std.specs.Prelude.{◌≡◌, ◌<◌, IfOk, IfSome, codes};
 ghost use Rattle.std.specs.Str.{bytes_eq};
-ghost use Rattle.trade_file.specs.RosterFile.{records_of};
-ghost use Rattle.trade_file.specs.TradeFile.{trades_of};
 ghost use Rattle.trade_file.specs.TradeDraft.{IsTradeDraft, trades_of_draft};
-ghost use Rattle.trade_file.specs.PlainRow.{TakesHeader, TakesTrade, ReadsTrade};
+ghost use Rattle.trade_file.specs.PlainRow.{TakesHeader, ReadsTrade, TakesRow};
 ghost use Rattle.trade_file.specs.FoundNames.{AreFound};
 ghost use Rattle.units_core.specs.declared.limits.TheConstants.{MOST_PRODUCTS};
 
 use crate::file_trade::FileTrade;
 use crate::found_names::TradeNames;
-use crate::plain_row::{cut_amount, cut_line, skip_line_ends, skip_mark};
+use crate::plain_row::{cut_amount, cut_line};
 use crate::trade_draft::TradeDraft;
 use command_types::{FileFault, Roster};
-use std::alloc::{AllocError, Global};
+use std::alloc::AllocError;
 use units_core::{MOST_PRODUCTS, MOST_TRADE_AMOUNT, MemberNo, ProductNo};
+
+/// In place of a record's number, which a row of a piece does not know. It is told nowhere.
+const NO_NUMBER: u64 = 0;
 
 /// A trade, and the text behind its row.
 #[derive(Clone, Copy)]
@@ -29,8 +30,8 @@ fn is_header(line: &[u8]) -> bool
     line == b"seller,buyer,product,amount".as_slice()
 }
 
-// The text behind the header that it starts with.
-fn take_header(text: &[u8]) -> Option<&[u8]>
+/// The text behind the header that it starts with.
+pub(crate) fn take_header(text: &[u8]) -> Option<&[u8]>
     ensures { IfSome result (λ rest. TakesHeader text.now rest.now) }
 {
     let (line, rest) = cut_line(text);
@@ -65,58 +66,27 @@ fn read_row<'a>(names: &mut TradeNames, roster: &Roster, text: &'a [u8]) -> Opti
     Some(PlainTrade { trade, rest: cut.1 })
 }
 
-// Takes the row with this number, which the text starts with, into the draft, and answers the text behind it. None where
-// the row may have a quote or a fault.
+/// Takes the row that the text starts with into the draft, and answers the text behind it. None where the row may have a quote
+/// or a fault.
 #[inline(never)]
-fn take_row<'a>(
+pub(crate) fn take_row<'a>(
     draft: &mut TradeDraft,
     names: &mut TradeNames,
     roster: &Roster,
-    number: u64,
     text: &'a [u8],
 ) -> Result<Option<&'a [u8]>, AllocError>
     requires draft { IsTradeDraft draft.old }
     requires names { AreFound roster.now names.old }
-    requires number { number ≢ 1 }
     ensures names { AreFound roster.now names.new }
-    ensures taken { IfOk result (λ rest. IfSome rest (λ rest. IsTradeDraft draft.new × TakesTrade roster.now number (trades_of_draft draft.old) text.now (trades_of_draft draft.new) rest.now)) }
+    ensures draft { IfOk result (λ rest. IfSome rest (λ _. IsTradeDraft draft.new)) }
+    ensures taken { IfOk result (λ rest. IfSome rest (λ rest. TakesRow roster.now text.now (trades_of_draft draft.old) (trades_of_draft draft.new) rest.now)) }
 {
-    if draft.is_full() {
-        return Ok(None);
-    }
     let Some(row) = read_row(names, roster, text) else {
         return Ok(None);
     };
-    match draft.add(number, row.trade) {
+    match draft.add(NO_NUMBER, row.trade) {
         Ok(()) => Ok(Some(row.rest)),
         Err(FileFault::Memory) => Err(AllocError),
         Err(_) => Ok(None),
     }
-}
-
-/// The draft of a file that has no quotes and no fault. None where it may have one; the only error is want of memory.
-pub(crate) fn read_plain(
-    alloc: Global,
-    bytes: &[u8],
-    roster: &Roster,
-) -> Result<Option<TradeDraft>, AllocError>
-    ensures { IfOk result (λ draft. IfSome draft (λ draft. trades_of roster.now (records_of bytes.now) ≡ Ok (trades_of_draft draft))) }
-{
-    let Some(behind) = take_header(skip_line_ends(skip_mark(bytes))) else {
-        return Ok(None);
-    };
-    let mut rest = behind;
-    let mut draft = TradeDraft::new(alloc);
-    let mut names = TradeNames::new();
-    for number in 2..u64::MAX {
-        let text = skip_line_ends(rest);
-        if text.is_empty() {
-            return Ok(Some(draft));
-        }
-        let Some(behind) = take_row(&mut draft, &mut names, roster, number, text)? else {
-            return Ok(None);
-        };
-        rest = behind;
-    }
-    Ok(None)
 }

@@ -8,12 +8,14 @@ ghost use Rattle.trade_file.specs.TradeDraft.{IsTradeDraft, trades_of_draft, Tra
 ghost use Rattle.units_core.specs.declared.limits.TheConstants.{MOST_FILE};
 
 use crate::file_trade::FileTrade;
-use crate::plain_trades::read_plain;
+use crate::pieces::Readers;
+use crate::plain_file::read_plain;
 use crate::trade_draft::TradeDraft;
 use crate::trade_row::{read_row, reads_header};
 use command_types::{FileFault, Roster};
 use csv::{ByteRecord, ReaderBuilder};
 use std::alloc::Global;
+use std::thread::Threads;
 use units_core::MOST_FILE;
 
 // Takes the record with this number into the draft.
@@ -77,12 +79,17 @@ fn read_records(alloc: Global, bytes: &[u8], roster: &Roster) -> Result<TradeDra
 }
 
 // The draft of a file: of its plain rows, or of all its records where these may not be plain.
-fn read_draft(alloc: Global, bytes: &[u8], roster: &Roster) -> Result<TradeDraft, FileFault>
+fn read_draft<R: Threads + Sync>(
+    alloc: Global,
+    bytes: &[u8],
+    roster: &Roster,
+    readers: &Readers<'_, R>,
+) -> Result<TradeDraft, FileFault>
     requires { length bytes.now ≤ MOST_FILE }
     ensures trades { IfOk result (λ draft. trades_of roster.now (records_of bytes.now) ≡ Ok (trades_of_draft draft)) }
     ensures fault { IfErr result (λ fault. (fault ≡ Memory) ⊎ (trades_of roster.now (records_of bytes.now) ≡ Err fault)) }
 {
-    match read_plain(alloc, bytes, roster) {
+    match read_plain(alloc, bytes, roster, readers) {
         Ok(Some(draft)) => Ok(draft),
         Ok(None) => read_records(alloc, bytes, roster),
         Err(_) => Err(FileFault::Memory),
@@ -92,11 +99,12 @@ fn read_draft(alloc: Global, bytes: &[u8], roster: &Roster) -> Result<TradeDraft
 /// The trades that a file's bytes say, in the order of their records, or the file's first fault, with the number of
 /// its record, counted from 1. The records are those of comma-separated text with double quotes; the first is
 /// `seller,buyer,product,amount`, and each other one a trade of the roster's members and products. Amounts are in the
-/// contract's currency unit. Want of memory may come at any place.
-pub fn read_trades(
+/// contract's currency unit. The readers share what has no quotes and no fault. Want of memory may come at any place.
+pub fn read_trades<R: Threads + Sync>(
     alloc: Global,
     bytes: &[u8],
     roster: &Roster,
+    readers: &Readers<'_, R>,
 ) -> Result<Vec<FileTrade>, FileFault>
     ensures trades { IfOk result (λ trades. trade_file roster.now bytes.now ≡ Ok trades.items) }
     ensures within { IfOk result (λ trades. AreFileTrades roster.now trades.items) }
@@ -105,7 +113,7 @@ pub fn read_trades(
     if bytes.len() > MOST_FILE {
         return Err(FileFault::TooLong);
     }
-    match read_draft(alloc, bytes, roster) {
+    match read_draft(alloc, bytes, roster, readers) {
         Ok(draft) => Ok(draft.into_trades()),
         Err(fault) => Err(fault),
     }

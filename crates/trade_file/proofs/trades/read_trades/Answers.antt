@@ -4,5 +4,5 @@ use Rattle.trade_file.proofs.GivenFacts.{given}
 use Rattle.trade_file.proofs.trades.read_trades.Goals as goal
 
 pub returns-in-Ok-clause-within : goal.returns-in-Ok-clause-within
-returns-in-Ok-clause-within c =
+returns-in-Ok-clause-within g c =
     rw c.into_trades.ensures (given c.args.roster.now (records_of c.args.bytes.now) (trades_of_draft c.in-Ok.draft) c.in-Ok.ensures.trades)
