@@ -1,5 +1,5 @@
 -- The ways through a call that leave all as it was.
-use Rattle.std.proofs.Common.{◌≡◌, inl, inr, ℕ, ◌+◌, ◌-◌, ◌≤◌, nat_lt, cond, not, Bool, true, false, List, [], ◌∷◌, drop, length, Option, Some, None, is_some, IsTrue, if◌then◌else◌, refl, sym, ◌∙◌, subst, ap, arith}
+use Rattle.std.proofs.Common.{◌≡◌, inl, inr, ℕ, ◌+◌, ◌-◌, ◌≤◌, nat_lt, cond, not, Bool, true, false, List, [], ◌∷◌, drop, length, Option, Some, None, is_some, option_to_list, IsTrue, if◌then◌else◌, refl, sym, ◌∙◌, subst, ap, arith}
 use Rattle.std.proofs.lemmas.Bool.{false≢true}
 use Rattle.std.proofs.lemmas.List.{append-nil}
 use Rattle.command_types.specs.declared.ask.Ask.{Ask}
@@ -21,7 +21,7 @@ use Rattle.command_types.specs.Offers.{answer_at, first_behind, with_entries}
 use Rattle.command_types.proofs.HistoryFacts.{told_memory, told_read}
 use Rattle.cycle_states.specs.Offers.{open_ask}
 use Rattle.cycle_states.proofs.OfferFacts.{filled_unkept}
-use Rattle.house.specs.Storing.{AreStored, AreStoredAs, AreOnDisk}
+use Rattle.house.specs.Storing.{any_kept, AreStored, AreStoredAs, AreOnDisk}
 use Rattle.house.specs.House.{HouseView, JournalNow, figures_of, first_of as first_history, is_stopped, bytes_of, Keeps, IsHouse}
 use Rattle.house.specs.Calling.{is_disk_fault, Calls, IsFilled}
 use Rattle.house.proofs.StoringFacts.{still, stored_now}
@@ -33,6 +33,15 @@ pub none_of : {A : Type 0} (o : Option A) → is_some o ≡ false → o ≡ None
 none_of None h = refl
 none_of (Some x) h = absurd (false≢true (sym h))
 
+-- a house that runs kept nothing
+pub nothing_of : (kept : List Entry) → any_kept kept ≡ false → kept ≡ []
+nothing_of [] h = refl
+nothing_of (entry ∷ others) h = absurd (false≢true (sym h))
+
+pub any_listed : (o : Option Entry) → any_kept (option_to_list o) ≡ is_some o
+any_listed None = refl
+any_listed (Some entry) = refl
+
 -- a house stays one over a machine in the same state
 pub stays : (s t : State) (now : JournalNow) (v : HouseView) → t ≡ s → IsHouse s now v → IsHouse t now v
 stays s t now v same house = subst (λ (n : State). IsHouse n now v) (sym same) house
@@ -41,7 +50,7 @@ stays s t now v same house = subst (λ (n : State). IsHouse n now v) (sym same) 
 pub running_stored : (v : HouseView) → Keeps v → is_stopped v ≡ false → AreStored v.disk (bytes_of v) v.history
 running_stored v keeps runs =
     stored_now v.journal.first_moment v.opening (first_history v.journal) v.disk (bytes_of v) v.history
-    (subst (λ (k : Option Entry). AreOnDisk v.journal.first_moment v.opening (first_history v.journal) v.disk (bytes_of v) v.history k) (none_of v.kept runs) keeps.on_disk)
+    (subst (λ (k : List Entry). AreOnDisk v.journal.first_moment v.opening (first_history v.journal) v.disk (bytes_of v) v.history k) (nothing_of v.kept runs) keeps.on_disk)
 
 pub grows_by_nothing : (v : HouseView) (seat : ℕ) (ask : Ask) (answer : Answer) → is_recorded ask.what answer ≡ false → v.history ≡ longer v.history (recorded seat ask answer)
 grows_by_nothing v seat ask answer unrecorded =
@@ -57,7 +66,7 @@ unchanged v seat ask reply keeps place told unrecorded no_fault = record {
   rests = λ _. refl;
   runs = λ made. absurd (false≢true (sym unrecorded ∙ made));
   same = λ _. refl;
-  any_moment = λ runs. still v.disk (bytes_of v) v.history (record { seat = seat; ask = ask }) (running_stored v keeps runs);
+  any_moment = λ runs. still v.disk (bytes_of v) v.history (record { seat = seat; ask = ask } ∷ []) (running_stored v keeps runs);
   counted = omega arith;
   failed = λ fault. absurd (false≢true (sym no_fault ∙ fault));
   figures = refl;
@@ -134,4 +143,4 @@ module _ (s : State) (now : JournalNow) (v : HouseView) (house : IsHouse s now v
 
 -- a house that runs is ready for a change
 pub house_stored : (s : State) (now : JournalNow) (v : HouseView) → IsHouse s now v → is_stopped v ≡ false → AreStoredAs v.disk now.form now.size v.history
-house_stored s now v house runs = house.stored (none_of v.kept runs)
+house_stored s now v house runs = house.stored (nothing_of v.kept runs)

@@ -1,5 +1,5 @@
 -- A change that is made, and one on which the disk fails.
-use Rattle.std.proofs.Common.{◌≡◌, inl, inr, ℕ, ◌+◌, ◌≤◌, nat_lt, Bool, true, false, not, ◌||◌, List, [], ◌∷◌, ◌++◌, length, take, drop, All, Option, Some, None, IsTrue, refl, sym, ◌∙◌, subst, ap, arith, length-append, take-append-drop}
+use Rattle.std.proofs.Common.{◌≡◌, inl, inr, ℕ, ◌+◌, ◌≤◌, nat_lt, Bool, true, false, not, ◌||◌, List, [], ◌∷◌, ◌++◌, length, take, drop, All, Option, IsTrue, refl, sym, ◌∙◌, subst, ap, arith, length-append, take-append-drop}
 use Rattle.std.proofs.lemmas.Bool.{false≢true}
 use Rattle.std.proofs.lemmas.List.{drop-append-le, take-append-le}
 use Rattle.std.proofs.lemmas.List.Sums.{sum_by-append, sum_by-cons}
@@ -46,7 +46,7 @@ nor false true is h = false≢true h
 nor false false is h = false≢true is
 
 module _ (s : State) (h : History) (opening : ℕ) (now : JournalNow) (journal : JournalFigures) (disk : Option disks.History) (count : ℕ)
-    (house : IsHouse s now (house_of h opening journal None disk count)) (seat : ℕ) (ask : Ask) (change : IsTrue (is_recorded ask.what (answer_to s ask))) where
+    (house : IsHouse s now (house_of h opening journal [] disk count)) (seat : ℕ) (ask : Ask) (change : IsTrue (is_recorded ask.what (answer_to s ask))) where
   abbrev entry : Entry
   entry = record { seat = seat; ask = ask }
 
@@ -54,12 +54,12 @@ module _ (s : State) (h : History) (opening : ℕ) (now : JournalNow) (journal :
   entries = h.entries
 
   abbrev was : HouseView
-  was = house_of h opening journal None disk count
+  was = house_of h opening journal [] disk count
 
   abbrev first : History
   first = first_of journal
 
-  on_disk : AreOnDisk journal.first_moment opening first disk (bytes_of was) h None
+  on_disk : AreOnDisk journal.first_moment opening first disk (bytes_of was) h []
   on_disk = house.keeps.on_disk
 
   since : journal.first_moment ≤ moment_of disk
@@ -75,7 +75,7 @@ module _ (s : State) (h : History) (opening : ℕ) (now : JournalNow) (journal :
       (leaves : LeavesOnly disk then_disk (StandsForEither h entry)) (yet : MayLeaveYet disk then_disk (λ image. StandsFor image h))
       (stored : AreStoredAs then_disk next.form next.size (longer h (entry ∷ []))) (is_sound : next.sound ≡ true) (rises : count ≤ then_count) (sound : All IsSolution (solutions_posted ask.what)) where
     abbrev done : HouseView
-    done = house_of (longer h (entry ∷ [])) opening journal None then_disk then_count
+    done = house_of (longer h (entry ∷ [])) opening journal [] then_disk then_count
 
     goes_on : IsReplayed after (longer h (entry ∷ []))
     goes_on = replayed_more s after h (entries ++ entry ∷ []) entry house.replayed on refl change sound
@@ -92,19 +92,20 @@ module _ (s : State) (h : History) (opening : ℕ) (now : JournalNow) (journal :
           first_legal = house.keeps.first_legal;
           few = omega (arith, house.keeps.few, ap length front);
           tells = tells_on disk then_disk (StandsForEither h entry) leaves ∙ house.keeps.tells;
-          on_disk = on_disk_more opening first h house.keeps.opened journal.first_moment disk then_disk (bytes_of was) (bytes_of done) entry on_disk leaves stored_there;
+          on_disk = on_disk_more opening first h house.keeps.opened journal.first_moment disk then_disk (bytes_of was) (bytes_of done) (entry ∷ []) on_disk leaves stored_there;
           moments = (house.keeps.moments.0, omega (arith, house.keeps.moments.1, moments_rise disk then_disk (StandsForEither h entry) leaves));
           leaves = λ _. stored_leaves then_disk (bytes_of done) (longer h (entry ∷ [])) stored_there;
+          few_kept = omega arith;
           kept_legal = goes_on.legal;
           leaves_kept = none_kept then_disk (longer h (entry ∷ [])) (stored_leaves then_disk (bytes_of done) (longer h (entry ∷ [])) stored_there);
-          never_back = back_more journal.first_moment opening first h entry house.keeps.opened disk then_disk since house.keeps.never_back leaves yet;
+          never_back = back_more journal.first_moment opening first h house.keeps.opened disk then_disk (entry ∷ []) (omega arith) since house.keeps.never_back leaves yet;
           counted = omega (arith, house.keeps.counted, rises);
           stopped = λ never. absurd (false≢true never);
         }
 
-    pub made_house : (then : History) → then ≡ longer h (entry ∷ []) → IsHouse after next (house_of then opening journal None then_disk then_count)
+    pub made_house : (then : History) → then ≡ longer h (entry ∷ []) → IsHouse after next (house_of then opening journal [] then_disk then_count)
     made_house then is =
-        subst (λ (n : History). IsHouse after next (house_of n opening journal None then_disk then_count)) (sym is)
+        subst (λ (n : History). IsHouse after next (house_of n opening journal [] then_disk then_count)) (sym is)
         (record { replayed = goes_on; sized = bytes_more next.size sized; stored = λ _. stored; sound = λ _. is_sound; keeps = keeps_on })
 
     made_literally : (answer : Answer) (at : ℕ) → answer ≡ answer_to s ask → at ≡ end_of h + 1 → Calls was done seat ask (record { at = at; answer = answer })
@@ -126,9 +127,9 @@ module _ (s : State) (h : History) (opening : ℕ) (now : JournalNow) (journal :
         }
 
     pub made : (then : History) (answer : Answer) (at : ℕ) → then ≡ longer h (entry ∷ []) → answer ≡ answer_to s ask → at ≡ end_of h + 1
-        → Calls was (house_of then opening journal None then_disk then_count) seat ask (record { at = at; answer = answer })
+        → Calls was (house_of then opening journal [] then_disk then_count) seat ask (record { at = at; answer = answer })
     made then answer at is answers place =
-        subst (λ (n : History). Calls was (house_of n opening journal None then_disk then_count) seat ask (record { at = at; answer = answer })) (sym is)
+        subst (λ (n : History). Calls was (house_of n opening journal [] then_disk then_count) seat ask (record { at = at; answer = answer })) (sym is)
         (made_literally answer at answers place)
 
   -- ---- the disk failed
@@ -136,7 +137,7 @@ module _ (s : State) (h : History) (opening : ℕ) (now : JournalNow) (journal :
   module _ (then_disk : Option disks.History) (then_count : ℕ) (leaves : LeavesOnly disk then_disk (StandsForEither h entry)) (yet : MayLeaveYet disk then_disk (λ image. StandsFor image h))
       (rises : count ≤ then_count) (rose : Rose count then_count) (sound : All IsSolution (solutions_posted ask.what)) where
     abbrev broken : HouseView
-    broken = house_of h opening journal (Some entry) then_disk then_count
+    broken = house_of h opening journal (entry ∷ []) then_disk then_count
 
     keeps_broken : Keeps broken
     keeps_broken = record {
@@ -146,12 +147,13 @@ module _ (s : State) (h : History) (opening : ℕ) (now : JournalNow) (journal :
       first_legal = house.keeps.first_legal;
       few = house.keeps.few;
       tells = tells_on disk then_disk (StandsForEither h entry) leaves ∙ house.keeps.tells;
-      on_disk = on_disk_broken opening first h house.keeps.opened journal.first_moment disk then_disk (bytes_of was) entry on_disk leaves;
+      on_disk = on_disk_broken opening first h house.keeps.opened journal.first_moment disk then_disk (bytes_of was) entry [] on_disk leaves;
       moments = (house.keeps.moments.0, omega (arith, house.keeps.moments.1, moments_rise disk then_disk (StandsForEither h entry) leaves));
       leaves = λ none. absurd cc;
+      few_kept = omega arith;
       kept_legal = (replayed_more s (state_after s ask) h (entries ++ entry ∷ []) entry house.replayed refl refl change sound).legal;
-      leaves_kept = kept_now disk then_disk h entry leaves;
-      never_back = back_kept journal.first_moment opening first h entry house.keeps.opened disk then_disk since house.keeps.never_back leaves yet;
+      leaves_kept = kept_now disk then_disk h entry [] leaves;
+      never_back = back_kept journal.first_moment opening first h house.keeps.opened disk then_disk entry [] (omega arith) since house.keeps.never_back leaves yet;
       counted = omega (arith, house.keeps.counted, rises);
       stopped = λ _. rose_from journal.faults count then_count house.keeps.counted rose;
     }

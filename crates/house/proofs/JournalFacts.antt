@@ -1,5 +1,7 @@
 -- How a file comes to stand for a history.
-use Rattle.std.proofs.Common.{◌≡◌, ◌⊎◌, inl, inr, ⊎_elim, List, ℕ, ◌+◌, ◌≤◌, [], ◌∷◌, ◌++◌, true, false, Option, Some, None, refl, sym, ◌∙◌, subst, ap, arith, cond}
+use Rattle.std.proofs.Common.{◌≡◌, ◌⊎◌, inl, inr, ⊎_elim, List, ℕ, ◌+◌, ◌≤◌, [], ◌∷◌, ◌++◌, true, false, Option, Some, None, refl, sym, ◌∙◌, subst, ap, arith, append_assoc, cond}
+use Rattle.std.proofs.lemmas.List.{append-nil}
+use Rattle.std.proofs.lemmas.List.Sums.{sum_by-cons}
 use Rattle.command_types.specs.declared.ask.Entry.{Entry}
 use Rattle.command_types.specs.Folds.{folded}
 use Rattle.command_types.specs.declared.base.Base.{Base}
@@ -9,13 +11,13 @@ use Rattle.command_types.specs.declared.spelling.Spelling.TheVariants.{First, Se
 use Rattle.command_types.specs.Bases.{spelling_behind}
 use Rattle.command_types.specs.History.{History, longer}
 use Rattle.std.specs.List.{AllZip}
-use Rattle.command_types.specs.Sizes.{frame_size}
+use Rattle.command_types.specs.Sizes.{frame_size, frames_size}
 use Rattle.command_types.specs.Spelling.{Spells, turn}
 use Rattle.outside.specs.Disk as disks
 use Rattle.journal_core.specs.Form.{begun_form}
 use Rattle.journal_core.specs.declared.form.Form.{Form}
 use Rattle.journal_core.specs.Holds.{limit, Holds}
-use Rattle.journal_core.specs.Journal.{HoldsWithOrWithout, HoldsEither, IsReady}
+use Rattle.journal_core.specs.Journal.{HoldsAllOrNone, HoldsWithOrWithout, HoldsEither, IsReady}
 use Rattle.journal_core.proofs.MomentFacts.{leaves_more, yet_more}
 use Rattle.journal_core.proofs.PartFacts.{journal_holds}
 use Rattle.journal_core.proofs.OneReading.{one_reading}
@@ -27,9 +29,9 @@ use Rattle.recovery.proofs.BaseFacts.{one_base as read_one_base}
 use Rattle.recovery.proofs.BodyFacts.{after_more, changes_more, changes_turned, turn_turns}
 use Rattle.recovery.proofs.PlaceFacts.{ends_hold}
 use Rattle.house.specs.Folding.{fold_bytes}
-use Rattle.house.specs.Storing.{AreStoredAs, AreWrittenAs, IsTurned, IsWrittenAs, StandsForEither}
+use Rattle.house.specs.Storing.{AreStoredAs, AreWrittenAs, IsTurned, IsWrittenAs, StandsForAllOrNone}
 use Rattle.house.specs.Journals.{ContentsStand, ContentsAreRead, FilesReadOneWay, FilesHaveOneBase, StoredHistoriesStand, StoredHistoriesAreReady}
-use Rattle.house.specs.Journals.{AppendAddsTheEntry, AppendLeavesEither, AppendLeavesYet, TurnChangesNothing, TurnWritesTheSame, StartChangesNothing, StartWritesTheSame}
+use Rattle.house.specs.Journals.{AppendAddsTheEntries, AppendLeavesAllOrNone, AppendAddsTheEntry, AppendLeavesEither, AppendLeavesYet, TurnChangesNothing, TurnWritesTheSame, StartChangesNothing, StartWritesTheSame}
 use Rattle.house.specs.Journals.{StagingChangesNothing, StagingWritesTheSame, SwitchLeavesEither, SwitchStoresTheFold}
 
 -- ---- what is read of a file
@@ -88,39 +90,65 @@ spelled_more begins records entries bytes entry last all here =
 second_after : (begins : Spelling) (records : List (List ℕ)) (bytes : List ℕ) → Second ≡ spelling_after begins records → Second ≡ spelling_after begins (records ++ bytes ∷ [])
 second_after begins records bytes last = ap (λ (s : Spelling). cond (turns s bytes) Second s) last ∙ sym (after_more begins records bytes)
 
--- a journal that has room for a change is turned
-room_turned : (last : Spelling) (end : ℕ) (entry : Entry) → IsTurned end last → end + frame_size entry.ask ≤ limit → Second ≡ last
-room_turned Second end entry turned room = refl
-room_turned First end entry turned room = absurd (omega (arith, turned, room))
+-- and some changes more
+spelled_all : (begins : Spelling) (records more : List (List ℕ)) (entries others : List Entry) → Second ≡ spelling_after begins records → SpellAll begins records entries → AllZip (Spells Second) more others
+    → SpellAll begins (records ++ more) (entries ++ others)
+spelled_all begins records [] entries [] last all here =
+    subst (λ (rs : List (List ℕ)). SpellAll begins rs (entries ++ [])) (sym (append-nil records)) (subst (λ (es : List Entry). SpellAll begins records es) (sym (append-nil entries)) all)
+spelled_all begins records [] entries (e ∷ others) last all here = absurd here
+spelled_all begins records (r ∷ more) entries [] last all here = absurd here
+spelled_all begins records (r ∷ more) entries (e ∷ others) last all here =
+    subst (λ (rs : List (List ℕ)). SpellAll begins rs (entries ++ e ∷ others)) (append_assoc records (r ∷ []) more)
+    (subst (λ (es : List Entry). SpellAll begins ((records ++ r ∷ []) ++ more) es) (append_assoc entries (e ∷ []) others)
+    (spelled_all begins (records ++ r ∷ []) more (entries ++ e ∷ []) others (second_after begins records r last) (spelled_more begins records entries r e last all here.0) here.1))
 
-pub append_adds : AppendAddsTheEntry
-append_adds None new form end next h bytes entry spells room appending appended stored =
-    subst (λ (a : Option disks.History). AreStoredAs a form next (longer h (entry ∷ []))) (sym (appending [] [] tt)) tt
-append_adds (Some disk) None form end next h bytes entry spells room appending appended stored = absurd (appending stored.1.0 stored.1.1 stored.1.2)
-append_adds (Some disk) (Some later) form end next h bytes entry spells room appending appended stored =
+second_all : (begins : Spelling) (records more : List (List ℕ)) → Second ≡ spelling_after begins records → Second ≡ spelling_after begins (records ++ more)
+second_all begins records [] last = subst (λ (rs : List (List ℕ)). Second ≡ spelling_after begins rs) (sym (append-nil records)) last
+second_all begins records (r ∷ more) last =
+    subst (λ (rs : List (List ℕ)). Second ≡ spelling_after begins rs) (append_assoc records (r ∷ []) more) (second_all begins (records ++ r ∷ []) more (second_after begins records r last))
+
+-- a journal that has room for a change is turned
+room_turned : (last : Spelling) (end : ℕ) (entry : Entry) (others : List Entry) → IsTurned end last → end + frames_size (entry ∷ others) ≤ limit → Second ≡ last
+room_turned Second end entry others turned room = refl
+room_turned First end entry others turned room = absurd (omega (arith, turned, room, sum_by-cons (λ (e : Entry). frame_size e.ask) entry others))
+
+pub append_adds_all : AppendAddsTheEntries
+append_adds_all None new form end next h records entry others spells room appending appended stored =
+    subst (λ (a : Option disks.History). AreStoredAs a form next (longer h (entry ∷ others))) (sym (appending [] [] tt)) tt
+append_adds_all (Some disk) None form end next h records entry others spells room appending appended stored = absurd (appending stored.1.0 stored.1.1 stored.1.2)
+append_adds_all (Some disk) (Some later) form end next h records entry others spells room appending appended stored =
     let w = stored.1 in
-    let last = room_turned stored.0 end entry stored.2 room ∙ w.5 in (
+    let last = room_turned stored.0 end entry others stored.2 room ∙ w.5 in (
       Second,
       (
         w.0,
-        w.1 ++ bytes ∷ [],
+        w.1 ++ records,
         appended w.0 w.1 w.2,
         w.3,
-        spelled_more (spelling_behind w.0) w.1 h.entries bytes entry last w.4 spells,
-        second_after (spelling_behind w.0) w.1 bytes last,
+        spelled_all (spelling_behind w.0) w.1 records h.entries (entry ∷ others) last w.4 spells,
+        second_all (spelling_behind w.0) w.1 records last,
       ),
       tt,
     )
 
-pub append_leaves : AppendLeavesEither
-append_leaves None new form end h bytes entry spells room appending stored = appending [] [] tt
-append_leaves (Some disk) new form end h bytes entry spells room appending stored =
+pub append_leaves_all : AppendLeavesAllOrNone
+append_leaves_all None new form end h records entry others spells room appending stored = appending [] [] tt
+append_leaves_all (Some disk) new form end h records entry others spells room appending stored =
     let w = stored.1 in
-    let last = room_turned stored.0 end entry stored.2 room ∙ w.5 in
-    leaves_more (Some disk) new (HoldsWithOrWithout w.0 w.1 bytes) (StandsForEither h entry)
+    let last = room_turned stored.0 end entry others stored.2 room ∙ w.5 in
+    leaves_more (Some disk) new (HoldsAllOrNone w.0 w.1 records) (StandsForAllOrNone h (entry ∷ others))
     (λ image. ⊎_elim (λ without. inl (w.0, w.1, without, w.3, w.4))
-    (λ with_it. inr (w.0, w.1 ++ bytes ∷ [], with_it, w.3, spelled_more (spelling_behind w.0) w.1 h.entries bytes entry last w.4 spells)))
+    (λ with_them. inr (w.0, w.1 ++ records, with_them, w.3, spelled_all (spelling_behind w.0) w.1 records h.entries (entry ∷ others) last w.4 spells)))
     (appending w.0 w.1 w.2)
+
+-- of one
+pub append_adds : AppendAddsTheEntry
+append_adds old new form end next h bytes entry spells room appending appended stored =
+    append_adds_all old new form end next h (bytes ∷ []) entry [] (spells, tt) (omega (arith, room)) appending appended stored
+
+pub append_leaves : AppendLeavesEither
+append_leaves old new form end h bytes entry spells room appending stored =
+    append_leaves_all old new form end h (bytes ∷ []) entry [] (spells, tt) (omega (arith, room)) appending stored
 
 pub append_yet : AppendLeavesYet
 append_yet None new form end h last stored = tt

@@ -1,5 +1,5 @@
 -- A house that was opened.
-use Rattle.std.proofs.Common.{◌≡◌, inl, inr, ℕ, ◌≤◌, Bool, true, false, length, Option, Some, None, is_some, refl, sym, ◌∙◌, subst, ap, arith}
+use Rattle.std.proofs.Common.{◌≡◌, inl, inr, ℕ, ◌≤◌, Bool, true, false, [], length, Option, Some, None, is_some, refl, sym, ◌∙◌, subst, ap, arith}
 use Rattle.command_types.specs.declared.figures.State.{State}
 use Rattle.command_types.specs.History.{History, IsLegal}
 use Rattle.command_types.specs.Roster.{Rows}
@@ -37,17 +37,17 @@ module _ (s : State) (first : History) (folded : Bool) (now : JournalNow) (o aft
   with_first = opens_with o first (opened_with folded first) now.size opens
 
   pub new_house : length first.entries ≤ journal_limit → LeavesOnly o after (StandsForOne (opened_with folded first) first) → AreStoredAs after now.form now.size (opened_with folded first)
-      → now.sound ≡ true → IsHouse s now (house_of past opening (journal_of size faults taken begun snap) None after count)
+      → now.sound ≡ true → IsHouse s now (house_of past opening (journal_of size faults taken begun snap) [] after count)
   new_house few leaves stored sound =
-      subst (λ (f : History). IsHouse s now (house_of past opening (journal_of size faults taken begun f) None after count)) (sym snap_is)
-      (subst (λ (p : History). IsHouse s now (house_of p opening (journal_of size faults taken begun first) None after count)) (sym past_is)
+      subst (λ (f : History). IsHouse s now (house_of past opening (journal_of size faults taken begun f) [] after count)) (sym snap_is)
+      (subst (λ (p : History). IsHouse s now (house_of p opening (journal_of size faults taken begun first) [] after count)) (sym past_is)
       (opened_house s (opened_with folded first) opening now (journal_of size faults taken begun first) o after count (opened_replayed folded s first replayed) (all ∙ ap (λ (p : History). length p.entries) past_is)
       same_size same_count with_first replayed.legal (opened_few folded first few) (ap moment_of taken_is) (ap moment_of begun_is) (ap (λ (x : Option disks.History). is_some x) taken_is) leaves stored sound))
 
-  pub new_opened : (roster : Rows) (before : ℕ) → IsWritable roster first.base.state → ContentStandsFor o first → before ≤ count → IsOpened roster o before (house_of past opening (journal_of size faults taken begun snap) None after count)
+  pub new_opened : (roster : Rows) (before : ℕ) → IsWritable roster first.base.state → ContentStandsFor o first → before ≤ count → IsOpened roster o before (house_of past opening (journal_of size faults taken begun snap) [] after count)
   new_opened roster before writable stands rises =
-      subst (λ (f : History). IsOpened roster o before (house_of past opening (journal_of size faults taken begun f) None after count)) (sym snap_is)
-      (subst (λ (p : History). IsOpened roster o before (house_of p opening (journal_of size faults taken begun first) None after count)) (sym past_is)
+      subst (λ (f : History). IsOpened roster o before (house_of past opening (journal_of size faults taken begun f) [] after count)) (sym snap_is)
+      (subst (λ (p : History). IsOpened roster o before (house_of p opening (journal_of size faults taken begun first) [] after count)) (sym past_is)
       (record {
         first_base = writable;
         first_legal = replayed.legal;

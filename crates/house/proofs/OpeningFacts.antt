@@ -1,5 +1,5 @@
 -- The disk and the house at the opening.
-use Rattle.std.proofs.Common.{◌≡◌, inl, ℕ, ◌+◌, ◌≤◌, true, List, length, take, drop, Option, Some, None, is_some, sym, ◌∙◌, subst, ap, arith}
+use Rattle.std.proofs.Common.{◌≡◌, inl, ℕ, ◌+◌, ◌≤◌, true, List, [], length, take, drop, Option, Some, None, is_some, sym, ◌∙◌, subst, ap, arith}
 use Rattle.std.proofs.lemmas.Bool.{false≢true}
 use Rattle.std.proofs.lemmas.List.{drop_all, take_all}
 use Rattle.command_types.specs.declared.ask.Entry.{Entry}
@@ -35,7 +35,7 @@ only_opened (Some disk) after h leaves = leaves_more (Some disk) after (λ image
 pub opened_house : (s : State) (h : History) (opening : ℕ) (now : JournalNow) (journal : JournalFigures) (o after : Option disks.History) (count : ℕ) → IsReplayed s h → opening ≡ length h.entries
     → journal.size ≡ now.size → journal.faults ≡ count → OpensWith (first_of journal) h → IsLegal (first_of journal) → length h.entries ≤ journal_limit → journal.first_moment ≡ moment_of o
     → journal.moment ≡ moment_of after → journal.tells ≡ is_some o → LeavesOnly o after (StandsForOne h (first_of journal)) → AreStoredAs after now.form now.size h → now.sound ≡ true
-    → IsHouse s now (house_of h opening journal None after count)
+    → IsHouse s now (house_of h opening journal [] after count)
 opened_house s h opening now journal o after count replayed all same_size same_count opens legal few first_moment moment tells leaves stored sound =
     let entries = h.entries in
     let first = first_of journal in
@@ -44,11 +44,11 @@ opened_house s h opening now journal o after count replayed all same_size same_c
     let whole : take opening entries ≡ entries = take_all opening entries (omega (arith, all)) in
     let sized : now.size ≡ journal.size + frames_size (drop opening entries) = omega (arith, same_size, nothing) in
     let plain : AreStored after now.size h = stored_as after now.form now.size h stored in
-    let on : AreOnDisk (moment_of o) (length entries) first after now.size h None = on_disk_first o after now.size first h leaves plain in
+    let on : AreOnDisk (moment_of o) (length entries) first after now.size h [] = on_disk_first o after now.size first h leaves plain in
     let later : moment_of o ≤ moment_of after = moments_rise o after P leaves in
-    let here : AreOnDisk journal.first_moment opening first after now.size h None =
-    subst (λ (n : ℕ). AreOnDisk journal.first_moment n first after now.size h None) (sym all)
-    (subst (λ (t : ℕ). AreOnDisk t (length entries) first after now.size h None) (sym first_moment) on) in
+    let here : AreOnDisk journal.first_moment opening first after now.size h [] =
+    subst (λ (n : ℕ). AreOnDisk journal.first_moment n first after now.size h []) (sym all)
+    (subst (λ (t : ℕ). AreOnDisk t (length entries) first after now.size h []) (sym first_moment) on) in
     record {
       replayed = replayed;
       sized = sized;
@@ -61,13 +61,14 @@ opened_house s h opening now journal o after count replayed all same_size same_c
         first_legal = legal;
         few = omega (arith, few, ap length whole);
         tells = tells_on o after P leaves ∙ sym tells;
-        on_disk = subst (λ (n : ℕ). AreOnDisk journal.first_moment opening first after n h None) sized here;
+        on_disk = subst (λ (n : ℕ). AreOnDisk journal.first_moment opening first after n h []) sized here;
         moments = (omega (arith, first_moment, moment, later), omega (arith, moment));
         leaves = λ _. stored_leaves after now.size h plain;
+        few_kept = omega arith;
         kept_legal = replayed.legal;
         leaves_kept = none_kept after h (stored_leaves after now.size h plain);
-        never_back = subst (λ (n : ℕ). NeverGoBack journal.first_moment n first after h None) (sym all)
-            (subst (λ (t : ℕ). NeverGoBack t (length entries) first after h None) (sym first_moment) (back_first o after first h leaves));
+        never_back = subst (λ (n : ℕ). NeverGoBack journal.first_moment n first after h []) (sym all)
+            (subst (λ (t : ℕ). NeverGoBack t (length entries) first after h []) (sym first_moment) (back_first o after first h leaves));
         counted = omega (arith, same_count);
         stopped = λ never. absurd (false≢true never);
       };

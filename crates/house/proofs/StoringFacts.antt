@@ -10,7 +10,7 @@ use Rattle.journal_core.proofs.MomentFacts.{started}
 use Rattle.recovery.specs.StandsFor.{StandsFor}
 use Rattle.journal_core.specs.declared.form.Form.{Form}
 use Rattle.house.specs.Folding.{StandsForOne}
-use Rattle.house.specs.Storing.{IsStored, AreStored, AreStoredAs, StandsForEither, StandsForFront, AreOnDisk, moment_of, LeavesHistory}
+use Rattle.house.specs.Storing.{IsStored, AreStored, AreStoredAs, StandsForAllOrNone, StandsForFront, AreOnDisk, moment_of, LeavesHistory}
 use Rattle.house.proofs.JournalFacts.{stored_stand}
 
 -- ---- a stored history
@@ -29,9 +29,9 @@ stored_as None form size h stored = tt
 stored_as (Some disk) form size h stored = (form, stored)
 
 -- where nothing is done, a crash leaves only what stands for it
-pub still : (o : Option disks.History) (size : ℕ) (h : History) (entry : Entry) → AreStored o size h → LeavesOnly o o (StandsForEither h entry)
-still None size h entry stored = refl
-still (Some disk) size h entry stored = started disk (StandsForEither h entry) (λ image now. inl (left_now disk size h stored image now))
+pub still : (o : Option disks.History) (size : ℕ) (h : History) (more : List Entry) → AreStored o size h → LeavesOnly o o (StandsForAllOrNone h more)
+still None size h more stored = refl
+still (Some disk) size h more stored = started disk (StandsForAllOrNone h more) (λ image now. inl (left_now disk size h stored image now))
 
 -- ---- since the opening
 
@@ -49,51 +49,51 @@ module _ (opening : ℕ) (first h : History) (within : opening ≤ length h.entr
     stands = f.stands;
   }
 
-  front_one_more : (entry : Entry) (image : List ℕ) → StandsFor image (longer h (entry ∷ [])) → StandsForFront opening first (longer h (entry ∷ [])) image
-  front_one_more entry image stands = record {
-    front = h.entries ++ entry ∷ [];
+  front_all_more : (more : List Entry) (image : List ℕ) → StandsFor image (longer h more) → StandsForFront opening first (longer h more) image
+  front_all_more more image stands = record {
+    front = h.entries ++ more;
     back = [];
-    split = sym (append-nil (h.entries ++ entry ∷ []));
-    long = omega (arith, within, length-append h.entries (entry ∷ []));
+    split = sym (append-nil (h.entries ++ more));
+    long = omega (arith, within, length-append h.entries more);
     stands = inl stands;
   }
 
-  more_of_either : (entry : Entry) (image : List ℕ) → StandsForEither h entry image → StandsForFront opening first (longer h (entry ∷ [])) image
-  more_of_either entry image = ⊎_elim (λ without. front_more (entry ∷ []) image (front_all image without)) (λ with_it. front_one_more entry image with_it)
+  more_of_either : (more : List Entry) (image : List ℕ) → StandsForAllOrNone h more image → StandsForFront opening first (longer h more) image
+  more_of_either more image = ⊎_elim (λ without. front_more more image (front_all image without)) (λ with_them. front_all_more more image with_them)
 
   module _ (since : ℕ) where
-    -- after a change that was made
-    pub on_disk_more : (o after : Option disks.History) (size next : ℕ) (entry : Entry) → AreOnDisk since opening first o size h None → LeavesOnly o after (StandsForEither h entry)
-        → AreStored after next (longer h (entry ∷ [])) → AreOnDisk since opening first after next (longer h (entry ∷ [])) None
-    on_disk_more None after size next entry on leaves stored = subst (λ (a : Option disks.History). AreOnDisk since opening first a next (longer h (entry ∷ [])) None) (sym leaves) tt
-    on_disk_more (Some disk) None size next entry on leaves stored = absurd leaves
-    on_disk_more (Some disk) (Some later) size next entry on leaves stored = record {
+    -- after changes that were made
+    pub on_disk_more : (o after : Option disks.History) (size next : ℕ) (more : List Entry) → AreOnDisk since opening first o size h [] → LeavesOnly o after (StandsForAllOrNone h more)
+        → AreStored after next (longer h more) → AreOnDisk since opening first after next (longer h more) []
+    on_disk_more None after size next more on leaves stored = subst (λ (a : Option disks.History). AreOnDisk since opening first a next (longer h more) []) (sym leaves) tt
+    on_disk_more (Some disk) None size next more on leaves stored = absurd leaves
+    on_disk_more (Some disk) (Some later) size next more on leaves stored = record {
       later = omega (arith, on.later, leaves.later);
       stored = λ none. stored;
       each = λ image left. inl (⊎_elim
-          (λ was. ⊎_elim (λ front. front_more (entry ∷ []) image front) (λ never. absurd never) (on.each image was))
-          (λ either. more_of_either entry image either)
+          (λ was. ⊎_elim (λ front. front_more more image front) (λ never. absurd never) (on.each image was))
+          (λ either. more_of_either more image either)
           (leaves.before since image on.later left));
     }
 
-    -- after one on which the disk failed
-    pub on_disk_broken : (o after : Option disks.History) (size : ℕ) (entry : Entry) → AreOnDisk since opening first o size h None → LeavesOnly o after (StandsForEither h entry)
-        → AreOnDisk since opening first after size h (Some entry)
-    on_disk_broken None after size entry on leaves = subst (λ (a : Option disks.History). AreOnDisk since opening first a size h (Some entry)) (sym leaves) tt
-    on_disk_broken (Some disk) None size entry on leaves = absurd leaves
-    on_disk_broken (Some disk) (Some later) size entry on leaves = record {
+    -- after those on which the disk failed
+    pub on_disk_broken : (o after : Option disks.History) (size : ℕ) (entry : Entry) (others : List Entry) → AreOnDisk since opening first o size h [] → LeavesOnly o after (StandsForAllOrNone h (entry ∷ others))
+        → AreOnDisk since opening first after size h (entry ∷ others)
+    on_disk_broken None after size entry others on leaves = subst (λ (a : Option disks.History). AreOnDisk since opening first a size h (entry ∷ others)) (sym leaves) tt
+    on_disk_broken (Some disk) None size entry others on leaves = absurd leaves
+    on_disk_broken (Some disk) (Some later) size entry others on leaves = record {
       later = omega (arith, on.later, leaves.later);
       stored = λ none. absurd cc;
       each = λ image left. ⊎_elim
           (λ was. ⊎_elim (λ front. inl front) (λ never. absurd never) (on.each image was))
-          (λ either. ⊎_elim (λ without. inl (front_all image without)) (λ with_it. inr with_it) either)
+          (λ either. ⊎_elim (λ without. inl (front_all image without)) (λ with_them. inr with_them) either)
           (leaves.before since image on.later left);
     }
 
 -- at the opening
 pub on_disk_first : (o after : Option disks.History) (size : ℕ) (first h : History) → LeavesOnly o after (StandsForOne h first) → AreStored after size h
-    → AreOnDisk (moment_of o) (length h.entries) first after size h None
-on_disk_first None after size first h leaves stored = subst (λ (a : Option disks.History). AreOnDisk 0 (length h.entries) first a size h None) (sym leaves) tt
+    → AreOnDisk (moment_of o) (length h.entries) first after size h []
+on_disk_first None after size first h leaves stored = subst (λ (a : Option disks.History). AreOnDisk 0 (length h.entries) first a size h []) (sym leaves) tt
 on_disk_first (Some disk) None size first h leaves stored = absurd leaves
 on_disk_first (Some disk) (Some later) size first h leaves stored = record {
   later = leaves.later;
@@ -107,8 +107,8 @@ on_disk_first (Some disk) (Some later) size first h leaves stored = record {
   });
 }
 
--- a house in which no entry was kept has its history on the disk
-pub stored_now : (since opening : ℕ) (first : History) (o : Option disks.History) (size : ℕ) (h : History) → AreOnDisk since opening first o size h None → AreStored o size h
+-- a house in which no change was kept has its history on the disk
+pub stored_now : (since opening : ℕ) (first : History) (o : Option disks.History) (size : ℕ) (h : History) → AreOnDisk since opening first o size h [] → AreStored o size h
 stored_now since opening first None size h on = tt
 stored_now since opening first (Some disk) size h on = on.stored refl
 

@@ -1,5 +1,5 @@
 -- What a call of a house leaves.
-use Rattle.std.specs.Prelude.{◌≡◌, ◌≢◌, ◌⊎◌, ℕ, ◌≤◌, not, ◌||◌, Bool, true, false, IsTrue, Some}
+use Rattle.std.specs.Prelude.{◌≡◌, ◌≢◌, ◌⊎◌, ℕ, ◌≤◌, not, ◌||◌, Bool, true, false, IsTrue, Some, [], ◌∷◌}
 use Rattle.command_types.specs.declared.ask.Ask.{Ask}
 use Rattle.command_types.specs.declared.answer.Answer.{Answer}
 use Rattle.command_types.specs.declared.answer.Answer.TheVariants.{No}
@@ -39,8 +39,8 @@ pub record Calls (old new : HouseView) (seat : ℕ) (ask : Ask) (reply : Reply) 
   pub same : IsTrue (not (is_recorded ask.what reply.answer || is_disk_fault reply.answer)) → new ≡ old
   -- what a crash at any moment of the call leaves stands for the history from before it, or for that with the one entry
   pub any_moment : is_stopped old ≡ false → LeavesOnly old.disk new.disk (StandsForEither old.history (record { seat = seat; ask = ask }))
-  -- a fault is told only where the count rose, and keeps its entry
+  -- a fault is told only where the count rose, and keeps its change
   pub counted : old.faults ≤ new.faults
-  pub failed : IsTrue (is_disk_fault reply.answer) → Rose old.faults new.faults × (new.kept ≡ Some (record { seat = seat; ask = ask }))
+  pub failed : IsTrue (is_disk_fault reply.answer) → Rose old.faults new.faults × (new.kept ≡ record { seat = seat; ask = ask } ∷ [])
   pub figures : figures_of new ≡ figures_of old
   pub keeps : Keeps new

@@ -1,5 +1,5 @@
 -- What contracts see of a house, and what it keeps.
-use Rattle.std.specs.Prelude.{◌≡◌, ℕ, ◌+◌, ◌≤◌, Bool, true, false, is_some, take, drop, length, Option, Some, None}
+use Rattle.std.specs.Prelude.{◌≡◌, ℕ, ◌+◌, ◌≤◌, Bool, true, false, is_some, take, drop, length, Option, Some, None, List, []}
 use Rattle.command_types.specs.declared.ask.Entry.{Entry}
 use Rattle.command_types.specs.declared.figures.Figures.{Figures}
 use Rattle.command_types.specs.declared.figures.JournalFigures.{JournalFigures}
@@ -13,15 +13,15 @@ use Rattle.journal_core.specs.Journal.{form_of, size_of, is_sound}
 use Rattle.journal_core.specs.declared.form.Form.{Form}
 use Rattle.journal_core.specs.declared.journal.Journal.{Journal}
 use Rattle.house.specs.Folding.{OpensWith}
-use Rattle.house.specs.Storing.{with_kept, AreOnDisk, AreStoredAs, moment_of, LeavesHistory, LeavesKept, NeverGoBack}
+use Rattle.house.specs.Storing.{any_kept, most_together, with_kept, AreOnDisk, AreStoredAs, moment_of, LeavesHistory, LeavesKept, NeverGoBack}
 
--- A house's history, how many changes it had at the opening and what the journal was then, the entry that was kept where a disk fault
--- stopped the house, the disk, and the count of its faults.
+-- A house's history, how many changes it had at the opening and what the journal was then, the changes that were kept where a disk fault
+-- stopped the house, in their order, the disk, and the count of its faults.
 pub record HouseView : Type 0 where
   pub history : History
   pub opening : ℕ
   pub journal : JournalFigures
-  pub kept : Option Entry
+  pub kept : List Entry
   pub disk : Option disks.History
   pub faults : ℕ
 
@@ -31,7 +31,7 @@ figures_of v = record { base = v.history.base; opening = v.history.base.position
 
 -- a disk fault stopped it
 abbrev pub is_stopped : HouseView → Bool
-is_stopped v = is_some v.kept
+is_stopped v = any_kept v.kept
 
 -- the history for which the disk's content stood when the disk was taken
 abbrev pub first_of : JournalFigures → History
@@ -58,8 +58,9 @@ pub record Keeps (v : HouseView) : Type 0 where
   -- the same holds of the moments since the opening, which are among these
   pub on_disk : AreOnDisk v.journal.first_moment v.opening (first_of v.journal) v.disk (bytes_of v) v.history v.kept
   pub moments : (v.journal.first_moment ≤ v.journal.moment) × (v.journal.moment ≤ moment_of v.disk)
-  pub leaves : v.kept ≡ None → LeavesHistory v.disk v.history
-  -- what was kept could have been made, and a stopped house has its history on the disk still, perhaps with this
+  pub leaves : v.kept ≡ [] → LeavesHistory v.disk v.history
+  -- what was kept could have been made, and a stopped house has its history on the disk still, perhaps with all of this
+  pub few_kept : length v.kept ≤ most_together
   pub kept_legal : IsLegal (with_kept v.history v.kept)
   pub leaves_kept : LeavesKept v.disk v.history v.kept
   pub never_back : NeverGoBack v.journal.first_moment v.opening (first_of v.journal) v.disk v.history v.kept
@@ -75,17 +76,17 @@ pub record JournalNow : Type 0 where
 abbrev pub now_of : {D : Type 0} → Journal D → JournalNow
 now_of j = record { form = form_of j; size = size_of j; sound = is_sound j }
 
--- And besides: the machine is where the history leads. The journal has its bytes, and, unless an entry was kept, it has the history, and
+-- And besides: the machine is where the history leads. The journal has its bytes, and, unless changes were kept, it has the history, and
 -- none of its calls failed.
 pub record IsHouse (state : State) (journal : JournalNow) (v : HouseView) : Type 0 where
   pub replayed : IsReplayed state v.history
   pub sized : journal.size ≡ bytes_of v
-  pub stored : v.kept ≡ None → AreStoredAs v.disk journal.form journal.size v.history
-  pub sound : v.kept ≡ None → journal.sound ≡ true
+  pub stored : v.kept ≡ [] → AreStoredAs v.disk journal.form journal.size v.history
+  pub sound : v.kept ≡ [] → journal.sound ≡ true
   pub keeps : Keeps v
 
 -- a house of these parts: its history, and what it was when it was made
-abbrev pub house_of : History → ℕ → JournalFigures → Option Entry → Option disks.History → ℕ → HouseView
+abbrev pub house_of : History → ℕ → JournalFigures → List Entry → Option disks.History → ℕ → HouseView
 house_of history opening journal kept disk faults = record {
   history = history;
   opening = opening;

@@ -1,20 +1,21 @@
 -- What a house rests on: how a file comes to stand for a history. All else in this crate is proved from these facts, and from
 -- the one of `recovery` that a file stands for one history of a roster, and looks into no record.
 use Rattle.std.specs.Prelude.{◌≡◌, ◌⊎◌, ℕ, ◌+◌, ◌≤◌, List, [], ◌∷◌, Option}
+use Rattle.std.specs.List.{AllZip}
 use Rattle.command_types.specs.declared.ask.Entry.{Entry}
 use Rattle.command_types.specs.declared.spelling.Spelling.{Spelling}
 use Rattle.command_types.specs.declared.spelling.Spelling.TheVariants.{First, Second}
 use Rattle.command_types.specs.Folds.{folded}
 use Rattle.command_types.specs.History.{History, longer}
 use Rattle.command_types.specs.Roster.{Rows}
-use Rattle.command_types.specs.Sizes.{frame_size}
+use Rattle.command_types.specs.Sizes.{frame_size, frames_size}
 use Rattle.command_types.specs.Spelling.{Spells, turn}
 use Rattle.outside.specs.Disk as disks
 use Rattle.journal_core.specs.Form.{begun_form}
 use Rattle.journal_core.specs.Holds.{limit}
 use Rattle.journal_core.specs.Moments.{LeavesOnly, MayLeaveYet}
 use Rattle.journal_core.specs.Journal.{EndsAt, IsReady, IsStaged}
-use Rattle.journal_core.specs.Calls.{IsAppending, IsAppended, IsAppendedLast, IsStarting, IsStarted, IsStaging, IsStagedBeside, IsSwitching, IsSwitched}
+use Rattle.journal_core.specs.Calls.{AreAppending, AreAppended, IsAppending, IsAppended, IsAppendedLast, IsStarting, IsStarted, IsStaging, IsStagedBeside, IsSwitching, IsSwitched}
 use Rattle.journal_core.specs.declared.form.Form.{Form}
 use Rattle.journal_core.specs.declared.staged.Staged.{Staged}
 use Rattle.recovery.specs.declared.contents.BaseAt.{BaseAt}
@@ -22,7 +23,7 @@ use Rattle.recovery.specs.declared.entries.EntryAt.{EntryAt}
 use Rattle.recovery.specs.StandsFor.{StandsForBase, StandsFor}
 use Rattle.recovery.specs.Reading.{FitsIn, FindsSpelling, HasBase, IsRead, history_of}
 use Rattle.house.specs.Folding.{fold_bytes}
-use Rattle.house.specs.Storing.{IsStored, AreStoredAs, AreWrittenAs, StandsForEither, ContentStandsFor}
+use Rattle.house.specs.Storing.{IsStored, AreStoredAs, AreWrittenAs, StandsForAllOrNone, StandsForEither, ContentStandsFor}
 
 -- What is read of a file is what it stands for, over each roster that its base fits,
 abbrev pub ContentsStand : Type 0
@@ -51,7 +52,23 @@ StoredHistoriesStand = (disk : disks.History) (end : ℕ) (h : History) → IsSt
 abbrev pub StoredHistoriesAreReady : Type 0
 StoredHistoriesAreReady = (disk : Option disks.History) (form : Form) (end : ℕ) (h : History) → AreStoredAs disk form end h → IsReady disk form end
 
--- After an append of what spells a change in the second spelling and fits, the history from before with this change is stored,
+-- After an append of what spells some changes in the second spelling and fits, all at once, the history from before with these changes
+-- is stored,
+abbrev pub AppendAddsTheEntries : Type 0
+AppendAddsTheEntries =
+    (old new : Option disks.History) (form : Form) (end next : ℕ) (h : History) (records : List (List ℕ)) (entry : Entry) (others : List Entry)
+    → AllZip (Spells Second) records (entry ∷ others) → end + frames_size (entry ∷ others) ≤ limit → AreAppending old new form end records
+    → AreAppended old new form end next records → AreStoredAs old form end h → AreStoredAs new form next (longer h (entry ∷ others))
+
+-- and a crash at any moment of it leaves what stands for the history from before, or for it with all of them.
+abbrev pub AppendLeavesAllOrNone : Type 0
+AppendLeavesAllOrNone =
+    (old new : Option disks.History) (form : Form) (end : ℕ) (h : History) (records : List (List ℕ)) (entry : Entry) (others : List Entry)
+    → AllZip (Spells Second) records (entry ∷ others) → end + frames_size (entry ∷ others) ≤ limit → AreAppending old new form end records
+    → AreStoredAs old form end h → LeavesOnly old new (StandsForAllOrNone h (entry ∷ others))
+
+-- The same of one: after an append of what spells a change in the second spelling and fits, the history from before with this change is
+-- stored,
 abbrev pub AppendAddsTheEntry : Type 0
 AppendAddsTheEntry =
     (old new : Option disks.History) (form : Form) (end next : ℕ) (h : History) (bytes : List ℕ) (entry : Entry) → Spells Second bytes entry

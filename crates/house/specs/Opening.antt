@@ -93,7 +93,7 @@ pub record IsOpened (roster : Rows) (disk : Option disks.History) (count : ℕ) 
   pub opens : OpensOn disk (first_of v.journal) v.history v.journal.size
   pub base : IsWritable roster v.history.base.state
   pub opening : v.opening ≡ length v.history.entries
-  pub running : v.kept ≡ None
+  pub running : v.kept ≡ []
   pub tells : v.journal.tells ≡ is_some disk
   pub first_moment : v.journal.first_moment ≡ moment_of disk
   pub moment : v.journal.moment ≡ moment_of v.disk

@@ -1,5 +1,5 @@
 -- What stands on the disk of a house.
-use Rattle.std.specs.Prelude.{◌≡◌, ◌⊎◌, ℕ, ◌+◌, ◌≤◌, ◌<◌, nat_lt, List, [], ◌∷◌, ◌++◌, length, Option, Some, None, if◌then◌else◌}
+use Rattle.std.specs.Prelude.{◌≡◌, ◌⊎◌, ℕ, ◌+◌, ◌≤◌, ◌<◌, nat_lt, Bool, true, false, List, [], ◌∷◌, ◌++◌, length, Option, Some, None, if◌then◌else◌}
 use Rattle.command_types.specs.declared.ask.Entry.{Entry}
 use Rattle.command_types.specs.declared.spelling.Spelling.{Spelling}
 use Rattle.command_types.specs.declared.spelling.Spelling.TheVariants.{First, Second}
@@ -44,9 +44,17 @@ IsStoredAs disk form end h = (last : Spelling) × IsWrittenAs disk form end last
 abbrev pub IsStored : disks.History → ℕ → History → Type 0
 IsStored disk end h = (form : Form) × IsStoredAs disk form end h
 
--- the image stands for this history, or for it with the one change more
+-- how many changes are put on the disk together at most
+abbrev pub most_together : ℕ
+most_together = 1
+
+-- the image stands for this history, or for it with all of some more changes
+abbrev pub StandsForAllOrNone : History → List Entry → List ℕ → Type 0
+StandsForAllOrNone h more image = StandsFor image h ⊎ StandsFor image (longer h more)
+
+-- the same of one more
 abbrev pub StandsForEither : History → Entry → List ℕ → Type 0
-StandsForEither h entry image = StandsFor image h ⊎ StandsFor image (longer h (entry ∷ []))
+StandsForEither h entry = StandsForAllOrNone h (entry ∷ [])
 
 -- The image stands for this front of a history. Where it is as long as the history was at the opening, the image may stand for the
 -- first history instead, of which that one may be the fold.
@@ -61,50 +69,57 @@ pub record StandsForFront (opening : ℕ) (first h : History) (image : List ℕ)
   pub long : opening ≤ length front
   pub stands : StandsAs opening first h front image
 
--- the image stands for this history with the change that was kept
-abbrev pub StandsForKept : History → Option Entry → List ℕ → Type 0
-StandsForKept h None image = ⊥
-StandsForKept h (Some entry) image = StandsFor image (longer h (entry ∷ []))
+-- whether any change was kept
+abbrev pub any_kept : List Entry → Bool
+any_kept [] = false
+any_kept (entry ∷ others) = true
+
+-- the image stands for this history with all changes that were kept, if any were
+abbrev pub StandsForKept : History → List Entry → List ℕ → Type 0
+StandsForKept h [] image = ⊥
+StandsForKept h (entry ∷ others) image = StandsFor image (longer h (entry ∷ others))
 
 -- this history with what was kept
-abbrev pub with_kept : History → Option Entry → History
-with_kept h None = h
-with_kept h (Some entry) = longer h (entry ∷ [])
+abbrev pub with_kept : History → List Entry → History
+with_kept h [] = h
+with_kept h (entry ∷ others) = longer h (entry ∷ others)
 
--- the image stands for a front of this history that has between so many changes and so many
-pub record StandsBetween (opening least most : ℕ) (first h : History) (image : List ℕ) : Type 0 where
+-- the image stands for the front of this history that has so many changes
+pub record StandsForLong (opening long : ℕ) (first h : History) (image : List ℕ) : Type 0 where
   pub front : List Entry
   pub back : List Entry
   pub split : h.entries ≡ front ++ back
-  pub long : least ≤ length front
-  pub short : length front ≤ most
+  pub has : length front ≡ long
   pub stands : StandsAs opening first h front image
 
 -- What every image of one moment has, every image of a later moment has. Each moment from one number on has a length, which never
--- falls, from that at the opening to how many changes were made. What a crash at the moment leaves stands for a front of all of that
--- length, or of one change more. At each moment but the last a crash may leave no more than that length.
+-- falls, from that at the opening to how many changes were made, and some changes that are being put on the disk together. What a crash
+-- at the moment leaves stands for the front of all of that length, or for that with all of these. At each moment but the last a crash may
+-- leave no more than that length.
 pub record NeverGoesBack (since opening made : ℕ) (now : disks.History) (first_history all : History) : Type 0 where
   pub lengths : ℕ → ℕ
+  pub together : ℕ → ℕ
+  pub few : (number : ℕ) → together number ≤ most_together
   pub rising : (m n : ℕ) → m ≤ n → lengths m ≤ lengths n
   pub first : opening ≤ lengths since
   pub last : (number : ℕ) → lengths number ≤ made
   pub each : (number : ℕ) (image : List ℕ) → since ≤ number → left_at now number image
-      → StandsBetween opening (lengths number) (lengths number + 1) first_history all image
+      → StandsForLong opening (lengths number) first_history all image ⊎ StandsForLong opening (lengths number + together number) first_history all image
   pub some : (number : ℕ) → since ≤ number → number < moment now
-      → (image : List ℕ) × left_at now number image × StandsBetween opening (lengths number) (lengths number) first_history all image
+      → (image : List ℕ) × left_at now number image × StandsForLong opening (lengths number) first_history all image
 
 -- Of a house with this history, which had so many changes at its opening on the first one, from the disk's moment with one number on.
--- Unless an entry was kept, the disk has the history. What a crash at any moment from that number on leaves stands for a front of it,
--- not shorter than at the opening, or for all of it with the entry that was kept.
-pub record IsOnDisk (since opening : ℕ) (first : History) (now : disks.History) (size : ℕ) (h : History) (kept : Option Entry) : Type 0 where
+-- Unless changes were kept, the disk has the history. What a crash at any moment from that number on leaves stands for a front of it,
+-- not shorter than at the opening, or for all of it with all that was kept.
+pub record IsOnDisk (since opening : ℕ) (first : History) (now : disks.History) (size : ℕ) (h : History) (kept : List Entry) : Type 0 where
   pub later : since ≤ moment now
-  pub stored : kept ≡ None → IsStored now size h
+  pub stored : kept ≡ [] → IsStored now size h
   pub each : (image : List ℕ) → left_since now since image → StandsForFront opening first h image ⊎ StandsForKept h kept image
 
 -- Each fact below says nothing where the disk tells nothing.
 
 -- so it is on the disk of a house with this history
-abbrev pub AreOnDisk : ℕ → ℕ → History → Option disks.History → ℕ → History → Option Entry → Type 0
+abbrev pub AreOnDisk : ℕ → ℕ → History → Option disks.History → ℕ → History → List Entry → Type 0
 AreOnDisk since opening first None size h kept = Unit {0}
 AreOnDisk since opening first (Some now) size h kept = IsOnDisk since opening first now size h kept
 
@@ -162,8 +177,8 @@ abbrev pub LeavesHistory : Option disks.History → History → Type 0
 LeavesHistory None h = Unit {0}
 LeavesHistory (Some disk) h = (image : List ℕ) → may_leave disk.now image → StandsFor image h
 
--- what a crash now leaves stands for this history, or for it with what was kept
-abbrev pub LeavesKept : Option disks.History → History → Option Entry → Type 0
+-- what a crash now leaves stands for this history, or for it with all that was kept
+abbrev pub LeavesKept : Option disks.History → History → List Entry → Type 0
 LeavesKept None h kept = Unit {0}
 LeavesKept (Some disk) h kept = (image : List ℕ) → may_leave disk.now image → StandsFor image h ⊎ StandsFor image (with_kept h kept)
 
@@ -172,6 +187,6 @@ abbrev pub LeavesYet : {D : Type 0} → Option disks.History → Journal D → O
 LeavesYet before journal after h = AreStoredIn before journal h → MayLeaveYet before after (λ image. StandsFor image h)
 
 -- so crashes go on, of a house with this history and what was kept
-abbrev pub NeverGoBack : ℕ → ℕ → History → Option disks.History → History → Option Entry → Type 0
+abbrev pub NeverGoBack : ℕ → ℕ → History → Option disks.History → History → List Entry → Type 0
 NeverGoBack since opening first None h kept = Unit {0}
 NeverGoBack since opening first (Some now) h kept = NeverGoesBack since opening (length h.entries) now first (with_kept h kept)

@@ -30,17 +30,18 @@ pub struct House<D: Disk> {
 }
 
 impl<D: Disk> Model for House<D> {
+    ghost use Rattle.std.specs.Prelude.{option_to_list};
     ghost use Rattle.journal_core.specs.Journal.{disk_of, size_of};
     ghost use Rattle.house.specs.House.{HouseView, house_of, journal_of, now_of, IsHouse};
 
     ghost Value = { HouseView };
 
     ghost view = { λ h. house_of h.past.history h.opening (journal_of (size_of h.opened.value) (D.fault_count (disk_of h.opened.value))
-        (D.history h.taken.value) (D.history (disk_of h.opened.value)) h.first.value) h.kept (D.history (disk_of h.journal)) (D.fault_count (disk_of h.journal)) };
+        (D.history h.taken.value) (D.history (disk_of h.opened.value)) h.first.value) (option_to_list h.kept) (D.history (disk_of h.journal)) (D.fault_count (disk_of h.journal)) };
 
     ghost invariant = { λ h. IsHouse h.machine.state (now_of h.journal)
         (house_of h.past.history h.opening (journal_of (size_of h.opened.value) (D.fault_count (disk_of h.opened.value))
-        (D.history h.taken.value) (D.history (disk_of h.opened.value)) h.first.value) h.kept (D.history (disk_of h.journal)) (D.fault_count (disk_of h.journal))) };
+        (D.history h.taken.value) (D.history (disk_of h.opened.value)) h.first.value) (option_to_list h.kept) (D.history (disk_of h.journal)) (D.fault_count (disk_of h.journal))) };
 }
 
 impl<D: Disk> House<D> {
@@ -49,6 +50,7 @@ impl<D: Disk> House<D> {
     ghost use Rattle.house.specs.House.{is_stopped, Keeps};
 
     /// Whether a disk fault stopped it. It takes no memory.
+    #[tactic(auto, using(crate::proofs::CallingFacts::any_listed))]
     pub fn is_stopped(&self) -> bool
         ensures stopped { result ≡ is_stopped self.now }
         ensures keeps { Keeps self.now }

@@ -121,14 +121,14 @@ module _ (v : HouseView) (said said1 : List Sent) (n : ℕ) (is : n ≡ end_of v
 -- ---- causes
 
 -- a house that declines an entry has the history that it had
-pub declined_same : (a b : HouseView) (due : ℕ) (entry : Entry) (end : FollowEnd) → Keeps a → a.kept ≡ None → Declines a b due entry end → a.history ≡ b.history
+pub declined_same : (a b : HouseView) (due : ℕ) (entry : Entry) (end : FollowEnd) → Keeps a → a.kept ≡ [] → Declines a b due entry end → a.history ≡ b.history
 declined_same a b due entry end keeps none d = sym (grows_not a b entry.seat entry.ask d.reply keeps none d.calls (unmade _ d.unmade))
   where
     unmade : (made : Bool) → made ≢ true → made ≡ false
     unmade true not_made = absurd (not_made refl)
     unmade false not_made = refl
 
-module _ (a b : HouseView) (keeps : Keeps a) (none : a.kept ≡ None) (n due at : ℕ) (entry : Entry) (last : Option Came)
+module _ (a b : HouseView) (keeps : Keeps a) (none : a.kept ≡ []) (n due at : ℕ) (entry : Entry) (last : Option Came)
     (is : n ≡ end_of a.history) (place : at ≡ n + 1) (came : last ≡ Some (record { position = n; heard = Ok (hears.Entry due at entry) })) where
   untaken : (end : FollowEnd) → Declines a b due entry end → CameToUntaken b last end
   untaken end d =

@@ -1,7 +1,6 @@
 -- How following goes on, from what is said to what is taken.
-use Rattle.std.proofs.Common.{◌≡◌, ◌⊎◌, ℕ, ◌+◌, ◌≤◌, Bool, true, false, not, List, [], ◌∷◌, ◌++◌, length, Some, None, IsTrue, refl, sym, ap, ◌∙◌, subst, inl, inr, arith, append_assoc, length-append}
+use Rattle.std.proofs.Common.{◌≡◌, ◌⊎◌, ℕ, ◌+◌, ◌≤◌, Bool, true, false, not, List, [], ◌∷◌, ◌++◌, length, IsTrue, refl, sym, ap, ◌∙◌, subst, inl, inr, arith, append_assoc, length-append}
 use Rattle.std.specs.Prelude.{◌||◌}
-use Rattle.std.specs.List.{Contains}
 use Rattle.std.proofs.lemmas.List.{append-nil}
 use Rattle.std.proofs.lemmas.List.Elements.{All-nil, All-cons, All-append, All-weaker, Contains-append_right}
 use Rattle.command_types.specs.declared.ask.Ask.{Ask}
@@ -11,7 +10,7 @@ use Rattle.command_types.specs.History.{History, end_of, longer, is_recorded}
 use Rattle.house.specs.House.{HouseView, Keeps}
 use Rattle.house.specs.Calling.{is_disk_fault, Calls}
 use Rattle.standby.specs.Lists.{IsHistoryOf}
-use Rattle.standby.specs.Link.{Offer, World, Lead, moved}
+use Rattle.standby.specs.Link.{Offer, World, Lead, AreAmong, moved}
 use Rattle.standby.specs.Link.Event.{Asks, Arrives}
 use Rattle.standby.specs.Sent.{Sent, number_in, numbers_in}
 use Rattle.standby.specs.Following.{HeldSince, IsSaidBefore, Follows, offers_from}
@@ -33,11 +32,20 @@ pub within_longer : (a b : HouseView) (more : List Entry) → b.history ≡ long
 within_longer a b more grows =
     let es : length b.history.entries ≡ length a.history.entries + length more = ap (λ (h : History). length h.entries) grows ∙ length-append a.history.entries more in omega arith
 
+-- what is among some replies is among these and more
+among_longer : (xs first others : List Offer) → AreAmong xs others → AreAmong xs (first ++ others)
+among_longer [] first others all = tt
+among_longer (x ∷ xs) first others (here, there) = (Contains-append_right first others x here, among_longer xs first others there)
+
+-- a house that runs kept nothing
+none_among : (v : HouseView) (offers : List Offer) → v.kept ≡ [] → AreAmong (offers_from (end_of v.history + 1) v.kept) offers
+none_among v offers none = subst (λ (es : List Entry). AreAmong (offers_from (end_of v.history + 1) es) offers) (sym none) tt
+
 -- nothing was said or done
-pub follows_start : (v : HouseView) (said : List Sent) (heard : List Offer) → Keeps v → v.kept ≡ None → (f : Follows v v said said heard heard) × (f.rest ≡ [])
+pub follows_start : (v : HouseView) (said : List Sent) (heard : List Offer) → Keeps v → v.kept ≡ [] → (f : Follows v v said said heard heard) × (f.rest ≡ [])
 follows_start v said heard keeps none = (
   record {
-    kept = λ entry some. absurd cc;
+    kept = none_among v [] none;
     counted = omega arith;
     figures = refl;
     sends = [];
@@ -103,7 +111,7 @@ follows_on a b c s0 s1 s2 h0 h1 h2 f whole g = (
     keeps = g.keeps;
     counted = let p = f.counted in let q = g.counted in omega arith;
     figures = g.figures ∙ f.figures;
-    kept = λ entry some. Contains-append_right f.offers g.offers (record { position = end_of c.history + 1; entry = entry }) (g.kept entry some);
+    kept = among_longer (offers_from (end_of c.history + 1) c.kept) f.offers g.offers g.kept;
     linked = λ roster w is among.
         let first = f.linked roster w is (among_left f.offers g.offers w.sent among) in
         let w1 : World = moved w first.entries (numbers_in f.sends) in
@@ -123,10 +131,7 @@ follows_on a b c s0 s1 s2 h0 h1 h2 f whole g = (
 
 -- ---- one turn
 
-some_same : {x y : Entry} → Some x ≡ Some y → x ≡ y
-some_same e = cc
-
-module _ (v : HouseView) (keeps : Keeps v) (none : v.kept ≡ None) where
+module _ (v : HouseView) (keeps : Keeps v) (none : v.kept ≡ []) where
   -- a line that is said now
   said_now : (line : Said) → (line ≡ Hello) ⊎ (line ≡ Next (end_of v.history)) ⊎ (line ≡ Bye) → IsSaidBefore v (record { house = v; line = line })
   said_now line is = record { line = is; running = none; has = keeps.leaves none; since = held_now v keeps none; more = []; grows = sym (longer_nil v.history) }
@@ -149,7 +154,7 @@ module _ (v : HouseView) (keeps : Keeps v) (none : v.kept ≡ None) where
       keeps = keeps;
       counted = omega arith;
       figures = refl;
-      kept = λ entry some. absurd cc;
+      kept = none_among v offers none;
       linked = λ roster w is among. record { events = Asks ∷ []; entries = w.standby; leads = one_asks roster v.history w is; stands = is };
     },
     refl,
@@ -173,7 +178,7 @@ module _ (v : HouseView) (keeps : Keeps v) (none : v.kept ≡ None) where
       keeps = keeps;
       counted = omega arith;
       figures = refl;
-      kept = λ entry some. absurd cc;
+      kept = none_among v [] none;
       linked = λ roster w is among. record { events = []; entries = w.standby; leads = moved_not w; stands = is };
     },
     refl,
@@ -181,20 +186,17 @@ module _ (v : HouseView) (keeps : Keeps v) (none : v.kept ≡ None) where
 
   module _ (b : HouseView) (seat : ℕ) (ask : Ask) (reply : Reply) (calls : Calls v b seat ask reply) where
     kept_here : (position : ℕ) → position ≡ end_of v.history + 1 → is_recorded ask.what reply.answer ≡ false → (f : Bool) → is_disk_fault reply.answer ≡ f
-        → (entry : Entry) → b.kept ≡ Some entry → Contains {X = Offer} (record { position = position; entry = record { seat = seat; ask = ask } } ∷ []) (record { position = end_of b.history + 1; entry = entry })
-    kept_here position place made true fault entry some =
+        → AreAmong (offers_from (end_of b.history + 1) b.kept) (record { position = position; entry = record { seat = seat; ask = ask } } ∷ [])
+    kept_here position place made true fault =
         let same : b.history ≡ v.history = grows_not v b seat ask reply keeps none calls made in
-        let here : record { seat = seat; ask = ask } ≡ entry = some_same (sym (calls.failed fault).1 ∙ some) in
         let there : position ≡ end_of b.history + 1 = place ∙ ap (λ h. end_of h + 1) (sym same) in
-        let first : Offer = record { position = position; entry = record { seat = seat; ask = ask } } in
-        let second : Offer = record { position = end_of b.history + 1; entry = entry } in
-        let is : first ≡ second = ap (λ n. record { position = n; entry = record { seat = seat; ask = ask } }) there ∙ ap (λ e. record { position = end_of b.history + 1; entry = e }) here in
-        (0, omega arith, is)
-    kept_here position place made false fault entry some =
+        let entry : Entry = record { seat = seat; ask = ask } in
+        let offer : Offer = record { position = position; entry = entry } in
+        let is : offer ≡ record { position = end_of b.history + 1; entry = entry } = ap (λ n. record { position = n; entry = entry }) there in
+        subst (λ (es : List Entry). AreAmong (offers_from (end_of b.history + 1) es) (offer ∷ [])) (sym (calls.failed fault).1) ((0, omega arith, is), tt)
+    kept_here position place made false fault =
         let plain : IsTrue (not (is_recorded ask.what reply.answer || is_disk_fault reply.answer)) = ap not (ap (λ t. t || is_disk_fault reply.answer) made ∙ fault) in
-        let same : b ≡ v = calls.same plain in
-        let never : v.kept ≡ Some entry = ap (λ (x : HouseView). x.kept) (sym same) ∙ some in
-        absurd cc
+        none_among b _ (ap (λ (x : HouseView). x.kept) (calls.same plain) ∙ none)
 
     -- it asks, and the change of the next entry is not made
     pub not_taken : (said : List Sent) (heard : List Offer) (position : ℕ) → position ≡ end_of v.history + 1 → is_recorded ask.what reply.answer ≡ false
@@ -224,7 +226,7 @@ module _ (v : HouseView) (keeps : Keeps v) (none : v.kept ≡ None) where
           keeps = calls.keeps;
           counted = calls.counted;
           figures = calls.figures;
-          kept = λ entry some. kept_here position place made (is_disk_fault reply.answer) refl entry some;
+          kept = kept_here position place made (is_disk_fault reply.answer) refl;
           linked = λ roster w is among. record {
             events = Asks ∷ [];
             entries = w.standby;
@@ -264,7 +266,7 @@ module _ (v : HouseView) (keeps : Keeps v) (none : v.kept ≡ None) where
             keeps = calls.keeps;
             counted = calls.counted;
             figures = calls.figures;
-            kept = λ entry some. let no : b.kept ≡ None = runs_on v b seat ask reply keeps none calls made in absurd cc;
+            kept = none_among b (offer ∷ []) (runs_on v b seat ask reply keeps none calls made);
             linked = λ roster w is among. record {
               events = Asks ∷ Arrives offer ∷ [];
               entries = w.standby ++ entry ∷ [];

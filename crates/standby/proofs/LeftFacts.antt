@@ -2,6 +2,7 @@
 use Rattle.std.proofs.Common.{◌≡◌, ◌⊎◌, ℕ, ◌+◌, ◌≤◌, List, [], ◌∷◌, ◌++◌, length, Option, Some, None, refl, sym, ap, ◌∙◌, subst, inl, inr, ⊎_elim, arith, length-append, append_assoc}
 use Rattle.std.specs.Prelude.{All}
 use Rattle.std.specs.List.{Contains}
+use Rattle.std.proofs.lemmas.List.{append-nil}
 use Rattle.std.proofs.lemmas.List.Elements.{All-nil, All-cons, All-append, All-weaker, All-head, All-tail, All-contains}
 use Rattle.command_types.specs.declared.ask.Entry.{Entry}
 use Rattle.command_types.specs.declared.figures.Start.{Start}
@@ -18,7 +19,7 @@ use Rattle.house.proofs.JournalFacts.{one_place}
 use Rattle.standby.specs.Lists.{IsHistoryOf, StandsForList, BeginsWith}
 use Rattle.standby.specs.Link.{Offer, Fits, World, AreAmong, moved, AreAtMost, IsSound}
 use Rattle.standby.specs.Sent.{Sent, number_in, numbers_in}
-use Rattle.standby.specs.Following.{HeldSince, IsSaidBefore, IsLinked, Follows}
+use Rattle.standby.specs.Following.{HeldSince, IsSaidBefore, IsLinked, Follows, offers_from}
 use Rattle.standby.specs.declared.peer.Said.TheVariants.{Hello, Next, Bye}
 use Rattle.trade_history.proofs.Rosters.{roster_on}
 use Rattle.standby.proofs.LinkFacts.{stays_sound, front_and_next, begins_on, folds_keep}
@@ -34,6 +35,17 @@ among_contains P sent offers offer all among here = All-contains P offers offer 
     all_among : (P : Offer → Type 0) (sent offers : List Offer) → All P sent → AreAmong offers sent → All P offers
     all_among P sent [] all among = All-nil P
     all_among P sent (x ∷ xs) all (here, others) = All-cons P x xs (All-contains P sent x all here) (all_among P sent xs all others)
+
+-- the primary's entries begin with a front and what was sent behind it, each at the next position
+pub begins_with_next : (primary : List Entry) (sent offers : List Offer) → All (Fits primary) sent → AreAmong offers sent → (front next : List Entry) (position : ℕ) → position ≡ length front + 1
+    → AreAmong (offers_from position next) offers → BeginsWith primary front → BeginsWith primary (front ++ next)
+begins_with_next primary sent offers all among front [] position place heard begins = subst (BeginsWith primary) (sym (append-nil front)) begins
+begins_with_next primary sent offers all among front (entry ∷ next) position place (here, others) begins =
+    let offer : Offer = record { position = position; entry = entry } in
+    let fits : Fits primary offer = among_contains (Fits primary) sent offers offer all among here in
+    let later : position + 1 ≡ length (front ++ entry ∷ []) + 1 = omega (arith, place, length-append front (entry ∷ [])) in
+    subst (BeginsWith primary) (append_assoc front (entry ∷ []) next)
+    (begins_with_next primary sent offers all among (front ++ entry ∷ []) next (position + 1) later others (front_and_next primary front offer begins fits place))
 
 -- a history of a list has its roster
 own_roster : (roster : Rows) (h : History) (entries : List Entry) → IsHistoryOf roster h entries → h.base.state.roster ≡ roster
@@ -73,12 +85,9 @@ module _ (old new : HouseView) (said said' : List Sent) (heard heard' : List Off
   new_long : end_of new.history ≡ length link.entries
   new_long = (folds_keep roster new.history link.entries link.stands).1
 
-  -- and with the one that was kept behind it
-  kept_front : (entry : Entry) → new.kept ≡ Some entry → BeginsWith w.primary (link.entries ++ entry ∷ [])
-  kept_front entry some =
-      let offer : Offer = record { position = end_of new.history + 1; entry = entry } in
-      let fits : Fits w.primary offer = among_contains (Fits w.primary) w.sent f.offers offer sound.fits among (f.kept entry some) in
-      front_and_next w.primary link.entries offer new_front fits (omega (arith, new_long))
+  -- and with those that were kept behind it
+  kept_front : BeginsWith w.primary (link.entries ++ new.kept)
+  kept_front = begins_with_next w.primary w.sent f.offers sound.fits among link.entries new.kept (end_of new.history + 1) (omega (arith, new_long)) f.kept new_front
 
   -- a front of the new house's history
   left_front : (n : ℕ) (image : List ℕ) (front back : List Entry) → new.history.entries ≡ front ++ back → n ≤ new.history.base.position + length front
@@ -107,16 +116,16 @@ module _ (old new : HouseView) (said said' : List Sent) (heard heard' : List Off
       front.stands
   left_fits then more grows image (inr kept) = by new.kept refl kept
     where
-      by : (k : Option Entry) → new.kept ≡ k → StandsForKept new.history k image → Left w.primary (end_of then) image
-      by None none never = absurd never
-      by (Some entry) some stands =
-          let whole : link.entries ++ entry ∷ [] ≡ link.stands.front ++ (new.history.entries ++ entry ∷ []) =
-          ap (λ es. es ++ entry ∷ []) link.stands.split ∙ append_assoc link.stands.front new.history.entries (entry ∷ []) in
+      by : (k : List Entry) → new.kept ≡ k → StandsForKept new.history k image → Left w.primary (end_of then) image
+      by [] none never = absurd never
+      by (entry ∷ others) some stands =
+          let whole : link.entries ++ entry ∷ others ≡ link.stands.front ++ (new.history.entries ++ entry ∷ others) =
+          ap (λ es. es ++ entry ∷ others) link.stands.split ∙ append_assoc link.stands.front new.history.entries (entry ∷ others) in
           record {
-            entries = link.stands.front ++ (new.history.entries ++ entry ∷ []);
-            stands = stands_list roster image new.history link.entries (new.history.entries ++ entry ∷ []) link.stands stands;
-            front = subst (BeginsWith w.primary) whole (kept_front entry some);
-            long = omega (arith, ap length (sym whole), length-append link.entries (entry ∷ []), new_long, ap end_of grows, length-append then.entries more);
+            entries = link.stands.front ++ (new.history.entries ++ entry ∷ others);
+            stands = stands_list roster image new.history link.entries (new.history.entries ++ entry ∷ others) link.stands stands;
+            front = subst (BeginsWith w.primary) whole (subst (λ (es : List Entry). BeginsWith w.primary (link.entries ++ es)) some kept_front);
+            long = omega (arith, ap length (sym whole), length-append link.entries (entry ∷ others), new_long, ap end_of grows, length-append then.entries more);
           }
 
   at_most_line : (sent : Sent) (entries : List Entry) → (sent.line ≡ Hello) ⊎ (sent.line ≡ Next (end_of sent.house.history)) ⊎ (sent.line ≡ Bye)
@@ -147,7 +156,7 @@ module _ (old new : HouseView) (said said' : List Sent) (heard heard' : List Off
       All-append (λ n. n ≤ length entries) (number_in sent.line) (numbers_in first) here
       (numbers_held now there image entries stands first others (All-tail (IsSaidBefore new) sent first before) (All-tail (λ (s : Sent). left_since now (moment_of s.house.disk) image) sent first left))
 
-  pub sound_again : Keeps old → old.kept ≡ None → (first others : List Sent) → f.sends ≡ first ++ others → (now : disks.History) → new.disk ≡ Some now
+  pub sound_again : Keeps old → old.kept ≡ [] → (first others : List Sent) → f.sends ≡ first ++ others → (now : disks.History) → new.disk ≡ Some now
       → (image : List ℕ) → left_since now (moment_of old.disk) image → All (λ sent. left_since now (moment_of sent.house.disk) image) first
       → (entries : List Entry) × StandsForList image entries × IsSound (moved w entries (numbers_in first))
   sound_again keeps none first others split now there image left_old left =

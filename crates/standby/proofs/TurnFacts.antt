@@ -1,10 +1,11 @@
 -- The ways through a turn, and how following ends.
-use Rattle.std.proofs.Common.{◌≡◌, ℕ, ◌+◌, ◌≤◌, Bool, true, false, not, List, [], ◌∷◌, ◌++◌, length, Option, Some, None, Result, Ok, Err, is_some, is_none, IsTrue, refl, sym, ap, ◌∙◌, subst, inl, inr, arith, length-append}
+use Rattle.std.proofs.Common.{◌≡◌, ℕ, ◌+◌, ◌≤◌, Bool, true, false, not, List, [], ◌∷◌, ◌++◌, length, Option, Some, None, Result, Ok, Err, is_none, IsTrue, refl, sym, ap, ◌∙◌, subst, inl, inr, arith, length-append}
 use Rattle.std.specs.Prelude.{◌||◌}
 use Rattle.std.proofs.lemmas.Bool.{false≢true}
 use Rattle.std.proofs.lemmas.List.{append-nil}
 use Rattle.command_types.specs.declared.ask.Entry.{Entry}
 use Rattle.command_types.specs.History.{end_of, longer, is_recorded}
+use Rattle.house.specs.Storing.{any_kept}
 use Rattle.house.specs.House.{HouseView, Keeps}
 use Rattle.house.specs.Calling.{is_disk_fault}
 use Rattle.standby.specs.Link.{Offer}
@@ -29,7 +30,7 @@ offers_few (Ok (hears.Refused number)) = omega arith
 offers_few (Ok (hears.Broken at)) = omega arith
 offers_few (Ok hears.Memory) = omega arith
 
-module _ (v : HouseView) (keeps : Keeps v) (none : v.kept ≡ None) where
+module _ (v : HouseView) (keeps : Keeps v) (none : v.kept ≡ []) where
   -- it asked, and heard this
   pub asked_and_heard : (said said1 said2 : List Sent) (heard heard1 heard2 offers : List Offer) (n : ℕ) → length offers ≤ 1 → n ≡ end_of v.history
       → said1 ≡ said ++ record { house = v; line = Next n } ∷ [] → heard1 ≡ heard → said2 ≡ said1 → heard2 ≡ heard1 ++ offers → (f : Follows v v said said2 heard heard2) × (f.rest ≡ offers)
@@ -100,17 +101,17 @@ module _ (v : HouseView) (keeps : Keeps v) (none : v.kept ≡ None) where
       }
 
 -- where nothing is told, the house runs on with one entry more
-pub goes_on : (v b : HouseView) (entry : Entry) (end : Option FollowEnd) → Keeps v → v.kept ≡ None → TakesEntry v b entry end → is_none end ≡ true
-    → (b.kept ≡ None) × (end_of b.history ≡ end_of v.history + 1)
+pub goes_on : (v b : HouseView) (entry : Entry) (end : Option FollowEnd) → Keeps v → v.kept ≡ [] → TakesEntry v b entry end → is_none end ≡ true
+    → (b.kept ≡ []) × (end_of b.history ≡ end_of v.history + 1)
 goes_on v b entry end keeps none t nothing =
     let made : is_recorded entry.ask.what t.reply.answer ≡ true = t.made ∙ nothing in
     let more : b.history ≡ longer v.history (entry ∷ []) = grows_by_one v b entry.seat entry.ask t.reply keeps none t.calls made in
     (runs_on v b entry.seat entry.ask t.reply keeps none t.calls made, ap end_of more ∙ (let l = length-append v.history.entries (entry ∷ []) in omega arith))
 
 -- how it ended
-pub ends_so : (v b : HouseView) (entry : Entry) (end : Option FollowEnd) → Keeps v → v.kept ≡ None → TakesEntry v b entry end → EndsSo v b end
+pub ends_so : (v b : HouseView) (entry : Entry) (end : Option FollowEnd) → Keeps v → v.kept ≡ [] → TakesEntry v b entry end → EndsSo v b end
 ends_so v b entry None keeps none t = runs_on v b entry.seat entry.ask t.reply keeps none t.calls t.made
-ends_so v b entry (Some DiskFault) keeps none t = ((t.calls.failed t.fault).0, ap is_some (t.calls.failed t.fault).1)
+ends_so v b entry (Some DiskFault) keeps none t = ((t.calls.failed t.fault).0, ap any_kept (t.calls.failed t.fault).1)
 ends_so v b entry (Some end) keeps none t =
     let plain : IsTrue (not (is_recorded entry.ask.what t.reply.answer || is_disk_fault t.reply.answer)) = ap not (ap (λ x. x || is_disk_fault t.reply.answer) t.made ∙ t.fault) in
     ap (λ (x : HouseView). x.kept) (t.calls.same plain) ∙ none

@@ -1,6 +1,5 @@
 -- From one moment to a later one, a standby followed a peer.
 use Rattle.std.specs.Prelude.{◌≡◌, ◌≢◌, ◌⊎◌, ℕ, ◌+◌, ◌≤◌, List, [], ◌∷◌, ◌++◌, length, All, Bool, true, false, Option, Some, None, is_none}
-use Rattle.std.specs.List.{Contains}
 use Rattle.command_types.specs.declared.ask.Entry.{Entry}
 use Rattle.command_types.specs.declared.answer.Reply.{Reply}
 use Rattle.command_types.specs.History.{end_of, longer, is_recorded}
@@ -18,7 +17,7 @@ use Rattle.standby.specs.declared.follow.FollowEnd.{FollowEnd}
 use Rattle.standby.specs.declared.follow.FollowEnd.TheVariants.{Caught, SinkFault, DiskFault, Memory}
 
 -- What a crash at any moment from the first on leaves stands for a front of the entries now, with at least as many as there
--- were then, or for all of them with the one that was kept.
+-- were then, or for all of them with all that was kept.
 abbrev pub HeldSince : HouseView → HouseView → Type 0
 HeldSince then now =
     AreOnDisk (moment_of then.disk) (length then.history.entries) then.history now.disk (bytes_of now) now.history now.kept
@@ -27,7 +26,7 @@ HeldSince then now =
 -- stands for at least these.
 pub record IsSaidBefore (now : HouseView) (sent : Sent) : Type 0 where
   pub line : (sent.line ≡ Hello) ⊎ (sent.line ≡ Next (end_of sent.house.history)) ⊎ (sent.line ≡ Bye)
-  pub running : sent.house.kept ≡ None
+  pub running : sent.house.kept ≡ []
   pub has : LeavesHistory sent.house.disk sent.house.history
   pub since : HeldSince sent.house now
   pub more : List Entry
@@ -63,8 +62,8 @@ pub record Follows (old new : HouseView) (said said' : List Sent) (heard heard' 
   pub keeps : Keeps new
   pub counted : old.faults ≤ new.faults
   pub figures : figures_of new ≡ figures_of old
-  -- what was kept on a fault of the disk was heard, as the next entry
-  pub kept : (entry : Entry) → new.kept ≡ Some entry → Contains offers (record { position = end_of new.history + 1; entry = entry })
+  -- what was kept on a fault of the disk was heard, as the next entries
+  pub kept : AreAmong (offers_from (end_of new.history + 1) new.kept) offers
   pub linked :
       (roster : Rows) (w : World) → IsHistoryOf roster old.history w.standby → AreAmong offers w.sent
       → IsLinked roster old new (numbers_in sends) w
@@ -77,7 +76,7 @@ tells_disk_fault end = false
 -- A fault of the disk is told exactly where it stopped the house, and only where the count rose.
 abbrev pub EndsSo : HouseView → HouseView → Option FollowEnd → Type 0
 EndsSo old new (Some DiskFault) = Rose old.faults new.faults × (is_stopped new ≡ true)
-EndsSo old new end = new.kept ≡ None
+EndsSo old new end = new.kept ≡ []
 
 -- following goes on, or ended with all that the peer has
 abbrev pub is_whole : Option FollowEnd → Bool

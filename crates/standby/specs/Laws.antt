@@ -1,5 +1,5 @@
 -- The laws of a standby.
-use Rattle.std.specs.Prelude.{◌≡◌, ℕ, List, ◌++◌, length, All, Some, None}
+use Rattle.std.specs.Prelude.{◌≡◌, ℕ, List, [], ◌++◌, length, All, Some}
 use Rattle.std.specs.List.{Contains}
 use Rattle.command_types.specs.declared.ask.Entry.{Entry}
 use Rattle.command_types.specs.Folds.{folded}
@@ -51,7 +51,7 @@ abbrev pub CrashesKeepWorldsSound : Type 0
 CrashesKeepWorldsSound =
     (old new : HouseView) (said said' : List Sent) (heard heard' : List Offer) (f : Follows old new said said' heard heard')
     (roster : Rows) (w : World) → IsSound w → IsHistoryOf roster old.history w.standby → AreAmong f.offers w.sent
-    → Keeps old → old.kept ≡ None
+    → Keeps old → old.kept ≡ []
     → (first others : List Sent) → f.sends ≡ first ++ others → (now : disks.History) → new.disk ≡ Some now
     → (image : List ℕ) → left_since now (moment_of old.disk) image → All (λ sent. left_since now (moment_of sent.house.disk) image) first
     → (entries : List Entry) × StandsForList image entries × IsSound (moved w entries (numbers_in first))

@@ -1,5 +1,5 @@
 //! A standby asks for one entry after another, and keeps each before it asks for the next.
-ghost use Rattle.std.specs.Prelude.{◌≡◌, ◌≢◌, ◌+◌, ◌<◌, ◌^◌, None, IsTrue, IfSome, IfNone, is_none, not, Some, true, false};
+ghost use Rattle.std.specs.Prelude.{◌≡◌, ◌≢◌, ◌+◌, ◌<◌, ◌^◌, [], IsTrue, IfSome, IfNone, is_none, not, Some, true, false};
 ghost use Rattle.command_types.specs.History.{end_of};
 ghost use Rattle.command_types.specs.Machine.{changes, is_refusal};
 ghost use Rattle.house.specs.House.{is_stopped};
@@ -89,7 +89,7 @@ fn turn<D: Disk, S, K, P: Peer<D, S, K>>(
     source: &mut S,
     sink: &mut K,
 ) -> Option<FollowEnd>
-    requires runs { house.old.kept ≡ None }
+    requires runs { house.old.kept ≡ [] }
     ensures follows { FollowsTo house.old house.new (P.said peer.old) (P.said peer.new) (P.heard peer.old) (P.heard peer.new) result }
     ensures ends { EndsSo house.old house.new result }
     ensures lines { SaysLines house.old house.new (P.said peer.old) (P.said peer.new) result }
@@ -97,7 +97,7 @@ fn turn<D: Disk, S, K, P: Peer<D, S, K>>(
     ensures cuts { P.cut peer.new ≡ is_cut_by (P.cut peer.old) result }
     ensures stays { P.start peer.new ≡ P.start peer.old }
     ensures holds { P.Holds peer.old source.old sink.old → P.Holds peer.new source.new sink.new }
-    ensures goes_on { IfNone result ((house.new.kept ≡ None) × (end_of house.new.history ≡ end_of house.old.history + 1)) }
+    ensures goes_on { IfNone result ((house.new.kept ≡ []) × (end_of house.new.history ≡ end_of house.old.history + 1)) }
     ensures short { end_of house.new.history < 2 ^ 63 }
 {
     let position = house.length();

@@ -19,7 +19,7 @@ use Rattle.standby_link.specs.Compared.{Compares}
 use Rattle.standby_link.specs.Laws.{CrashesLeaveSoundWorlds}
 
 module _ (stay : WorldsStaySound) (crashes : CrashesKeepWorldsSound) (old new : HouseView) (asked said : List Sent) (heard heard' : List Offer) (f : Follows old new asked said heard heard')
-    (roster : Rows) (w : World) (sound : IsSound w) (history : IsHistoryOf roster old.history w.standby) (among : AreAmong f.offers w.sent) (keeps : Keeps old) (runs : old.kept ≡ None)
+    (roster : Rows) (w : World) (sound : IsSound w) (history : IsHistoryOf roster old.history w.standby) (among : AreAmong f.offers w.sent) (keeps : Keeps old) (runs : old.kept ≡ [])
     (linked : IsLinked roster old old (numbers_in asked) w) (disk : disks.History) (tells : new.disk ≡ Some disk)
     (image : List ℕ) (since : left_since disk (moment_of old.disk) image) where
   abbrev Left : List Sent → Type 0

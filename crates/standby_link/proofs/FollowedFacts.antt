@@ -108,7 +108,7 @@ module _ (login : Login) (first now : Streams) (end : FollowEnd) (w w0 : WireVie
 
 -- ---- what was said before following
 
-module _ (login : Login) (old new : HouseView) (runs : old.kept ≡ None) (keeps : Keeps old) (since : HeldSince old new) where
+module _ (login : Login) (old new : HouseView) (runs : old.kept ≡ []) (keeps : Keeps old) (since : HeldSince old new) where
   nothing_linked : (roster : Rows) (w : World) → IsHistoryOf roster old.history w.standby → IsLinked roster old old [] w
   nothing_linked roster w is = record { events = []; entries = w.standby; leads = moved_not w; stands = is }
 
@@ -156,7 +156,7 @@ module _ (login : Login) (first : Streams) (w0 : WireView) (hearing : HearingVie
   over : (end : FollowEnd) (w : WireView) → IsWire w → w.start ≡ w0.start → w.cut ≡ is_cut_by w0.cut (Some end) → Greeted login first (streams_in w) end
   over end w is starts cut = greeted login first (streams_in w) end w w0 is starts hearing taken sink_faults begun fresh answered greets falls refl refl refl refl uncut cut
 
-  module _ (old : HouseView) (runs : old.kept ≡ None) (keeps : Keeps old) (w1 : WireView) where
+  module _ (old : HouseView) (runs : old.kept ≡ []) (keeps : Keeps old) (w1 : WireView) where
     said_here : (end : Option FollowEnd) (goes : WireGoes (Compares w0.start.login old) w0 w1 end) → goes.said ≡ w1.said
     said_here end goes = sym (goes.says ∙ ap (λ (ss : List Sent). ss ++ goes.said) unsaid)
 
@@ -203,7 +203,7 @@ module _ (login : Login) (first : Streams) (w0 : WireView) (hearing : HearingVie
     }
 
 -- nobody greeted, and the house runs as before
-pub ends_ungreeted : (login : Login) (hearing : HearingView) (before after : ℕ) (v : HouseView) (end : FollowEnd) → IsGreeting login hearing before after (Some end) → v.kept ≡ None
+pub ends_ungreeted : (login : Login) (hearing : HearingView) (before after : ℕ) (v : HouseView) (end : FollowEnd) → IsGreeting login hearing before after (Some end) → v.kept ≡ []
     → EndsSo v v (Some end)
 ends_ungreeted login hearing before after v DiskFault why runs = absurd why
 ends_ungreeted login hearing before after v end why runs = runs
@@ -251,7 +251,7 @@ module _ (login : Login) (first now : Streams) where
 
 -- a standby that parted runs as before
 pub ends_parted : (login : Login) (house : HouseView) (hearing : HearingView) (said : List Sent) (replied : List Replied) (end : FollowEnd)
-    → Compares login house hearing said replied (Some end) → house.kept ≡ None → EndsSo house house (Some end)
+    → Compares login house hearing said replied (Some end) → house.kept ≡ [] → EndsSo house house (Some end)
 ends_parted login house hearing said replied DiskFault (inl (none, unread, why)) runs = absurd why
 ends_parted login house hearing said replied DiskFault (inr (compares, asks)) runs = absurd asks.came
 ends_parted login house hearing said replied end compares runs = runs

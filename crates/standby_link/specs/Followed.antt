@@ -117,7 +117,7 @@ pub record IsSaidWithin (now : HouseView) (sent : Sent) : Type 0 where
   pub position : ℕ
   pub line : sent.line ≡ Next position
   pub fewer : position < end_of sent.house.history
-  pub running : sent.house.kept ≡ None
+  pub running : sent.house.kept ≡ []
   pub has : LeavesHistory sent.house.disk sent.house.history
   pub since : HeldSince sent.house now
 

@@ -1,5 +1,5 @@
 -- What holds of a standby that reads a primary's answers.
-use Rattle.std.specs.Prelude.{◌≡◌, ◌⊎◌, ℕ, ◌+◌, ◌<◌, ◌≤◌, ◌^◌, true, List, [], ◌∷◌, ◌++◌, length, All, Some, None}
+use Rattle.std.specs.Prelude.{◌≡◌, ◌⊎◌, ℕ, ◌+◌, ◌<◌, ◌≤◌, ◌^◌, true, List, [], ◌∷◌, ◌++◌, length, All, Some}
 use Rattle.units_core.specs.declared.limits.TheConstants.{MOST_NUMBER, MOST_JOURNAL}
 use Rattle.command_types.specs.declared.answer.Answer.TheVariants as answers
 use Rattle.command_types.specs.declared.ask.Entry.{Entry}
@@ -90,7 +90,7 @@ abbrev pub CrashesLeaveSoundWorlds : Type 0
 CrashesLeaveSoundWorlds =
     (login : Login) (first now : Streams) (old new : HouseView) (end : FollowEnd) (f : Followed login first now old new end)
     (roster : Rows) (w : World) → IsSound w → IsHistoryOf roster old.history w.standby → AreAmong f.follows.follows.offers w.sent
-    → Keeps old → old.kept ≡ None
+    → Keeps old → old.kept ≡ []
     → (said others : List Sent) → f.greeted.wire.said ≡ said ++ others → (disk : disks.History) → new.disk ≡ Some disk
     → (image : List ℕ) → left_since disk (moment_of old.disk) image → All (λ sent. left_since disk (moment_of sent.house.disk) image) said
     → (entries : List Entry) × StandsForList image entries × IsSound (moved w entries (numbers_in said))

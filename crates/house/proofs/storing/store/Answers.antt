@@ -1,4 +1,4 @@
-use Rattle.std.proofs.Common.{◌≡◌, ◌+◌, ◌≤◌, ◌∙◌, true, is_some, length, take, ap, sym, arith}
+use Rattle.std.proofs.Common.{◌≡◌, ◌+◌, ◌≤◌, ◌∙◌, [], ◌∷◌, true, is_some, length, take, ap, sym, arith}
 use Rattle.command_types.specs.declared.ask.Entry.{Entry}
 use Rattle.command_types.specs.Told.{is_accept}
 use Rattle.journal_core.specs.Journal.{disk_of, form_of, size_of}
@@ -10,17 +10,17 @@ use Rattle.house.proofs.storing.store.Goals as goal
 
 pub returns-in_err-bytes-clause-any_moment : goal.returns-in_err-bytes-clause-any_moment
 returns-in_err-bytes-clause-any_moment g c = λ stored.
-    still (g.D.Disk.history (disk_of c.args.journal.now)) (size_of c.args.journal.now) c.args.past.now.history c.args.ready.entry
+    still (g.D.Disk.history (disk_of c.args.journal.now)) (size_of c.args.journal.now) c.args.past.now.history (c.args.ready.entry ∷ [])
     (stored_as (g.D.Disk.history (disk_of c.args.journal.now)) (form_of c.args.journal.now) (size_of c.args.journal.now) c.args.past.now.history stored)
 
 pub returns-in_err-frame-clause-any_moment : goal.returns-in_err-frame-clause-any_moment
 returns-in_err-frame-clause-any_moment g c = λ stored.
-    still (g.D.Disk.history (disk_of c.args.journal.now)) (size_of c.args.journal.now) c.args.past.now.history c.args.ready.entry
+    still (g.D.Disk.history (disk_of c.args.journal.now)) (size_of c.args.journal.now) c.args.past.now.history (c.args.ready.entry ∷ [])
     (stored_as (g.D.Disk.history (disk_of c.args.journal.now)) (form_of c.args.journal.now) (size_of c.args.journal.now) c.args.past.now.history stored)
 
 pub returns-in_err-make_room-clause-any_moment : goal.returns-in_err-make_room-clause-any_moment
 returns-in_err-make_room-clause-any_moment g c = λ stored.
-    still (g.D.Disk.history (disk_of c.args.journal.now)) (size_of c.args.journal.now) c.args.past.now.history c.args.ready.entry
+    still (g.D.Disk.history (disk_of c.args.journal.now)) (size_of c.args.journal.now) c.args.past.now.history (c.args.ready.entry ∷ [])
     (stored_as (g.D.Disk.history (disk_of c.args.journal.now)) (form_of c.args.journal.now) (size_of c.args.journal.now) c.args.past.now.history stored)
 
 pub returns-in_err-bytes-clause-yet : goal.returns-in_err-bytes-clause-yet

@@ -1,4 +1,4 @@
-use Rattle.house.proofs.CallingFacts.{none_of}
+use Rattle.house.proofs.CallingFacts.{nothing_of}
 use Rattle.std.proofs.Common.{Some, refl, ap, ◌∙◌}
 use Rattle.standby.specs.Ending.{is_cut_by}
 use Rattle.standby.proofs.EndFacts.{lines_first, lines_on}
@@ -8,7 +8,7 @@ use Rattle.standby.proofs.follow.follow_over.Goals as goal
 
 pub loop-end-init : goal.loop-end-init
 loop-end-init g c =
-    let runs = none_of c.args.house.now.kept c.requires.runs in
+    let runs = nothing_of c.args.house.now.kept c.requires.runs in
     let f = follows_start c.args.house.now _ _ c.length-length.ensures.keeps runs in record {
       runs = runs;
       lines = lines_first c.args.house.now _;

@@ -1,6 +1,6 @@
 use Rattle.std.proofs.Common.{◌∙◌, Some, refl, sym, ap, subst, inl, inr}
 use Rattle.house.specs.House.{HouseView}
-use Rattle.house.proofs.CallingFacts.{none_of}
+use Rattle.house.proofs.CallingFacts.{nothing_of}
 use Rattle.standby.specs.Ending.{SaysLines}
 use Rattle.standby.specs.Following.{FollowsTo}
 use Rattle.standby_wire.specs.Replied.{HeardView, HearingView, hearing_over, IsHearing}
@@ -52,7 +52,7 @@ returns-in-Some-compare-clause-follows g c =
     let house : HouseView = c.args.house.now in
     let ended = parted c.args.login first w0 hearing (g.K.Sink.taken to) (g.K.Sink.faults to) wire.start
     (record { first = met.same.0 ∙ begun.first.0; first_faults = met.same.1 ∙ begun.first.1 }) met.why met.greets met.never_falls wire.cut wire.said heard
-    house (none_of house.kept c.requires.runs) c.length-length.ensures.keeps w1 c.in-Some-compare.end c.in-Some-compare.ensures.compares in
+    house (nothing_of house.kept c.requires.runs) c.length-length.ensures.keeps w1 c.in-Some-compare.end c.in-Some-compare.ensures.compares in
     subst (λ (v : HouseView). FollowsOver c.args.login first now house v c.in-Some-compare.end) (sym c.in-Some-compare.ensures.same) (inr (inl ended))
 
 pub returns-clause-follows : goal.returns-clause-follows
@@ -75,7 +75,7 @@ returns-clause-follows g c =
     let same = c.in-None-compare.ensures.same in
     inr (inr (followed c.args.login first w0 hearing (g.K.Sink.taken to) (g.K.Sink.faults to) wire.start
     (record { first = met.same.0 ∙ begun.first.0; first_faults = met.same.1 ∙ begun.first.1 }) met.why met.greets met.never_falls wire.cut wire.said heard
-    house (none_of house.kept c.requires.runs) c.length-length.ensures.keeps w1 new w c.follow_over.result goes (over.holds goes.is) over.stays over.cuts over.short
+    house (nothing_of house.kept c.requires.runs) c.length-length.ensures.keeps w1 new w c.follow_over.result goes (over.holds goes.is) over.stays over.cuts over.short
     (subst (λ (v : HouseView). FollowsTo v new w1.said w.said (offers_of w1.hearing.replied) (offers_of w.hearing.replied) (Some c.follow_over.result)) same over.follows)
     (subst (λ (v : HouseView). SaysLines v new w1.said w.said (Some c.follow_over.result)) same over.lines)
     over.because))

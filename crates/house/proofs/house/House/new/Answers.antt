@@ -1,4 +1,4 @@
-use Rattle.std.proofs.Common.{◌∙◌, Option, None, arith, ap, sym, subst}
+use Rattle.std.proofs.Common.{◌∙◌, Option, [], arith, ap, sym, subst}
 use Rattle.outside.specs.Disk.{History}
 use Rattle.journal_core.specs.Journal.{disk_of, size_of}
 use Rattle.recovery.specs.Reading.{FindsSpelling}
@@ -36,7 +36,7 @@ returns-in-Ok-start-clause-opened g c =
     let stands = subst (λ (o : Option History). ContentStandsFor o c.in-Ok.read.past) (sym c.reopen.ensures.same) c.in-Ok.ensures.stands in
     let house : HouseView =
     house_of c.opened-past.result.history c.count.result
-    (journal_of (size_of c.of.result.value) (g.D.Disk.fault_count (disk_of c.of.result.value)) (g.D.Disk.history c.of-taken.result.value) (g.D.Disk.history (disk_of c.of.result.value)) c.of-first.result.value) None
+    (journal_of (size_of c.of.result.value) (g.D.Disk.fault_count (disk_of c.of.result.value)) (g.D.Disk.history c.of-taken.result.value) (g.D.Disk.history (disk_of c.of.result.value)) c.of-first.result.value) []
     (g.D.Disk.history (disk_of c.in-Ok-start.journal)) (g.D.Disk.fault_count (disk_of c.in-Ok-start.journal)) in
     subst (λ (o : Option History). IsOpened c.args.roster o (g.D.Disk.fault_count c.args.disk) house) c.reopen.ensures.same
     (new_opened c.in-Ok.read.machine.state c.in-Ok.read.past c.in-Ok-start.folded (now_of c.in-Ok-start.journal) read (g.D.Disk.history (disk_of c.in-Ok-start.journal)) (g.D.Disk.fault_count (disk_of c.in-Ok-start.journal))
