@@ -1,5 +1,5 @@
 -- What a script comes to over its disk.
-use Rattle.std.proofs.Common.{◌≡◌, ◌∙◌, ◌⊎◌, refl, sym, subst, ap, ℕ, ◌+◌, ◌≤◌, Bool, true, false, List, Option, Some, None, is_some, arith}
+use Rattle.std.proofs.Common.{◌≡◌, ◌∙◌, ◌⊎◌, refl, sym, subst, ap, ℕ, ◌+◌, ◌≤◌, Bool, true, false, List, [], Option, Some, None, is_some, arith}
 use Rattle.std.specs.Prelude.{◌≢◌, Result, Ok, Err, IfErr}
 use Rattle.outside.specs.Disk.{IsSettled}
 use Rattle.outside.specs.Disk as disks
@@ -16,7 +16,7 @@ use Rattle.house.specs.House.{HouseView, figures_of, first_of, is_stopped, bytes
 use Rattle.house.specs.Opening.{IsOpened, FindsFault, LeavesOpened, StandsForNone}
 use Rattle.journal_core.specs.declared.fault.JournalFault.{JournalFault}
 use Rattle.journal_core.specs.declared.fault.JournalFault.TheVariants as faults
-use Rattle.house.specs.Storing.{ContentStandsFor, AreOnDisk, LeavesHistory, LeavesKept, StandsForFront, StandsForKept, NeverGoBack, moment_of}
+use Rattle.house.specs.Storing.{any_kept, ContentStandsFor, AreOnDisk, LeavesHistory, LeavesKept, StandsForFront, StandsForKept, NeverGoBack, moment_of}
 use Rattle.house.proofs.JournalFacts.{stored_stand}
 use Rattle.house.proofs.OpeningFacts.{still_standing, only_opened}
 use Rattle.session.specs.declared.serve.SessionEnd.{SessionEnd}
@@ -37,11 +37,11 @@ unopened_still rows o now n m same settled = record {
 
 -- ---- what a house keeps, of its disk
 
-content_stands : (since opening : ℕ) (first : History) (o : Option disks.History) (size : ℕ) (h : History) (kept : Option Entry) → AreOnDisk since opening first o size h kept → kept ≡ None → ContentStandsFor o h
+content_stands : (since opening : ℕ) (first : History) (o : Option disks.History) (size : ℕ) (h : History) (kept : List Entry) → AreOnDisk since opening first o size h kept → kept ≡ [] → ContentStandsFor o h
 content_stands since opening first None size h kept on none = tt
 content_stands since opening first (Some disk) size h kept on none = stored_stand disk size h (on.stored none)
 
-moments_left : (o : Option disks.History) (opening : ℕ) (first : History) (now : Option disks.History) (size : ℕ) (h : History) (kept : Option Entry) → is_some now ≡ is_some o → AreOnDisk (moment_of o) opening first now size h kept
+moments_left : (o : Option disks.History) (opening : ℕ) (first : History) (now : Option disks.History) (size : ℕ) (h : History) (kept : List Entry) → is_some now ≡ is_some o → AreOnDisk (moment_of o) opening first now size h kept
     → AtAnyMoment o now (λ image. StandsForFront opening first h image ⊎ StandsForKept h kept image)
 moments_left None opening first None size h kept tells on = refl
 moments_left None opening first (Some later) size h kept tells on = absurd cc
@@ -103,6 +103,7 @@ module _ (rows : Rows) (o now : Option disks.History) (before count : ℕ) (rost
     legal = last.legal;
     stands = λ none. subst (λ (d : Option disks.History). ContentStandsFor d w.history) (sym disk) (content_stands w.journal.first_moment w.opening (first_of w.journal) w.disk (bytes_of w) w.history w.kept last.on_disk none);
     leaves = λ none. subst (λ (d : Option disks.History). LeavesHistory d w.history) (sym disk) (last.leaves none);
+    few_kept = last.few_kept;
     kept_legal = last.kept_legal;
     leaves_kept = subst (λ (d : Option disks.History). LeavesKept d w.history w.kept) (sym disk) last.leaves_kept;
     never_back = subst (λ (d : Option disks.History). NeverGoBack (moment_of o) v.opening (first_of v.journal) d w.history w.kept) (sym disk) goes_on;
@@ -170,7 +171,7 @@ module _ (rows : Rows) (o : Option disks.History) (count : ℕ) (v : HouseView) 
   has_rows = is.base.market.same
 
   pub runs_yet : is_stopped v ≡ false
-  runs_yet = ap (λ (k : Option Entry). is_some k) is.running
+  runs_yet = ap any_kept is.running
 
 module _ (clock : ℕ → Bool) (roster : List ℕ) (files files' : FilesState) (before after : Streams) (disk left : DiskState)
     (rows : Rows) (says : SaysRoster files.folder roster rows) (are : IsRoster rows) (v w : HouseView) (housed : IsHoused rows disk left v w) where

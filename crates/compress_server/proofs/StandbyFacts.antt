@@ -1,8 +1,5 @@
 -- What a crash of a standby leaves, from the disk that came in on.
 use Rattle.std.proofs.Common.{◌≡◌, ◌⊎◌, ℕ, ◌+◌, List, [], ◌∷◌, ◌++◌, length, Option, Some, None, refl, sym, ap, ◌∙◌, subst, inl, inr, ⊎_elim, arith, append_assoc}
-use Rattle.std.specs.Prelude.{All}
-use Rattle.std.specs.List.{Contains}
-use Rattle.std.proofs.lemmas.List.Elements.{All-nil, All-cons, All-contains}
 use Rattle.command_types.specs.declared.ask.Entry.{Entry}
 use Rattle.command_types.specs.Folds.{folded}
 use Rattle.command_types.specs.History.{History, end_of}
@@ -14,12 +11,12 @@ use Rattle.house.specs.House.{HouseView, first_of}
 use Rattle.house.specs.Storing.{StandsForFront, StandsForKept}
 use Rattle.standby.specs.Following.{IsLinked}
 use Rattle.standby.specs.Laws.{FoldsKeepTheList}
-use Rattle.standby.specs.Link.{Offer, Fits, World, AreAmong, moved, IsSound}
+use Rattle.standby.specs.Link.{World, AreAmong, moved, IsSound}
 use Rattle.standby.specs.Lists.{IsHistoryOf, StandsForList, BeginsWith}
 use Rattle.standby.specs.Sent.{numbers_in}
 use Rattle.standby.specs.declared.follow.FollowEnd.{FollowEnd}
-use Rattle.standby.proofs.LeftFacts.{stands_list}
-use Rattle.standby.proofs.LinkFacts.{stays_sound, front_and_next, begins_on, folds_keep}
+use Rattle.standby.proofs.LeftFacts.{begins_with_next, stands_list}
+use Rattle.standby.proofs.LinkFacts.{stays_sound, begins_on, folds_keep}
 use Rattle.standby_link.specs.Followed.{Followed}
 use Rattle.standby_link.specs.Laws.{CrashesLeaveSoundWorlds}
 use Rattle.compress_server.specs.Follow.{login_of, link_of, Follows}
@@ -70,25 +67,20 @@ module _ (folds : FoldsKeepTheList) (standby : Standby) (before after : Streams)
         begins_on (link.stands.front ++ front) link.entries world.primary (back, whole) begins,
       )
 
-  -- all of it with the entry that was kept
-  kept_fits : (entry : Entry) → w.kept ≡ Some entry → Fits world.primary (record { position = end_of w.history + 1; entry = entry })
-  kept_fits entry some =
-      All-contains (Fits world.primary) f.follows.follows.offers _ (all_among f.follows.follows.offers among) (f.follows.follows.kept entry some)
-    where
-      all_among : (offers : List Offer) → AreAmong offers world.sent → All (Fits world.primary) offers
-      all_among [] all = All-nil (Fits world.primary)
-      all_among (x ∷ xs) (here, others) = All-cons (Fits world.primary) x xs (All-contains (Fits world.primary) world.sent x sound.fits here) (all_among xs others)
-
-  kept_holds : (image : List ℕ) (kept : Option Entry) → w.kept ≡ kept → StandsForKept w.history kept image → Holds image
-  kept_holds image None none never = absurd never
-  kept_holds image (Some entry) some stands =
+  -- all of it with what was kept
+  kept_front : BeginsWith world.primary (link.entries ++ w.kept)
+  kept_front =
       let long : end_of w.history ≡ length link.entries = (folds_keep rows w.history link.entries link.stands).1 in
-      let whole : link.entries ++ entry ∷ [] ≡ link.stands.front ++ (w.history.entries ++ entry ∷ []) =
-      ap (λ es. es ++ entry ∷ []) link.stands.split ∙ append_assoc link.stands.front w.history.entries (entry ∷ []) in (
-        link.stands.front ++ (w.history.entries ++ entry ∷ []),
-        stands_list rows image w.history link.entries (w.history.entries ++ entry ∷ []) link.stands stands,
-        subst (BeginsWith world.primary) whole
-            (front_and_next world.primary link.entries (record { position = end_of w.history + 1; entry = entry }) begins (kept_fits entry some) (omega (arith, long))),
+      begins_with_next world.primary world.sent f.follows.follows.offers sound.fits among link.entries w.kept (end_of w.history + 1) (omega (arith, long)) f.follows.follows.kept begins
+
+  kept_holds : (image : List ℕ) (kept : List Entry) → w.kept ≡ kept → StandsForKept w.history kept image → Holds image
+  kept_holds image [] none never = absurd never
+  kept_holds image (entry ∷ others) some stands =
+      let whole : link.entries ++ entry ∷ others ≡ link.stands.front ++ (w.history.entries ++ entry ∷ others) =
+      ap (λ es. es ++ entry ∷ others) link.stands.split ∙ append_assoc link.stands.front w.history.entries (entry ∷ others) in (
+        link.stands.front ++ (w.history.entries ++ entry ∷ others),
+        stands_list rows image w.history link.entries (w.history.entries ++ entry ∷ others) link.stands stands,
+        subst (BeginsWith world.primary) whole (subst (λ (es : List Entry). BeginsWith world.primary (link.entries ++ es)) some kept_front),
       )
 
   -- the first history is that of the standby's list

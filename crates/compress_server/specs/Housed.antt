@@ -1,5 +1,5 @@
 -- A script over its disk.
-use Rattle.std.specs.Prelude.{◌≡◌, ◌⊎◌, ℕ, ◌≤◌, true, List, Option, Some, None}
+use Rattle.std.specs.Prelude.{◌≡◌, ◌⊎◌, ℕ, ◌≤◌, true, List, [], length, Option, Some, None}
 use Rattle.command_types.specs.History.{IsLegal}
 use Rattle.command_types.specs.Roster.{Rows}
 use Rattle.outside.specs.Disk as disks
@@ -8,7 +8,7 @@ use Rattle.outside.specs.Faults.{Rose}
 use Rattle.outside.specs.Files.{Folder}
 use Rattle.house.specs.House.{HouseView, figures_of, first_of, is_stopped}
 use Rattle.house.specs.Opening.{IsOpened, FindsFault, LeavesOpened, StandsForNone}
-use Rattle.house.specs.Storing.{ContentStandsFor, LeavesHistory, LeavesKept, StandsForFront, StandsForKept, NeverGoBack, with_kept, moment_of}
+use Rattle.house.specs.Storing.{ContentStandsFor, LeavesHistory, LeavesKept, StandsForFront, StandsForKept, NeverGoBack, most_together, with_kept, moment_of}
 use Rattle.compress_server.specs.Files.{OverRoster}
 use Rattle.compress_server.specs.Cycles.{KeepsLaws}
 use Rattle.journal_core.specs.declared.fault.JournalFault.{JournalFault}
@@ -40,14 +40,15 @@ pub record IsHoused (rows : Rows) (disk left : DiskState) (v w : HouseView) : Ty
   pub legal_first : IsLegal v.history
   pub legal : IsLegal w.history
   -- unless a fault of the disk stopped the house, the content stands for its history, and so does what a crash now leaves
-  pub stands : w.kept ≡ None → ContentStandsFor left.history w.history
-  pub leaves : w.kept ≡ None → LeavesHistory left.history w.history
-  -- what was kept where a fault of the disk stopped the house could have been made, and what a crash now leaves stands for all of the history, perhaps with this
+  pub stands : w.kept ≡ [] → ContentStandsFor left.history w.history
+  pub leaves : w.kept ≡ [] → LeavesHistory left.history w.history
+  -- what was kept where a fault of the disk stopped the house could have been made, and what a crash now leaves stands for all of the history, perhaps with all of this
+  pub few_kept : length w.kept ≤ most_together
   pub kept_legal : IsLegal (with_kept w.history w.kept)
   pub leaves_kept : LeavesKept left.history w.history w.kept
   -- what every crash at one moment of the run left, every crash at a later moment left
   pub never_back : NeverGoBack (moment_of disk.history) v.opening (first_of v.journal) left.history w.history w.kept
-  -- What a crash at any moment of the run left stands for a front of the history, no shorter than the one at the opening. Or, where a fault stopped the house, it stands for all of it with the entry that was kept. In place of the one at the opening it may stand for the first history
+  -- What a crash at any moment of the run left stands for a front of the history, no shorter than the one at the opening. Or, where a fault stopped the house, it stands for all of it with all that was kept. In place of the one at the opening it may stand for the first history
   pub any_moment : AtAnyMoment disk.history left.history (λ image. StandsForFront v.opening (first_of v.journal) w.history image ⊎ StandsForKept w.history w.kept image)
   pub stopped : is_stopped w ≡ true → Rose disk.faults left.faults
   -- the laws of cycles hold in the first history and in the last

@@ -72,6 +72,7 @@ housed = record {
   legal = tt;
   stands = λ none. tt;
   leaves = λ none. tt;
+  few_kept = omega arith;
   kept_legal = tt;
   leaves_kept = tt;
   never_back = tt;

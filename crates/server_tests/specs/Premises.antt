@@ -38,7 +38,7 @@ abbrev pub first_history : History
 first_history = new_history (empty_state nobody_there)
 
 abbrev pub first_house : HouseView
-first_house = house_of first_history 0 (journal_of 30 0 None None first_history) None None 0
+first_house = house_of first_history 0 (journal_of 30 0 None None first_history) [] None 0
 
 -- what is outside, by the files, an input, what the outputs took, and a listener; the disk tells nothing, and no call of any failed
 abbrev pub world_of : Option Folder → Option Flow → OutputState → OutputState → Option Doors → World
