@@ -1,5 +1,7 @@
 -- The first product that fails is where none did before.
-use Rattle.std.proofs.Common.{◌≡◌, ◌≢◌, ◌∙◌, sym, ap, refl, ℕ, zero, suc, ◌+◌, ◌<◌, List, length, get_or, Option, Some, None, arith, add-one, ⊎_elim}
+use Rattle.std.proofs.Common.{◌≡◌, ◌≢◌, ◌∙◌, sym, ap, refl, ℕ, zero, suc, ◌+◌, ◌<◌, List, length, get_or, Option, Some, None, Result, Ok, subst, arith, add-one, ⊎_elim}
+use Rattle.std.specs.Prelude.{IfOk}
+use Rattle.std.specs.declared.alloc.AllocError.{AllocError}
 use Rattle.std.specs.Option.{option_or}
 use Rattle.std.specs.List.{slice_get}
 use Rattle.std.proofs.lemmas.Bool.{cases_eq}
@@ -10,15 +12,15 @@ use Rattle.command_types.specs.Roster.{Rows}
 use Rattle.dual_certificate.specs.declared.proposal_part.ProposalPart.{ProposalPart}
 use Rattle.file_market.specs.declared.failing.Failure.{Failure}
 use Rattle.file_market.specs.declared.failing.Failing.{Failing}
-use Rattle.file_market.specs.Check.{part_failure, failing_at, failing_product, first_failing_below}
+use Rattle.file_market.specs.Check.{part_failure, failing_at, failing_product, FailsSo, first_failing_below}
 
 module _ (rows : Rows) (mode : Mode) (networks : List NetworkData) (parts : List ProposalPart) where
   found_at : ℕ → Option Failing
   found_at k = failing_product rows mode k (slice_get networks k) (slice_get parts k)
 
   -- what the test of a product finds is what is due for it
-  due : (k : ℕ) (network : NetworkData) (part : ProposalPart) (reason : Option Failure) → k < length networks → k < length parts
-      → network ≡ get_or networks k network → part ≡ get_or parts k part → reason ≡ part_failure rows mode k network part → found_at k ≡ failing_at k reason
+  pub due : (k : ℕ) (network : NetworkData) (part : ProposalPart) (reason : Option Failure) → k < length networks → k < length parts
+      → network ≡ get_or networks k network → part ≡ get_or parts k part → reason ≡ part_failure rows mode k network part → FailsSo rows mode networks parts k reason
   unfolding found_at
   due k network part reason in_networks in_parts is_network is_part e =
       ap (λ o. failing_product rows mode k o (slice_get parts k)) (slice_get_read networks (length networks) k network refl in_networks is_network)
@@ -33,19 +35,23 @@ module _ (rows : Rows) (mode : Mode) (networks : List NetworkData) (parts : List
       (λ (ne : k ≢ n). ap (λ o. option_or o (found_at n)) (found n k c (omega arith) before here))
       (cases_eq k n)
 
-  pub found_first : (n k : ℕ) (network : NetworkData) (part : ProposalPart) (reason : Failure) → k < n → k < length networks → k < length parts
-      → first_failing_below rows mode networks parts k ≡ None → network ≡ get_or networks k network → part ≡ get_or parts k part → Some reason ≡ part_failure rows mode k network part
+  pub found_first : (n k : ℕ) (reason : Failure) → k < n → first_failing_below rows mode networks parts k ≡ None → FailsSo rows mode networks parts k (Some reason)
       → first_failing_below rows mode networks parts n ≡ Some (record { product = k; failure = reason })
-  found_first n k network part reason l in_networks in_parts before is_network is_part e =
-      found n k (record { product = k; failure = reason }) l before (due k network part (Some reason) in_networks in_parts is_network is_part e)
+  unfolding found_at
+  found_first n k reason l before so = found n k (record { product = k; failure = reason }) l before so
 
   next : (k : ℕ) → first_failing_below rows mode networks parts (k + 1) ≡ option_or (first_failing_below rows mode networks parts k) (found_at k)
   unfolding found_at
   next k = rw add-one refl
 
-  pub none_more : (k : ℕ) (network : NetworkData) (part : ProposalPart) → k < length networks → k < length parts
-      → first_failing_below rows mode networks parts k ≡ None → network ≡ get_or networks k network → part ≡ get_or parts k part → None ≡ part_failure rows mode k network part
-      → first_failing_below rows mode networks parts (k + 1) ≡ None
+  pub none_more : (k : ℕ) → first_failing_below rows mode networks parts k ≡ None → FailsSo rows mode networks parts k None → first_failing_below rows mode networks parts (k + 1) ≡ None
   unfolding found_at
-  none_more k network part in_networks in_parts before is_network is_part e =
-      next k ∙ ap (λ o. option_or o (found_at k)) before ∙ due k network part None in_networks in_parts is_network is_part e
+  none_more k before so = next k ∙ ap (λ o. option_or o (found_at k)) before ∙ so
+
+  -- what is read of what the workers told
+  pub fails_where_told : (k : ℕ) (failure : Option Failure) (found read : List (Result (Option Failure) AllocError)) → read ≡ found
+      → ((d : Result (Option Failure) AllocError) → IfOk (get_or found k d) (FailsSo rows mode networks parts k)) → ((d : Result (Option Failure) AllocError) → get_or read k d ≡ Ok failure)
+      → FailsSo rows mode networks parts k failure
+  fails_where_told k failure found read same each is =
+      let Says : Result (Option Failure) AllocError → Type 0 = λ r. IfOk r (FailsSo rows mode networks parts k) in
+      subst Says (ap (λ xs. get_or xs k (Ok None)) (sym same) ∙ is (Ok None)) (each (Ok None))

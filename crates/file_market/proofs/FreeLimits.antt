@@ -4,7 +4,6 @@ use Rattle.std.proofs.Math.Nat.{min-le_right}
 use Rattle.std.proofs.lemmas.Bool.{eqb-true}
 use Rattle.network_laws.specs.Networks.{NetworkData, IsNetwork, at}
 use Rattle.network_laws.specs.Limits.{LimitsData}
-use Rattle.network_laws.specs.Solutions.{ProblemData}
 use Rattle.network_laws.specs.declared.rows.LimitRow.{LimitRow}
 use Rattle.command_types.specs.Books.{listed_below}
 use Rattle.command_types.specs.declared.cycle.Mode.{Mode}
@@ -15,7 +14,6 @@ use Rattle.command_types.specs.Tolerances.{limit_row, may_grow, pair_ceiling, pa
 use Rattle.tolerance_sets.specs.OpenPairs.{boundless, open_row}
 use Rattle.tolerance_sets.proofs.OpenPairs.{none_owed}
 use Rattle.file_market.specs.Market.{empty_network, market_limits}
-use Rattle.file_market.specs.Solve.{FirstHasLimits}
 
 own_row : (i j now low : ℕ) (ceiling : Option ℕ) (grows : Bool) → now ≡ 0 → grows ≡ false → limit_row i j low (pair_upper grows now ceiling) ≡ []
 own_row i j now low ceiling grows e e' = rw (e, e') refl
@@ -69,9 +67,3 @@ limits_are_open rows product network good =
 -- those of any two products
 pub free_limits_same : (rows : Rows) (product other : ℕ) (network network' : NetworkData) → IsNetwork network → IsNetwork network' → market_limits rows Free product network ≡ market_limits rows Free other network'
 free_limits_same rows product other network network' good good' = limits_are_open rows product network good ∙ sym (limits_are_open rows other network' good')
-
--- a product's limits, by those of the first one
-pub limits_of_first : (rows : Rows) (mode : Mode) (before : List ProblemData) (first : ProblemData) (product : ℕ) (network : NetworkData) → mode ≡ Free → FirstHasLimits rows mode before → 0 < length before → first ≡ get_or before 0 first → IsNetwork first.network → IsNetwork network → first.limits ≡ market_limits rows mode product network
-limits_of_first rows mode before first product network free has some is good good' =
-    ap (λ p. p.limits) is ∙ has first some ∙ ap (λ p. market_limits rows mode 0 p.network) (sym is) ∙ ap (λ m. market_limits rows m 0 first.network) free
-    ∙ free_limits_same rows 0 product first.network network good good' ∙ ap (λ m. market_limits rows m product network) (sym free)

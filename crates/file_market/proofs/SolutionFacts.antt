@@ -12,33 +12,7 @@ use Rattle.trade_file.specs.declared.file_trade.FileTrade.{FileTrade}
 use Rattle.trade_file.specs.Networks.{AreNetworksOf}
 use Rattle.dual_certificate.specs.Writing.{SolveMembers}
 use Rattle.file_market.specs.Market.{market_limits}
-use Rattle.file_market.specs.Solve.{problem_for, FirstHasLimits, AreProblemsOf, AreSolutions}
-
--- each problem is that of the network at its place
-abbrev pub ProblemsBelow : Rows → Mode → List NetworkData → List ProblemData → Type 0
-ProblemsBelow rows mode networks problems =
-    (k : ℕ) (d : NetworkData) (e : ProblemData) → k < length problems → get_or problems k e ≡ problem_for rows mode k (get_or networks k d)
-
-pub first_has_limits : (rows : Rows) (mode : Mode) (networks : List NetworkData) (problems : List ProblemData) → ProblemsBelow rows mode networks problems → FirstHasLimits rows mode problems
-first_has_limits rows mode networks problems below e some =
-    let d : NetworkData = (get_or problems 0 e).network in
-    let is : get_or problems 0 e ≡ problem_for rows mode 0 (get_or networks 0 d) = below 0 d e some in
-    ap (λ p. p.limits) is ∙ ap (λ p. market_limits rows mode 0 p.network) (sym is)
-
-pub problem_more : (rows : Rows) (mode : Mode) (networks : List NetworkData) (problems : List ProblemData) (n : ℕ) (network : NetworkData) (problem : ProblemData)
-    → length problems ≡ n → ProblemsBelow rows mode networks problems → n < length networks → network ≡ get_or networks n network → problem ≡ problem_for rows mode n network
-    → ProblemsBelow rows mode networks (problems ++ problem ∷ [])
-problem_more rows mode networks problems n network problem len before within is h k d e l =
-    ⊎_elim
-    (λ (at : k ≡ n).
-    let k_len : k ≡ length problems = at ∙ sym len in
-    let this : get_or (problems ++ problem ∷ []) k e ≡ problem = ap (λ m. get_or (problems ++ problem ∷ []) m e) k_len ∙ get_or-append_seam problems problem [] e in
-    let that : network ≡ get_or networks k d = get_or_read networks n network within is d ∙ ap (λ m. get_or networks m d) (sym at) in
-    this ∙ (h ∙ (λ i. problem_for rows mode (sym at i) (that i))))
-    (λ (ne : k ≢ n).
-    let below : k < length problems = omega (arith, len, l, length-append problems (problem ∷ [])) in
-    get_or_append_left problems (problem ∷ []) e k below ∙ before k d e below)
-    (cases_eq k n)
+use Rattle.file_market.specs.Solve.{problem_for, AreProblemsOf, AreSolutions}
 
 -- a solution for each problem
 solved_count : (problems : List ProblemData) (solutions : List SolutionData) → AreSolved problems solutions → length solutions ≡ length problems

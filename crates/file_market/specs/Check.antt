@@ -43,6 +43,11 @@ abbrev pub failing_product : Rows → Mode → ℕ → Option NetworkData → Op
 failing_product rows mode product (Some network) (Some part) = failing_at product (part_failure rows mode product network part)
 failing_product rows mode product network part = None
 
+-- what is told of the product is what is wrong with it
+abbrev pub FailsSo : Rows → Mode → List NetworkData → List ProposalPart → ℕ → Option Failure → Type 0
+FailsSo rows mode networks parts product failure =
+    failing_product rows mode product (slice_get networks product) (slice_get parts product) ≡ failing_at product failure
+
 -- the first of the products below this one that fails
 abbrev pub first_failing_below : Rows → Mode → List NetworkData → List ProposalPart → ℕ → Option Failing
 first_failing_below rows mode networks parts zero = None

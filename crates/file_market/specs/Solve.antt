@@ -1,6 +1,7 @@
 -- The solution of the market of a trade file.
 use Rattle.std.specs.Prelude.{◌≡◌, ℕ, ◌<◌, List, length, slice_index_or}
-use Rattle.network_laws.specs.Networks.{NetworkData}
+use Rattle.network_laws.specs.Networks.{NetworkData, IsNetwork}
+use Rattle.network_laws.specs.Limits.{LimitsData, IsWithinLimits}
 use Rattle.network_laws.specs.Solutions.{ProblemData, SolutionData, IsSolution, Solves}
 use Rattle.command_types.specs.declared.cycle.Mode.{Mode}
 use Rattle.command_types.specs.Roster.{Rows}
@@ -13,10 +14,25 @@ use Rattle.file_market.specs.Market.{market_limits}
 abbrev pub problem_for : Rows → Mode → ℕ → NetworkData → ProblemData
 problem_for rows mode product network = record { limits = market_limits rows mode product network; network = network }
 
--- the first problem has the limits of its network
-abbrev pub FirstHasLimits : Rows → Mode → List ProblemData → Type 0
-FirstHasLimits rows mode problems =
-    (d : ProblemData) → 0 < length problems → (slice_index_or problems 0 d).limits ≡ market_limits rows mode 0 (slice_index_or problems 0 d).network
+-- the problem is that of the network at this place
+abbrev pub IsProblemAt : Rows → Mode → List NetworkData → ℕ → ProblemData → Type 0
+IsProblemAt rows mode networks product problem = (d : NetworkData) → problem ≡ problem_for rows mode product (slice_index_or networks product d)
+
+-- a network, since it is one, is within the limits, and so each of these
+abbrev pub MayHave : LimitsData → NetworkData → Type 0
+MayHave limits network = IsNetwork network → (limits.members ≡ network.members) × IsWithinLimits limits network
+
+abbrev pub MayHaveEach : LimitsData → List NetworkData → Type 0
+MayHaveEach limits networks = (k : ℕ) (d : NetworkData) → k < length networks → MayHave limits (slice_index_or networks k d)
+
+-- the network, within these limits
+pub record IsProblemIn (within : LimitsData) (own : NetworkData) (problem : ProblemData) : Type 0 where
+  pub limits : problem.limits ≡ within
+  pub network : problem.network ≡ own
+  pub good : IsNetwork own
+
+abbrev pub IsProblemInAt : LimitsData → List NetworkData → ℕ → ProblemData → Type 0
+IsProblemInAt limits networks product problem = (d : NetworkData) → IsProblemIn limits (slice_index_or networks product d) problem
 
 -- one problem for each product's network, in order
 pub record AreProblemsOf (rows : Rows) (mode : Mode) (networks : List NetworkData) (problems : List ProblemData) : Type 0 where

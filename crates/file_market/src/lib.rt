@@ -11,6 +11,7 @@ mod solving;
 mod summing;
 mod untouched;
 mod verdict_text;
+mod writing;
 
 pub use checking::check;
 pub use failing::{Failing, Failure};

@@ -1,13 +1,15 @@
 //! The solution of a market, its products beside one another.
-ghost use Rattle.std.specs.Prelude.{◌≡◌, ◌<◌, ◌≤◌, ◌^◌, length, IfOk};
+ghost use Rattle.std.specs.Prelude.{◌≡◌, ℕ, ◌<◌, ◌≤◌, ◌^◌, length, vec_len, slice_index_or, IfOk};
+ghost use Rattle.network_laws.specs.Solutions.{ProblemData};
+ghost use Rattle.command_types.specs.declared.cycle.Mode.{Mode};
 ghost use Rattle.trade_file.specs.TradeFile.{AreFileTrades};
 ghost use Rattle.dual_certificate.specs.Writing.{HaveMembers};
-ghost use Rattle.file_market.specs.Solve.{problem_for, FirstHasLimits, AreProblemsOf, AreSolutions, IsSolvedText};
+ghost use Rattle.file_market.specs.Solve.{problem_for, IsProblemAt, MayHave, MayHaveEach, IsProblemIn, IsProblemInAt, AreProblemsOf, AreSolutions, IsSolvedText};
 
 use crate::limits::{is_free, limits_for};
+use crate::writing::written;
 use command_types::{Mode, Roster};
-use dual_certificate::write_proposal;
-use network_laws::{Network, Problem, Solution, Solver};
+use network_laws::{Limits, Network, Problem, Solution, Solver};
 use outside::Gate;
 use parallel_solver::Workers;
 use std::alloc::{AllocError, Global};
@@ -15,47 +17,116 @@ use std::thread::Threads;
 use trade_file::{FileTrade, networks};
 use units_core::ProductNo;
 
-// The next product's network, with the limits that it may be compressed within. In free mode these are the limits of the
-// first product, too.
-fn next_problem(
+// A product's network, with limits of its own.
+fn own_problem(
     alloc: Global,
     roster: &Roster,
     mode: Mode,
-    before: &[Problem],
+    product: usize,
     network: &Network,
 ) -> Result<Problem, AllocError>
     requires members { network.now.members ≡ length roster.now.members }
-    requires few { length before.now < 2 ^ 16 }
-    requires first { FirstHasLimits roster.now mode before.now }
-    ensures { IfOk result (λ problem. problem ≡ problem_for roster.now mode (length before.now) network.now) }
+    requires few { product < 2 ^ 16 }
+    ensures { IfOk result (λ problem. problem ≡ problem_for roster.now mode product network.now) }
 {
-    let _members = network.members();
-    if is_free(mode) && !before.is_empty() {
-        let limits = before[0].limits().copy()?;
-        return Ok(Problem::new(limits, network.copy()?));
-    }
-    let product = ProductNo(before.len() as u16);
-    let limits = limits_for(alloc, roster, mode, product, network)?;
+    let limits = limits_for(alloc, roster, mode, ProductNo(product as u16), network)?;
     Ok(Problem::new(limits, network.copy()?))
 }
 
-// One for each product.
-fn problems_of(
+// A network, with a copy of limits.
+fn problem_in(limits: &Limits, network: &Network) -> Result<Problem, AllocError>
+    requires { MayHave limits.now network.now }
+    ensures { IfOk result (IsProblemIn limits.now network.now) }
+{
+    let _members = network.members();
+    let limits = limits.copy()?;
+    Ok(Problem::new(limits, network.copy()?))
+}
+
+// One for each product, with limits of its own.
+fn own_problems<R: Threads + Sync, V: Solver, G: Gate>(
     alloc: Global,
     roster: &Roster,
     mode: Mode,
     networks: &[Network],
+    workers: &Workers<'_, R, V, G>,
 ) -> Result<Vec<Problem>, AllocError>
     requires count { length networks.now ≡ length roster.now.products }
     requires members { HaveMembers roster.now networks.now }
     ensures { IfOk result (λ problems. AreProblemsOf roster.now mode networks.now problems.items) }
 {
-    let mut problems = Vec::new(alloc);
-    for product in 0..roster.products().len() {
-        let problem = next_problem(alloc, roster, mode, &problems, &networks[product])?;
-        problems.push(problem)?;
-    }
+    let products = roster.products().len();
+    let problems = workers.make_all(
+        alloc,
+        products,
+        &move |product: usize| -> Result<Problem, AllocError>
+            requires { (product < 2 ^ 16) × (product < length networks.now) × HaveMembers roster.now networks.now }
+            ensures { IfOk result (IsProblemAt roster.entry.now mode networks.entry.now product) }
+        { own_problem(alloc, roster, mode, product, &networks[product]) },
+    )?;
     Ok(problems)
+}
+
+// One for each product, with a copy of these limits.
+fn problems_in<R: Threads + Sync, V: Solver, G: Gate>(
+    alloc: Global,
+    limits: &Limits,
+    networks: &[Network],
+    workers: &Workers<'_, R, V, G>,
+) -> Result<Vec<Problem>, AllocError>
+    requires { MayHaveEach limits.now networks.now }
+    ensures count { IfOk result (λ problems. vec_len problems ≡ length networks.now) }
+    ensures each { IfOk result (λ problems. (product : ℕ) (d : ProblemData) → product < length networks.now → IsProblemInAt limits.now networks.now product (slice_index_or problems.items product d)) }
+{
+    let problems = workers.make_all(
+        alloc,
+        networks.len(),
+        &move |product: usize| -> Result<Problem, AllocError>
+            requires { (product < length networks.now) × MayHaveEach limits.now networks.now }
+            ensures { IfOk result (IsProblemInAt limits.entry.now networks.entry.now product) }
+        { problem_in(limits, &networks[product]) },
+    )?;
+    Ok(problems)
+}
+
+// One for each product, in free mode: the limits of the first are those of all.
+fn free_problems<R: Threads + Sync, V: Solver, G: Gate>(
+    alloc: Global,
+    roster: &Roster,
+    networks: &[Network],
+    workers: &Workers<'_, R, V, G>,
+) -> Result<Vec<Problem>, AllocError>
+    requires count { length networks.now ≡ length roster.now.products }
+    requires members { HaveMembers roster.now networks.now }
+    ensures { IfOk result (λ problems. AreProblemsOf roster.now Mode.Free networks.now problems.items) }
+{
+    if networks.is_empty() {
+        return Ok(Vec::new(alloc));
+    }
+    let first = &networks[0];
+    let _members = first.members();
+    let limits = limits_for(alloc, roster, Mode::Free, ProductNo(0), first)?;
+    let problems = problems_in(alloc, &limits, networks, workers)?;
+    Ok(problems)
+}
+
+// One for each product.
+fn problems_of<R: Threads + Sync, V: Solver, G: Gate>(
+    alloc: Global,
+    roster: &Roster,
+    mode: Mode,
+    networks: &[Network],
+    workers: &Workers<'_, R, V, G>,
+) -> Result<Vec<Problem>, AllocError>
+    requires count { length networks.now ≡ length roster.now.products }
+    requires members { HaveMembers roster.now networks.now }
+    ensures { IfOk result (λ problems. AreProblemsOf roster.now mode networks.now problems.items) }
+{
+    if is_free(mode) {
+        free_problems(alloc, roster, networks, workers)
+    } else {
+        own_problems(alloc, roster, mode, networks, workers)
+    }
 }
 
 /// A solution for each product, by the workers.
@@ -70,7 +141,7 @@ pub(crate) fn solutions_of<R: Threads + Sync, V: Solver, G: Gate>(
     requires members { HaveMembers roster.now networks.now }
     ensures { IfOk result (λ solutions. AreSolutions roster.now mode networks.now solutions.items) }
 {
-    let problems = problems_of(alloc, roster, mode, networks)?;
+    let problems = problems_of(alloc, roster, mode, networks, workers)?;
     let solutions = workers.solve_all(alloc, &problems)?;
     Ok(solutions)
 }
@@ -90,5 +161,5 @@ pub fn solve<R: Threads + Sync, V: Solver, G: Gate>(
 {
     let networks = networks(alloc, trades, roster)?;
     let solutions = solutions_of(alloc, roster, mode, &networks, workers)?;
-    write_proposal(alloc, roster, &networks, &solutions)
+    written(alloc, roster, &networks, &solutions, workers)
 }

@@ -4,8 +4,8 @@ use Rattle.file_market.specs.Solve.{AreSolutions}
 use Rattle.file_market.proofs.SolutionFacts.{solve_members}
 use Rattle.file_market.proofs.solving.solve.Goals as goal
 
-pub write_proposal-requires-clause-solved : goal.write_proposal-requires-clause-solved
-write_proposal-requires-clause-solved g c =
+pub written-requires-clause-solved : goal.written-requires-clause-solved
+written-requires-clause-solved g c κs within =
     let market = c.in_ok-networks.ensures in
     let solved = subst (λ ys. AreSolutions c.args.roster.now c.args.mode ys c.in_ok-solutions.solutions.items) c.deref.ensures.value c.in_ok-solutions.ensures in
     subst (SolveMembers c.args.roster.now) (sym c.deref-3.ensures.value) (solve_members c.args.roster.now c.args.mode c.args.trades.now c.in_ok-networks.networks.items c.in_ok-solutions.solutions.items market solved)
