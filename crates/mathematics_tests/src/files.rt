@@ -12,7 +12,7 @@ use path_solver::PathSolver;
 use std::alloc::{AllocGlobal, Global};
 use std::test::Fail;
 use std::thread::Threads;
-use trade_file::{read_roster, read_trades};
+use trade_file::{Readers, read_roster, read_trades};
 
 pub const FIVE_DEALERS: &str =
     "name,role,key\nA,dealer,KA\nB,dealer,KB\nC,dealer,KC\nD,dealer,KD\nE,dealer,KE\nP,product,2031-06-30\n";
@@ -45,15 +45,16 @@ fn trades_text(alloc: Global, lines: &str) -> Result<Vec<u8>, Fail> {
 }
 
 /// That a check of a proposal says this.
-pub fn is_told(
-    alloc: Global,
+pub fn is_told<R: Threads + Sync + AllocGlobal>(
+    rt: &R,
     market: FileMarket<'_>,
     proposal: &[u8],
     told: &str,
 ) -> Result<(), Fail> {
+    let alloc = rt.alloc();
     let roster = read_roster(alloc, market.parties.as_bytes())?;
     let text = trades_text(alloc, market.trades)?;
-    let trades = read_trades(alloc, &text, &roster)?;
+    let trades = read_trades(alloc, &text, &roster, &Readers::new(rt, 1))?;
     let parts = read_proposal(alloc, proposal, &roster)?;
     let failing = check(alloc, &roster, market.mode, &trades, &parts)?;
     let found = verdict(alloc, &roster, &failing)?;
@@ -73,7 +74,8 @@ pub fn solved_text<R: Threads + Sync + AllocGlobal>(
 ) -> Result<Vec<u8>, Fail>
     requires { (1 ≤ workers) × (workers ≤ 64) }
 {
-    let trades = read_trades(rt.alloc(), text, roster)?;
+    let readers = Readers::new(rt, workers);
+    let trades = read_trades(rt.alloc(), text, roster, &readers)?;
     let solver = PathSolver::new(rt.alloc());
     let workers = Workers::new(rt, workers, &solver, &OpenGate);
     let proposal = solve(rt.alloc(), roster, mode, &trades, &workers)?;
@@ -88,7 +90,7 @@ pub fn solved_through<R: Threads + Sync + AllocGlobal, G: Gate>(
 ) -> Result<Vec<u8>, Fail> {
     let roster = read_roster(rt.alloc(), market.parties.as_bytes())?;
     let text = trades_text(rt.alloc(), market.trades)?;
-    let trades = read_trades(rt.alloc(), &text, &roster)?;
+    let trades = read_trades(rt.alloc(), &text, &roster, &Readers::new(rt, 2))?;
     let solver = PathSolver::new(rt.alloc());
     let workers = Workers::new(rt, 2, &solver, gate);
     let proposal = solve(rt.alloc(), &roster, market.mode, &trades, &workers)?;

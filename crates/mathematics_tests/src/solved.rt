@@ -23,7 +23,7 @@ fn gives<R: Threads + Sync + AllocGlobal>(
     end: &str,
 ) -> Result<(), Fail> {
     let text = solved(rt, market)?;
-    is_told(rt.alloc(), market, &text, "yes\n")?;
+    is_told(rt, market, &text, "yes\n")?;
     let holds = text.starts_with(head.as_bytes()) && text.ends_with(end.as_bytes());
     so(holds, "the proposal is otherwise")
 }
@@ -123,7 +123,7 @@ fn reaches_floor(alloc: Global, parties: &str, text: &[u8]) -> Result<(), Fail> 
 /// That what is solved passes the check, and has the gross of its floor in free mode.
 fn passes<R: Threads + Sync + AllocGlobal>(rt: &R, market: FileMarket<'_>) -> Result<(), Fail> {
     let text = solved(rt, market)?;
-    is_told(rt.alloc(), market, &text, "yes\n")?;
+    is_told(rt, market, &text, "yes\n")?;
     if market.mode == Mode::Free {
         return reaches_floor(rt.alloc(), market.parties, &text);
     }

@@ -2,8 +2,9 @@
 
 use crate::files::{FIVE_DEALERS, FileMarket, ONE_AND_ONE, is_told};
 use command_types::Mode;
-use std::alloc::Global;
+use std::alloc::AllocGlobal;
 use std::test::Fail;
+use std::thread::Threads;
 
 const STAR: FileMarket<'static> = FileMarket {
     parties: FIVE_DEALERS,
@@ -108,14 +109,14 @@ const PROPOSALS: &[(FileMarket<'static>, &[u8], &str)] = &[
     ),
 ];
 
-fn all_are_told(alloc: Global) -> Result<(), Fail> {
+fn all_are_told<R: Threads + Sync + AllocGlobal>(rt: &R) -> Result<(), Fail> {
     for &(market, proposal, told) in PROPOSALS {
-        is_told(alloc, market, proposal, told)?;
+        is_told(rt, market, proposal, told)?;
     }
     Ok(())
 }
 
 #[test]
 fn a_proposal_is_told_its_first_failure(rt: HostRuntime) -> Result<(), Fail> {
-    all_are_told(rt.alloc())
+    all_are_told(&rt)
 }
