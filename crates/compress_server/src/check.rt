@@ -15,10 +15,20 @@ use crate::load::{LoadFault, load_proposal, load_roster, load_trades};
 use command_types::{Mode, Roster};
 use dual_certificate::ProposalPart;
 use file_market::{Failing, check, verdict};
-use outside::{Files, Sink, write_all};
+use network_laws::Solver;
+use outside::{Files, Gate, Sink, write_all};
+use parallel_solver::Workers;
 use program_words::MarketFiles;
 use std::alloc::{AllocError, Global};
-use trade_file::FileTrade;
+use std::thread::Threads;
+use trade_file::{FileTrade, Readers};
+
+/// The words of the form.
+#[derive(Clone, Copy)]
+pub struct CheckWords<'a> {
+    pub market: MarketFiles<'a>,
+    pub proposal: &'a str,
+}
 
 /// How a check ended.
 #[derive(Clone, Copy)]
@@ -67,22 +77,24 @@ fn verdict_on(
     Ok((failing, text))
 }
 
-/// Reads the market's files and the proposal, checks it, and writes the verdict. No file changes.
-pub fn run_check<F: Files, K: Sink>(
+/// Reads the market's files and the proposal, has the workers check it, and writes the verdict. No file changes.
+pub fn run_check<R: Threads + Sync, V: Solver, G: Gate, F: Files, K: Sink>(
     alloc: Global,
     files: &mut F,
-    market: &MarketFiles<'_>,
-    proposal: &str,
+    words: &CheckWords<'_>,
     output: &mut K,
+    workers: &Workers<'_, R, V, G>,
 ) -> CheckEnd
-    ensures runs { CheckRuns (read_market market.now) proposal.now (files_by F.Files files.old) (files_by F.Files files.new) (output_by K.Sink output.old) (output_by K.Sink output.new) result }
+    ensures runs { CheckRuns (read_market words.now.market) words.now.proposal.now (files_by F.Files files.old) (files_by F.Files files.new) (output_by K.Sink output.old) (output_by K.Sink output.new) result }
     ensures stays { F.folder files.new ≡ F.folder files.old }
 {
+    let CheckWords { market, proposal } = *words;
     let roster = match load_roster(alloc, files, market.roster) {
         Ok(roster) => roster,
         Err(fault) => return CheckEnd::Unloaded(fault),
     };
-    let trades = match load_trades(alloc, files, market.trades, &roster) {
+    let readers = Readers::new(workers.rt, workers.count());
+    let trades = match load_trades(alloc, files, market.trades, &roster, &readers) {
         Ok(trades) => trades,
         Err(fault) => return CheckEnd::Unloaded(fault),
     };

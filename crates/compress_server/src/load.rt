@@ -14,7 +14,8 @@ use command_types::{FileFault, Roster};
 use dual_certificate::{ProposalPart, read_proposal};
 use outside::{Files, Trouble};
 use std::alloc::Global;
-use trade_file::{FileTrade, read_roster, read_trades};
+use std::thread::Threads;
+use trade_file::{FileTrade, Readers, read_roster, read_trades};
 use units_core::MOST_FILE;
 
 // As many bytes of a file as are read: one more than a file may have.
@@ -90,12 +91,13 @@ pub fn load_roster<F: Files>(alloc: Global, files: &mut F, name: &str) -> Result
     load_roster_as(alloc, files, FileRole::Roster, name)
 }
 
-/// The trades of the file with this name, over the roster. No file changes.
-pub fn load_trades<F: Files>(
+/// The trades of the file with this name, over the roster, read by these readers. No file changes.
+pub fn load_trades<R: Threads + Sync, F: Files>(
     alloc: Global,
     files: &mut F,
     name: &str,
     roster: &Roster,
+    readers: &Readers<'_, R>,
 ) -> Result<Vec<FileTrade>, LoadFault>
     ensures says { IfOk result (λ trades. Reads (F.folder files.old) name.now (trade_file roster.now) (Ok trades.items)) }
     ensures within { IfOk result (λ trades. AreFileTrades roster.now trades.items) }
@@ -104,7 +106,7 @@ pub fn load_trades<F: Files>(
     ensures never_falls { F.faults files.old ≤ F.faults files.new }
 {
     let bytes = read_front(alloc, files, FileRole::Trades, name)?;
-    match read_trades(alloc, &bytes, roster) {
+    match read_trades(alloc, &bytes, roster, readers) {
         Ok(trades) => Ok(trades),
         Err(FileFault::Memory) => Err(LoadFault::Memory),
         Err(fault) => Err(LoadFault::Faulty(FileRole::Trades, fault)),

@@ -15,6 +15,7 @@ use parallel_solver::Workers;
 use program_words::MarketFiles;
 use std::alloc::Global;
 use std::thread::Threads;
+use trade_file::Readers;
 
 /// How a solve ended.
 #[derive(Clone, Copy)]
@@ -57,7 +58,8 @@ pub fn run_solve<R: Threads + Sync, V: Solver, G: Gate, F: Files, K: Sink>(
         Ok(roster) => roster,
         Err(fault) => return SolveEnd::Unloaded(fault),
     };
-    let trades = match load_trades(alloc, files, market.trades, &roster) {
+    let readers = Readers::new(workers.rt, workers.count());
+    let trades = match load_trades(alloc, files, market.trades, &roster, &readers) {
         Ok(trades) => trades,
         Err(fault) => return SolveEnd::Unloaded(fault),
     };

@@ -8,7 +8,7 @@ ghost use Rattle.compress_server.specs.Seen.{input_by, seen_by, world_by};
 ghost use Rattle.compress_server.specs.Ending.{Runs};
 ghost use Rattle.compress_server.specs.Telling.{Ends};
 
-use crate::check::run_check;
+use crate::check::{CheckWords, run_check};
 use crate::ending::{End, tell_end};
 use crate::following::run_follow;
 use crate::generated::run_gen;
@@ -22,7 +22,7 @@ use doors::Listener;
 use network_laws::Solver;
 use outside::{Clock, Disk, Files, Gate, Sink, Source};
 use path_solver::PathSolver;
-use program_words::{Form, read_words};
+use program_words::{Count, Form, read_words};
 use std::alloc::Global;
 use std::sync::Wait;
 use std::thread::Threads;
@@ -95,7 +95,9 @@ fn run_form<
             (End::from(end), disk)
         }
         Some(Form::Check { market, proposal }) => {
-            let end = run_check(with.alloc, files, &market, proposal, output);
+            let words = CheckWords { market, proposal };
+            let workers = with.workers(Count { value: 4 });
+            let end = run_check(with.alloc, files, &words, output, &workers);
             (End::from(end), disk)
         }
         Some(Form::Solve { market, workers }) => {
