@@ -24,6 +24,8 @@ mod roster_files;
 #[cfg(test)]
 mod rosters;
 #[cfg(test)]
+mod shared_files;
+#[cfg(test)]
 mod sums;
 #[cfg(test)]
 mod trade_files;

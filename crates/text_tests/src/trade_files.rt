@@ -1,9 +1,10 @@
 //! Trade files, from outside.
 
 use command_types::{FileFault, Roster};
-use std::alloc::{AllocError, Global};
+use std::alloc::{AllocError, AllocGlobal, Global};
 use std::test::Fail;
-use trade_file::{FileTrade, read_roster, read_trades};
+use std::thread::Threads;
+use trade_file::{FileTrade, Readers, read_roster, read_trades};
 
 const HEADER: &str = "seller,buyer,product,amount\n";
 
@@ -15,24 +16,27 @@ fn read_parties(alloc: Global) -> Result<Roster, FileFault> {
 }
 
 /// The trades of a file, or its first fault, but for want of memory.
-fn read(alloc: Global, text: &[u8]) -> Result<Result<Vec<FileTrade>, FileFault>, AllocError> {
-    let Ok(roster) = read_parties(alloc) else {
+fn read<R: Threads + Sync + AllocGlobal>(
+    rt: &R,
+    text: &[u8],
+) -> Result<Result<Vec<FileTrade>, FileFault>, AllocError> {
+    let Ok(roster) = read_parties(rt.alloc()) else {
         return Err(AllocError);
     };
-    match read_trades(alloc, text, &roster) {
+    match read_trades(rt.alloc(), text, &roster, &Readers::new(rt, 5)) {
         Err(FileFault::Memory) => Err(AllocError),
         trades => Ok(trades),
     }
 }
 
 /// Whether the file of these records behind the header has these trades, by seller, buyer, product and amount.
-fn has_trades(
-    alloc: Global,
+fn has_trades<R: Threads + Sync + AllocGlobal>(
+    rt: &R,
     rest: &str,
     rows: &[(u16, u16, u16, u64)],
 ) -> Result<bool, AllocError> {
-    let text = format!(in alloc; "{HEADER}{rest}")?;
-    let Ok(trades) = read(alloc, text.as_bytes())? else {
+    let text = format!(in rt.alloc(); "{HEADER}{rest}")?;
+    let Ok(trades) = read(rt, text.as_bytes())? else {
         return Ok(false);
     };
     for (trade, &row) in trades.iter().zip(rows) {
@@ -51,20 +55,23 @@ fn has_trades(
 #[test]
 fn trades_are_read_in_their_order(rt: HostRuntime) -> Result<(), Fail> {
     let rows = [(0, 1, 0, 10), (2, 0, 1, 1_000_000_000_000_000)];
-    assert!(rt; has_trades(rt.alloc(), "A,B,P,10\nC,A,Q,1000000000000000\n", &rows)?);
+    assert!(rt; has_trades(&rt, "A,B,P,10\nC,A,Q,1000000000000000\n", &rows)?);
     Ok(())
 }
 
 #[test]
 fn a_header_alone_has_no_trades(rt: HostRuntime) -> Result<(), Fail> {
-    assert!(rt; has_trades(rt.alloc(), "", &[])?);
+    assert!(rt; has_trades(&rt, "", &[])?);
     Ok(())
 }
 
 /// Whether each of these files has the trades of A to B in P and of C to A in Q, of 10 and of 7.
-fn have_both_trades(alloc: Global, files: &[&[u8]]) -> Result<bool, AllocError> {
+fn have_both_trades<R: Threads + Sync + AllocGlobal>(
+    rt: &R,
+    files: &[&[u8]],
+) -> Result<bool, AllocError> {
     for &file in files {
-        let Ok(trades) = read(alloc, file)? else {
+        let Ok(trades) = read(rt, file)? else {
             return Ok(false);
         };
         let both = trades.len() == 2
@@ -96,19 +103,19 @@ fn line_ends_marks_and_quotes_change_no_trade(rt: HostRuntime) -> Result<(), Fai
         b"seller,buyer,product,amount\nA,B,P,10\nC,A,Q,\"7\"",
         b"\"seller\",buyer,product,\"amount\"\r\nA,B,P,10\r\nC,A,Q,7\r\n",
     ];
-    assert!(rt; have_both_trades(rt.alloc(), &files)?);
+    assert!(rt; have_both_trades(&rt, &files)?);
     Ok(())
 }
 
 /// Whether each file of this header and these records has its first fault, or none.
-fn has_faults(
-    alloc: Global,
+fn has_faults<R: Threads + Sync + AllocGlobal>(
+    rt: &R,
     header: &str,
     cases: &[(&str, Option<FileFault>)],
 ) -> Result<bool, AllocError> {
     for &(rest, want) in cases {
-        let text = format!(in alloc; "{header}{rest}")?;
-        if read(alloc, text.as_bytes())?.err() != want {
+        let text = format!(in rt.alloc(); "{header}{rest}")?;
+        if read(rt, text.as_bytes())?.err() != want {
             return Ok(false);
         }
     }
@@ -119,7 +126,7 @@ fn has_faults(
 fn a_file_without_a_record_has_not_the_columns(rt: HostRuntime) -> Result<(), Fail> {
     let first = Some(FileFault::Columns { row: 1 });
     let cases = [("", first), ("seller,buyer,product\n", first)];
-    assert!(rt; has_faults(rt.alloc(), "", &cases)?);
+    assert!(rt; has_faults(&rt, "", &cases)?);
     Ok(())
 }
 
@@ -147,47 +154,47 @@ fn the_first_fault_of_a_record_is_told(rt: HostRuntime) -> Result<(), Fail> {
             Some(FileFault::UnknownName { row: 3 }),
         ),
     ];
-    assert!(rt; has_faults(rt.alloc(), HEADER, &cases)?);
+    assert!(rt; has_faults(&rt, HEADER, &cases)?);
     Ok(())
 }
 
 /// Whether a record may come so often, and this fault comes where these records follow it.
-fn is_limited(
-    alloc: Global,
+fn is_limited<R: Threads + Sync + AllocGlobal>(
+    rt: &R,
     record: &str,
     times: usize,
     rest: &str,
     fault: FileFault,
 ) -> Result<bool, AllocError> {
-    let most = record.repeat(alloc, times)?;
-    let more = format!(in alloc; "{most}{rest}")?;
+    let most = record.repeat(rt.alloc(), times)?;
+    let more = format!(in rt.alloc(); "{most}{rest}")?;
     let cases = [(most.as_str(), None), (more.as_str(), Some(fault))];
-    has_faults(alloc, HEADER, &cases)
+    has_faults(rt, HEADER, &cases)
 }
 
 #[test]
 fn a_products_amounts_stay_within_10_to_the_18(rt: HostRuntime) -> Result<(), Fail> {
     let record = "A,B,P,1000000000000000\n";
     let fault = FileFault::GrossLimit { row: 1003 };
-    assert!(rt; is_limited(rt.alloc(), record, 1000, "A,B,Q,1\nB,A,P,1\n", fault)?);
+    assert!(rt; is_limited(&rt, record, 1000, "A,B,Q,1\nB,A,P,1\n", fault)?);
     Ok(())
 }
 
 #[test]
 fn a_file_has_at_most_100000_trades(rt: HostRuntime) -> Result<(), Fail> {
     let fault = FileFault::RowLimit { row: 100_002 };
-    assert!(rt; is_limited(rt.alloc(), "A,B,P,1\n", 100_000, "bad\n", fault)?);
+    assert!(rt; is_limited(&rt, "A,B,P,1\n", 100_000, "bad\n", fault)?);
     Ok(())
 }
 
 /// Whether a file of so many line feeds is too long.
-fn is_too_long(alloc: Global, size: usize) -> Result<bool, AllocError> {
-    let long = vec![in alloc; b'\n'; size]?;
-    Ok(read(alloc, &long)?.err() == Some(FileFault::TooLong))
+fn is_too_long<R: Threads + Sync + AllocGlobal>(rt: &R, size: usize) -> Result<bool, AllocError> {
+    let long = vec![in rt.alloc(); b'\n'; size]?;
+    Ok(read(rt, &long)?.err() == Some(FileFault::TooLong))
 }
 
 #[test]
 fn a_trade_file_of_more_than_64_mib_is_too_long(rt: HostRuntime) -> Result<(), Fail> {
-    assert!(rt; is_too_long(rt.alloc(), 67_108_865)?);
+    assert!(rt; is_too_long(&rt, 67_108_865)?);
     Ok(())
 }
