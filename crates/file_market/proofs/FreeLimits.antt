@@ -1,12 +1,11 @@
 -- In free mode, where no member set anything and nothing is held, the limits of a product do not rest on its network.
-use Rattle.std.proofs.Common.{◌≡◌, ℕ, zero, suc, ◌==◌, ◌++◌, max, Bool, true, false, List, [], ◌∷◌, ◌<◌, length, get_or, Option, None, refl, sym, ap, ◌∙◌, subst, arith}
+use Rattle.std.proofs.Common.{◌≡◌, ℕ, zero, suc, ◌==◌, ◌++◌, max, Bool, true, false, List, [], ◌∷◌, length, Option, None, refl, sym, ap, ◌∙◌, subst, arith}
 use Rattle.std.proofs.Math.Nat.{min-le_right}
 use Rattle.std.proofs.lemmas.Bool.{eqb-true}
 use Rattle.network_laws.specs.Networks.{NetworkData, IsNetwork, at}
 use Rattle.network_laws.specs.Limits.{LimitsData}
 use Rattle.network_laws.specs.declared.rows.LimitRow.{LimitRow}
 use Rattle.command_types.specs.Books.{listed_below}
-use Rattle.command_types.specs.declared.cycle.Mode.{Mode}
 use Rattle.command_types.specs.declared.cycle.Mode.TheVariants.{Free}
 use Rattle.command_types.specs.declared.roster.MemberRow.{MemberRow}
 use Rattle.command_types.specs.Roster.{Rows}

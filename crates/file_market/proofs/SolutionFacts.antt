@@ -1,8 +1,5 @@
 -- Problems of networks, and what solves them.
-use Rattle.std.proofs.Common.{◌≡◌, ◌≢◌, ◌∙◌, refl, sym, ap, subst, ℕ, zero, suc, ◌<◌, List, [], ◌∷◌, ◌++◌, length, get_or, arith, length-append, ⊎_elim}
-use Rattle.std.proofs.lemmas.Bool.{cases_eq}
-use Rattle.std.proofs.lemmas.List.{get_or_append_left, get_or_read}
-use Rattle.std.proofs.Math.Seq.{get_or-append_seam}
+use Rattle.std.proofs.Common.{◌≡◌, ◌∙◌, refl, ap, subst, ℕ, zero, suc, ◌<◌, List, [], ◌∷◌, length, get_or, arith}
 use Rattle.network_laws.specs.Networks.{NetworkData}
 use Rattle.network_laws.specs.Solutions.{ProblemData, SolutionData}
 use Rattle.network_laws.specs.Solved.{IsSolved, AreSolved}
@@ -11,7 +8,6 @@ use Rattle.command_types.specs.Roster.{Rows}
 use Rattle.trade_file.specs.declared.file_trade.FileTrade.{FileTrade}
 use Rattle.trade_file.specs.Networks.{AreNetworksOf}
 use Rattle.dual_certificate.specs.Writing.{SolveMembers}
-use Rattle.file_market.specs.Market.{market_limits}
 use Rattle.file_market.specs.Solve.{problem_for, AreProblemsOf, AreSolutions}
 
 -- a solution for each problem

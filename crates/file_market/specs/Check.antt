@@ -1,5 +1,6 @@
 -- The check of a proposal against the market of a trade file: the first product that fails.
-use Rattle.std.specs.Prelude.{◌≡◌, ℕ, zero, suc, ◌==◌, Bool, true, false, ◌&&◌, List, length, slice_get, Option, Some, None}
+use Rattle.std.specs.Prelude.{◌≡◌, ℕ, zero, suc, ◌<◌, ◌^◌, ◌==◌, Bool, true, false, ◌&&◌, List, length, slice_get, slice_index_or, Option, Some, None, Result, IfOk}
+use Rattle.std.specs.declared.alloc.AllocError.{AllocError}
 use Rattle.std.specs.Option.{option_or}
 use Rattle.network_laws.specs.declared.clash.Clash.{Clash}
 use Rattle.network_laws.specs.Networks.{NetworkData, gross, floor_m, bilateral}
@@ -9,6 +10,8 @@ use Rattle.command_types.specs.Roster.{Rows}
 use Rattle.trade_file.specs.declared.file_trade.FileTrade.{FileTrade}
 use Rattle.trade_file.specs.Networks.{AreNetworksOf}
 use Rattle.dual_certificate.specs.declared.proposal_part.ProposalPart.{ProposalPart}
+use Rattle.dual_certificate.specs.Parts.{AreParts}
+use Rattle.dual_certificate.specs.Writing.{HaveMembers}
 use Rattle.file_market.specs.declared.failing.Failure.{Failure}
 use Rattle.file_market.specs.declared.failing.Failure.TheVariants as failure
 use Rattle.file_market.specs.declared.failing.Failing.{Failing}
@@ -47,6 +50,16 @@ failing_product rows mode product network part = None
 abbrev pub FailsSo : Rows → Mode → List NetworkData → List ProposalPart → ℕ → Option Failure → Type 0
 FailsSo rows mode networks parts product failure =
     failing_product rows mode product (slice_get networks product) (slice_get parts product) ≡ failing_at product failure
+
+-- the networks and the parts are those of the roster's products, of which this is one
+abbrev pub MayCheckAt : Rows → List NetworkData → List ProposalPart → ℕ → Type 0
+MayCheckAt rows networks parts product =
+    (product < 2 ^ 16) × (product < length networks) × (length networks ≡ length rows.products) × HaveMembers rows networks × AreParts rows parts
+
+-- of each product it is told what is wrong with it, or that memory was wanted
+abbrev pub AreTold : Rows → Mode → List NetworkData → List ProposalPart → List (Result (Option Failure) AllocError) → Type 0
+AreTold rows mode networks parts found =
+    (product : ℕ) (d : Result (Option Failure) AllocError) → product < length networks → IfOk (slice_index_or found product d) (FailsSo rows mode networks parts product)
 
 -- the first of the products below this one that fails
 abbrev pub first_failing_below : Rows → Mode → List NetworkData → List ProposalPart → ℕ → Option Failing

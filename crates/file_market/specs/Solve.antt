@@ -34,6 +34,11 @@ pub record IsProblemIn (within : LimitsData) (own : NetworkData) (problem : Prob
 abbrev pub IsProblemInAt : LimitsData → List NetworkData → ℕ → ProblemData → Type 0
 IsProblemInAt limits networks product problem = (d : NetworkData) → IsProblemIn limits (slice_index_or networks product d) problem
 
+-- each network, within these limits
+abbrev pub AreProblemsIn : LimitsData → List NetworkData → List ProblemData → Type 0
+AreProblemsIn limits networks problems =
+    (product : ℕ) (d : ProblemData) → product < length networks → IsProblemInAt limits networks product (slice_index_or problems product d)
+
 -- one problem for each product's network, in order
 pub record AreProblemsOf (rows : Rows) (mode : Mode) (networks : List NetworkData) (problems : List ProblemData) : Type 0 where
   pub count : length problems ≡ length networks

@@ -3,7 +3,7 @@ ghost use Rattle.std.specs.Prelude.{◌≡◌, ℕ, ◌<◌, ◌^◌, Ok, length
 ghost use Rattle.trade_file.specs.TradeFile.{AreFileTrades};
 ghost use Rattle.dual_certificate.specs.Parts.{AreParts};
 ghost use Rattle.dual_certificate.specs.Writing.{HaveMembers};
-ghost use Rattle.file_market.specs.Check.{has_figures, part_failure, FailsSo, first_failing, IsChecked};
+ghost use Rattle.file_market.specs.Check.{has_figures, part_failure, FailsSo, MayCheckAt, AreTold, first_failing, IsChecked};
 
 use crate::failing::{Failing, Failure};
 use crate::limits::limits_for;
@@ -17,6 +17,13 @@ use std::alloc::{AllocError, Global};
 use std::thread::Threads;
 use trade_file::{FileTrade, networks};
 use units_core::ProductNo;
+
+/// A market's roster, and the mode that its products are compressed in.
+#[derive(Clone, Copy)]
+pub struct Terms<'a> {
+    pub roster: &'a Roster,
+    pub mode: Mode,
+}
 
 // Whether the figures of a part are those of the product's network and of the part's own.
 fn has_figures(network: &Network, part: &ProposalPart) -> bool
@@ -32,17 +39,16 @@ fn has_figures(network: &Network, part: &ProposalPart) -> bool
 // What is wrong with the part of a product.
 fn part_failure(
     alloc: Global,
-    roster: &Roster,
-    mode: Mode,
+    terms: &Terms<'_>,
     product: ProductNo,
     network: &Network,
     part: &ProposalPart,
 ) -> Result<Option<Failure>, AllocError>
-    requires members { network.now.members ≡ length roster.now.members }
-    requires posted { part.now.solution.network.members ≡ length roster.now.members }
-    ensures { IfOk result (λ failure. failure ≡ part_failure roster.now mode product network.now part.now) }
+    requires members { network.now.members ≡ length terms.now.roster.now.members }
+    requires posted { part.now.solution.network.members ≡ length terms.now.roster.now.members }
+    ensures { IfOk result (λ failure. failure ≡ part_failure terms.now.roster.now terms.now.mode product network.now part.now) }
 {
-    let limits = limits_for(alloc, roster, mode, product, network)?;
+    let limits = limits_for(alloc, terms.roster, terms.mode, product, network)?;
     let posted = &part.solution;
     let clash = dual_certificate::check(&limits, network, posted.network(), posted.potentials());
     if let Some(clash) = clash {
@@ -58,28 +64,20 @@ fn part_failure(
 // What is wrong with the part of the product at a place.
 fn failure_at(
     alloc: Global,
-    roster: &Roster,
-    mode: Mode,
+    terms: &Terms<'_>,
     networks: &[Network],
     parts: &[ProposalPart],
     product: usize,
 ) -> Result<Option<Failure>, AllocError>
     requires few { product < 2 ^ 16 }
     requires within { product < length networks.now }
-    requires count { length networks.now ≡ length roster.now.products }
-    requires members { HaveMembers roster.now networks.now }
-    requires parts { AreParts roster.now parts.now }
-    ensures { IfOk result (FailsSo roster.now mode networks.now parts.now product) }
+    requires count { length networks.now ≡ length terms.now.roster.now.products }
+    requires members { HaveMembers terms.now.roster.now networks.now }
+    requires parts { AreParts terms.now.roster.now parts.now }
+    ensures { IfOk result (FailsSo terms.now.roster.now terms.now.mode networks.now parts.now product) }
 {
     let number = ProductNo(product as u16);
-    let failure = part_failure(
-        alloc,
-        roster,
-        mode,
-        number,
-        &networks[product],
-        &parts[product],
-    )?;
+    let failure = part_failure(alloc, terms, number, &networks[product], &parts[product])?;
     Ok(failure)
 }
 
@@ -87,26 +85,25 @@ fn failure_at(
 // nothing of those before it.
 fn failures<R: Threads + Sync, V: Solver, G: Gate>(
     alloc: Global,
-    roster: &Roster,
-    mode: Mode,
+    terms: &Terms<'_>,
     networks: &[Network],
     parts: &[ProposalPart],
     workers: &Workers<'_, R, V, G>,
 ) -> Result<Vec<Result<Option<Failure>, AllocError>>, AllocError>
-    requires count { length networks.now ≡ length roster.now.products }
-    requires members { HaveMembers roster.now networks.now }
-    requires parts { AreParts roster.now parts.now }
+    requires count { length networks.now ≡ length terms.now.roster.now.products }
+    requires members { HaveMembers terms.now.roster.now networks.now }
+    requires parts { AreParts terms.now.roster.now parts.now }
     ensures count { IfOk result (λ found. vec_len found ≡ length networks.now) }
-    ensures each { IfOk result (λ found. (product : ℕ) (d : _) → product < length networks.now → IfOk (slice_index_or found.items product d) (FailsSo roster.now mode networks.now parts.now product)) }
+    ensures each { IfOk result (λ found. AreTold terms.now.roster.now terms.now.mode networks.now parts.now found.items) }
 {
-    let products = roster.products().len();
+    let products = terms.roster.products().len();
     let found = workers.make_all(
         alloc,
         products,
         &move |product: usize| -> Result<Result<Option<Failure>, AllocError>, AllocError>
-            requires { (product < 2 ^ 16) × (product < length networks.now) × (length networks.now ≡ length roster.now.products) × HaveMembers roster.now networks.now × AreParts roster.now parts.now }
-            ensures { IfOk result (λ found. IfOk found (FailsSo roster.entry.now mode networks.entry.now parts.entry.now product)) }
-        { Ok(failure_at(alloc, roster, mode, networks, parts, product)) },
+            requires { MayCheckAt terms.now.roster.now networks.now parts.now product }
+            ensures { IfOk result (λ found. IfOk found (FailsSo terms.entry.now.roster.now terms.entry.now.mode networks.entry.now parts.entry.now product)) }
+        { Ok(failure_at(alloc, terms, networks, parts, product)) },
     )?;
     Ok(found)
 }
@@ -125,19 +122,18 @@ fn told(
 // The first product that fails. No product behind it tells that memory was wanted.
 fn first_failing<R: Threads + Sync, V: Solver, G: Gate>(
     alloc: Global,
-    roster: &Roster,
-    mode: Mode,
+    terms: &Terms<'_>,
     networks: &[Network],
     parts: &[ProposalPart],
     workers: &Workers<'_, R, V, G>,
 ) -> Result<Option<Failing>, AllocError>
-    requires count { length networks.now ≡ length roster.now.products }
-    requires members { HaveMembers roster.now networks.now }
-    requires parts { AreParts roster.now parts.now }
-    ensures { IfOk result (λ found. found ≡ first_failing roster.now mode networks.now parts.now) }
+    requires count { length networks.now ≡ length terms.now.roster.now.products }
+    requires members { HaveMembers terms.now.roster.now networks.now }
+    requires parts { AreParts terms.now.roster.now parts.now }
+    ensures { IfOk result (λ found. found ≡ first_failing terms.now.roster.now terms.now.mode networks.now parts.now) }
 {
-    let found = failures(alloc, roster, mode, networks, parts, workers)?;
-    for product in 0..roster.products().len() {
+    let found = failures(alloc, terms, networks, parts, workers)?;
+    for product in 0..terms.roster.products().len() {
         let failure = told(&found, product)?;
         if let Some(failure) = failure {
             return Ok(Some(Failing {
@@ -155,16 +151,15 @@ fn first_failing<R: Threads + Sync, V: Solver, G: Gate>(
 /// the only error is want of memory.
 pub fn check<R: Threads + Sync, V: Solver, G: Gate>(
     alloc: Global,
-    roster: &Roster,
-    mode: Mode,
+    terms: &Terms<'_>,
     trades: &[FileTrade],
     parts: &[ProposalPart],
     workers: &Workers<'_, R, V, G>,
 ) -> Result<Option<Failing>, AllocError>
-    requires trades { AreFileTrades roster.now trades.now }
-    requires parts { AreParts roster.now parts.now }
-    ensures { IfOk result (IsChecked roster.now mode trades.now parts.now) }
+    requires trades { AreFileTrades terms.now.roster.now trades.now }
+    requires parts { AreParts terms.now.roster.now parts.now }
+    ensures { IfOk result (IsChecked terms.now.roster.now terms.now.mode trades.now parts.now) }
 {
-    let networks = networks(alloc, trades, roster)?;
-    first_failing(alloc, roster, mode, &networks, parts, workers)
+    let networks = networks(alloc, trades, terms.roster)?;
+    first_failing(alloc, terms, &networks, parts, workers)
 }

@@ -13,7 +13,7 @@ mod untouched;
 mod verdict_text;
 mod writing;
 
-pub use checking::check;
+pub use checking::{Terms, check};
 pub use failing::{Failing, Failure};
 pub use laws::{
     nothing_fails_where_all_pass, summaries_are_one, what_is_solved_passes, yes_where_all_are_least,

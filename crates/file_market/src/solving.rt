@@ -1,10 +1,9 @@
 //! The solution of a market, its products beside one another.
-ghost use Rattle.std.specs.Prelude.{◌≡◌, ℕ, ◌<◌, ◌≤◌, ◌^◌, length, vec_len, slice_index_or, IfOk};
-ghost use Rattle.network_laws.specs.Solutions.{ProblemData};
+ghost use Rattle.std.specs.Prelude.{◌≡◌, ◌<◌, ◌≤◌, ◌^◌, length, vec_len, IfOk};
 ghost use Rattle.command_types.specs.declared.cycle.Mode.{Mode};
 ghost use Rattle.trade_file.specs.TradeFile.{AreFileTrades};
 ghost use Rattle.dual_certificate.specs.Writing.{HaveMembers};
-ghost use Rattle.file_market.specs.Solve.{problem_for, IsProblemAt, MayHave, MayHaveEach, IsProblemIn, IsProblemInAt, AreProblemsOf, AreSolutions, IsSolvedText};
+ghost use Rattle.file_market.specs.Solve.{problem_for, IsProblemAt, MayHave, MayHaveEach, IsProblemIn, IsProblemInAt, AreProblemsIn, AreProblemsOf, AreSolutions, IsSolvedText};
 
 use crate::limits::{is_free, limits_for};
 use crate::writing::written;
@@ -76,7 +75,7 @@ fn problems_in<R: Threads + Sync, V: Solver, G: Gate>(
 ) -> Result<Vec<Problem>, AllocError>
     requires { MayHaveEach limits.now networks.now }
     ensures count { IfOk result (λ problems. vec_len problems ≡ length networks.now) }
-    ensures each { IfOk result (λ problems. (product : ℕ) (d : ProblemData) → product < length networks.now → IsProblemInAt limits.now networks.now product (slice_index_or problems.items product d)) }
+    ensures each { IfOk result (λ problems. AreProblemsIn limits.now networks.now problems.items) }
 {
     let problems = workers.make_all(
         alloc,

@@ -1,8 +1,8 @@
-use Rattle.std.proofs.Common.{◌≡◌, ◌∙◌, sym, ap, subst, [], length, get_or, arith}
+use Rattle.std.proofs.Common.{◌∙◌, sym, ap, subst, [], get_or, arith}
 use Rattle.network_laws.specs.Limits.{IsWithinLimits}
 use Rattle.command_types.specs.declared.cycle.Mode.TheVariants.{Free}
 use Rattle.tolerance_sets.proofs.PairLimits.{network_is_within}
-use Rattle.file_market.specs.Market.{empty_network, market_limits}
+use Rattle.file_market.specs.Market.{empty_network}
 use Rattle.file_market.proofs.FreeLimits.{free_limits_same}
 use Rattle.file_market.proofs.solving.free_problems.Goals as goal
 
