@@ -5,7 +5,7 @@ ghost use Rattle.std.specs.Prelude.{◌≤◌};
 use crate::networks::so;
 use command_types::{Mode, Roster};
 use dual_certificate::read_proposal;
-use file_market::{check, solve, verdict};
+use file_market::{Terms, check, solve, verdict};
 use outside::{Gate, OpenGate};
 use parallel_solver::Workers;
 use path_solver::PathSolver;
@@ -44,24 +44,47 @@ fn trades_text(alloc: Global, lines: &str) -> Result<Vec<u8>, Fail> {
     Ok(text)
 }
 
-/// That a check of a proposal says this.
+/// What a check by so many workers says of a proposal's parts.
+fn told_by<R: Threads + Sync + AllocGlobal>(
+    rt: &R,
+    workers: u32,
+    roster: &Roster,
+    market: FileMarket<'_>,
+    proposal: &[u8],
+) -> Result<Vec<u8>, Fail>
+    requires { (1 ≤ workers) × (workers ≤ 64) }
+{
+    let alloc = rt.alloc();
+    let text = trades_text(alloc, market.trades)?;
+    let trades = read_trades(alloc, &text, roster, &Readers::new(rt, workers))?;
+    let parts = read_proposal(alloc, proposal, roster)?;
+    let solver = PathSolver::new(alloc);
+    let workers = Workers::new(rt, workers, &solver, &OpenGate);
+    let terms = Terms {
+        roster,
+        mode: market.mode,
+    };
+    let failing = check(alloc, &terms, &trades, &parts, &workers)?;
+    let found = verdict(alloc, roster, &failing)?;
+    Ok(found)
+}
+
+/// That a check of a proposal says this, by 1 to 5 workers.
 pub fn is_told<R: Threads + Sync + AllocGlobal>(
     rt: &R,
     market: FileMarket<'_>,
     proposal: &[u8],
     told: &str,
 ) -> Result<(), Fail> {
-    let alloc = rt.alloc();
-    let roster = read_roster(alloc, market.parties.as_bytes())?;
-    let text = trades_text(alloc, market.trades)?;
-    let trades = read_trades(alloc, &text, &roster, &Readers::new(rt, 1))?;
-    let parts = read_proposal(alloc, proposal, &roster)?;
-    let failing = check(alloc, &roster, market.mode, &trades, &parts)?;
-    let found = verdict(alloc, &roster, &failing)?;
-    so(
-        found.as_slice() == told.as_bytes(),
-        "the check says otherwise",
-    )
+    let roster = read_roster(rt.alloc(), market.parties.as_bytes())?;
+    for workers in 1..6 {
+        let found = told_by(rt, workers, &roster, market, proposal)?;
+        so(
+            found.as_slice() == told.as_bytes(),
+            "the check says otherwise",
+        )?;
+    }
+    Ok(())
 }
 
 /// What so many workers solve for the text of a trade file.

@@ -5,7 +5,7 @@ ghost use Rattle.std.specs.Prelude.{◌≡◌, IfOk, length};
 use crate::files::FIVE_DEALERS;
 use crate::networks::{Sale, has_rows, network_of, so};
 use command_types::{FileFault, Roster};
-use dual_certificate::{ProposalPart, read_proposal, write_proposal};
+use dual_certificate::{ProposalPart, join_parts, read_proposal, write_part};
 use network_laws::{Network, Solution};
 use std::alloc::{AllocError, Global};
 use std::test::Fail;
@@ -32,18 +32,15 @@ fn least(alloc: Global) -> Result<Solution, Fail>
 fn written(
     alloc: Global,
     roster: &Roster,
-    old: Network,
-    new: Solution,
+    old: &Network,
+    new: &Solution,
 ) -> Result<Vec<u8>, AllocError>
     requires products { length roster.now.products ≡ 1 }
-    requires members { old.members ≡ length roster.now.members }
-    requires solved { new.network.members ≡ length roster.now.members }
+    requires solved { new.now.network.members ≡ length roster.now.members }
 {
-    let mut olds = Vec::new(alloc);
-    olds.push(old)?;
-    let mut news = Vec::new(alloc);
-    news.push(new)?;
-    write_proposal(alloc, roster, &olds, &news)
+    let mut parts = Vec::new(alloc);
+    parts.push(write_part(alloc, roster, 0, old, new)?)?;
+    join_parts(alloc, &parts)
 }
 
 /// That the proposal of the least network is this text.
@@ -54,7 +51,7 @@ fn is_written(alloc: Global, text: &str) -> Result<(), Fail> {
     if roster.products().len() != 1 || roster.members().len() != 5 {
         return Err(Fail::new("the roster is otherwise"));
     }
-    let found = written(alloc, &roster, old, new)?;
+    let found = written(alloc, &roster, &old, &new)?;
     so(found.as_slice() == text.as_bytes(), "the text is otherwise")
 }
 

@@ -107,6 +107,12 @@ const PROPOSALS: &[(FileMarket<'static>, &[u8], &str)] = &[
         b"product P 0 0 0 0\npot A 0\npot B 0\nbound 0\nproduct Q 5 5 3 3\nrow A B 4\nrow B A 1\npot A 1\npot B 0\nbound 5\nend 2\n",
         "no Q slack B A\n",
     ),
+    // Both fail, and the first is told.
+    (
+        TWO_PRODUCTS,
+        b"product P 0 0 0 1\npot A 0\npot B 0\nbound 0\nproduct Q 5 5 3 3\nrow A B 4\nrow B A 1\npot A 1\npot B 0\nbound 5\nend 2\n",
+        "no P figures\n",
+    ),
 ];
 
 fn all_are_told<R: Threads + Sync + AllocGlobal>(rt: &R) -> Result<(), Fail> {

@@ -128,16 +128,37 @@ const THREE_PRODUCTS: FileMarket<'static> = FileMarket {
     mode: Mode::Hybrid,
 };
 
+/// That any number of workers writes the same for a market.
+fn all_write_the_same<R: Threads + Sync + AllocGlobal>(
+    rt: &R,
+    mode: Mode,
+    begin: &str,
+    end: &str,
+) -> Result<(), Fail> {
+    let market = FileMarket {
+        mode,
+        ..THREE_PRODUCTS
+    };
+    for workers in [1, 2, 3, 4, 5, 64] {
+        let text = solved_by(rt, workers, market)?;
+        let holds = text.starts_with(begin.as_bytes()) && text.ends_with(end.as_bytes());
+        so(holds, "the bytes are otherwise")?;
+        so(text == solved_by(rt, 1, market)?, "other bytes are written")?;
+    }
+    Ok(())
+}
+
 #[test]
 fn any_number_of_workers_writes_the_same_bytes(rt: HostRuntime) -> Result<(), Fail> {
-    let one = solved_by(&rt, 1, THREE_PRODUCTS)?;
-    let two = solved_by(&rt, 2, THREE_PRODUCTS)?;
-    let many = solved_by(&rt, 64, THREE_PRODUCTS)?;
-    let begun = one.starts_with(b"product P 17 10 10 17\nrow A B 3\nrow A C 7\n");
-    let ended = one.ends_with(b"\nbound 40\nend 3\n");
-    so(
-        begun && ended && one == two && one == many,
-        "the bytes are otherwise",
+    let begin = "product P 17 10 10 17\nrow A B 3\nrow A C 7\n";
+    let end = "\nbound 40\nend 3\n";
+    all_write_the_same(&rt, Mode::Hybrid, begin, end)?;
+    all_write_the_same(&rt, Mode::Free, begin, end)?;
+    all_write_the_same(
+        &rt,
+        Mode::Conservative,
+        "product P 17 17 10 17\nrow A B 10\nrow B C 7\n",
+        "\nbound 70\nend 3\n",
     )
 }
 
