@@ -2,12 +2,12 @@ use Rattle.std.proofs.Common.{◌∙◌, Some, refl, sym, ap, subst, inl, inr}
 use Rattle.house.specs.House.{HouseView}
 use Rattle.house.proofs.CallingFacts.{nothing_of}
 use Rattle.standby.specs.Ending.{SaysLines}
-use Rattle.standby.specs.Following.{FollowsTo}
+use Rattle.standby.specs.Following.{EndsSo, FollowsTo}
 use Rattle.standby_wire.specs.Replied.{HeardView, HearingView, hearing_over, IsHearing}
 use Rattle.standby_link.specs.Followed.{Streams, FollowsOver, streams_by}
 use Rattle.standby_link.specs.Read.{offers_of}
 use Rattle.standby_link.specs.Wire.{WireStart, WireView, wire_by}
-use Rattle.standby_link.proofs.FollowedFacts.{parted, followed}
+use Rattle.standby_link.proofs.FollowedFacts.{ends_parted, parted, followed}
 use Rattle.standby_link.proofs.WireFacts.{first_wire}
 use Rattle.standby_link.proofs.following.follow.Goals as goal
 
@@ -54,6 +54,15 @@ returns-in-Some-compare-clause-follows g c =
     (record { first = met.same.0 ∙ begun.first.0; first_faults = met.same.1 ∙ begun.first.1 }) met.why met.greets met.never_falls wire.cut wire.said heard
     house (nothing_of house.kept c.requires.runs) c.length-length.ensures.keeps w1 c.in-Some-compare.end c.in-Some-compare.ensures.compares in
     subst (λ (v : HouseView). FollowsOver c.args.login first now house v c.in-Some-compare.end) (sym c.in-Some-compare.ensures.same) (inr (inl ended))
+
+pub returns-in-Some-compare-clause-ends : goal.returns-in-Some-compare-clause-ends
+returns-in-Some-compare-clause-ends g c =
+    let goes = c.in-Some-compare.ensures.compares in
+    let w0 : WireView = wire_by g.S.Source g.K.Sink c.new-wire.result c.greet.new.source c.greet.new.sink in
+    let w1 : WireView = wire_by g.S.Source g.K.Sink c.compare.new.wire c.compare.new.source c.compare.new.sink in
+    let house : HouseView = c.args.house.now in
+    subst (λ (v : HouseView). EndsSo house v (Some c.in-Some-compare.end)) (sym c.in-Some-compare.ensures.same)
+    (ends_parted w0.start.login house w1.hearing goes.said goes.replied c.in-Some-compare.end goes.holds (nothing_of house.kept c.requires.runs))
 
 pub returns-clause-follows : goal.returns-clause-follows
 returns-clause-follows g c =
