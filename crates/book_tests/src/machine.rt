@@ -3,7 +3,7 @@
 
 pub mod answers;
 mod bases;
-mod commands;
+pub mod commands;
 mod matching;
 mod misfits;
 mod open_cycles;
@@ -13,7 +13,7 @@ mod standing;
 mod starts;
 mod taking_back;
 mod unsaid;
-mod words;
+pub mod words;
 mod writable;
 
 ghost use Rattle.std.specs.Prelude.{◌≡◌, IfOk};
@@ -39,7 +39,8 @@ pub fn empty_desk(alloc: Global) -> Result<PlainDesk, AllocError>
     Ok(PlainDesk::new(alloc, machine))
 }
 
-fn ask_of(alloc: Global, by: Word, said: Said) -> Result<Ask, Fail> {
+/// What is asked for by this party.
+pub fn ask_of(alloc: Global, by: Word, said: Said) -> Result<Ask, Fail> {
     Ok(Ask {
         what: command_of(alloc, said)?,
         by: Some(by.name()),
