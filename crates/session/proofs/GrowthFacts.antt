@@ -23,7 +23,7 @@ use Rattle.cycle_lock.specs.Passes.{lock_of, seat_of, figures_of, seen, saw_stop
 use Rattle.session.specs.Serving.{Seat, Sight, of_pass, mark, roster_of, own_of, Grows, Asks}
 use Rattle.session.specs.Proposing.{begun_version, has_problems, Posts, Fetches, Proposes}
 
-longer_longer : (h : History) (made more : List Entry) → longer (longer h made) more ≡ longer h (made ++ more)
+pub longer_longer : (h : History) (made more : List Entry) → longer (longer h made) more ≡ longer h (made ++ more)
 longer_longer h made more = ap (λ es. record h { entries = es }) (append_assoc h.entries made more)
 
 -- the roster stays
@@ -54,7 +54,7 @@ grows_both a b c made more g h =
     }
 
 -- what was asked still stands in a history that has grown since
-asked_there : {clock : ℕ → Bool} (seat : Seat) (from : Mark) (mid new : Sight) (ask : Ask) (reply : Reply) (made more : List Entry) (to : Mark) → Grows mid new more →
+pub asked_there : {clock : ℕ → Bool} (seat : Seat) (from : Mark) (mid new : Sight) (ask : Ask) (reply : Reply) (made more : List Entry) (to : Mark) → Grows mid new more →
     IsAsked clock seat.figures mid.history seat.number from ask reply made to → IsAsked clock seat.figures new.history seat.number from ask reply made to
 asked_there {clock} seat from mid new ask reply made more to g a =
     let H : History → Type 0 = λ h. IsAsked clock seat.figures h seat.number from ask reply made to in
@@ -175,7 +175,7 @@ begun_last {clock} old new by cycle mode begun none {moment} a = record {
 }
 
 -- what came after a history is the rest of a longer one
-later_own : (h : History) (more : List Entry) (seat : ℕ) → entries_of_seat (longer h more) seat (end_of h) ≡ own_of seat more
+pub later_own : (h : History) (more : List Entry) (seat : ℕ) → entries_of_seat (longer h more) seat (end_of h) ≡ own_of seat more
 later_own h more seat =
     let size : end_of h - h.base.position ≡ length h.entries = omega arith in
     ap (λ (n : ℕ). own_of seat (drop n (h.entries ++ more))) size ∙ ap (own_of seat) (drop-append_seam h.entries more)

@@ -15,6 +15,10 @@ pub mod SolutionFacts
 pub mod GrammarFacts
 pub mod NotedFacts
 pub mod GrowthFacts
+pub mod InTurnFacts
+pub mod PlainFacts
+pub mod RunTextFacts
+pub mod RunFacts
 pub mod WithinFacts
 pub mod ServedFacts
 pub mod StepFacts

@@ -41,7 +41,7 @@ line_answered {clock} start old new before after line reply seat a =
     }
 
 -- a line of the same command as another
-read_alike : {clock : ℕ → Bool} (old new : Sight) (before after : Speaker) (a b : List ℕ) (reply : Reply) → line_within a ≡ line_within b → Answers clock old new before after a reply → Answers clock old new before after b reply
+pub read_alike : {clock : ℕ → Bool} (old new : Sight) (before after : Speaker) (a b : List ℕ) (reply : Reply) → line_within a ≡ line_within b → Answers clock old new before after a reply → Answers clock old new before after b reply
 read_alike {clock} old new before after a b reply e r = let P : Result Line ℕ → Type 0 = λ l. AnswersRead clock old new before after l reply in subst P e r
 
 -- a byte that ends no line

@@ -11,3 +11,5 @@ pub mod Given
 pub mod Proposing
 pub mod Ending
 pub mod Answered
+pub mod Runs
+pub mod AskedRun

@@ -1,13 +1,15 @@
 //! What a session asks with.
 
-ghost use Rattle.std.specs.Prelude.{◌≡◌, ℕ, Bool, IfOk};
+ghost use Rattle.std.specs.Prelude.{◌≡◌, ◌≤◌, ◌<◌, ℕ, Bool, All, length, take, drop, vec_len, vec_capacity, IfOk};
+ghost use Rattle.command_types.specs.declared.desk.TheConstants.{MOST_TOGETHER};
 ghost use Rattle.command_types.specs.History.{end_of};
 ghost use Rattle.command_types.specs.Session.{IsTime};
 ghost use Rattle.network_laws.specs.Solved.{AreSolved};
-ghost use Rattle.cycle_lock.specs.Passes.{IsPassOf, seen};
+ghost use Rattle.cycle_lock.specs.Passes.{IsPassOf, seat_of, seen};
+ghost use Rattle.session.specs.Runs.{AsksAll};
 ghost use Rattle.session.specs.Serving.{of_pass, Asks};
 
-use command_types::{Ask, Desk, Reply};
+use command_types::{Ask, Desk, Entry, Reply};
 use cycle_lock::{Pass, Turns};
 use network_laws::{Problem, Solution, Solver};
 use outside::Gate;
@@ -63,6 +65,23 @@ impl<'a, T: Desk, R: Threads + Wait + Sync, V: Solver, G: Gate> Asker<'a, T, R, 
         ensures { (clock : ℕ → Bool) → IsTime clock ask.moment → Asks clock (of_pass self.old.pass) (of_pass self.new.pass) ask result }
     {
         self.turns.call(self.workers.rt, &mut self.pass, ask)
+    }
+
+    /// Asks the desk these commands in one turn. A front of them is answered, at least the first, and what is answered may be
+    /// taken out of them. The replies take the place of those before.
+    pub fn ask_all(&mut self, commands: &mut [Entry], replies: &mut Vec<Reply>)
+        requires seats { All (λ command. command.seat ≡ seat_of self.old.pass) commands.old }
+        requires some { 0 < length commands.old }
+        requires few { length commands.old ≤ MOST_TOGETHER }
+        requires room { length commands.old ≤ vec_capacity replies.old }
+        ensures some { 0 < vec_len replies.new }
+        ensures few { vec_len replies.new ≤ length commands.old }
+        ensures rest { drop (vec_len replies.new) commands.new ≡ drop (vec_len replies.new) commands.old }
+        ensures capacity { vec_capacity replies.new ≡ vec_capacity replies.old }
+        ensures asks { (clock : ℕ → Bool) → All (λ command. IsTime clock command.ask.moment) commands.old → AsksAll clock (of_pass self.old.pass) (of_pass self.new.pass) (take (vec_len replies.new) commands.old) replies.new.items }
+    {
+        self.turns
+            .call_all(self.workers.rt, &mut self.pass, commands, replies)
     }
 
     /// The length of the history that the pass has seen.

@@ -1,15 +1,19 @@
 //! How the text of a reply is written: its head line, its detail lines and an entry's bytes, each behind what waits for the sink.
 
-ghost use Rattle.std.specs.Prelude.{◌≡◌, ◌++◌, [], OnOk, OnErr, IfOk};
+ghost use Rattle.std.specs.Prelude.{◌≡◌, ◌++◌, [], All, OnOk, OnErr, IfOk};
 ghost use Rattle.outside.specs.Faults.{CountsFault};
 ghost use Rattle.outside.specs.Flow.{Takes, TakesFront};
 ghost use Rattle.command_types.specs.Details.{raw_text, reply_text};
+ghost use Rattle.session.specs.Given.{IsGiven};
 ghost use Rattle.session.specs.Pending.{Says};
+ghost use Rattle.session.specs.Runs.{replies_text};
+ghost use Rattle.session.specs.Serving.{of_pass};
 
 use crate::given::Given;
 use crate::outbox::Outbox;
 use command_text::write_head;
-use command_types::{Answer, Roster};
+use command_types::{Answer, Reply, Roster};
+use cycle_lock::Pass;
 use outside::{Failed, Sink};
 use statements::{detail_count, detail_row, write_row};
 use std::alloc::{AllocError, Global};
@@ -65,6 +69,26 @@ impl ReplyWriter {
         };
         self.outbox.put_long(bytes.rows(), sink)?;
         self.outbox.put(b"\n", sink)
+    }
+
+    /// Puts the texts of replies that were given with this pass behind what waits, one after another.
+    pub fn write_all<K: Sink>(
+        &mut self,
+        roster: &Roster,
+        pass: &Pass,
+        replies: &[Reply],
+        sink: &mut K,
+    ) -> Result<(), Failed>
+        requires given { All (λ reply. IsGiven (of_pass pass.now) reply) replies.now }
+        ensures said { OnOk result (Says (K.taken sink.old) (K.taken sink.new) self.old.outbox self.new.outbox (replies_text roster.now replies.now)) }
+        ensures front { OnErr result (TakesFront (K.taken sink.old) (K.taken sink.new) (self.old.outbox ++ replies_text roster.now replies.now)) }
+        ensures counts { CountsFault result (K.faults sink.old) (K.faults sink.new) }
+    {
+        for reply in replies {
+            let given = Given { reply, pass };
+            self.write(roster, &given, sink)?;
+        }
+        Ok(())
     }
 
     /// Gives the sink all that waits. Where the sink fails, it took a front.
