@@ -19,6 +19,9 @@ pub mod InTurnFacts
 pub mod PlainFacts
 pub mod RunTextFacts
 pub mod RunFacts
+pub mod AskedRunFacts
+pub mod CommandFacts
+pub mod PieceFacts
 pub mod WithinFacts
 pub mod ServedFacts
 pub mod StepFacts

@@ -9,6 +9,7 @@ ghost use Rattle.session.specs.Serving.{of_pass};
 use crate::asker::Asker;
 use crate::line_buffer::LineBuffer;
 use crate::reply_writer::ReplyWriter;
+use crate::run::Run;
 use crate::serve::SessionEnd;
 use crate::session::Session;
 use crate::speaker::Speaker;
@@ -58,12 +59,16 @@ impl<'a, R: Threads + Wait + Sync, V: Solver, G: Gate, C: Clock> Host<'a, R, V, 
         let Ok(writer) = ReplyWriter::new(self.alloc) else {
             return (SessionEnd::Memory, pass);
         };
+        let Ok(run) = Run::new(self.alloc) else {
+            return (SessionEnd::Memory, pass);
+        };
         let mut session = Session {
             alloc: self.alloc,
             asker: Asker::new(&self.workers, turns, pass),
             roster: self.roster,
             speaker: Speaker::nobody(self.alloc),
             writer,
+            run,
         };
         let end = session.serve(self.clock, &mut line, &mut piece, source, sink);
         (end, session.asker.into_pass())

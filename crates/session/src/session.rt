@@ -10,6 +10,7 @@ ghost use Rattle.session.specs.Serving.{of_pass, roster_of};
 
 use crate::asker::Asker;
 use crate::reply_writer::ReplyWriter;
+use crate::run::Run;
 use crate::speaker::Speaker;
 use command_types::{Desk, Roster};
 use network_laws::Solver;
@@ -26,5 +27,6 @@ pub struct Session<'a, T: Desk, R: Threads + Wait + Sync, V: Solver, G: Gate> {
     pub(crate) roster: &'a Roster,
     pub(crate) speaker: Speaker,
     pub(crate) writer: ReplyWriter,
+    pub(crate) run: Run,
     ghost own: { roster.now ≡ roster_of (of_pass asker.pass) },
 }

@@ -91,8 +91,8 @@ impl<'a, T: Desk, R: Threads + Wait + Sync, V: Solver, G: Gate> Session<'a, T, R
         Ok(step)
     }
 
-    // Takes one byte of the input. A line feed ends a line, which is replied to.
-    fn take_byte<C: Clock, K: Sink>(
+    /// Takes one byte of the input. A line feed ends a line, which is replied to.
+    pub fn take_byte<C: Clock, K: Sink>(
         &mut self,
         clock: &C,
         line: &mut LineBuffer,
@@ -128,10 +128,11 @@ impl<'a, T: Desk, R: Threads + Wait + Sync, V: Solver, G: Gate> Session<'a, T, R
         ensures none_waits { result ≡ Ok Step.On → self.new.writer.outbox ≡ [] }
         ensures counts { CountsFault result (K.faults sink.old) (K.faults sink.new) }
     {
-        for byte in piece {
-            match self.take_byte(clock, line, *byte, sink)? {
-                Step::On => {}
-                Step::Over => return Ok(Step::Over),
+        let mut at = 0usize;
+        while at < piece.len() {
+            match self.take_front(clock, line, &piece[at..], sink)? {
+                Some(size) => at += size,
+                None => return Ok(Step::Over),
             }
         }
         self.writer.flush(sink)?;
