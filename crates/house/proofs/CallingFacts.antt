@@ -1,5 +1,6 @@
 -- The ways through a call that leave all as it was.
-use Rattle.std.proofs.Common.{◌≡◌, inl, inr, ℕ, ◌+◌, ◌-◌, ◌≤◌, nat_lt, cond, not, Bool, true, false, List, [], ◌∷◌, drop, length, Option, Some, None, is_some, option_to_list, IsTrue, if◌then◌else◌, refl, sym, ◌∙◌, subst, ap, arith}
+use Rattle.std.proofs.Common.{◌≡◌, inl, inr, ℕ, ◌+◌, ◌-◌, ◌≤◌, nat_lt, eqb, cond, not, Bool, true, false, List, [], ◌∷◌, drop, length, Option, Some, None, is_some, IsTrue, if◌then◌else◌, refl, sym, ◌∙◌, subst, ap, arith}
+use Rattle.std.proofs.Math.Dec.{eqb-suc-zero}
 use Rattle.std.proofs.lemmas.Bool.{false≢true}
 use Rattle.std.proofs.lemmas.List.{append-nil}
 use Rattle.command_types.specs.declared.ask.Ask.{Ask}
@@ -38,9 +39,10 @@ pub nothing_of : (kept : List Entry) → any_kept kept ≡ false → kept ≡ []
 nothing_of [] h = refl
 nothing_of (entry ∷ others) h = absurd (false≢true (sym h))
 
-pub any_listed : (o : Option Entry) → any_kept (option_to_list o) ≡ is_some o
-any_listed None = refl
-any_listed (Some entry) = refl
+-- whether a batch has a change
+pub any_by_length : (entries : List Entry) (n : ℕ) → n ≡ length entries → not (eqb n 0) ≡ any_kept entries
+any_by_length [] n is = ap (λ (k : ℕ). not (eqb k 0)) is
+any_by_length (entry ∷ others) n is = ap (λ (k : ℕ). not (eqb k 0)) is ∙ ap not (eqb-suc-zero (length others))
 
 -- a house stays one over a machine in the same state
 pub stays : (s t : State) (now : JournalNow) (v : HouseView) → t ≡ s → IsHouse s now v → IsHouse t now v

@@ -8,4 +8,8 @@ pub mod House
 pub mod Opening
 pub mod Journals
 pub mod Calling
+pub mod CallingAll
+pub mod Batch
+pub mod Step
+pub mod Front
 pub mod Executions

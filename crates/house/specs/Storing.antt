@@ -1,6 +1,7 @@
 -- What stands on the disk of a house.
 use Rattle.std.specs.Prelude.{◌≡◌, ◌⊎◌, ℕ, ◌+◌, ◌≤◌, ◌<◌, nat_lt, Bool, true, false, List, [], ◌∷◌, ◌++◌, length, Option, Some, None, if◌then◌else◌}
 use Rattle.command_types.specs.declared.ask.Entry.{Entry}
+use Rattle.command_types.specs.declared.desk.TheConstants.{MOST_TOGETHER}
 use Rattle.command_types.specs.declared.spelling.Spelling.{Spelling}
 use Rattle.command_types.specs.declared.spelling.Spelling.TheVariants.{First, Second}
 use Rattle.command_types.specs.Bases.{spelling_behind}
@@ -46,7 +47,7 @@ IsStored disk end h = (form : Form) × IsStoredAs disk form end h
 
 -- how many changes are put on the disk together at most
 abbrev pub most_together : ℕ
-most_together = 1
+most_together = MOST_TOGETHER
 
 -- the image stands for this history, or for it with all of some more changes
 abbrev pub StandsForAllOrNone : History → List Entry → List ℕ → Type 0

@@ -13,7 +13,7 @@ use outside::Disk;
 use record_codec::length;
 
 // The reply that refuses a command.
-fn refused(at: u64, refusal: Refusal) -> Reply
+pub(crate) fn refused(at: u64, refusal: Refusal) -> Reply
     ensures { result ≡ record { at = at; answer = No refusal } }
 {
     Reply {
@@ -60,7 +60,7 @@ impl<D: Disk> House<D> {
             let size = self.journal.bytes();
             return refused(at, Refusal::JournalFull { size });
         }
-        if self.kept.is_some() {
+        if self.batch.any() {
             return refused(at, Refusal::Stopped { at });
         }
         match store(
@@ -73,7 +73,7 @@ impl<D: Disk> House<D> {
             Ok(answer) => Reply { at: at + 1, answer },
             Err(Unstored::Memory) => refused(at, Refusal::Memory),
             Err(Unstored::Failed(entry)) => {
-                self.kept = Some(entry);
+                self.batch.keep(entry);
                 refused(at, Refusal::DiskFault)
             }
         }

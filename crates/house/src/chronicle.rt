@@ -1,11 +1,13 @@
 //! The history of a house, and the records of its changes.
-ghost use Rattle.std.specs.Prelude.{◌≡◌, ◌⊎◌, ◌<◌, ◌≤◌, ◌+◌, ◌-◌, ◌^◌, [], ◌∷◌, length, drop, IsTrue, OnOk, OnErr};
+ghost use Rattle.std.specs.Prelude.{◌≡◌, ◌⊎◌, ◌<◌, ◌≤◌, ◌+◌, ◌-◌, ◌^◌, [], ◌∷◌, length, drop, map, IsTrue, OnOk, OnErr};
 ghost use Rattle.command_types.specs.declared.answer.Answer.TheVariants.{No};
 ghost use Rattle.command_types.specs.declared.refusal.Refusal.TheVariants.{Memory};
 ghost use Rattle.command_types.specs.declared.spelling.Spelling.TheVariants.{Second};
 ghost use Rattle.command_types.specs.History.{end_of, longer};
 ghost use Rattle.command_types.specs.Offers.{first_behind};
 ghost use Rattle.command_types.specs.Spelling.{Spells};
+ghost use Rattle.std.specs.List.{AllZip};
+ghost use Rattle.journal_core.specs.Frame.{frames_length};
 ghost use Rattle.cycle_states.specs.Offers.{ArePlaces};
 ghost use Rattle.cycle_states.specs.Replayed.{IsReplayed, IsSmall};
 ghost use Rattle.house.specs.Chronicle.{AreRecords, HasVoteRoom};
@@ -126,6 +128,19 @@ impl Chronicle {
         Ok(())
     }
 
+    /// Makes room for records of so many bytes, with five more for each, and for the votes of all members behind them. The only error
+    /// is want of memory, which changes nothing.
+    pub(crate) fn make_room_all(&mut self, more: u64) -> Result<(), AllocError>
+        requires { more < 2 ^ 32 }
+        ensures history { self.new.history ≡ self.old.history }
+        ensures keeps { self.old.room ≤ self.new.room }
+        ensures room { OnOk result (more + VOTES_ROOM ≤ self.new.room) }
+        ensures err { OnErr result (self.new ≡ self.old) }
+    {
+        self.pool.make_room(self.alloc, more + VOTES_ROOM)?;
+        Ok(())
+    }
+
     /// Puts a change behind the others, with its record, for which there is room, and for the votes that are missing then. It takes
     /// no memory.
     pub(crate) fn push(&mut self, entry: &Entry, record_bytes: &[u8])
@@ -134,10 +149,25 @@ impl Chronicle {
         requires small { length record_bytes.now < 2 ^ 32 }
         requires room { 5 + length record_bytes.now ≤ self.old.room }
         requires votes { HasVoteRoom (longer self.old.history (entry.now ∷ [])) (self.old.room - (5 + length record_bytes.now)) }
-        ensures { self.new.history ≡ longer self.old.history (entry.now ∷ []) }
+        ensures history { self.new.history ≡ longer self.old.history (entry.now ∷ []) }
+        ensures left { self.new.room + (5 + length record_bytes.now) ≡ self.old.room }
     {
         self.past.push(entry);
         self.pool.push(record_bytes);
+    }
+
+    /// Puts changes behind the others, with their records, for which there is room, and for the votes of all members. It takes no
+    /// memory.
+    pub(crate) fn push_all(&mut self, entries: &[Entry], records: &[Vec<u8>])
+        requires few { length self.old.history.entries + length entries.now < 2 ^ 62 }
+        requires spells { AllZip (Spells Second) (map (λ r. r.items) records.now) entries.now }
+        requires small { frames_length (map (λ r. r.items) records.now) < 2 ^ 32 }
+        requires room { frames_length (map (λ r. r.items) records.now) + VOTES_ROOM ≤ self.old.room }
+        ensures { self.new.history ≡ longer self.old.history entries.now }
+    {
+        for (place, entry) in entries.iter().enumerate() {
+            self.push(entry, &records[place]);
+        }
     }
 
     /// The entry behind a position where there is one, or that there is no memory for it.

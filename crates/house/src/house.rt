@@ -1,6 +1,7 @@
 //! A desk over a disk.
 ghost use Rattle.std.specs.Prelude.{◌≡◌, ◌<◌, ◌^◌};
 
+use crate::batch::Batch;
 use crate::chronicle::Chronicle;
 use crate::past::Past;
 use command_types::{Ask, Desk, Entry, Reply};
@@ -19,8 +20,8 @@ pub struct House<D: Disk> {
     pub(crate) journal: Journal<D>,
     // The frame of an ACCEPT, which takes no memory.
     pub(crate) short: Frame,
-    // The change on which the disk failed.
-    pub(crate) kept: Option<Entry>,
+    // Of a call of several, or, where the disk failed, the changes on which it did; else without a change.
+    pub(crate) batch: Batch,
     // How many entries there were at the opening.
     pub(crate) opening: u64,
     // The history for which the disk's content stood, the disk as it was handed in, and the journal at the opening, for contracts alone.
@@ -30,18 +31,17 @@ pub struct House<D: Disk> {
 }
 
 impl<D: Disk> Model for House<D> {
-    ghost use Rattle.std.specs.Prelude.{option_to_list};
     ghost use Rattle.journal_core.specs.Journal.{disk_of, size_of};
     ghost use Rattle.house.specs.House.{HouseView, house_of, journal_of, now_of, IsHouse};
 
     ghost Value = { HouseView };
 
     ghost view = { λ h. house_of h.past.history h.opening (journal_of (size_of h.opened.value) (D.fault_count (disk_of h.opened.value))
-        (D.history h.taken.value) (D.history (disk_of h.opened.value)) h.first.value) (option_to_list h.kept) (D.history (disk_of h.journal)) (D.fault_count (disk_of h.journal)) };
+        (D.history h.taken.value) (D.history (disk_of h.opened.value)) h.first.value) h.batch.entries (D.history (disk_of h.journal)) (D.fault_count (disk_of h.journal)) };
 
     ghost invariant = { λ h. IsHouse h.machine.state (now_of h.journal)
         (house_of h.past.history h.opening (journal_of (size_of h.opened.value) (D.fault_count (disk_of h.opened.value))
-        (D.history h.taken.value) (D.history (disk_of h.opened.value)) h.first.value) (option_to_list h.kept) (D.history (disk_of h.journal)) (D.fault_count (disk_of h.journal))) };
+        (D.history h.taken.value) (D.history (disk_of h.opened.value)) h.first.value) h.batch.entries (D.history (disk_of h.journal)) (D.fault_count (disk_of h.journal))) };
 }
 
 impl<D: Disk> House<D> {
@@ -50,12 +50,11 @@ impl<D: Disk> House<D> {
     ghost use Rattle.house.specs.House.{is_stopped, Keeps};
 
     /// Whether a disk fault stopped it. It takes no memory.
-    #[tactic(auto, using(crate::proofs::CallingFacts::any_listed))]
     pub fn is_stopped(&self) -> bool
         ensures stopped { result ≡ is_stopped self.now }
         ensures keeps { Keeps self.now }
     {
-        self.kept.is_some()
+        self.batch.any()
     }
 
     /// The length of the history. It takes no memory.
@@ -81,7 +80,7 @@ impl<D: Disk> House<D> {
             past: _,
             journal,
             short: _,
-            kept: _,
+            batch: _,
             opening: _,
             first: _,
             taken: _,
@@ -106,7 +105,10 @@ impl<D: Disk + Send> Desk for House<D> {
     }
 
     fn ask_all(&mut self, commands: &mut [Entry], replies: &mut Vec<Reply>) {
-        replies.clear();
+        self.call_front(commands, replies);
+        if !replies.is_empty() {
+            return;
+        }
         let Entry { seat, ask } = commands[0].take();
         let reply = self.call(seat, ask);
         replies.push_reserved(reply);

@@ -1,7 +1,9 @@
 //! A desk over a disk: a machine, its history, and the journal that keeps it.
 #![tactic(auto)]
 
+mod batch;
 mod calling;
+mod calling_all;
 mod chronicle;
 mod executions;
 mod folding;
@@ -10,6 +12,7 @@ mod opening;
 mod past;
 mod pools;
 mod recovering;
+mod sharing;
 mod storing;
 mod turning;
 

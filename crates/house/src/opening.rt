@@ -17,6 +17,7 @@ ghost use Rattle.house.specs.Pools.{HaveVotesRoom};
 ghost use Rattle.house.specs.Opening.{LeavesOpened, StandsForNone, FindsFault, IsOpened};
 ghost use Rattle.house.specs.Storing.{AreStoredIn, ContentStandsFor, StoresTurned, TurnsOnly, end_turned};
 
+use crate::batch::Batch;
 use crate::chronicle::Chronicle;
 use crate::folding::Folding;
 use crate::past::Past;
@@ -174,6 +175,9 @@ impl<D: Disk> House<D> {
         ensures never_falls { IfErr result (λ e. D.fault_count disk ≤ D.fault_count e.1) }
         ensures failed { IfErr result (λ e. e.0 ≡ DiskFault → Rose (D.fault_count disk) (D.fault_count e.1)) }
     {
+        let Ok(batch) = Batch::new(alloc) else {
+            return Err((JournalFault::Memory, disk));
+        };
         let mut disk = disk;
         let taken = Snapshot::of(&disk);
         let read = match reopen(alloc, roster, &mut disk) {
@@ -193,7 +197,7 @@ impl<D: Disk> House<D> {
                     opened: Snapshot::of(&journal),
                     journal,
                     short: read.short,
-                    kept: None,
+                    batch,
                     taken,
                 })
             }

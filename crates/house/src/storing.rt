@@ -53,7 +53,7 @@ impl From<AllocError> for Unstored {
 }
 
 // A change's record.
-fn record_of(alloc: Global, entry: &Entry) -> Result<Vec<u8>, AllocError>
+pub(crate) fn record_of(alloc: Global, entry: &Entry) -> Result<Vec<u8>, AllocError>
     requires change { IsTrue (changes entry.now.ask.what) }
     requires party { IsTrue (is_some entry.now.ask.by) }
     requires few { posted entry.now.ask.what ≤ most_solutions }

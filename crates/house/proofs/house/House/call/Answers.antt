@@ -1,4 +1,4 @@
-use Rattle.std.proofs.Common.{◌≡◌, ◌∙◌, ◌+◌, [], ◌∷◌, true, false, Some, None, is_some, IsTrue, arith, ap, sym, subst, length-append, option_to_list}
+use Rattle.std.proofs.Common.{◌≡◌, ◌∙◌, ◌+◌, [], ◌∷◌, true, false, IsTrue, arith, ap, sym, subst, length-append}
 use Rattle.std.proofs.lemmas.Bool.{false≢true}
 use Rattle.command_types.specs.declared.ask.Entry.{Entry}
 use Rattle.command_types.specs.declared.figures.JournalFigures.{JournalFigures}
@@ -14,7 +14,7 @@ use Rattle.house.specs.House.{HouseView, house_of, journal_of, now_of}
 use Rattle.house.specs.Calling.{Calls}
 use Rattle.house.proofs.JournalFacts.{stored_ready}
 use Rattle.house.proofs.ToldFacts.{no_room, has_room, room_told}
-use Rattle.house.proofs.CallingFacts.{none_of, stays, memory_call, read_call, full_call, stopped_call, house_stored, any_listed}
+use Rattle.house.proofs.CallingFacts.{nothing_of, stays, memory_call, read_call, full_call, stopped_call, house_stored}
 use Rattle.house.proofs.VoteFacts.{never}
 use Rattle.house.proofs.ChangeFacts.{made_house, made, broken_house, failed_call, entries_within}
 use Rattle.house.proofs.house.House.call.Goals as goal
@@ -26,7 +26,7 @@ pub returns-in-Err-clause-calls : goal.returns-in-Err-clause-calls
 returns-in-Err-clause-calls g c =
     let i = c.self.inside in
     let here : HouseView =
-    house_of i.past.history i.opening (journal_of (size_of i.opened.value) (g.D.Disk.fault_count (disk_of i.opened.value)) (g.D.Disk.history i.taken.value) (g.D.Disk.history (disk_of i.opened.value)) i.first.value) (option_to_list i.kept)
+    house_of i.past.history i.opening (journal_of (size_of i.opened.value) (g.D.Disk.fault_count (disk_of i.opened.value)) (g.D.Disk.history i.taken.value) (g.D.Disk.history (disk_of i.opened.value)) i.first.value) i.batch.entries
     (g.D.Disk.history (disk_of i.journal)) (g.D.Disk.fault_count (disk_of i.journal)) in
     subst (λ (v : HouseView). Calls v here c.args.seat c.args.ask c.refused.result) c.self.view_is
     (memory_call i.machine.state (now_of i.journal) _ c.self.invariant c.args.seat c.args.ask c.length-at.result c.refused.result (never (is_accept c.args.ask.what) (λ vote. false≢true (rw c.in-Err.is at (c.decide.ensures.vote vote))))
@@ -36,7 +36,7 @@ pub returns-in-Ok-Told-clause-calls : goal.returns-in-Ok-Told-clause-calls
 returns-in-Ok-Told-clause-calls g c =
     let i = c.self.inside in
     let here : HouseView =
-    house_of i.past.history i.opening (journal_of (size_of i.opened.value) (g.D.Disk.fault_count (disk_of i.opened.value)) (g.D.Disk.history i.taken.value) (g.D.Disk.history (disk_of i.opened.value)) i.first.value) (option_to_list i.kept)
+    house_of i.past.history i.opening (journal_of (size_of i.opened.value) (g.D.Disk.fault_count (disk_of i.opened.value)) (g.D.Disk.history i.taken.value) (g.D.Disk.history (disk_of i.opened.value)) i.first.value) i.batch.entries
     (g.D.Disk.history (disk_of i.journal)) (g.D.Disk.fault_count (disk_of i.journal)) in
     let nothing = rw c.in-Ok-Told.field-0-is at c.in-Ok-Told.ensures.decides in
     subst (λ (v : HouseView). Calls v here c.args.seat c.args.ask (record { at = c.length-at.result; answer = c.told-answer.result })) c.self.view_is
@@ -50,7 +50,7 @@ pub returns-then-not-fits-clause-calls : goal.returns-then-not-fits-clause-calls
 returns-then-not-fits-clause-calls g c =
     let i = c.self.inside in
     let here : HouseView =
-    house_of i.past.history i.opening (journal_of (size_of i.opened.value) (g.D.Disk.fault_count (disk_of i.opened.value)) (g.D.Disk.history i.taken.value) (g.D.Disk.history (disk_of i.opened.value)) i.first.value) (option_to_list i.kept)
+    house_of i.past.history i.opening (journal_of (size_of i.opened.value) (g.D.Disk.fault_count (disk_of i.opened.value)) (g.D.Disk.history i.taken.value) (g.D.Disk.history (disk_of i.opened.value)) i.first.value) i.batch.entries
     (g.D.Disk.history (disk_of i.journal)) (g.D.Disk.fault_count (disk_of i.journal)) in
     let decided = rw c.in-Ok-Ready.field-0-is at c.in-Ok-Ready.ensures.decides in
     let entry : Entry = c.in-Ok-Ready.ready.entry in
@@ -64,11 +64,11 @@ returns-then-not-fits-clause-calls g c =
     subst (λ (v : HouseView). Calls v here c.args.seat c.args.ask c.refused-then-not-fits.result) c.self.view_is
     (subst (λ (e : Entry). Calls here here e.seat e.ask c.refused-then-not-fits.result) decided.0 said)
 
-pub returns-then-is_some-clause-calls : goal.returns-then-is_some-clause-calls
-returns-then-is_some-clause-calls g c =
+pub returns-then-any-clause-calls : goal.returns-then-any-clause-calls
+returns-then-any-clause-calls g c =
     let i = c.self.inside in
     let here : HouseView =
-    house_of i.past.history i.opening (journal_of (size_of i.opened.value) (g.D.Disk.fault_count (disk_of i.opened.value)) (g.D.Disk.history i.taken.value) (g.D.Disk.history (disk_of i.opened.value)) i.first.value) (option_to_list i.kept)
+    house_of i.past.history i.opening (journal_of (size_of i.opened.value) (g.D.Disk.fault_count (disk_of i.opened.value)) (g.D.Disk.history i.taken.value) (g.D.Disk.history (disk_of i.opened.value)) i.first.value) i.batch.entries
     (g.D.Disk.history (disk_of i.journal)) (g.D.Disk.fault_count (disk_of i.journal)) in
     let decided = rw c.in-Ok-Ready.field-0-is at c.in-Ok-Ready.ensures.decides in
     let entry : Entry = c.in-Ok-Ready.ready.entry in
@@ -78,10 +78,10 @@ returns-then-is_some-clause-calls g c =
     let was = stays i.machine.state now (now_of i.journal) _ c.decide.ensures.state c.self.invariant in
     let change = subst (λ (t : State). IsTrue (is_recorded ask.what (answer_to t ask))) was.replayed.same decided.1.accepted in
     let room = has_room c.fits.result (size_of i.journal) c.length.result ask c.if-not-fits.false c.fits.ensures sized in
-    let stopped : any_kept (option_to_list i.kept) ≡ true = any_listed i.kept ∙ sym c.is_some.ensures ∙ c.if-is_some.true in
-    let said = stopped_call now (now_of i.journal) _ was entry.seat ask change c.length-at.result c.refused-then-is_some.result c.length-at.ensures.length c.refused-then-is_some.ensures room stopped in
-    subst (λ (v : HouseView). Calls v here c.args.seat c.args.ask c.refused-then-is_some.result) c.self.view_is
-    (subst (λ (e : Entry). Calls here here e.seat e.ask c.refused-then-is_some.result) decided.0 said)
+    let stopped : any_kept i.batch.entries ≡ true = sym c.any.ensures ∙ c.if-any.true in
+    let said = stopped_call now (now_of i.journal) _ was entry.seat ask change c.length-at.result c.refused-then-any.result c.length-at.ensures.length c.refused-then-any.ensures room stopped in
+    subst (λ (v : HouseView). Calls v here c.args.seat c.args.ask c.refused-then-any.result) c.self.view_is
+    (subst (λ (e : Entry). Calls here here e.seat e.ask c.refused-then-any.result) decided.0 said)
 
 pub store-requires-clause-may : goal.store-requires-clause-may
 store-requires-clause-may g c =
@@ -98,14 +98,14 @@ store-requires-clause-replayed g c = rw c.decide.ensures.state c.self.invariant.
 pub store-requires-clause-ready : goal.store-requires-clause-ready
 store-requires-clause-ready g c =
     let i = c.self.inside in
-    let runs : is_some i.kept ≡ false = sym c.is_some.ensures ∙ c.if-is_some.false in
-    stored_ready (g.D.Disk.history (disk_of i.journal)) (form_of i.journal) (size_of i.journal) i.past.history (house_stored i.machine.state (now_of i.journal) _ c.self.invariant (any_listed i.kept ∙ runs))
+    let runs : any_kept i.batch.entries ≡ false = sym c.any.ensures ∙ c.if-any.false in
+    stored_ready (g.D.Disk.history (disk_of i.journal)) (form_of i.journal) (size_of i.journal) i.past.history (house_stored i.machine.state (now_of i.journal) _ c.self.invariant runs)
 
 pub store-requires-clause-sound : goal.store-requires-clause-sound
 store-requires-clause-sound g c =
     let i = c.self.inside in
-    let runs : is_some i.kept ≡ false = sym c.is_some.ensures ∙ c.if-is_some.false in
-    c.self.invariant.sound (ap option_to_list (none_of i.kept runs))
+    let runs : any_kept i.batch.entries ≡ false = sym c.any.ensures ∙ c.if-any.false in
+    c.self.invariant.sound (nothing_of i.batch.entries runs)
 
 pub store-requires-clause-fits : goal.store-requires-clause-fits
 store-requires-clause-fits g c =
@@ -149,10 +149,10 @@ invariant_of-self-in-Ok g c =
     let now : State = c.decide.new.self.state in
     let was = stays i.machine.state now (now_of i.journal) _ c.decide.ensures.state c.self.invariant in
     let journal : JournalFigures = journal_of (size_of i.opened.value) (g.D.Disk.fault_count (disk_of i.opened.value)) (g.D.Disk.history i.taken.value) (g.D.Disk.history (disk_of i.opened.value)) i.first.value in
-    let runs : is_some i.kept ≡ false = sym c.is_some.ensures ∙ c.if-is_some.false in
-    let none : i.kept ≡ None = none_of i.kept runs in
+    let runs : any_kept i.batch.entries ≡ false = sym c.any.ensures ∙ c.if-any.false in
+    let none : i.batch.entries ≡ [] = nothing_of i.batch.entries runs in
     let house = rw none at was in
-    let stored = house_stored now (now_of i.journal) _ was (any_listed i.kept ∙ runs) in
+    let stored = house_stored now (now_of i.journal) _ was runs in
     rw none
     (made_house now i.past.history i.opening (now_of i.journal) journal (g.D.Disk.history (disk_of i.journal)) (g.D.Disk.fault_count (disk_of i.journal))
     house entry.seat ask decided.1.accepted c.store.new.machine.state (now_of c.store.new.journal) (g.D.Disk.history (disk_of c.store.new.journal)) (g.D.Disk.fault_count (disk_of c.store.new.journal))
@@ -162,7 +162,7 @@ pub returns-in-Ok-clause-calls : goal.returns-in-Ok-clause-calls
 returns-in-Ok-clause-calls g c =
     let i = c.self.inside in
     let here : HouseView =
-    house_of i.past.history i.opening (journal_of (size_of i.opened.value) (g.D.Disk.fault_count (disk_of i.opened.value)) (g.D.Disk.history i.taken.value) (g.D.Disk.history (disk_of i.opened.value)) i.first.value) (option_to_list i.kept)
+    house_of i.past.history i.opening (journal_of (size_of i.opened.value) (g.D.Disk.fault_count (disk_of i.opened.value)) (g.D.Disk.history i.taken.value) (g.D.Disk.history (disk_of i.opened.value)) i.first.value) i.batch.entries
     (g.D.Disk.history (disk_of i.journal)) (g.D.Disk.fault_count (disk_of i.journal)) in
     let decided = rw c.in-Ok-Ready.field-0-is at c.in-Ok-Ready.ensures.decides in
     let entry : Entry = c.in-Ok-Ready.ready.entry in
@@ -170,13 +170,13 @@ returns-in-Ok-clause-calls g c =
     let now : State = c.decide.new.self.state in
     let was = stays i.machine.state now (now_of i.journal) _ c.decide.ensures.state c.self.invariant in
     let journal : JournalFigures = journal_of (size_of i.opened.value) (g.D.Disk.fault_count (disk_of i.opened.value)) (g.D.Disk.history i.taken.value) (g.D.Disk.history (disk_of i.opened.value)) i.first.value in
-    let runs : is_some i.kept ≡ false = sym c.is_some.ensures ∙ c.if-is_some.false in
-    let none : i.kept ≡ None = none_of i.kept runs in
+    let runs : any_kept i.batch.entries ≡ false = sym c.any.ensures ∙ c.if-any.false in
+    let none : i.batch.entries ≡ [] = nothing_of i.batch.entries runs in
     let house = rw none at was in
-    let stored = house_stored now (now_of i.journal) _ was (any_listed i.kept ∙ runs) in
+    let stored = house_stored now (now_of i.journal) _ was runs in
     let place : c.length-at.result + 1 ≡ end_of i.past.history + 1 = ap (λ n. n + 1) c.length-at.ensures.length in
     let done : HouseView =
-    house_of c.store.new.past.history i.opening (journal_of (size_of i.opened.value) (g.D.Disk.fault_count (disk_of i.opened.value)) (g.D.Disk.history i.taken.value) (g.D.Disk.history (disk_of i.opened.value)) i.first.value) (option_to_list i.kept)
+    house_of c.store.new.past.history i.opening (journal_of (size_of i.opened.value) (g.D.Disk.fault_count (disk_of i.opened.value)) (g.D.Disk.history i.taken.value) (g.D.Disk.history (disk_of i.opened.value)) i.first.value) i.batch.entries
     (g.D.Disk.history (disk_of c.store.new.journal)) (g.D.Disk.fault_count (disk_of c.store.new.journal)) in
     let said =
     made now i.past.history i.opening (now_of i.journal) journal (g.D.Disk.history (disk_of i.journal)) (g.D.Disk.fault_count (disk_of i.journal))
@@ -201,7 +201,7 @@ returns-in-Err-Memory-clause-calls g c =
     let memory = rw c.in-Err-Memory.field-0-is at c.in-Err-Memory.is in
     let same = c.store.ensures.same_disk memory in
     let done : HouseView =
-    house_of c.store.new.past.history i.opening (journal_of (size_of i.opened.value) (g.D.Disk.fault_count (disk_of i.opened.value)) (g.D.Disk.history i.taken.value) (g.D.Disk.history (disk_of i.opened.value)) i.first.value) (option_to_list i.kept)
+    house_of c.store.new.past.history i.opening (journal_of (size_of i.opened.value) (g.D.Disk.fault_count (disk_of i.opened.value)) (g.D.Disk.history i.taken.value) (g.D.Disk.history (disk_of i.opened.value)) i.first.value) i.batch.entries
     (g.D.Disk.history (disk_of c.store.new.journal)) (g.D.Disk.fault_count (disk_of c.store.new.journal)) in
     subst (λ (v : HouseView). Calls v done c.args.seat c.args.ask c.refused-in-Err-Memory.result) c.self.view_is
     (rw (c.in-Err-Memory.ensures.same_past, same.0, same.1)
@@ -218,12 +218,12 @@ invariant_of-self-in-Err-Failed g c =
     let now : State = c.decide.new.self.state in
     let was = stays i.machine.state now (now_of i.journal) _ c.decide.ensures.state c.self.invariant in
     let journal : JournalFigures = journal_of (size_of i.opened.value) (g.D.Disk.fault_count (disk_of i.opened.value)) (g.D.Disk.history i.taken.value) (g.D.Disk.history (disk_of i.opened.value)) i.first.value in
-    let runs : is_some i.kept ≡ false = sym c.is_some.ensures ∙ c.if-is_some.false in
-    let none : i.kept ≡ None = none_of i.kept runs in
+    let runs : any_kept i.batch.entries ≡ false = sym c.any.ensures ∙ c.if-any.false in
+    let none : i.batch.entries ≡ [] = nothing_of i.batch.entries runs in
     let house = rw none at was in
-    let stored = house_stored now (now_of i.journal) _ was (any_listed i.kept ∙ runs) in
+    let stored = house_stored now (now_of i.journal) _ was runs in
     let told = rw c.in-Err-Failed.field-0-is at c.in-Err-Failed.ensures.failed in
-    rw (c.in-Err-Failed.ensures.same_state, c.in-Err-Failed.ensures.same_past, told.0)
+    rw (c.in-Err-Failed.ensures.same_state, c.in-Err-Failed.ensures.same_past, c.keep.ensures, told.0)
     (broken_house now i.past.history i.opening (now_of i.journal) journal (g.D.Disk.history (disk_of i.journal)) (g.D.Disk.fault_count (disk_of i.journal))
     house entry.seat ask decided.1.accepted (g.D.Disk.history (disk_of c.store.new.journal)) (g.D.Disk.fault_count (disk_of c.store.new.journal)) (c.store.ensures.any_moment stored) (c.store.ensures.yet stored) c.store.ensures.never_falls told.1.0 told.1.1
     (now_of c.store.new.journal) c.in-Err-Failed.ensures.same_size)
@@ -232,7 +232,7 @@ pub returns-in-Err-Failed-clause-calls : goal.returns-in-Err-Failed-clause-calls
 returns-in-Err-Failed-clause-calls g c =
     let i = c.self.inside in
     let here : HouseView =
-    house_of i.past.history i.opening (journal_of (size_of i.opened.value) (g.D.Disk.fault_count (disk_of i.opened.value)) (g.D.Disk.history i.taken.value) (g.D.Disk.history (disk_of i.opened.value)) i.first.value) (option_to_list i.kept)
+    house_of i.past.history i.opening (journal_of (size_of i.opened.value) (g.D.Disk.fault_count (disk_of i.opened.value)) (g.D.Disk.history i.taken.value) (g.D.Disk.history (disk_of i.opened.value)) i.first.value) i.batch.entries
     (g.D.Disk.history (disk_of i.journal)) (g.D.Disk.fault_count (disk_of i.journal)) in
     let decided = rw c.in-Ok-Ready.field-0-is at c.in-Ok-Ready.ensures.decides in
     let entry : Entry = c.in-Ok-Ready.ready.entry in
@@ -241,14 +241,14 @@ returns-in-Err-Failed-clause-calls g c =
     let sized : c.length.result ≡ record_size ask = c.length.ensures.size ∙ ap (λ (e : Entry). record_size e.ask) c.entry.ensures in
     let was = stays i.machine.state now (now_of i.journal) _ c.decide.ensures.state c.self.invariant in
     let journal : JournalFigures = journal_of (size_of i.opened.value) (g.D.Disk.fault_count (disk_of i.opened.value)) (g.D.Disk.history i.taken.value) (g.D.Disk.history (disk_of i.opened.value)) i.first.value in
-    let runs : is_some i.kept ≡ false = sym c.is_some.ensures ∙ c.if-is_some.false in
-    let none : i.kept ≡ None = none_of i.kept runs in
+    let runs : any_kept i.batch.entries ≡ false = sym c.any.ensures ∙ c.if-any.false in
+    let none : i.batch.entries ≡ [] = nothing_of i.batch.entries runs in
     let house = rw none at was in
-    let stored = house_stored now (now_of i.journal) _ was (any_listed i.kept ∙ runs) in
+    let stored = house_stored now (now_of i.journal) _ was runs in
     let told = rw c.in-Err-Failed.field-0-is at c.in-Err-Failed.ensures.failed in
     let room = room_told (size_of i.journal) ask (has_room c.fits.result (size_of i.journal) c.length.result ask c.if-not-fits.false c.fits.ensures sized) in
     let done : HouseView =
-    house_of c.store.new.past.history i.opening (journal_of (size_of i.opened.value) (g.D.Disk.fault_count (disk_of i.opened.value)) (g.D.Disk.history i.taken.value) (g.D.Disk.history (disk_of i.opened.value)) i.first.value) (c.in-Err-Failed.entry ∷ [])
+    house_of c.store.new.past.history i.opening (journal_of (size_of i.opened.value) (g.D.Disk.fault_count (disk_of i.opened.value)) (g.D.Disk.history i.taken.value) (g.D.Disk.history (disk_of i.opened.value)) i.first.value) c.keep.new.self.entries
     (g.D.Disk.history (disk_of c.store.new.journal)) (g.D.Disk.fault_count (disk_of c.store.new.journal)) in
     let said =
     failed_call now i.past.history i.opening (now_of i.journal) journal (g.D.Disk.history (disk_of i.journal)) (g.D.Disk.fault_count (disk_of i.journal))
@@ -256,4 +256,4 @@ returns-in-Err-Failed-clause-calls g c =
     c.length-at.result c.length-at.ensures.length room in
     subst (λ (v : HouseView). Calls v done c.args.seat c.args.ask c.refused-in-Err-Failed.result) c.self.view_is
     (subst (λ (e : Entry). Calls here done e.seat e.ask c.refused-in-Err-Failed.result) decided.0
-    (rw (none, c.in-Err-Failed.ensures.same_past, told.0, c.refused-in-Err-Failed.ensures) said))
+    (rw (none, c.in-Err-Failed.ensures.same_past, c.keep.ensures, told.0, c.refused-in-Err-Failed.ensures) said))
