@@ -3,7 +3,7 @@ use Rattle.std.specs.Prelude.{◌≡◌, ℕ, ◌+◌, ◌<◌, ◌≤◌, Bool,
 use Rattle.std.specs.List.{AllZip}
 use Rattle.command_types.specs.declared.ask.Entry.{Entry}
 use Rattle.command_types.specs.declared.ask.What.{What}
-use Rattle.command_types.specs.declared.ask.What.TheVariants.{Trade, Affirm, End, Hold, Free, Nets, Statement, Limits, Plan}
+use Rattle.command_types.specs.declared.ask.What.TheVariants.{Trade, Affirm, End, Hold, Free, Nets}
 use Rattle.command_types.specs.declared.figures.State.{State}
 use Rattle.command_types.specs.declared.spelling.Spelling.TheVariants.{Second}
 use Rattle.command_types.specs.History.{History, longer}
@@ -47,9 +47,6 @@ is_shared (End trade) = true
 is_shared (Hold trade) = true
 is_shared (Free trade) = true
 is_shared (Nets product) = true
-is_shared Statement = true
-is_shared (Limits product) = true
-is_shared (Plan cycle) = true
 is_shared what = false
 
 -- these take back what was done since the first state, the newest last

@@ -1,4 +1,5 @@
-//! Which commands may stand together in a call.
+//! Which commands may stand together in a call. What has a long answer is asked alone: else the answers of a whole call would
+//! stand in memory at once.
 ghost use Rattle.std.specs.Prelude.{◌≡◌, is_some, IfSome};
 ghost use Rattle.house.specs.Batch.{is_shared};
 
@@ -28,9 +29,6 @@ fn shared_what(what: &What) -> Option<What>
         What::Hold { trade } => What::Hold { trade: *trade },
         What::Free { trade } => What::Free { trade: *trade },
         What::Nets { product } => What::Nets { product: *product },
-        What::Statement => What::Statement,
-        What::Limits { product } => What::Limits { product: *product },
-        What::Plan { cycle } => What::Plan { cycle: *cycle },
         _ => return None,
     })
 }
