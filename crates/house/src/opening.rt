@@ -1,5 +1,5 @@
 //! A house, opened on what a disk holds.
-ghost use Rattle.std.specs.Prelude.{◌≡◌, ◌≢◌, ◌≤◌, length, true, false, IsTrue, IfOk, IfErr, Err};
+ghost use Rattle.std.specs.Prelude.{◌≡◌, ◌≢◌, ◌≤◌, [], length, true, false, IsTrue, IfOk, IfErr, Err};
 ghost use Rattle.command_types.specs.Sizes.{journal_limit};
 ghost use Rattle.command_types.specs.Spelling as spellings;
 ghost use Rattle.cycle_laws.specs.Bases.{IsWritable};
@@ -29,21 +29,32 @@ use command_types::{Roster, Spelling};
 use cycle_states::Machine;
 use journal_core::{Form, Frame, Journal, JournalFault};
 use outside::{Disk, Failed};
-use std::alloc::Global;
+use std::alloc::{AllocError, Global};
 use std::snapshot::Snapshot;
 
-// What a house needs of it, the fold that is due, the frame of the record that turns the journal, and that of an ACCEPT.
+// What a house needs of it, the fold that is due, the frame of the record that turns the journal, that of an ACCEPT, and an empty batch.
 #[derive(Drop)]
 pub(crate) struct Reopened {
     machine: Machine,
     past: Past,
     pools: Pools,
     short: Frame,
+    batch: Batch,
     form: Form,
     end: u64,
     spelling: Spelling,
     folding: Option<Folding>,
     turn: Frame,
+}
+
+// The frame of the record that turns a journal, one for ACCEPTs, and an empty batch. The only error is want of memory.
+fn parts(alloc: Global) -> Result<(Frame, Frame, Batch), AllocError>
+    ensures turn { IfOk result (λ p. p.0 ≡ spellings.turn) }
+    ensures empty { IfOk result (λ p. p.2.entries ≡ []) }
+{
+    let (turn, short) = frames(alloc)?;
+    let batch = Batch::new(alloc)?;
+    Ok((turn, short, batch))
 }
 
 // Reads a disk's journal, and makes its changes and its fold, if one is due. It writes nothing.
@@ -59,6 +70,7 @@ fn reopen<D: Disk>(alloc: Global, roster: Roster, disk: &mut D) -> Result<Reopen
     ensures spelling { IfOk result (λ r. FindsSpelling (D.history disk.old) r.spelling) }
     ensures due { IfOk result (λ r. IsDue r.form r.past r.folding) }
     ensures turn { IfOk result (λ r. r.turn ≡ spellings.turn) }
+    ensures empty { IfOk result (λ r. r.batch.entries ≡ []) }
     ensures fault { IfErr result (FindsFault roster (D.history disk.old)) }
     ensures same { D.history disk.new ≡ D.history disk.old }
     ensures never_falls { D.fault_count disk.old ≤ D.fault_count disk.new }
@@ -76,7 +88,7 @@ fn reopen<D: Disk>(alloc: Global, roster: Roster, disk: &mut D) -> Result<Reopen
     let Ok(pools) = pools_of(alloc, read) else {
         return Err(JournalFault::Memory);
     };
-    let Ok((turn, short)) = frames(alloc) else {
+    let Ok((turn, short, batch)) = parts(alloc) else {
         return Err(JournalFault::Memory);
     };
     let Ok(folding) = Folding::of(alloc, &machine, &past, form) else {
@@ -87,6 +99,7 @@ fn reopen<D: Disk>(alloc: Global, roster: Roster, disk: &mut D) -> Result<Reopen
         past,
         pools,
         short,
+        batch,
         form,
         end,
         spelling,
@@ -175,9 +188,6 @@ impl<D: Disk> House<D> {
         ensures never_falls { IfErr result (λ e. D.fault_count disk ≤ D.fault_count e.1) }
         ensures failed { IfErr result (λ e. e.0 ≡ DiskFault → Rose (D.fault_count disk) (D.fault_count e.1)) }
     {
-        let Ok(batch) = Batch::new(alloc) else {
-            return Err((JournalFault::Memory, disk));
-        };
         let mut disk = disk;
         let taken = Snapshot::of(&disk);
         let read = match reopen(alloc, roster, &mut disk) {
@@ -197,7 +207,7 @@ impl<D: Disk> House<D> {
                     opened: Snapshot::of(&journal),
                     journal,
                     short: read.short,
-                    batch,
+                    batch: read.batch,
                     taken,
                 })
             }

@@ -24,11 +24,12 @@ returns-in-Err-clause-any_moment_failed g c = λ h own stands.
 pub invariant_of-result : goal.invariant_of-result
 invariant_of-result g c =
     let read = g.D.Disk.history c.reopen.new.disk in
-    new_house c.in-Ok.read.machine.state c.in-Ok.read.past c.in-Ok-start.folded (now_of c.in-Ok-start.journal) read (g.D.Disk.history (disk_of c.in-Ok-start.journal)) (g.D.Disk.fault_count (disk_of c.in-Ok-start.journal))
+    rw c.in-Ok.ensures.empty
+    (new_house c.in-Ok.read.machine.state c.in-Ok.read.past c.in-Ok-start.folded (now_of c.in-Ok-start.journal) read (g.D.Disk.history (disk_of c.in-Ok-start.journal)) (g.D.Disk.fault_count (disk_of c.in-Ok-start.journal))
     c.in-Ok.ensures.replayed c.in-Ok-start.ensures.opens c.of-first.result.value c.opened-past.result.history c.count.result (size_of c.of.result.value) (g.D.Disk.fault_count (disk_of c.of.result.value))
     (g.D.Disk.history c.of-taken.result.value) (g.D.Disk.history (disk_of c.of.result.value)) c.of-first.ensures c.opened-past.ensures c.count.ensures.count (ap (λ j. size_of j) c.of.ensures)
     (ap (λ j. g.D.Disk.fault_count (disk_of j)) c.of.ensures) (ap (λ d. g.D.Disk.history d) c.of-taken.ensures ∙ sym c.reopen.ensures.same) (ap (λ j. g.D.Disk.history (disk_of j)) c.of.ensures)
-    c.in-Ok.ensures.few c.in-Ok-start.ensures.any_moment c.in-Ok-start.ensures.stored c.in-Ok-start.ensures.sound
+    c.in-Ok.ensures.few c.in-Ok-start.ensures.any_moment c.in-Ok-start.ensures.stored c.in-Ok-start.ensures.sound)
 
 pub returns-in-Ok-start-clause-opened : goal.returns-in-Ok-start-clause-opened
 returns-in-Ok-start-clause-opened g c =
@@ -38,21 +39,23 @@ returns-in-Ok-start-clause-opened g c =
     house_of c.opened-past.result.history c.count.result
     (journal_of (size_of c.of.result.value) (g.D.Disk.fault_count (disk_of c.of.result.value)) (g.D.Disk.history c.of-taken.result.value) (g.D.Disk.history (disk_of c.of.result.value)) c.of-first.result.value) []
     (g.D.Disk.history (disk_of c.in-Ok-start.journal)) (g.D.Disk.fault_count (disk_of c.in-Ok-start.journal)) in
-    subst (λ (o : Option History). IsOpened c.args.roster o (g.D.Disk.fault_count c.args.disk) house) c.reopen.ensures.same
+    rw c.in-Ok.ensures.empty
+    (subst (λ (o : Option History). IsOpened c.args.roster o (g.D.Disk.fault_count c.args.disk) house) c.reopen.ensures.same
     (new_opened c.in-Ok.read.machine.state c.in-Ok.read.past c.in-Ok-start.folded (now_of c.in-Ok-start.journal) read (g.D.Disk.history (disk_of c.in-Ok-start.journal)) (g.D.Disk.fault_count (disk_of c.in-Ok-start.journal))
     c.in-Ok.ensures.replayed c.in-Ok-start.ensures.opens c.of-first.result.value c.opened-past.result.history c.count.result (size_of c.of.result.value) (g.D.Disk.fault_count (disk_of c.of.result.value))
     (g.D.Disk.history c.of-taken.result.value) (g.D.Disk.history (disk_of c.of.result.value)) c.of-first.ensures c.opened-past.ensures c.count.ensures.count (ap (λ j. size_of j) c.of.ensures)
     (ap (λ j. g.D.Disk.fault_count (disk_of j)) c.of.ensures) (ap (λ d. g.D.Disk.history d) c.of-taken.ensures ∙ sym c.reopen.ensures.same) (ap (λ j. g.D.Disk.history (disk_of j)) c.of.ensures)
-    c.args.roster (g.D.Disk.fault_count c.args.disk) c.in-Ok.ensures.base stands (omega (arith, c.reopen.ensures.never_falls, c.in-Ok-start.ensures.never_falls)))
+    c.args.roster (g.D.Disk.fault_count c.args.disk) c.in-Ok.ensures.base stands (omega (arith, c.reopen.ensures.never_falls, c.in-Ok-start.ensures.never_falls))))
 
 pub returns-in-Ok-start-clause-keeps : goal.returns-in-Ok-start-clause-keeps
 returns-in-Ok-start-clause-keeps g c =
     let read = g.D.Disk.history c.reopen.new.disk in
-    (new_house c.in-Ok.read.machine.state c.in-Ok.read.past c.in-Ok-start.folded (now_of c.in-Ok-start.journal) read (g.D.Disk.history (disk_of c.in-Ok-start.journal)) (g.D.Disk.fault_count (disk_of c.in-Ok-start.journal))
+    rw c.in-Ok.ensures.empty
+    ((new_house c.in-Ok.read.machine.state c.in-Ok.read.past c.in-Ok-start.folded (now_of c.in-Ok-start.journal) read (g.D.Disk.history (disk_of c.in-Ok-start.journal)) (g.D.Disk.fault_count (disk_of c.in-Ok-start.journal))
     c.in-Ok.ensures.replayed c.in-Ok-start.ensures.opens c.of-first.result.value c.opened-past.result.history c.count.result (size_of c.of.result.value) (g.D.Disk.fault_count (disk_of c.of.result.value))
     (g.D.Disk.history c.of-taken.result.value) (g.D.Disk.history (disk_of c.of.result.value)) c.of-first.ensures c.opened-past.ensures c.count.ensures.count (ap (λ j. size_of j) c.of.ensures)
     (ap (λ j. g.D.Disk.fault_count (disk_of j)) c.of.ensures) (ap (λ d. g.D.Disk.history d) c.of-taken.ensures ∙ sym c.reopen.ensures.same) (ap (λ j. g.D.Disk.history (disk_of j)) c.of.ensures)
-    c.in-Ok.ensures.few c.in-Ok-start.ensures.any_moment c.in-Ok-start.ensures.stored c.in-Ok-start.ensures.sound).keeps
+    c.in-Ok.ensures.few c.in-Ok-start.ensures.any_moment c.in-Ok-start.ensures.stored c.in-Ok-start.ensures.sound).keeps)
 
 pub returns-in-Ok-start-clause-any_moment : goal.returns-in-Ok-start-clause-any_moment
 returns-in-Ok-start-clause-any_moment g c =
