@@ -36,7 +36,8 @@ NETS, TRADE, SETTING = "NETS P", "TRADE A B P 1 2026-03-02", "TOL B P in 2 -"
 
 
 class Case(NamedTuple):
-    """How many connections send how many lines each, and how many of them ahead; there are as many seats, or four."""
+    """How many connections send how many lines each, and how many of them ahead; there are as many seats, or four. Where there are
+    seconds, they are the most, and a file gets the times to the replies."""
 
     name: str
     connections: int
@@ -44,6 +45,13 @@ class Case(NamedTuple):
     ahead: int
     line: str
     is_kept: bool = False
+    seconds: float = 0
+    times: Path | None = None
+
+    def words(self, port: int) -> list[str | Path]:
+        """The words of the load client."""
+        most: list[str | Path] = [str(self.seconds), self.times] if self.times else []
+        return [*map(str, (port, self.connections, self.lines, self.ahead)), self.line, *most]
 
 
 CASES = [
@@ -115,11 +123,9 @@ def run(load: Path, case: Case, words: list[str | Path], port: int) -> Cost:
     try:
         wait_for(port)
         before = Used.by(server.pid)
-        typed: list[str | Path] = [load, str(port), *map(str, (case.connections, case.lines, case.ahead)), case.line]
-        told = subprocess.run(typed, check=True, capture_output=True).stdout
+        told = subprocess.run([load, *case.words(port)], check=True, capture_output=True).stdout
         after = Used.by(server.pid)
-        seconds, *times = map(float, told.split())
-        count = case.connections * case.lines
+        seconds, count, *times = map(float, told.split())
         return Cost(count / seconds, (after.switches - before.switches) / count, (after.processor - before.processor) / count / 1e3, *times)
     finally:
         server.kill()

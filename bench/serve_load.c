@@ -1,11 +1,12 @@
 // A load client for `serve`, and for any server that answers each line by one line.
 //
-//     serve_load PORT CONNECTIONS LINES AHEAD LINE
+//     serve_load PORT CONNECTIONS LINES AHEAD LINE [SECONDS TIMES]
 //
 // Each connection greets as A, all start together, and each sends LINE that many times, AHEAD of them in one write, and
-// reads as many replies before it sends more. It writes the seconds from the start to the last reply, and in microseconds the
-// median, the 99th of a hundred and the most of the times from a write to its last reply. A reply to LINE that begins with `no`
-// ends it with status 1.
+// reads as many replies before it sends more; behind SECONDS, where they are given, it sends no more. It writes the seconds from
+// the start to the last reply, how many lines were sent, and in microseconds the median, the 99th of a hundred and the most of the
+// times from a write to its last reply; the file TIMES gets all of them, a double each. A reply to LINE that begins with `no` ends
+// it with status 1.
 #include <arpa/inet.h>
 #include <netinet/tcp.h>
 #include <pthread.h>
@@ -19,8 +20,13 @@
 static int port, lines, ahead;
 static char *block;
 static size_t line_length;
+static double seconds = 1e9;
 static pthread_barrier_t barrier;
-static double *times;  // of each connection: when it began, and how long each write took
+
+typedef struct {
+    double begin, *times;  // how long each write took
+    size_t writes, lines;
+} Client;
 
 static void stop(const char *what) {
     perror(what);
@@ -69,22 +75,24 @@ static double now(void) {
     return time.tv_sec + time.tv_nsec * 1e-9;
 }
 
-static void *client(void *own) {
-    double *time = own;
+static void *talk(void *given) {
+    Client *own = given;
     int connection = connected();
     send_all(connection, "HELLO A KA\n", 11);
     read_lines(connection, 1);
     pthread_barrier_wait(&barrier);
-    *time++ = now();
+    own->begin = now();
     for (int left = lines; left > 0; left -= ahead) {
         int count = left < ahead ? left : ahead;
         double begin = now();
+        if (begin - own->begin >= seconds) break;
         send_all(connection, block, line_length * count);
         read_lines(connection, count);
-        *time++ = (now() - begin) * 1e6;
+        own->times[own->writes++] = (now() - begin) * 1e6;
+        own->lines += count;
     }
     close(connection);
-    return own;
+    return given;
 }
 
 static int by_size(const void *one, const void *other) {
@@ -92,8 +100,28 @@ static int by_size(const void *one, const void *other) {
     return (a > b) - (a < b);
 }
 
+static void keep(const char *path, const double *times, size_t count) {
+    FILE *file = fopen(path, "wb");
+    if (file == NULL || fwrite(times, sizeof(double), count, file) != count || fclose(file) != 0) stop(path);
+}
+
+// Writes what the clients were told, whose last reply came at this time.
+static void tell(Client *clients, int count, double end, const char *path) {
+    double begin = end, *times = clients[0].times;
+    size_t writes = 0, sent = 0;
+    for (int at = 0; at < count; at++) {
+        if (clients[at].begin < begin) begin = clients[at].begin;
+        memmove(times + writes, clients[at].times, sizeof(double) * clients[at].writes);
+        writes += clients[at].writes;
+        sent += clients[at].lines;
+    }
+    qsort(times, writes, sizeof(double), by_size);
+    printf("%.6f %zu %.1f %.1f %.1f\n", end - begin, sent, times[writes / 2], times[writes * 99 / 100], times[writes - 1]);
+    if (path != NULL) keep(path, times, writes);
+}
+
 int main(int count, char **words) {
-    if (count != 6) {
+    if (count != 6 && count != 8) {
         fputs("bad words\n", stderr);
         return 2;
     }
@@ -102,25 +130,20 @@ int main(int count, char **words) {
     lines = atoi(words[3]);
     ahead = atoi(words[4]);
     line_length = strlen(words[5]) + 1;
+    if (count == 8) seconds = atof(words[6]);
     block = malloc(line_length * ahead + 1);
     for (int at = 0; at < ahead; at++) sprintf(block + line_length * at, "%s\n", words[5]);
-    size_t writes = (lines + ahead - 1) / ahead, all = 0;
-    times = malloc(sizeof(double) * (writes + 1) * connections);
+    size_t writes = (lines + ahead - 1) / ahead;
+    double *times = malloc(sizeof(double) * writes * connections);
+    Client clients[connections];
     pthread_t threads[connections];
     pthread_barrier_init(&barrier, NULL, connections + 1);
-    for (int at = 0; at < connections; at++)
-        if (pthread_create(&threads[at], NULL, client, times + (writes + 1) * at) != 0) stop("pthread_create");
+    for (int at = 0; at < connections; at++) {
+        clients[at] = (Client){.times = times + writes * at};
+        if (pthread_create(&threads[at], NULL, talk, &clients[at]) != 0) stop("pthread_create");
+    }
     pthread_barrier_wait(&barrier);
     for (int at = 0; at < connections; at++) pthread_join(threads[at], NULL);
-    double end = now(), begin = end;
-    for (int at = 0; at < connections; at++) {
-        double *own = times + (writes + 1) * at;
-        if (*own < begin) begin = *own;
-        memmove(times + all, own + 1, sizeof(double) * writes);
-        all += writes;
-    }
-    double seconds = end - begin;
-    qsort(times, all, sizeof(double), by_size);
-    printf("%.6f %.1f %.1f %.1f\n", seconds, times[all / 2], times[all * 99 / 100], times[all - 1]);
+    tell(clients, connections, now(), words[count == 8 ? 7 : count]);
     return 0;
 }
