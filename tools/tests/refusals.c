@@ -6,6 +6,7 @@
  *     REFUSE_MEMORY_WITH=FILE      each request for memory is refused while this file is there
  *     REFUSED=FILE                 this file is made when a request for memory, or a call to a file, is refused
  *     REFUSE_DISK=N                of the calls to the file that was locked last the one with this number fails
+ *     KILL_DISK=N                  the program is killed in place of the call with this number
  *     MOMENT=SECONDS               the clock tells these seconds since 1970
  *     SLEPT=FILE                   each sleep takes a hundredth of its time, and its milliseconds go to this file, one line each
  */
@@ -14,6 +15,7 @@
 #include <errno.h>
 #include <fcntl.h>
 #include <pthread.h>
+#include <signal.h>
 #include <stdatomic.h>
 #include <stdio.h>
 #include <stdlib.h>
@@ -145,6 +147,8 @@ int flock(int file, int operation) {
 
 /* Whether this call to a file is the one that is refused. */
 static int is_lost(int file) {
+    if (file == locked && has_number("KILL_DISK", &disk_calls))
+        kill(getpid(), SIGKILL);
     if (file != locked || !has_number("REFUSE_DISK", &disk_calls))
         return 0;
     errno = EIO;
