@@ -52,6 +52,8 @@ mod sources;
 #[cfg(test)]
 mod stopped_cycles;
 #[cfg(test)]
+mod together;
+#[cfg(test)]
 mod torn_cycles;
 #[cfg(test)]
 mod two_sessions;

@@ -6,8 +6,10 @@ use std::sync::Wait;
 use std::test::Fail;
 use std::thread::Threads;
 
-/// A ring of trades, frozen, proposed and accepted by all. A call of its disk is to fail; what is replied is left open.
+/// A ring of trades, frozen, proposed and accepted by all, whose bytes come one by one, so that no changes share their syncs. A call
+/// of its disk is to fail; what is replied is left open.
 pub const CYCLE: Trial<'static> = Trial {
+    most: 1,
     input: b"HELLO A KA\nTRADE A B P 10 2026-03-02\nHELLO B KB\nAFFIRM 1\nTRADE B C P 10 2026-03-02\nHELLO C KC\nAFFIRM 2\nTRADE C A P 10 2026-03-02\nHELLO A KA\nAFFIRM 3\nHELLO OPS KO\nFREEZE 2026-03-31\nPROPOSE 1 conservative\nHELLO A KA\nACCEPT 1 1\nHELLO B KB\nACCEPT 1 1\nHELLO C KC\nACCEPT 1 1\nNETS P\nACCEPT 1 1\n",
     status: 6,
     output: Text::Ends(b""),
