@@ -12,9 +12,8 @@ ghost use Rattle.compress_server.specs.Seen.{output_by};
 
 use crate::ending::End;
 use crate::load::{LoadFault, load_proposal, load_roster, load_trades};
-use command_types::{Mode, Roster};
 use dual_certificate::ProposalPart;
-use file_market::{Failing, check, verdict};
+use file_market::{Failing, Terms, check, verdict};
 use network_laws::Solver;
 use outside::{Files, Gate, Sink, write_all};
 use parallel_solver::Workers;
@@ -59,21 +58,21 @@ impl From<CheckEnd> for End {
     }
 }
 
-// What a check of the parts finds, and the text that tells it.
-fn verdict_on(
+// What a check of the parts by the workers finds, and the text that tells it.
+fn verdict_on<R: Threads + Sync, V: Solver, G: Gate>(
     alloc: Global,
-    roster: &Roster,
-    mode: Mode,
+    terms: &Terms<'_>,
     trades: &[FileTrade],
     parts: &[ProposalPart],
+    workers: &Workers<'_, R, V, G>,
 ) -> Result<(Option<Failing>, Vec<u8>), AllocError>
-    requires trades { AreFileTrades roster.now trades.now }
-    requires parts { AreParts roster.now parts.now }
-    ensures checked { IfOk result (λ found. IsChecked roster.now mode trades.now parts.now found.0) }
-    ensures told { IfOk result (λ found. found.1.items ≡ verdict_text roster.now found.0) }
+    requires trades { AreFileTrades terms.now.roster.now trades.now }
+    requires parts { AreParts terms.now.roster.now parts.now }
+    ensures checked { IfOk result (λ found. IsChecked terms.now.roster.now terms.now.mode trades.now parts.now found.0) }
+    ensures told { IfOk result (λ found. found.1.items ≡ verdict_text terms.now.roster.now found.0) }
 {
-    let failing = check(alloc, roster, mode, trades, parts)?;
-    let text = verdict(alloc, roster, &failing)?;
+    let failing = check(alloc, terms, trades, parts, workers)?;
+    let text = verdict(alloc, terms.roster, &failing)?;
     Ok((failing, text))
 }
 
@@ -102,7 +101,11 @@ pub fn run_check<R: Threads + Sync, V: Solver, G: Gate, F: Files, K: Sink>(
         Ok(parts) => parts,
         Err(fault) => return CheckEnd::Unloaded(fault),
     };
-    let Ok((failing, text)) = verdict_on(alloc, &roster, market.mode, &trades, &parts) else {
+    let terms = Terms {
+        roster: &roster,
+        mode: market.mode,
+    };
+    let Ok((failing, text)) = verdict_on(alloc, &terms, &trades, &parts, workers) else {
         return CheckEnd::Memory;
     };
     if write_all(output, &text).is_err() {

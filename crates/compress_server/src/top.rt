@@ -162,7 +162,7 @@ fn run_form<
 ///   KEY, and asks for one entry after another, from the journal's end on; each is in the journal before the next is asked for. With
 ///   `--compare` it first asks for its last entry again.
 ///
-/// MODE is `conservative`, `hybrid` or `free`. W workers solve, from 1 to 64; N is from 1 to 64, C from 1 to 1,000,000,
+/// MODE is `conservative`, `hybrid` or `free`. W workers solve, from 1 to 64, and 4 check; N is from 1 to 64, C from 1 to 1,000,000,
 /// and SECONDS from 1 to 86,400. Where the option is not given, W and N are 4, C is 1,000,000, and a call may wait without
 /// end. DAY is `YYYY-MM-DD`. An option is `--name V` or `--name=V`, `--compare` has no value; it stands at any place behind the form's name, at most once; `--` ends the options.
 ///
