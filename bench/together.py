@@ -29,7 +29,7 @@ TOOLS = BENCH.parent / "tools"
 sys.path[:0] = [str(BENCH), str(TOOLS / "tests"), str(TOOLS)]
 sys.dont_write_bytecode = True
 
-from serve import TRADE, Case, compiled, run, served, wait_for
+from serve import TRADE, Case, compiled, run, served
 from serving import ROSTER, free_port
 
 RECORD = "x" * 55
@@ -118,8 +118,9 @@ class Postgres:
         settings = {**POSTGRES, "port": str(self.port), "unix_socket_directories": str(data)}
         words: Words = [*self.who, programs / "postgres", "-D", data, *(f"--{name}={value}" for name, value in settings.items())]
         self.server = subprocess.Popen(words, stdin=subprocess.DEVNULL, stderr=subprocess.DEVNULL, cwd=data)
-        wait_for(self.port)
         self.reach = ["-h", "127.0.0.1", "-p", str(self.port), "-U", "postgres"]
+        while subprocess.run([programs / "pg_isready", *self.reach], stdout=subprocess.DEVNULL, cwd=folder).returncode != 0:
+            time.sleep(0.1)
         self.ask("CREATE TABLE changes (record text)")
 
     def ask(self, command: str) -> None:
@@ -227,7 +228,7 @@ def parser() -> argparse.ArgumentParser:
     made.add_argument("programs", metavar="PROGRAM", nargs="+", help="a compress_cli")
     made.add_argument("--folder", type=Path, action="append", help="where the journals are; often (/tmp, /dev/shm)")
     made.add_argument("--redis", metavar="PROGRAM", type=Path, help="a redis-server")
-    made.add_argument("--postgres", metavar="FOLDER", type=Path, help="where postgres, initdb, psql and pgbench are")
+    made.add_argument("--postgres", metavar="FOLDER", type=Path, help="where postgres, initdb, psql, pg_isready and pgbench are")
     made.add_argument("--turns", metavar="COUNT", type=int, default=5, help="how often each is measured (5)")
     made.add_argument("--seconds", metavar="COUNT", type=float, default=1, help="for how long (1)")
     made.add_argument("--connections", metavar="COUNT", type=int, action="append", help="how many; often (1, 4, 16, 64)")
