@@ -1,2 +1,4 @@
 pub mod Changes
+pub mod InTurn
+pub mod Sends
 pub mod Includes

@@ -5,7 +5,7 @@ mod runs;
 mod threads;
 mod whole_runs;
 
-ghost use Rattle.std.specs.Prelude.{◌≡◌, ◌+◌, ◌^◌, ◌≤◌, IfOk};
+ghost use Rattle.std.specs.Prelude.{◌≡◌, ◌+◌, ◌^◌, ◌<◌, ◌≤◌, IfOk};
 ghost use Rattle.cycle_lock.specs.Passes.{IsPassOf, may_split};
 
 use crate::machine::answers::Told::{Affirmed, Ended, Frozen, Marked, Market, No, Own, Traded};

@@ -1,6 +1,6 @@
 //! Runs of commands, each asked in as few turns as the desk takes.
 
-ghost use Rattle.std.specs.Prelude.{◌≡◌, ◌<◌, ◌≤◌, All, IfOk, length, vec_len};
+ghost use Rattle.std.specs.Prelude.{◌≡◌, ◌<◌, ◌≤◌, All, IfOk, IfSome, length, vec_len};
 ghost use Rattle.command_types.specs.History.{end_of};
 ghost use Rattle.command_types.specs.declared.desk.TheConstants.{MOST_TOGETHER};
 ghost use Rattle.cycle_lock.specs.Passes.{IsPassOf};
@@ -20,8 +20,8 @@ fn commands_of(alloc: Global, seat: u32, rows: &[Row]) -> Result<Vec<Entry>, Fai
     ensures count { IfOk result (λ commands. vec_len commands ≡ length rows.now) }
 {
     let mut commands = Vec::new(alloc);
-    for (by, said, _, _) in rows {
-        let ask = ask_of(alloc, *by, *said)?;
+    for row in rows {
+        let ask = ask_of(alloc, row.0, row.1)?;
         commands.push(Entry { seat, ask })?;
     }
     Ok(commands)
@@ -71,12 +71,11 @@ fn run<R: Wait, D: Desk>(
 {
     let mut first = 0;
     for _ in 0..rows.len() {
-        if first == rows.len() {
-            break;
-        }
-        match turn(rt, alloc, turns, pass, &rows[first..])? {
-            Some(count) => first += count,
-            None => return Ok(false),
+        if first < rows.len() {
+            match turn(rt, alloc, turns, pass, &rows[first..])? {
+                Some(count) => first += count,
+                None => return Ok(false),
+            }
         }
     }
     Ok(first == rows.len())
@@ -98,13 +97,20 @@ pub fn goes_in_runs<R: Wait, D: Desk>(
         return Err(AllocError)?;
     };
     let mut other = turns.split(&mut pass);
-    for rows in rows.chunks(size) {
-        if !run(rt, alloc, &turns, &mut pass, rows)? {
+    let mut first = 0;
+    for _ in 0..rows.len() {
+        let end = first + size.min(rows.len() - first);
+        if !run(rt, alloc, &turns, &mut pass, &rows[first..end])? {
             return Ok(false);
         }
         mem::swap(&mut pass, &mut other);
+        first = end;
     }
     turns.join(&mut pass, other);
     let desk = turns.close(rt, pass);
-    Ok(desk.length() == rows.last().map_or(0, |row| row.2))
+    let at = match rows.last() {
+        Some(row) => row.2,
+        None => 0,
+    };
+    Ok(desk.length() == at)
 }

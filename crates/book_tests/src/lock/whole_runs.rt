@@ -43,6 +43,8 @@ impl Desk for WholeRuns {
             let Entry { seat, ask } = commands[i].take();
             replies.push_reserved(self.desk.ask(seat, ask));
         }
+        // A desk that tells its length says that its history is legal.
+        let _length = self.desk.length();
     }
 
     fn length(&self) -> u64 {
