@@ -86,6 +86,28 @@ const MARKETS: &[((&[&str], &[&str]), &[u8], &[u8], &[u8], &[u8])] = &[
     ),
 ];
 
+// Dealers A, B and C, and three products.
+const THREE_PRODUCTS: &[u8] =
+    b"name,role,key\nA,dealer,KA\nB,dealer,KB\nC,dealer,KC\nOPS,operator,KO\nP,product,2031-06-30\nQ,product,2031-06-30\nR,product,2032-06-30\n";
+
+const THREE_CHAINS: &[u8] =
+    b"seller,buyer,product,amount\nA,B,P,10\nB,C,P,7\nA,B,Q,20\nB,C,Q,7\nA,B,R,30\nB,C,R,40\n";
+
+// A solve by 1 to 5 workers.
+const BY_WORKERS: &[&[&str]] = &[
+    &["solve", "T", "t", "hybrid", "--workers", "1"],
+    &["solve", "T", "t", "hybrid", "--workers", "2"],
+    &["solve", "T", "t", "hybrid", "--workers", "3"],
+    &["solve", "T", "t", "hybrid", "--workers", "4"],
+    &["solve", "T", "t", "hybrid", "--workers", "5"],
+];
+
+// A solve of these chains in hybrid mode.
+const THREE: Trial<'static> = Trial {
+    output: Text::Ends(b"\nbound 40\nend 3\n"),
+    ..SOLVE
+};
+
 // What a form over these files leaves.
 fn left_of<'a, R: Threads + Wait + Sync + AllocGlobal>(
     rt: &R,
@@ -124,4 +146,27 @@ fn all_are_solved<R: Threads + Wait + Sync + AllocGlobal>(rt: &R) -> Result<(), 
 #[test]
 fn a_ring_is_dissolved_and_the_check_says_yes(rt: HostRuntime) -> Result<(), Fail> {
     all_are_solved(&rt)
+}
+
+// That any number of workers writes the same for three chains, to which a check says yes.
+fn all_write_the_same<R: Threads + Wait + Sync + AllocGlobal>(rt: &R) -> Result<(), Fail> {
+    let one = left_of(rt, &THREE, THREE_PRODUCTS, THREE_CHAINS, b"")?.output;
+    let begun = one.starts_with(b"product P 17 10 10 17\nrow A B 3\nrow A C 7\n");
+    so(begun, "the proposal begins otherwise")?;
+    for &words in BY_WORKERS {
+        let solve = Trial { words, ..THREE };
+        let proposal = left_of(rt, &solve, THREE_PRODUCTS, THREE_CHAINS, b"")?.output;
+        so(proposal == one, "other bytes are written")?;
+        let check = Trial {
+            output: Text::Is(b"yes\n"),
+            ..CHECK
+        };
+        let _left = left_of(rt, &check, THREE_PRODUCTS, THREE_CHAINS, &proposal)?;
+    }
+    Ok(())
+}
+
+#[test]
+fn any_number_of_workers_writes_the_same(rt: HostRuntime) -> Result<(), Fail> {
+    all_write_the_same(&rt)
 }
