@@ -1,4 +1,3 @@
 pub mod Changes
 pub mod InTurn
-pub mod Sends
 pub mod Includes
