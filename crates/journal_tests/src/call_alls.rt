@@ -23,10 +23,25 @@ const ASKED: [Step; 6] = [
 // What they are told where the disk fails on their changes: from the history before.
 const FAILED: [Step; 6] = [
     (Party::Operator, Said::Nets, 0, Told::Gross(0)),
-    (Party::A, Said::Trade(Party::B), 0, Told::No(Refusal::DiskFault)),
-    (Party::B, Said::Affirm(1), 0, Told::No(Refusal::UnknownTrade)),
+    (
+        Party::A,
+        Said::Trade(Party::B),
+        0,
+        Told::No(Refusal::DiskFault),
+    ),
+    (
+        Party::B,
+        Said::Affirm(1),
+        0,
+        Told::No(Refusal::UnknownTrade),
+    ),
     (Party::Operator, Said::Nets, 0, Told::Gross(0)),
-    (Party::A, Said::Trade(Party::C), 0, Told::No(Refusal::Stopped { at: 0 })),
+    (
+        Party::A,
+        Said::Trade(Party::C),
+        0,
+        Told::No(Refusal::Stopped { at: 0 }),
+    ),
     (Party::A, Said::Hold(1), 0, Told::No(Refusal::UnknownTrade)),
 ];
 
@@ -146,6 +161,9 @@ fn a_call_ends_before_a_command_that_is_asked_alone(rt: HostRuntime) -> Result<(
     let behind = fronts(&rt, alloc, &BEHIND)?;
     let alone = fronts(&rt, alloc, &ALONE)?;
     let none = fronts(&rt, alloc, &[])?;
-    assert!(rt; behind == 2 && alone == 0 && none == 0, "{behind}, {alone} and {none}");
+    assert!(rt;
+        behind == 2 && alone == 0 && none == 0,
+        "{behind}, {alone} and {none}"
+    );
     Ok(())
 }
