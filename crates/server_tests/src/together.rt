@@ -1,8 +1,7 @@
 //! Lines that come together are replied to as those that come one by one.
 
-use crate::memory::repeated;
 use crate::program::{SCRIPT, Text, Trial};
-use std::alloc::{AllocError, AllocGlobal, Global};
+use std::alloc::AllocGlobal;
 use std::sync::Wait;
 use std::test::Fail;
 use std::thread::Threads;
@@ -59,40 +58,4 @@ fn all_alike<R: Threads + Wait + Sync + AllocGlobal>(rt: &R) -> Result<(), Fail>
 #[test]
 fn lines_that_come_together_are_replied_to_as_one_by_one(rt: HostRuntime) -> Result<(), Fail> {
     all_alike(&rt)
-}
-
-// The replies to a greeting, so many trades, and a look at the product.
-fn replies_of(alloc: Global, trades: u64) -> Result<String, AllocError> {
-    let mut all = String::from_str(alloc, "ok 0 hello A\n")?;
-    for trade in 1..=trades {
-        let reply = format!(in alloc; "ok {trade} trade {trade}\n")?;
-        all.push_str(&reply)?;
-    }
-    let last = format!(in alloc; "ok {trades} nets 0 0 0\n")?;
-    all.push_str(&last)?;
-    Ok(all)
-}
-
-// More changes than are asked together.
-fn many_alike<R: Threads + Wait + Sync + AllocGlobal>(rt: &R) -> Result<(), Fail> {
-    let trade = "TRADE A B P 10 2026-03-02\n";
-    let input = repeated(rt.alloc(), "HELLO A KA\n", trade, 130, "NETS P\n")?;
-    let replies = replies_of(rt.alloc(), 130)?;
-    for most in AT_ONCE {
-        let script = Trial {
-            input: input.as_bytes(),
-            most,
-            output: Text::Is(replies.as_bytes()),
-            ..SCRIPT
-        };
-        script.ends(rt)?;
-    }
-    Ok(())
-}
-
-#[test]
-fn more_changes_than_are_asked_together_are_replied_to_as_one_by_one(
-    rt: HostRuntime,
-) -> Result<(), Fail> {
-    many_alike(&rt)
 }
