@@ -13,8 +13,6 @@ mod bases;
 #[cfg(test)]
 mod batches;
 #[cfg(test)]
-mod call_alls;
-#[cfg(test)]
 mod changed_bytes;
 #[cfg(test)]
 mod crashes;
