@@ -9,6 +9,7 @@ pub mod DraftFacts
 pub mod TextFacts
 pub mod RangeFacts
 pub mod PartFacts
+pub mod RunFacts
 pub mod NumberTexts
 pub mod SpacedWords
 pub mod LineTexts

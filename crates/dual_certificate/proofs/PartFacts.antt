@@ -41,7 +41,7 @@ some_is : {A : Type 0} (x y : A) → (let o : Option A = Some x in o) ≡ Some y
 some_is x y h = ap (λ o. elim o [ None ↦ x | Some z ↦ z ]) h
 
 -- what a choice gave
-chosen : {A : Type 0} (b : Bool) (x y : A) → cond b (Some x) None ≡ Some y → (b ≡ true) × (x ≡ y)
+pub chosen : {A : Type 0} (b : Bool) (x y : A) → cond b (Some x) None ≡ Some y → (b ≡ true) × (x ≡ y)
 chosen true x y h = (refl, some_is x y h)
 chosen false x y h = absurd cc
 

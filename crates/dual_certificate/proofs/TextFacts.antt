@@ -9,7 +9,7 @@ use Rattle.network_laws.specs.declared.rows.Row.{Row}
 use Rattle.network_laws.specs.Networks.{NetworkData}
 use Rattle.network_laws.specs.Solutions.{SolutionData}
 use Rattle.command_types.specs.Roster.{Rows}
-use Rattle.dual_certificate.specs.ProposalText.{product_text, row_text, rows_text, pot_text, pots_text, part_text, part_of, parts_below, proposal_text}
+use Rattle.dual_certificate.specs.ProposalText.{product_text, row_text, rows_text, pot_text, pots_text, part_of, parts_below, proposal_text}
 use Rattle.dual_certificate.specs.Joining.{ArePartTexts}
 use Rattle.dual_certificate.specs.SummaryText.{summary_line, summary_below}
 

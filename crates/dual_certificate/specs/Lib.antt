@@ -8,6 +8,7 @@ pub mod ProposalLine
 pub mod Proposal
 pub mod ProposalDraft
 pub mod Parts
+pub mod Runs
 pub mod Laws
 pub mod PartsText
 pub mod Own

@@ -26,6 +26,10 @@ pub record Reading : Type 0 where
 abbrev pub nothing_read : Reading
 nothing_read = record { parts = []; figures = None; rows = []; potentials = []; has_ended = false }
 
+-- these parts are finished, and none is begun
+abbrev pub after_parts : List ProposalPart → Reading
+after_parts parts = record { parts = parts; figures = None; rows = []; potentials = []; has_ended = false }
+
 -- there is a product, and this is its name
 abbrev pub is_product_row : Option ProductRow → List ℕ → Bool
 is_product_row None name = false

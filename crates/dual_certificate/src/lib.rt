@@ -23,7 +23,9 @@ mod proposal_draft;
 mod proposal_line;
 mod proposal_part;
 mod proposal_reader;
+mod proposal_run;
 mod proposal_writer;
+mod run_joiner;
 mod summary_writer;
 
 pub use checker::check;
@@ -36,6 +38,8 @@ pub use own_laws::{
     no_own_clash_is_certified, own_rows_are_enough,
 };
 pub use proposal_part::ProposalPart;
-pub use proposal_reader::read_proposal;
+pub use proposal_reader::{read_proposal, read_runs};
+pub use proposal_run::{ProposalRun, read_run};
 pub use proposal_writer::{join_parts, write_part};
+pub use run_joiner::{RunText, run_texts};
 pub use summary_writer::write_summary;

@@ -1,9 +1,11 @@
 //! The parts of a proposal, as far as its text was read.
-ghost use Rattle.std.specs.Prelude.{◌≡◌, ◌+◌, ◌<◌, ◌≤◌, ◌^◌, length, Some};
+ghost use Rattle.std.specs.Prelude.{◌≡◌, ◌+◌, ◌<◌, ◌≤◌, ◌^◌, length, Some, All};
+ghost use Rattle.network_laws.specs.Solutions.{IsSolution};
 ghost use Rattle.std.specs.Option.{option_copied};
 ghost use Rattle.network_laws.specs.Networks.{place, total as total_of};
 ghost use Rattle.command_types.specs.Roster.{Rows, member_place};
 ghost use Rattle.dual_certificate.specs.Proposal.{nothing_read, is_between, is_behind, fits, with_product, with_network_row, with_row, with_pot, with_bound, with_end, with_said, with_line};
+ghost use Rattle.dual_certificate.specs.Proposal.{after_parts};
 ghost use Rattle.dual_certificate.specs.ProposalDraft.{reading_of, IsDraft, ReadSteps};
 ghost use Rattle.units_core.specs.declared.limits.TheConstants.{MOST_GROSS};
 
@@ -66,6 +68,27 @@ impl ProposalDraft {
             potentials: Vec::new(alloc),
             has_ended: false,
         }
+    }
+
+    /// A part is begun, with nothing in front of it.
+    pub(crate) fn begun(alloc: Global, figures: Figures) -> ProposalDraft
+        ensures reading { reading_of result ≡ record nothing_read { figures = Some figures } }
+        ensures draft { (roster : Rows) → IsDraft roster result }
+    {
+        let mut draft = ProposalDraft::new(alloc);
+        draft.figures = Some(figures);
+        draft
+    }
+
+    /// These parts are finished, and none is begun.
+    pub(crate) fn behind(alloc: Global, parts: Vec<ProposalPart>) -> ProposalDraft
+        requires { All (λ part. IsSolution part.solution) parts.items }
+        ensures reading { reading_of result ≡ after_parts parts.items }
+        ensures draft { (roster : Rows) → IsDraft roster result }
+    {
+        let mut draft = ProposalDraft::new(alloc);
+        draft.parts = parts;
+        draft
     }
 
     // Whether a part may begin, or the last line come.
@@ -141,8 +164,8 @@ impl ProposalDraft {
         Ok(())
     }
 
-    // The part that is begun ends with its dual bound.
-    fn finish(&mut self, roster: &Roster, row: u64, value: u64) -> Result<(), FileFault>
+    /// The part that is begun ends with its dual bound.
+    pub(crate) fn finish(&mut self, roster: &Roster, row: u64, value: u64) -> Result<(), FileFault>
         requires { IsDraft roster.now self.old }
         ensures { ReadSteps roster.now row (with_bound roster.now (reading_of self.old) value) self.new result }
     {
@@ -212,8 +235,13 @@ impl ProposalDraft {
         self.add_row(roster, row, added)
     }
 
-    // What a line with this number says.
-    fn take(&mut self, roster: &Roster, row: u64, line: ProposalLine) -> Result<(), FileFault>
+    /// Takes what a line with this number says.
+    pub(crate) fn take(
+        &mut self,
+        roster: &Roster,
+        row: u64,
+        line: ProposalLine,
+    ) -> Result<(), FileFault>
         requires { IsDraft roster.now self.old }
         ensures { ReadSteps roster.now row (with_said roster.now (reading_of self.old) (Some line)) self.new result }
     {

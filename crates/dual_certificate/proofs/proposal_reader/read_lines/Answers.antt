@@ -1,6 +1,6 @@
 use Rattle.std.proofs.Common.{◌∙◌, sym, ap, arith}
 use Rattle.dual_certificate.specs.ProposalLine.{pieces}
-use Rattle.dual_certificate.specs.Proposal.{nothing_read, with_pieces}
+use Rattle.dual_certificate.specs.Proposal.{after_parts, with_pieces}
 use Rattle.dual_certificate.specs.ProposalDraft.{reading_of}
 use Rattle.dual_certificate.proofs.PartFacts.{solutions_within}
 use Rattle.dual_certificate.proofs.ReadFacts.{stands, fails, last}
@@ -8,7 +8,8 @@ use Rattle.dual_certificate.proofs.proposal_reader.read_lines.Goals as goal
 
 pub loop-line-init : goal.loop-line-init
 loop-line-init c =
-    (ap (λ r. with_pieces c.args.roster.now 1 r (pieces 10 c.args.bytes.now)) (sym c.new-draft.ensures.reading), c.new-draft.ensures.draft c.args.roster.now, omega arith)
+    let joined = c.args.joined in
+    (ap (λ r. with_pieces c.args.roster.now joined.row r (pieces 10 joined.rest.now)) (sym c.behind-draft.ensures.reading), c.behind-draft.ensures.draft c.args.roster.now, c.requires.short)
 
 pub loop-line-preserved : goal.loop-line-preserved
 loop-line-preserved c =
@@ -19,7 +20,7 @@ loop-line-preserved c =
 
 pub returns-in-Err-clause-fault : goal.returns-in-Err-clause-fault
 returns-in-Err-clause-fault c =
-    fails c.args.roster.now c.loop-line.row (reading_of c.loop-line.draft) c.loop-line.rest.now c.in-Some.line.now c.in-Some.more.now c.in-Err.fault (with_pieces c.args.roster.now 1 nothing_read (pieces 10 c.args.bytes.now)) c.loop-line.invariant.0 c.in-Some.ensures.some c.in-Err.ensures
+    fails c.args.roster.now c.loop-line.row (reading_of c.loop-line.draft) c.loop-line.rest.now c.in-Some.line.now c.in-Some.more.now c.in-Err.fault (with_pieces c.args.roster.now c.args.joined.row (after_parts c.args.joined.parts.items) (pieces 10 c.args.joined.rest.now)) c.loop-line.invariant.0 c.in-Some.ensures.some c.in-Err.ensures
 
 pub returns-clause-parts : goal.returns-clause-parts
 returns-clause-parts c =
