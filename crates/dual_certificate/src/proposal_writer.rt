@@ -6,7 +6,7 @@ ghost use Rattle.network_laws.specs.Solutions.{SolutionData};
 ghost use Rattle.command_types.specs.Roster.{Rows};
 ghost use Rattle.command_types.specs.Text.{member_name, product_name};
 ghost use Rattle.dual_certificate.specs.ProposalText.{product_text, row_text, rows_text, pot_text, pots_text, part_text, parts_below, proposal_text};
-ghost use Rattle.dual_certificate.specs.Joining.{ArePartTexts};
+ghost use Rattle.dual_certificate.specs.Joining.{ArePartTexts, IsProposalOf};
 ghost use Rattle.dual_certificate.specs.Writing.{HasMembers};
 
 use command_types::Roster;
@@ -177,7 +177,7 @@ fn joined(alloc: Global, parts: &[Vec<u8>]) -> Result<Vec<u8>, AllocError>
 /// The text of a proposal, from the lines of its products in their order, whatever networks and solutions they tell of. The
 /// only error is want of memory.
 pub fn join_parts(alloc: Global, parts: &[Vec<u8>]) -> Result<Vec<u8>, AllocError>
-    ensures { IfOk result (λ text. (roster : Rows) (olds : List NetworkData) (news : List SolutionData) → ArePartTexts roster olds news parts.now → text.items ≡ proposal_text roster olds news) }
+    ensures { IfOk result (λ text. IsProposalOf parts.now text.items) }
 {
     let mut out = joined(alloc, parts)?;
     put_number(&mut out, b"end ", parts.len() as u64)?;
