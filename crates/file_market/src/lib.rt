@@ -7,6 +7,7 @@ mod checking;
 mod failing;
 mod laws;
 mod limits;
+mod reading;
 mod solving;
 mod summing;
 mod untouched;
@@ -18,6 +19,7 @@ pub use failing::{Failing, Failure};
 pub use laws::{
     nothing_fails_where_all_pass, summaries_are_one, what_is_solved_passes, yes_where_all_are_least,
 };
+pub use reading::read_proposal_by;
 pub use solving::solve;
 pub use summing::summarize;
 pub use verdict_text::verdict;
