@@ -97,7 +97,7 @@ pub fn run_check<R: Threads + Sync, V: Solver, G: Gate, F: Files, K: Sink>(
         Ok(trades) => trades,
         Err(fault) => return CheckEnd::Unloaded(fault),
     };
-    let parts = match load_proposal(alloc, files, proposal, &roster) {
+    let parts = match load_proposal(alloc, files, proposal, &roster, workers) {
         Ok(parts) => parts,
         Err(fault) => return CheckEnd::Unloaded(fault),
     };

@@ -11,8 +11,11 @@ ghost use Rattle.dual_certificate.specs.Parts.{AreParts};
 ghost use Rattle.compress_server.specs.Files.{files_by, file_front, Reads, SaysRoster, SaysProposal, IsLoadFault};
 
 use command_types::{FileFault, Roster};
-use dual_certificate::{ProposalPart, read_proposal};
-use outside::{Files, Trouble};
+use dual_certificate::ProposalPart;
+use file_market::read_proposal_by;
+use network_laws::Solver;
+use outside::{Files, Gate, Trouble};
+use parallel_solver::Workers;
 use std::alloc::Global;
 use std::thread::Threads;
 use trade_file::{FileTrade, Readers, read_roster, read_trades};
@@ -113,12 +116,13 @@ pub fn load_trades<R: Threads + Sync, F: Files>(
     }
 }
 
-/// The parts of the proposal in the file with this name, over the roster. No file changes.
-pub fn load_proposal<F: Files>(
+/// The parts of the proposal in the file with this name, over the roster, read by these workers. No file changes.
+pub fn load_proposal<R: Threads + Sync, V: Solver, G: Gate, F: Files>(
     alloc: Global,
     files: &mut F,
     name: &str,
     roster: &Roster,
+    workers: &Workers<'_, R, V, G>,
 ) -> Result<Vec<ProposalPart>, LoadFault>
     ensures says { IfOk result (λ parts. SaysProposal (F.folder files.old) name.now roster.now parts.items) }
     ensures within { IfOk result (λ parts. AreParts roster.now parts.items) }
@@ -127,7 +131,7 @@ pub fn load_proposal<F: Files>(
     ensures never_falls { F.faults files.old ≤ F.faults files.new }
 {
     let bytes = read_front(alloc, files, FileRole::Proposal, name)?;
-    match read_proposal(alloc, &bytes, roster) {
+    match read_proposal_by(alloc, &bytes, roster, workers) {
         Ok(parts) => Ok(parts),
         Err(FileFault::Memory) => Err(LoadFault::Memory),
         Err(fault) => Err(LoadFault::Faulty(FileRole::Proposal, fault)),
