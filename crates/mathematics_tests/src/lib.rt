@@ -35,6 +35,8 @@ mod proposals;
 #[cfg(test)]
 mod residual;
 #[cfg(test)]
+mod shared_proposals;
+#[cfg(test)]
 mod solved;
 #[cfg(test)]
 mod solvers;
