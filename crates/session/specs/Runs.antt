@@ -1,5 +1,5 @@
 -- A run: lines whose commands are known before the first of them is replied to, and are asked together.
-use Rattle.std.specs.Prelude.{◌≡◌, ℕ, ◌==◌, Bool, true, false, List, [], ◌∷◌, ◌++◌, All, Result, Ok, Err}
+use Rattle.std.specs.Prelude.{◌≡◌, ℕ, ◌==◌, Bool, true, false, List, [], ◌∷◌, ◌++◌, All, take, Result, Ok, Err}
 use Rattle.command_types.specs.declared.ask.Entry.{Entry}
 use Rattle.command_types.specs.declared.answer.Reply.{Reply}
 use Rattle.command_types.specs.declared.line.Line.{Line}
@@ -17,6 +17,11 @@ AsksAll clock old new [] [] = new ≡ old
 AsksAll clock old new [] (reply ∷ replies) = ⊥
 AsksAll clock old new (command ∷ commands) [] = ⊥
 AsksAll clock old new (command ∷ commands) (reply ∷ replies) = (mid : Sight) × Asks clock old mid command.ask reply × AsksAll clock mid new commands replies
+
+-- So many of these commands are asked, from the first on: by each clock that tells the moments of all they are replied to, one after another.
+abbrev pub AsksFront : Sight → Sight → List Entry → ℕ → List Reply → Type 0
+AsksFront old new commands count replies =
+    (clock : ℕ → Bool) → All (λ (command : Entry). IsTime clock command.ask.moment) commands → AsksAll clock old new (take count commands) replies
 
 -- a line of this kind may stand in a run: no reply to it changes who speaks or what the draft has, nor ends the session
 abbrev pub may_run : Result Line ℕ → Bool

@@ -1,5 +1,6 @@
 -- Where a session stands between two lines, and how it goes on from there.
-use Rattle.std.specs.Prelude.{◌≡◌, ℕ, Bool, ◌+◌, false, List, [], ◌++◌, length, take, Option, if◌then◌else◌}
+use Rattle.std.specs.Prelude.{◌≡◌, ℕ, Bool, ◌+◌, false, List, [], ◌++◌, length, take, Option, Result, IfOk, IfSome, if◌then◌else◌}
+use Rattle.outside.specs.declared.failed.Failed.{Failed}
 use Rattle.outside.specs.Flow.{TakesFront}
 use Rattle.command_types.specs.declared.ask.Entry.{Entry}
 use Rattle.command_types.specs.declared.answer.Answer.{Answer}
@@ -60,6 +61,11 @@ Serves clock stand kept taken P = (start : Sight) (ahead : List (List ℕ)) (beg
 -- with these bytes more it has served them too
 abbrev pub GoesOn : (ℕ → Bool) → Stand → Stand → List ℕ → List ℕ → Option (List ℕ) → Option (List ℕ) → List ℕ → Type 0
 GoesOn clock old new kept then_kept taken then_taken more = Serves clock old kept taken (λ start ahead begun bytes. Served clock start ahead begun then_taken new then_kept (bytes ++ more))
+
+-- where so many bytes of a piece were taken, it goes on by them
+abbrev pub GoesOnFront : (ℕ → Bool) → Stand → Stand → List ℕ → List ℕ → Option (List ℕ) → Option (List ℕ) → List ℕ → Result (Option ℕ) Failed → Type 0
+GoesOnFront clock old new kept then_kept taken then_taken piece front =
+    IfOk front (λ some. IfSome some (λ size. GoesOn clock old new kept then_kept taken then_taken (take size piece)))
 
 -- with these bytes more it is over by an accepted BYE
 abbrev pub IsLeft : (ℕ → Bool) → Stand → Stand → List ℕ → Option (List ℕ) → Option (List ℕ) → List ℕ → Type 0

@@ -1,12 +1,12 @@
 //! What a session asks with.
 
-ghost use Rattle.std.specs.Prelude.{◌≡◌, ◌≤◌, ◌<◌, ℕ, Bool, All, length, take, drop, vec_len, vec_capacity, IfOk};
+ghost use Rattle.std.specs.Prelude.{◌≡◌, ◌≤◌, ◌<◌, ℕ, Bool, All, length, drop, vec_len, vec_capacity, IfOk};
 ghost use Rattle.command_types.specs.declared.desk.TheConstants.{MOST_TOGETHER};
 ghost use Rattle.command_types.specs.History.{end_of};
 ghost use Rattle.command_types.specs.Session.{IsTime};
 ghost use Rattle.network_laws.specs.Solved.{AreSolved};
 ghost use Rattle.cycle_lock.specs.Passes.{IsPassOf, seat_of, seen};
-ghost use Rattle.session.specs.Runs.{AsksAll};
+ghost use Rattle.session.specs.Runs.{AsksFront};
 ghost use Rattle.session.specs.Serving.{of_pass, Asks};
 
 use command_types::{Ask, Desk, Entry, Reply};
@@ -78,7 +78,7 @@ impl<'a, T: Desk, R: Threads + Wait + Sync, V: Solver, G: Gate> Asker<'a, T, R, 
         ensures few { vec_len replies.new ≤ length commands.old }
         ensures rest { drop (vec_len replies.new) commands.new ≡ drop (vec_len replies.new) commands.old }
         ensures capacity { vec_capacity replies.new ≡ vec_capacity replies.old }
-        ensures asks { (clock : ℕ → Bool) → All (λ command. IsTime clock command.ask.moment) commands.old → AsksAll clock (of_pass self.old.pass) (of_pass self.new.pass) (take (vec_len replies.new) commands.old) replies.new.items }
+        ensures asks { AsksFront (of_pass self.old.pass) (of_pass self.new.pass) commands.old (vec_len replies.new) replies.new.items }
     {
         self.turns
             .call_all(self.workers.rt, &mut self.pass, commands, replies)

@@ -1,8 +1,8 @@
 //! What a session takes first of what it has read: several lines together, or a byte.
 
-ghost use Rattle.std.specs.Prelude.{◌≡◌, ◌≤◌, ◌<◌, length, take, IfSome, IfOk, OnErr, Ok, None};
+ghost use Rattle.std.specs.Prelude.{◌≡◌, ◌≤◌, ◌<◌, length, IfSome, IfOk, OnErr, Ok, None};
 ghost use Rattle.outside.specs.Faults.{CountsFault};
-ghost use Rattle.session.specs.Standing.{stand_of, GoesOn, IsLeft, IsCut};
+ghost use Rattle.session.specs.Standing.{stand_of, GoesOnFront, IsLeft, IsCut};
 
 use crate::line_buffer::LineBuffer;
 use crate::runs::begins_run;
@@ -25,7 +25,7 @@ impl<'a, T: Desk, R: Threads + Wait + Sync, V: Solver, G: Gate> Session<'a, T, R
     ) -> Result<Option<usize>, Failed>
         requires some { 0 < length piece.now }
         ensures within { IfOk result (λ front. IfSome front (λ size. (0 < size) × (size ≤ length piece.now))) }
-        ensures on { IfOk result (λ front. IfSome front (λ size. GoesOn (C.tells clock.now) (stand_of self.old) (stand_of self.new) line.old line.new (K.taken sink.old) (K.taken sink.new) (take size piece.now))) }
+        ensures on { GoesOnFront (C.tells clock.now) (stand_of self.old) (stand_of self.new) line.old line.new (K.taken sink.old) (K.taken sink.new) piece.now result }
         ensures over { result ≡ Ok None → IsLeft (C.tells clock.now) (stand_of self.old) (stand_of self.new) line.old (K.taken sink.old) (K.taken sink.new) piece.now }
         ensures cut_off { OnErr result (IsCut (C.tells clock.now) (stand_of self.old) (stand_of self.new) line.old (K.taken sink.old) (K.taken sink.new) piece.now) }
         ensures counts { CountsFault result (K.faults sink.old) (K.faults sink.new) }
@@ -47,7 +47,7 @@ impl<'a, T: Desk, R: Threads + Wait + Sync, V: Solver, G: Gate> Session<'a, T, R
     ) -> Result<Option<usize>, Failed>
         requires some { 0 < length piece.now }
         ensures within { IfOk result (λ front. IfSome front (λ size. (0 < size) × (size ≤ length piece.now))) }
-        ensures on { IfOk result (λ front. IfSome front (λ size. GoesOn (C.tells clock.now) (stand_of self.old) (stand_of self.new) line.old line.new (K.taken sink.old) (K.taken sink.new) (take size piece.now))) }
+        ensures on { GoesOnFront (C.tells clock.now) (stand_of self.old) (stand_of self.new) line.old line.new (K.taken sink.old) (K.taken sink.new) piece.now result }
         ensures over { result ≡ Ok None → IsLeft (C.tells clock.now) (stand_of self.old) (stand_of self.new) line.old (K.taken sink.old) (K.taken sink.new) piece.now }
         ensures cut_off { OnErr result (IsCut (C.tells clock.now) (stand_of self.old) (stand_of self.new) line.old (K.taken sink.old) (K.taken sink.new) piece.now) }
         ensures counts { CountsFault result (K.faults sink.old) (K.faults sink.new) }

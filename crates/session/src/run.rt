@@ -1,11 +1,10 @@
 //! A run: lines whose commands are known before the first of them is replied to, and are asked together.
 
-ghost use Rattle.std.specs.Prelude.{◌≡◌, ◌+◌, ◌≤◌, ◌<◌, [], ◌∷◌, ◌++◌, All, length, take, drop, vec_len, vec_capacity, IfOk, ℕ, Bool};
+ghost use Rattle.std.specs.Prelude.{◌≡◌, ◌+◌, ◌≤◌, ◌<◌, [], ◌∷◌, ◌++◌, All, length, drop, vec_len, vec_capacity, IfOk};
 ghost use Rattle.command_types.specs.declared.desk.TheConstants.{MOST_TOGETHER};
-ghost use Rattle.command_types.specs.Session.{IsTime};
 ghost use Rattle.cycle_lock.specs.Passes.{seat_of};
 ghost use Rattle.session.specs.Asks.{line_read};
-ghost use Rattle.session.specs.Runs.{may_run, AsksAll};
+ghost use Rattle.session.specs.Runs.{may_run, AsksFront};
 ghost use Rattle.session.specs.Serving.{of_pass};
 
 use crate::asker::Asker;
@@ -29,7 +28,9 @@ pub struct Run {
 
 impl Run {
     /// No commands. It takes all its memory now.
-    pub fn new(alloc: Global) -> Result<Run, AllocError> {
+    pub fn new(alloc: Global) -> Result<Run, AllocError>
+        ensures { IfOk result (λ run. run.commands.items ≡ []) }
+    {
         Ok(Run {
             commands: Vec::with_capacity(alloc, MOST_TOGETHER)?,
             replies: Vec::with_capacity(alloc, MOST_TOGETHER)?,
@@ -77,7 +78,7 @@ impl Run {
         ensures within { at + length self.new.replies.items ≤ length self.new.commands.items }
         ensures length { length self.new.commands.items ≡ length self.old.commands.items }
         ensures rest { drop (at + length self.new.replies.items) self.new.commands.items ≡ drop (at + length self.new.replies.items) self.old.commands.items }
-        ensures asks { (clock : ℕ → Bool) → All (λ command. IsTime clock command.ask.moment) (drop at self.old.commands.items) → AsksAll clock (of_pass asker.old.pass) (of_pass asker.new.pass) (take (length self.new.replies.items) (drop at self.old.commands.items)) self.new.replies.items }
+        ensures asks { AsksFront (of_pass asker.old.pass) (of_pass asker.new.pass) (drop at self.old.commands.items) (length self.new.replies.items) self.new.replies.items }
     {
         asker.ask_all(&mut self.commands[at..], &mut self.replies);
     }

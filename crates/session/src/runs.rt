@@ -5,7 +5,7 @@ ghost use Rattle.std.specs.Prelude.{◌≡◌, ℕ, Bool, ◌≤◌, ◌<◌, Li
 ghost use Rattle.outside.specs.Faults.{CountsFault};
 ghost use Rattle.command_types.specs.Session.{IsTime};
 ghost use Rattle.cycle_lock.specs.Passes.{seat_of};
-ghost use Rattle.session.specs.AskedRun.{IsRunOf, RunsOn};
+ghost use Rattle.session.specs.AskedRun.{AsksRun, CutsRun, IsRunOf};
 ghost use Rattle.session.specs.KeptSpeaker.{speaker_of};
 ghost use Rattle.session.specs.Runs.{HasNoFeed, IsCommandOf};
 ghost use Rattle.session.specs.Serving.{of_pass, roster_of};
@@ -101,8 +101,8 @@ impl<'a, T: Desk, R: Threads + Wait + Sync, V: Solver, G: Gate> Session<'a, T, R
         requires times { (clock : ℕ → Bool) × All (λ command. IsTime clock command.ask.moment) (drop at self.old.run.commands.items) }
         ensures within { IfOk result (λ next. (at < next) × (next ≤ length self.new.run.commands.items)) }
         ensures length { length self.new.run.commands.items ≡ length self.old.run.commands.items }
-        ensures on { (clock : ℕ → Bool) (run : List ℕ) → IsRunOf clock (stand_of self.old) run (drop at self.old.run.commands.items) → IfOk result (λ next. RunsOn clock (stand_of self.old) (stand_of self.new) (K.taken sink.old) (K.taken sink.new) run (drop next self.new.run.commands.items)) }
-        ensures cut_off { (clock : ℕ → Bool) (run : List ℕ) → IsRunOf clock (stand_of self.old) run (drop at self.old.run.commands.items) → OnErr result (IsCut clock (stand_of self.old) (stand_of self.new) [] (K.taken sink.old) (K.taken sink.new) run) }
+        ensures on { IfOk result (λ next. AsksRun (stand_of self.old) (stand_of self.new) (K.taken sink.old) (K.taken sink.new) (drop at self.old.run.commands.items) (drop next self.new.run.commands.items)) }
+        ensures cut_off { OnErr result (CutsRun (stand_of self.old) (stand_of self.new) (K.taken sink.old) (K.taken sink.new) (drop at self.old.run.commands.items)) }
         ensures counts { CountsFault result (K.faults sink.old) (K.faults sink.new) }
     {
         self.run.ask(at, &mut self.asker);

@@ -2,12 +2,12 @@ use Rattle.std.proofs.Common.{◌≡◌, ◌+◌, ◌++◌, [], All, List, drop,
 use Rattle.outside.specs.Flow.{TakesFront}
 use Rattle.command_types.specs.declared.answer.Reply.{Reply}
 use Rattle.cycle_lock.specs.declared.pass.Pass.{Pass}
-use Rattle.session.specs.AskedRun.{RunsOn}
+use Rattle.session.specs.AskedRun.{CutsRun, RunsOn}
 use Rattle.session.specs.Given.{IsGiven}
 use Rattle.session.specs.KeptSpeaker.{speaker_of}
 use Rattle.session.specs.Runs.{replies_text}
 use Rattle.session.specs.Serving.{of_pass, roster_of}
-use Rattle.session.specs.Standing.{Stand, stand_of, IsCut}
+use Rattle.session.specs.Standing.{Stand, stand_of}
 use Rattle.session.proofs.AskedRunFacts.{runs_on, cut_on}
 use Rattle.session.proofs.PendingFacts.{says_as}
 use Rattle.session.proofs.RunFacts.{given_all, asks_roster, run_times}
@@ -30,7 +30,7 @@ invariant_of-self g c =
     }
 
 pub returns-in_err-write_all-clause-cut_off : goal.returns-in_err-write_all-clause-cut_off
-returns-in_err-write_all-clause-cut_off g c = λ clock run is.
+returns-in_err-write_all-clause-cut_off g c =
     let old = stand_of c.args.self.now in
     let new : Stand = record { sight = of_pass c.ask.new.asker.pass; speaker = speaker_of c.args.self.now.speaker; waits = c.write_all.new.self.outbox } in
     let taken = g.K.Sink.taken c.args.sink.now in
@@ -38,7 +38,7 @@ returns-in_err-write_all-clause-cut_off g c = λ clock run is.
     let n = length c.ask.new.self.replies.items in
     let text : replies_text c.args.self.now.roster.now c.replies.result.now ≡ replies_text (roster_of old.sight) c.ask.new.self.replies.items = λ i. replies_text (c.args.self.now.own i) (c.replies.ensures i) in
     let front = subst (λ t. TakesFront taken then_taken (old.waits ++ t)) text c.in_err-write_all.ensures.front in
-    let cut : IsCut clock old new [] taken then_taken run =
+    let cut : CutsRun old new taken then_taken (drop c.args.at c.args.self.now.run.commands.items) = λ clock run is.
     cut_on clock old new taken then_taken c.args.at n run c.args.self.now.run.commands.items c.ask.new.self.replies.items is
     (c.ask.ensures.asks clock (run_times clock (roster_of old.sight) old.sight.seat.number old.speaker run (drop c.args.at c.args.self.now.run.commands.items) is)) front in
     at_error _ cut
