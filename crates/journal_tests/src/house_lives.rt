@@ -75,7 +75,7 @@ pub struct Life<'a> {
     pub end: End,
 }
 
-fn name_of(party: Party) -> Name {
+pub fn name_of(party: Party) -> Name {
     match party {
         Party::A => named(b"A"),
         Party::B => named(b"B"),
@@ -109,7 +109,7 @@ fn post_of_nothing(alloc: Global) -> Option<What> {
 }
 
 /// What it is as a command, if there is memory.
-fn what_of(rt: &impl Abort, alloc: Global, by: Party, said: Said) -> Option<What> {
+pub fn what_of(rt: &impl Abort, alloc: Global, by: Party, said: Said) -> Option<What> {
     let (cycle, version, mode) = (1, 1, Mode::Conservative);
     Some(match said {
         Said::Trade(buyer) => What::Trade {
@@ -134,7 +134,7 @@ fn what_of(rt: &impl Abort, alloc: Global, by: Party, said: Said) -> Option<What
     })
 }
 
-fn told_of(answer: &Answer) -> Told {
+pub fn told_of(answer: &Answer) -> Told {
     match answer {
         Answer::No(refusal) => Told::No(*refusal),
         Answer::Market { gross, .. } => Told::Gross(*gross),

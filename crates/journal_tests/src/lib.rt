@@ -13,6 +13,8 @@ mod bases;
 #[cfg(test)]
 mod batches;
 #[cfg(test)]
+mod calls_together;
+#[cfg(test)]
 mod changed_bytes;
 #[cfg(test)]
 mod crashes;
@@ -50,6 +52,8 @@ mod records;
 mod sessions;
 #[cfg(test)]
 mod system_files;
+#[cfg(test)]
+mod together;
 #[cfg(test)]
 mod traced_disk;
 #[cfg(test)]

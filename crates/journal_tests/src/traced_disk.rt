@@ -101,6 +101,27 @@ fn push_images(
     Ok(())
 }
 
+// Some of them: each eighth front and back of the bytes, in the file at its longest.
+fn push_torn(
+    alloc: Global,
+    images: &mut Vec<Vec<u8>>,
+    old: &[u8],
+    write: &Write,
+) -> Result<(), AllocError> {
+    for count in 0..=write.bytes.len() {
+        if count % 8 != 0 && count != write.bytes.len() {
+            continue;
+        }
+        for is_front in [true, false] {
+            let mut image = old.to_vec(alloc)?;
+            let bytes = torn(alloc, old, write, count, is_front)?;
+            put_over(&mut image, write.at, &bytes)?;
+            images.push(image)?;
+        }
+    }
+    Ok(())
+}
+
 impl TracedDisk {
     /// A disk with these bytes, all of them synced, whose call with this number fails, the first being 1.
     pub fn new(alloc: Global, bytes: &[u8], failing: u64) -> Result<TracedDisk, AllocError> {
@@ -125,6 +146,20 @@ impl TracedDisk {
                 push_images(self.alloc, &mut altered, image, write)?;
             }
             images = altered;
+        }
+        Ok(images)
+    }
+
+    /// Some of them: of each write each eighth front and back. A house takes longer to open than a walk.
+    pub fn torn_images(&self) -> Result<Vec<Vec<u8>>, AllocError> {
+        let mut images = Vec::new(self.alloc);
+        images.push(self.synced.clone()?)?;
+        for write in &self.unsynced {
+            let mut torn = Vec::new(self.alloc);
+            for image in &images {
+                push_torn(self.alloc, &mut torn, image, write)?;
+            }
+            images = torn;
         }
         Ok(images)
     }
