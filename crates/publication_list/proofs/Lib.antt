@@ -1,0 +1,4 @@
+pub mod Owners
+pub mod Moves
+pub mod Steps
+pub mod Letters
