@@ -3,6 +3,12 @@ pub mod Line
 pub mod Numbers
 pub mod Owners
 pub mod Steps
+pub mod Guests
 pub mod Joins
 pub mod Opens
 pub mod Calls
+pub mod Links
+pub mod Slices
+pub mod Ahead
+pub mod Served
+pub mod Own

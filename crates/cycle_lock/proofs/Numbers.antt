@@ -1,5 +1,5 @@
 -- The numbers that views stand for, at each step.
-use Rattle.std.proofs.Common.{◌≡◌, ◌≢◌, ℕ, suc, zero, ◌+◌, ◌^◌, ◌<◌, ◌≤◌, ◌⊎◌, List, [], ◌∷◌, ◌++◌, length, set, sym, refl, ap, ◌∙◌, subst, inl, inr, ⊎_elim, arith, length-set, length-append}
+use Rattle.std.proofs.Common.{◌≡◌, ◌≢◌, ℕ, suc, zero, ◌+◌, ◌^◌, ◌<◌, ◌≤◌, ◌⊎◌, ◌==◌, Bool, true, false, List, [], ◌∷◌, ◌++◌, length, set, sym, refl, ap, ◌∙◌, subst, inl, inr, ⊎_elim, arith, length-set, length-append}
 use Rattle.std.proofs.lemmas.Bool.{ne_eqb, eq-eqb}
 use mathlib.Core.Option.{some, some-injective, some-ne-none}
 use mathlib.Core.Logic.{dite}
@@ -9,7 +9,7 @@ use Rattle.atomic_table.proofs.Lists.{at_set}
 use Rattle.command_types.specs.declared.ask.Entry.{Entry}
 use Rattle.cycle_lock.specs.declared.rule.View.{View}
 use Rattle.cycle_lock.specs.Accounts.{by}
-use Rattle.cycle_lock.specs.Views.{total, owns, splits_left, unborn}
+use Rattle.cycle_lock.specs.Views.{total, owns, splits_left, width}
 use Rattle.cycle_lock.specs.Accounts.{one_if, times}
 use Rattle.cycle_lock.specs.Numbers.{Counted}
 use Rattle.cycle_lock.proofs.Line.{total_set, total_snoc, at_new}
@@ -24,12 +24,21 @@ times_here x ys = let e = ap one_if (eq-eqb x x refl) in omega arith
 pub times_there : (x y : ℕ) (ys : List ℕ) → y ≢ x → times x (y ∷ ys) ≡ times x ys
 times_there x y ys ne = let e = ap one_if (ne_eqb y x ne) in omega arith
 
+one_at_most : (b : Bool) → one_if b ≤ 1
+one_at_most true = omega arith
+one_at_most false = omega arith
+
+-- it stands there no more often than it has elements
+pub times_within : (x : ℕ) (ys : List ℕ) → times x ys ≤ length ys
+times_within x [] = omega arith
+times_within x (y ∷ ys) = let s = times_within x ys in let b = one_at_most (y == x) in omega arith
+
 pub total_at : (f : View → ℕ) (vs : List View) (i : ℕ) (v : View) → get_elem? vs i ≡ some v → f v ≤ total f vs
 total_at f [] i v e = absurd (some-ne-none v (sym e))
 total_at f (x ∷ xs) zero v e = let s = ap f (some-injective x v e) in omega arith
 total_at f (x ∷ xs) (suc i) v e = let s = total_at f xs i v e in omega arith
 
-total_two : (f : View → ℕ) (vs : List View) (i j : ℕ) (v w : View) → get_elem? vs i ≡ some v → get_elem? vs j ≡ some w → i ≢ j → f v + f w ≤ total f vs
+pub total_two : (f : View → ℕ) (vs : List View) (i j : ℕ) (v w : View) → get_elem? vs i ≡ some v → get_elem? vs j ≡ some w → i ≢ j → f v + f w ≤ total f vs
 total_two f [] i j v w p q ne = absurd (some-ne-none v (sym p))
 total_two f (x ∷ xs) zero zero v w p q ne = absurd (ne refl)
 total_two f (x ∷ xs) zero (suc j) v w p q ne = let s = ap f (some-injective x v p) in let t = total_at f xs j w q in omega arith
@@ -52,10 +61,10 @@ each_may P vs id w mine others j u p = ⊎_elim
 
 -- a view changes, and stands for the numbers for which it stood
 pub counted_kept : (next : ℕ) (vs : List View) (since since' : List Entry) (c : Counted next vs since) (id : ℕ) (v w : View) → get_elem? vs id ≡ some v
-    → ((n : ℕ) → owns n w ≡ owns n v) → splits_left w ≡ splits_left v → unborn w ≡ unborn v → ((n : ℕ) → next ≤ n → by n since' ≡ []) → Counted next (set vs id w) since'
+    → ((n : ℕ) → owns n w ≡ owns n v) → splits_left w ≡ splits_left v → width w ≡ width v → ((n : ℕ) → next ≤ n → by n since' ≡ []) → Counted next (set vs id w) since'
 counted_kept next vs since since' c id v w at same left new entries = record {
   small = c.small;
-  few = let f = c.few in let e = length-set vs id w in let s = total_set unborn vs id v w at in omega arith;
+  few = let f = c.few in let s = total_set width vs id v w at in omega arith;
   once = λ n. let o = c.once n in let s = total_set (owns n) vs id v w at in let e = same n in omega arith;
   below = λ n le. let o = c.below n le in let s = total_set (owns n) vs id v w at in let e = same n in omega arith;
   entries = entries;
@@ -74,10 +83,10 @@ counted_kept next vs since since' c id v w at same left new entries = record {
 
 -- word 3 gives out the next number
 pub counted_draws : (next : ℕ) (vs : List View) (since : List Entry) (c : Counted next vs since) (id : ℕ) (v w : View) → get_elem? vs id ≡ some v
-    → ((n : ℕ) → owns n w ≡ times n (next ∷ []) + owns n v) → 0 < splits_left v → splits_left w + 1 ≡ splits_left v → unborn v ≡ 0 → unborn w ≡ 1 → Counted (next + 1) (set vs id w) since
-counted_draws next vs since c id v w at more pos left old new = let t = c.splitter id v at pos in record {
+    → ((n : ℕ) → owns n w ≡ times n (next ∷ []) + owns n v) → 0 < splits_left v → splits_left w + 1 ≡ splits_left v → width w ≡ width v + 1 → Counted (next + 1) (set vs id w) since
+counted_draws next vs since c id v w at more pos left new = let t = c.splitter id v at pos in record {
   small = omega arith;
-  few = let f = c.few in let e = length-set vs id w in let s = total_set unborn vs id v w at in omega arith;
+  few = let f = c.few in let s = total_set width vs id v w at in omega arith;
   once = λ n. let o = c.once n in let s = total_set (owns n) vs id v w at in let e = more n in dite (ℕ_discrete next n)
       (λ same. let b = c.below n (omega arith) in let h = subst (λ (z : ℕ). times n (z ∷ []) ≡ suc (times n [])) (sym same) (times_here n []) in omega arith)
       (λ other. let h = times_there n next [] other in omega arith);
@@ -93,7 +102,7 @@ counted_draws next vs since c id v w at more pos left old new = let t = c.splitt
       (at_set vs id i w a p);
 }
 
-alone_set : (next : ℕ) (vs : List View) (since : List Entry) (c : Counted next vs since) (id : ℕ) (v w : View) → get_elem? vs id ≡ some v → splits_left w ≡ splits_left v
+alone_set : (next : ℕ) (vs : List View) (since : List Entry) (c : Counted next vs since) (id : ℕ) (v w : View) → get_elem? vs id ≡ some v → splits_left w ≤ splits_left v
     → (i j : ℕ) (a b : View) → get_elem? (set vs id w) i ≡ some a → get_elem? (set vs id w) j ≡ some b → 0 < splits_left a → 0 < splits_left b → i ≡ j
 alone_set next vs since c id v w at left i j a b p q pa pb = ⊎_elim
     (λ (x : (i ≡ id) × (w ≡ a)). let ma = ap splits_left x.1 in ⊎_elim
@@ -132,10 +141,10 @@ joined_alone next vs since c id other v w b spent at there left left' i j x y p 
 
 -- a view gives the number that it drew to a new one
 pub counted_splits : (next : ℕ) (vs : List View) (since : List Entry) (c : Counted next vs since) (id : ℕ) (v l r : View) → get_elem? vs id ≡ some v
-    → ((n : ℕ) → owns n l + owns n r ≡ owns n v) → splits_left l ≡ splits_left v → splits_left r ≡ 0 → unborn v ≡ 1 → unborn l ≡ 0 → unborn r ≡ 0 → Counted next (set vs id l ++ r ∷ []) since
-counted_splits next vs since c id v l r at parts left none old new new' = record {
+    → ((n : ℕ) → owns n l + owns n r ≡ owns n v) → splits_left l ≡ splits_left v → splits_left r ≡ 0 → width l + width r ≡ width v → Counted next (set vs id l ++ r ∷ []) since
+counted_splits next vs since c id v l r at parts left none wide = record {
   small = c.small;
-  few = let f = c.few in let e = length-set vs id l in let a = length-append (set vs id l) (r ∷ []) in let s = total_set unborn vs id v l at in let t = total_snoc unborn (set vs id l) r in omega arith;
+  few = let f = c.few in let s = total_set width vs id v l at in let t = total_snoc width (set vs id l) r in omega arith;
   once = λ n. let o = c.once n in let s = total_set (owns n) vs id v l at in let t = total_snoc (owns n) (set vs id l) r in let e = parts n in omega arith;
   below = λ n le. let o = c.below n le in let s = total_set (owns n) vs id v l at in let t = total_snoc (owns n) (set vs id l) r in let e = parts n in omega arith;
   entries = c.entries;
@@ -145,20 +154,52 @@ counted_splits next vs since c id v l r at parts left none old new new' = record
       (at_new (set vs id l) r u j p);
   alone = λ i j a b p q pa pb. ⊎_elim
       (λ (x : get_elem? (set vs id l) i ≡ some a). ⊎_elim
-      (λ (y : get_elem? (set vs id l) j ≡ some b). alone_set next vs since c id v l at left i j a b x y pa pb)
+      (λ (y : get_elem? (set vs id l) j ≡ some b). alone_set next vs since c id v l at (omega arith) i j a b x y pa pb)
       (λ (y : (j ≡ length (set vs id l)) × (r ≡ b)). let e = ap splits_left y.1 in absurd (omega arith))
       (at_new (set vs id l) r b j q))
       (λ (x : (i ≡ length (set vs id l)) × (r ≡ a)). let e = ap splits_left x.1 in absurd (omega arith))
       (at_new (set vs id l) r a i p);
 }
 
+-- a view gives a part of the numbers for which it stands to a new one, and one of the two at most may split off passes
+pub counted_parts : (next : ℕ) (vs : List View) (since : List Entry) (c : Counted next vs since) (id : ℕ) (v l r : View) → get_elem? vs id ≡ some v
+    → ((n : ℕ) → owns n l + owns n r ≡ owns n v) → splits_left l + splits_left r ≡ splits_left v → (splits_left l ≡ 0) ⊎ (splits_left r ≡ 0) → width l + width r ≡ width v → Counted next (set vs id l ++ r ∷ []) since
+counted_parts next vs since c id v l r at parts left one wide =
+    let apart : (i : ℕ) (a : View) → get_elem? (set vs id l) i ≡ some a → 0 < splits_left a → 0 < splits_left r → ⊥ = λ i a p pa pr. ⊎_elim
+    (λ (x : (i ≡ id) × (l ≡ a)). let e = ap splits_left x.1 in ⊎_elim (λ (z : splits_left l ≡ 0). absurd (omega arith)) (λ (z : splits_left r ≡ 0). absurd (omega arith)) one)
+    (λ (x : (i ≢ id) × (get_elem? vs i ≡ some a)). x.0 (c.alone i id a v x.1 at pa (omega arith)))
+    (at_set vs id i l a p)
+    in record {
+      small = c.small;
+      few = let f = c.few in let s = total_set width vs id v l at in let t = total_snoc width (set vs id l) r in omega arith;
+      once = λ n. let o = c.once n in let s = total_set (owns n) vs id v l at in let t = total_snoc (owns n) (set vs id l) r in let e = parts n in omega arith;
+      below = λ n le. let o = c.below n le in let s = total_set (owns n) vs id v l at in let t = total_snoc (owns n) (set vs id l) r in let e = parts n in omega arith;
+      entries = c.entries;
+      splitter = λ j u p q. ⊎_elim
+          (λ (x : get_elem? (set vs id l) j ≡ some u). each_may (λ j u. 0 < splits_left u → next + splits_left u ≡ 2 ^ 32) vs id l
+          (λ pos. let b : 0 < splits_left v = omega arith in let t = c.splitter id v at b in ⊎_elim (λ (z : splits_left l ≡ 0). absurd (omega arith)) (λ (z : splits_left r ≡ 0). omega arith) one) (λ j u _ p. c.splitter j u p) j u x q)
+          (λ (x : (j ≡ length (set vs id l)) × (r ≡ u)). let e = ap splits_left x.1 in let b : 0 < splits_left v = omega arith in let t = c.splitter id v at b in
+          ⊎_elim (λ (z : splits_left l ≡ 0). omega arith) (λ (z : splits_left r ≡ 0). absurd (omega arith)) one)
+          (at_new (set vs id l) r u j p);
+      alone = λ i j a b p q pa pb. ⊎_elim
+          (λ (x : get_elem? (set vs id l) i ≡ some a). ⊎_elim
+          (λ (y : get_elem? (set vs id l) j ≡ some b). alone_set next vs since c id v l at (omega arith) i j a b x y pa pb)
+          (λ (y : (j ≡ length (set vs id l)) × (r ≡ b)). let e = ap splits_left y.1 in absurd (apart i a x pa (omega arith)))
+          (at_new (set vs id l) r b j q))
+          (λ (x : (i ≡ length (set vs id l)) × (r ≡ a)). ⊎_elim
+          (λ (y : get_elem? (set vs id l) j ≡ some b). let e = ap splits_left x.1 in absurd (apart j b y pb (omega arith)))
+          (λ (y : (j ≡ length (set vs id l)) × (r ≡ b)). x.0 ∙ sym y.0)
+          (at_new (set vs id l) r b j q))
+          (at_new (set vs id l) r a i p);
+    }
+
 -- a view takes in another, which is spent
 pub counted_joins : (next : ℕ) (vs : List View) (since : List Entry) (c : Counted next vs since) (id other : ℕ) (v w b spent : View) → get_elem? vs id ≡ some v → other ≢ id → get_elem? vs other ≡ some w → get_elem? (set vs id b) other ≡ some w
-    → ((n : ℕ) → owns n b ≡ owns n v + owns n w) → ((n : ℕ) → owns n spent ≡ 0) → splits_left b ≡ splits_left v + splits_left w → splits_left spent ≡ 0 → unborn v ≡ 0 → unborn w ≡ 0 → unborn b ≡ 0 → unborn spent ≡ 0
+    → ((n : ℕ) → owns n b ≡ owns n v + owns n w) → ((n : ℕ) → owns n spent ≡ 0) → splits_left b ≡ splits_left v + splits_left w → splits_left spent ≡ 0 → width b ≡ width v + width w → width spent ≡ 0
     → Counted next (set (set vs id b) other spent) since
-counted_joins next vs since c id other v w b spent at apart there there' both none left left' uv uw ub us = let vs' : List View = set vs id b in record {
+counted_joins next vs since c id other v w b spent at apart there there' both none left left' wide gone = let vs' : List View = set vs id b in record {
   small = c.small;
-  few = let f = c.few in let e = length-set vs id b in let e' = length-set vs' other spent in let s = total_set unborn vs id v b at in let t = total_set unborn vs' other w spent there' in omega arith;
+  few = let f = c.few in let s = total_set width vs id v b at in let t = total_set width vs' other w spent there' in omega arith;
   once = λ n. let o = c.once n in let s = total_set (owns n) vs id v b at in let t = total_set (owns n) vs' other w spent there' in let e = both n in let z = none n in omega arith;
   below = λ n le. let o = c.below n le in let s = total_set (owns n) vs id v b at in let t = total_set (owns n) vs' other w spent there' in let e = both n in let z = none n in omega arith;
   entries = c.entries;

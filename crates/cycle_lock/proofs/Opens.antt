@@ -18,7 +18,7 @@ use Rattle.command_types.specs.History.{History, IsLegal, IsLegalFrom, end_of}
 use Rattle.cycle_lock.specs.Line.{Lies}
 use Rattle.cycle_lock.specs.Accounts.{times, opening_count}
 use Rattle.cycle_lock.proofs.Histories.{from_base}
-use Rattle.cycle_lock.specs.Views.{splits_left, newcomer}
+use Rattle.cycle_lock.specs.Views.{splits_left, ticketed, width, newcomer}
 use Rattle.cycle_lock.specs.Kept.{Fits, Kept}
 
 only : (v u : View) (j : ℕ) → get_elem? (v ∷ []) j ≡ some u → (j ≡ 0) × (v ≡ u)
@@ -50,7 +50,7 @@ opens history figures_of stopped d at is base legal fresh =
         drawn_is = refl;
         served_is = refl;
         counted = refl;
-        few = omega arith;
+        stands = λ j u p. subst (λ (z : View). ticketed z ≤ width z) (only v u j p).1 (omega arith);
         each = λ j u p. subst (λ (z : View). Lies 0 0 z.ticket z.stage) (only v u j p).1 tt;
         apart = λ i j a b p q _ _ _. (only v a i p).0 ∙ sym (only v b j q).0;
       };
@@ -74,5 +74,5 @@ opens history figures_of stopped d at is base legal fresh =
         alone = λ i j a b p q _ _. (only v a i p).0 ∙ sym (only v b j q).0;
       };
       home = λ _. (d, refl, (from_base history figures_of d base, refl, refl));
-      lone = λ _ halts j u p. subst (λ (z : View). z.account.stop ≡ true) (only v u j p).1 halts;
+      lone = λ _ halts j u p _. subst (λ (z : View). z.account.stop ≡ true) (only v u j p).1 halts;
     }

@@ -1,5 +1,5 @@
 -- The rule that every step keeps.
-use Rattle.std.specs.Prelude.{◌≡◌, ℕ, ◌+◌, ◌≤◌, Bool, true, false, List, length, slice_index, drop, Option, Some}
+use Rattle.std.specs.Prelude.{◌≡◌, ℕ, ◌+◌, ◌≤◌, ◌⊎◌, Bool, true, false, List, length, slice_index, drop, Option, Some}
 use mathlib.Core.Option.{some}
 use mathlib.Core.Option as maybe
 use lib.ListN.{get_elem?}
@@ -10,8 +10,9 @@ use Rattle.command_types.specs.History.{History, IsLegalFrom}
 use Rattle.cycle_lock.specs.declared.rule.Account.{Account}
 use Rattle.cycle_lock.specs.declared.rule.View.{View}
 use Rattle.cycle_lock.specs.declared.rule.Stage.{Stage}
-use Rattle.cycle_lock.specs.declared.rule.Stage.TheVariants.{HasTurn, Joined}
+use Rattle.cycle_lock.specs.declared.rule.Stage.TheVariants.{HasTurn, Serving, Joined}
 use Rattle.cycle_lock.specs.Stage.{has_turn}
+use Rattle.cycle_lock.specs.Views.{width}
 use Rattle.cycle_lock.specs.Accounts.{whole, opening_count, FitsAccount}
 use Rattle.cycle_lock.specs.Line.{InLine}
 use Rattle.cycle_lock.specs.Numbers.{Counted}
@@ -20,25 +21,28 @@ module _ (log : List Entry) (stop : Bool) (figures : Figures) where
   -- the seat that has the turn knows the desk's history and its stop
   abbrev pub KnowsDesk : Stage → List Entry → Bool → Type 0
   KnowsDesk HasTurn known halted = (known ≡ log) × (halted ≡ stop)
+  KnowsDesk Serving known halted = (known ≡ log) × (halted ≡ stop)
   KnowsDesk stage known halted = Unit {0}
 
-  abbrev pub FitsGuest : Stage → Account → Type 0
-  FitsGuest Joined guest = FitsAccount log stop figures guest
-  FitsGuest stage guest = Unit {0}
+  -- of a seat and the pass that it serves, one at most may split off passes
+  abbrev pub FitsGuest : Stage → Account → Account → Type 0
+  FitsGuest Joined a guest = FitsAccount log stop figures guest
+  FitsGuest Serving a guest = FitsAccount log stop figures guest × ((a.left ≡ 0) ⊎ (guest.left ≡ 0))
+  FitsGuest stage a guest = Unit {0}
 
   -- what a seat knows and has seen is true of the desk
   pub record Fits (v : View) : Type 0 where
     pub knows : KnowsDesk v.stage v.known v.halted
     pub own : FitsAccount log stop figures v.account
-    pub guest : FitsGuest v.stage v.guest
+    pub guest : FitsGuest v.stage v.account v.guest
 
 -- no seat has the turn
 abbrev pub Quiet : List View → Type 0
 Quiet views = (j : ℕ) (v : View) → get_elem? views j ≡ some v → has_turn v.stage ≡ false
 
--- all have seen a stop
+-- all who stand for a number have seen a stop
 abbrev pub AllSaw : List View → Type 0
-AllSaw views = (j : ℕ) (v : View) → get_elem? views j ≡ some v → v.account.stop ≡ true
+AllSaw views = (j : ℕ) (v : View) → get_elem? views j ≡ some v → 1 ≤ width v → v.account.stop ≡ true
 
 module _ {T : Type 0} (history : T → History) (figures_of : T → Figures) (stopped : T → Bool) where
   -- this desk has that history, that stop and those figures

@@ -1,3 +1,4 @@
+pub mod Home
 pub mod Stage
 pub mod Accounts
 pub mod Views
@@ -6,3 +7,5 @@ pub mod Numbers
 pub mod Kept
 pub mod Plays
 pub mod Passes
+pub mod Errands
+pub mod Turn

@@ -5,13 +5,14 @@ use lib.ListN.{get_elem?}
 use Rattle.cycle_lock.specs.declared.rule.TheConstants.{WORDS}
 use Rattle.cycle_lock.specs.declared.rule.View.{View}
 use Rattle.cycle_lock.specs.declared.rule.Stage.{Stage}
-use Rattle.cycle_lock.specs.declared.rule.Stage.TheVariants.{Waiting, HasTurn}
-use Rattle.cycle_lock.specs.Views.{total, ticketed}
+use Rattle.cycle_lock.specs.declared.rule.Stage.TheVariants.{Waiting, HasTurn, Serving}
+use Rattle.cycle_lock.specs.Views.{total, ticketed, width}
 
 module _ (drawn served ticket : ℕ) where
   abbrev pub Lies : Stage → Type 0
   Lies Waiting = (served ≤ ticket) × (ticket < drawn)
   Lies HasTurn = (ticket ≡ served) × (ticket < drawn)
+  Lies Serving = (ticket ≡ served) × (ticket < drawn)
   Lies stage = Unit {0}
 
 -- the word that is a ticket's bell
@@ -22,7 +23,7 @@ bell ticket = 4 + ticket % (WORDS - 4)
 abbrev pub Apart : List View → Type 0
 Apart views = (i j : ℕ) (v w : View) → get_elem? views i ≡ some v → get_elem? views j ≡ some w → ticketed v ≡ 1 → ticketed w ≡ 1 → v.ticket ≡ w.ticket → i ≡ j
 
--- Word 1 counts the tickets that were drawn, and word 2 those that were served. Each seat has one ticket at most.
+-- Word 1 counts the tickets that were drawn, and word 2 those that were served. Each seat has one ticket at most, and stands for a number where it has one.
 pub record InLine (words : List ℕ) (views : List View) : Type 0 where
   pub drawn : ℕ
   pub served : ℕ
@@ -30,6 +31,6 @@ pub record InLine (words : List ℕ) (views : List View) : Type 0 where
   pub drawn_is : slice_index words 1 ≡ drawn % 2 ^ 64
   pub served_is : slice_index words 2 ≡ served % 2 ^ 64
   pub counted : drawn ≡ served + total ticketed views
-  pub few : length views ≤ 2 ^ 32
+  pub stands : (j : ℕ) (v : View) → get_elem? views j ≡ some v → ticketed v ≤ width v
   pub each : (j : ℕ) (v : View) → get_elem? views j ≡ some v → Lies drawn served v.ticket v.stage
   pub apart : Apart views

@@ -5,12 +5,12 @@ use lib.ListN.{get_elem?}
 use Rattle.command_types.specs.declared.ask.Entry.{Entry}
 use Rattle.cycle_lock.specs.declared.rule.View.{View}
 use Rattle.cycle_lock.specs.Accounts.{by}
-use Rattle.cycle_lock.specs.Views.{owns, splits_left, unborn, total}
+use Rattle.cycle_lock.specs.Views.{owns, splits_left, width, total}
 
 -- The numbers below `next` were drawn; no entry since the opening has another. One view at most may split off passes, for which the numbers from `next` on are kept.
 pub record Counted (next : ℕ) (views : List View) (since : List Entry) : Type 0 where
   pub small : next ≤ 2 ^ 32
-  pub few : length views + total unborn views ≤ next
+  pub few : total width views ≤ next
   pub once : (n : ℕ) → total (owns n) views ≤ 1
   pub below : (n : ℕ) → next ≤ n → total (owns n) views ≡ 0
   pub entries : (n : ℕ) → next ≤ n → by n since ≡ []

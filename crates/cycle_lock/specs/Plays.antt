@@ -4,6 +4,7 @@ use Rattle.atomic_table.specs.Table.{Me, Step, rest}
 use Rattle.command_types.specs.declared.ask.Entry.{Entry}
 use Rattle.command_types.specs.declared.figures.Figures.{Figures}
 use Rattle.command_types.specs.History.{History, IsLegal, end_of}
+use Rattle.cycle_lock.specs.declared.rule.Account.{Account}
 use Rattle.cycle_lock.specs.declared.rule.View.{View}
 use Rattle.cycle_lock.specs.declared.rule.Stage.TheVariants.{Waiting, HasTurn, Passed, Drawn}
 use Rattle.cycle_lock.specs.Accounts.{whole, opening_count, by, times, longest, Extends}
@@ -21,6 +22,25 @@ pub record Newer (v : View) : Type 0 where
   pub made : (n : ℕ) → 1 ≤ times n v.account.stands → by n (drop (opening_count v.account.figures) v.known) ≡ by n (drop (opening_count v.account.figures) v.account.seen)
   pub entries : (n : ℕ) → 4294967296 ≤ n + v.account.left → by n (drop (opening_count v.account.figures) v.known) ≡ []
   pub lone : v.account.left ≡ 4294967295 → v.halted ≡ true → v.account.stop ≡ true
+
+-- The desk's history so far begins with what a pass has seen, and has no more entries of its numbers.
+pub record Follows (known : List Entry) (halted : Bool) (a : Account) : Type 0 where
+  pub begins : Extends known a.seen
+  pub later : opening_count a.figures ≤ length known
+  pub earlier : opening_count a.figures ≤ length a.seen
+  pub mine : 1 ≤ times a.number a.stands
+  pub stops : a.stop ≡ true → halted ≡ true
+  pub made : (n : ℕ) → 1 ≤ times n a.stands → by n (drop (opening_count a.figures) known) ≡ by n (drop (opening_count a.figures) a.seen)
+
+-- The history that a seat knows goes on by these entries, all of a pass's own number.
+pub record Adds (v : View) (a : Account) (more log : List Entry) (stop : Bool) : Type 0 where
+  pub live : a.spent ≡ false
+  pub mine : 1 ≤ times a.number a.stands
+  pub own : All (λ (e : Entry). e.seat ≡ a.number) more
+  pub grown : log ≡ v.known ++ more
+  pub legal : IsLegal (whole v.account.figures log)
+  pub short : end_of (whole v.account.figures log) < 2 ^ 63
+  pub still : v.halted ≡ true → stop ≡ true
 
 -- a view with the slots that its seat holds
 abbrev pub Sat : Type 0 → Type 0
@@ -57,6 +77,20 @@ module _ {T : Type 0} where
   -- what the desk has become is known, and the pass has seen it
   abbrev pub noted : List Entry → Bool → Sat T → Sat T → Type 0
   noted log stop m w = (w.0.stage ≡ HasTurn) × (w.0.known ≡ log) × (w.0.halted ≡ stop) × (w.0.account ≡ record m.0.account { seen = log; stop = stop }) × (w.1 ≡ m.1)
+
+  -- a history and a stop that are next, and the seat's own pass has seen them
+  abbrev pub kept : (List Entry → Bool → Type 0) → Sat T → Sat T → Type 0
+  kept next m w = (log : List Entry) × (stop : Bool) × next log stop × noted log stop m w
+
+  -- the pass that is served has seen them, behind a beginning of the history before
+  abbrev pub served : (List Entry → Bool → Type 0) → Sat T → Sat T → Type 0
+  served next m w = (log : List Entry) × (stop : Bool) × next log stop × Extends log m.0.known × Follows m.0.known m.0.halted m.0.guest × (m.0.guest.figures ≡ m.0.account.figures)
+      × (w ≡ (record m.0 { known = log; halted = stop; guest = record m.0.guest { seen = log; stop = stop } }, m.1))
+
+  -- the same, once the pass has gone out again: its account was a, and is b
+  abbrev pub noted_beside : (List Entry → Bool → Type 0) → Sat T → Sat T → Account → Account → Type 0
+  noted_beside next m w a b = (log : List Entry) × (stop : Bool) × next log stop × Follows m.0.known m.0.halted a × (a.figures ≡ m.0.account.figures) × (b ≡ record a { seen = log; stop = stop })
+      × (w ≡ (placed HasTurn m.0.ticket log stop m.0.account, m.1))
 
   -- the history of the desk that lies in the slot, and its stop
   abbrev pub log_in : (T → History) → List (ℕ × Option T) → List Entry

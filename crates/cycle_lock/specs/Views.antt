@@ -1,22 +1,24 @@
 -- The views of seats: what each stands for, and the view that each step leaves.
-use Rattle.std.specs.Prelude.{ℕ, ◌+◌, ◌-◌, ◌||◌, Bool, true, false, List, [], ◌∷◌, ◌++◌, None}
+use Rattle.std.specs.Prelude.{ℕ, ◌+◌, ◌-◌, ◌||◌, Bool, true, false, List, [], ◌∷◌, ◌++◌, length, None}
 use Rattle.command_types.specs.declared.ask.Entry.{Entry}
 use Rattle.command_types.specs.declared.figures.Figures.{Figures}
 use Rattle.command_types.specs.Machine.{empty_state}
 use Rattle.cycle_lock.specs.declared.rule.Account.{Account}
 use Rattle.cycle_lock.specs.declared.rule.View.{View}
 use Rattle.cycle_lock.specs.declared.rule.Stage.{Stage}
-use Rattle.cycle_lock.specs.declared.rule.Stage.TheVariants.{Resting, Joined}
-use Rattle.cycle_lock.specs.Stage.{tickets, to_give}
+use Rattle.cycle_lock.specs.declared.rule.Stage.TheVariants.{Resting, HasTurn, Serving, Joined}
+use Rattle.cycle_lock.specs.Stage.{tickets}
 use Rattle.cycle_lock.specs.Accounts.{longest, times}
 
 -- the numbers for which a seat stands, beside its guest's where it has one
 abbrev pub owned : Stage → Account → Account → List ℕ
 owned Joined a guest = a.stands ++ guest.stands
+owned Serving a guest = a.stands ++ guest.stands
 owned stage a guest = a.stands
 
 abbrev pub left_of : Stage → Account → Account → ℕ
 left_of Joined a guest = a.left + guest.left
+left_of Serving a guest = a.left + guest.left
 left_of stage a guest = a.left
 
 -- how often a view stands for the number n
@@ -27,8 +29,9 @@ owns n v = times n (owned v.stage v.account v.guest)
 abbrev pub splits_left : View → ℕ
 splits_left v = left_of v.stage v.account v.guest
 
-abbrev pub unborn : View → ℕ
-unborn v = to_give v.stage
+-- for how many numbers it stands
+abbrev pub width : View → ℕ
+width v = length (owned v.stage v.account v.guest)
 
 abbrev pub ticketed : View → ℕ
 ticketed v = tickets v.stage
@@ -93,3 +96,14 @@ hosting v w = record { stage = Joined; ticket = 0; known = []; halted = false; a
 
 abbrev pub merged : Account → Account → Account
 merged a b = record a { stands = a.stands ++ b.stands; left = a.left + b.left; seen = longest a.seen b.seen; stop = a.stop || b.stop }
+
+-- the seat that has the turn, with a pass for which it calls
+abbrev pub serving : View → View → View
+serving v w = record v { stage = Serving; guest = w.account }
+
+-- how the pass goes out again: the seat has its turn as before, and the pass rests
+abbrev pub by_itself : View → View
+by_itself v = record v { stage = HasTurn; guest = blank }
+
+abbrev pub let_out : View → View
+let_out v = resting v.guest

@@ -2,6 +2,8 @@
 //! reply's position. Passes are split off for other threads and joined again, and `close` gives the desk back.
 #![tactic(auto)]
 
+mod errands;
+mod home;
 mod pass;
 mod plays;
 mod rule;

@@ -1,5 +1,6 @@
 //! What each step at the table tells. These types are for the proofs alone: no value of them is made.
 
+use crate::home::Home;
 use crate::rule::View;
 use atomic_table::{Join, Play, Split};
 use command_types::Desk;
@@ -19,10 +20,11 @@ pub struct Look<T> {
     desk: PhantomData<T>,
 }
 
-impl<T: Desk> Play<Option<T>, View> for Look<T> {
+impl<T: Desk> Play<Option<Home<T>>, View> for Look<T> {
+    ghost use Rattle.cycle_lock.specs.Home.{of_desk};
     ghost use Rattle.cycle_lock.specs.Plays.{looked};
 
-    ghost then = { looked T.history T.figures T.stopped };
+    ghost then = { looked (of_desk T.history) (of_desk T.figures) (of_desk T.stopped) };
 }
 
 /// What the desk in hand has become. Each call picks it.
@@ -52,6 +54,62 @@ impl<T, M: Outcome> Play<Option<T>, View> for Note<M> {
     ghost use Rattle.cycle_lock.specs.Plays.{noted};
 
     ghost then = { λ s m n w. noted M.log M.stop m w };
+}
+
+/// Which history and which stop a pass may see next. Each call picks it.
+pub trait Next {
+    ghost use Rattle.std.specs.Prelude.{Bool, List};
+    ghost use Rattle.command_types.specs.declared.ask.Entry.{Entry};
+
+    ghost next: { List Entry → Bool → Type 0 };
+}
+
+impl Next for Brand {
+    ghost next = { λ log stop. Unit {0} };
+}
+
+/// The seat's own pass sees what comes next.
+pub struct Keep<M> {
+    next: PhantomData<M>,
+}
+
+impl<T, M: Next> Play<Option<T>, View> for Keep<M> {
+    ghost use Rattle.cycle_lock.specs.Plays.{kept};
+
+    ghost then = { λ s m n w. kept M.next m w };
+}
+
+/// The pass that is served sees what comes next.
+pub struct NoteGuest<M> {
+    next: PhantomData<M>,
+}
+
+impl<T, M: Next> Play<Option<T>, View> for NoteGuest<M> {
+    ghost use Rattle.cycle_lock.specs.Plays.{served};
+
+    ghost then = { λ s m n w. served M.next m w };
+}
+
+/// Another pass comes in to the seat that has the turn.
+pub struct TakeIn;
+
+impl Join<View> for TakeIn {
+    ghost use Rattle.cycle_lock.specs.Views.{serving, resting, blank};
+
+    ghost both = { serving };
+
+    ghost spent = { resting blank };
+}
+
+/// It goes out again.
+pub struct LetOut;
+
+impl Split<View> for LetOut {
+    ghost use Rattle.cycle_lock.specs.Views.{by_itself, let_out};
+
+    ghost left = { by_itself };
+
+    ghost right = { let_out };
 }
 
 /// The turn is passed on, and the next ticket is known.

@@ -10,12 +10,17 @@
 //!        |                                         the desk is asked, and then Note, word 0           |
 //!        +------ LookBehind, word 1, where nobody drew the next ticket; else Ring, its bell ----------+
 //!
+//!     HasTurn --TakeIn, a pass comes in--> Serving --NoteGuest, word 0--> Serving --LetOut, it goes out--> HasTurn
+//!
 //!     Resting --Number, word 3--> Drawn --Cut, a seat is split off--> Resting
 //!     Resting --Host, a seat is taken in--> Joined --Settle, word 0--> Resting
 //! ```
 //!
-//! `call` goes the first way (`turns/calls.rt`, `steps.rt`), `split` and `join` the others (`turns/shares.rt`).
+//! `call` goes the first way (`turns/calls.rt`, `steps.rt`), and the second for each pass that it serves (`turns/guests.rt`), `split`
+//! and `join` the others (`turns/shares.rt`). The rule says nothing of a desk that is out of the slot: it may be ahead of what the seat
+//! knows, until all that it answered is noted.
 
+use crate::home::Home;
 use atomic_table::TableRule;
 use command_types::{Desk, Entry, Figures};
 use std::collections::LinkedList;
@@ -33,6 +38,8 @@ pub enum Stage {
     Waiting,
     /// Its ticket is served, and it has the slot.
     HasTurn,
+    /// It has the turn, and has taken in a pass for which it calls.
+    Serving,
     /// It has passed its turn on, and has still to ring the bell of the ticket that it knows, or to see that nobody drew it.
     Passed,
     /// The first of the numbers that it stands for is still to be given.
@@ -69,11 +76,12 @@ pub struct TurnRule<T> {
     desk: PhantomData<T>,
 }
 
-impl<T: Desk> TableRule<Option<T>, View, Snapshot<T>> for TurnRule<T> {
+impl<T: Desk> TableRule<Option<Home<T>>, View, Snapshot<T>> for TurnRule<T> {
+    ghost use Rattle.cycle_lock.specs.Home.{of_desk};
     ghost use Rattle.cycle_lock.specs.Kept.{Kept};
     ghost use Rattle.cycle_lock.specs.Views.{newcomer};
 
-    ghost holds = { λ key. Kept T.history T.figures T.stopped (T.figures key.value) };
+    ghost holds = { λ key. Kept (of_desk T.history) (of_desk T.figures) (of_desk T.stopped) (T.figures key.value) };
 
     ghost first = { λ key. newcomer (T.history key.value).entries (T.stopped key.value) (T.figures key.value) };
 }

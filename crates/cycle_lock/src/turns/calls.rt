@@ -1,22 +1,17 @@
-//! A call in its turn.
+//! A call.
 ghost use Rattle.std.specs.Prelude.{◌≡◌, ◌≢◌, ℕ, Bool, true, false, ◌++◌, IsTrue};
 ghost use Rattle.command_types.specs.History.{IsLegal, end_of, recorded, is_recorded, entries_of_seat};
 ghost use Rattle.command_types.specs.Told.{IsTold, tells_stop};
 ghost use Rattle.cycle_lock.specs.Passes.{IsPassOf, seat_of, figures_of, seen, saw_stop, may_split, numbers, StandsFor, made_by, made, Continues};
 
 use super::Turns;
-use super::steps::SeatOf;
 use crate::pass::Pass;
-use crate::plays::PassOn;
-use atomic_table::Badge;
 use command_types::{Ask, Desk, Reply};
-use std::marker::Brand;
-use std::mem;
 use std::sync::Wait;
 
 impl<T: Desk> Turns<T> {
-    /// Waits for its turn, and asks the desk under the pass's number. The pass has then seen a history that ends at the
-    /// reply's position. The lock itself takes no memory: only the desk's answer can be that there is none.
+    /// Waits for its turn, and asks the desk under the pass's number, or has it asked in a turn of another pass. The pass has
+    /// then seen a history that ends at the reply's position. The lock itself takes no memory: only the desk's answer can be that there is none.
     pub fn call<R: Wait>(&self, rt: &R, pass: &mut Pass, ask: Ask) -> Reply
         requires own { IsPassOf self.now pass.old }
         ensures own { IsPassOf self.now pass.new }
@@ -41,18 +36,6 @@ impl<T: Desk> Turns<T> {
         ensures stays { saw_stop pass.old ≡ true → saw_stop pass.new ≡ true }
         ensures runs { IsTrue (is_recorded ask.what result.answer) → saw_stop pass.new ≡ false }
     {
-        let mut seat: SeatOf<T> = mem::replace(&mut pass.badge, Badge::blank()).into_seat();
-        self.enter(rt, &mut seat);
-        let Some(desk) = seat.slot_mut(&self.table.shared, 0) else {
-            unreachable!()
-        };
-        let before = desk.length();
-        let reply = desk.ask(pass.number, ask);
-        self.note::<Brand>(&mut seat, reply.at - before);
-        let ticket = self.table.shared.fetch_add::<PassOn>(&mut seat, 2, 1);
-        self.wake(&mut seat, ticket.wrapping_add(1));
-        pass.badge = seat.into_badge();
-        pass.at = reply.at;
-        reply
+        self.make(rt, pass, ask)
     }
 }

@@ -5,17 +5,20 @@ ghost use Rattle.cycle_lock.specs.Passes.{IsPassOf, seat_of, figures_of, seen, s
 
 use super::Turns;
 use super::steps::SeatOf;
+use crate::home::{Batch, Home};
 use crate::pass::Pass;
 use crate::rule::WORDS;
 use atomic_table::{Refused, Table};
 use command_types::Desk;
+use publication_list::PublicationList;
 use std::alloc::{AllocFailed, Global};
 use std::snapshot::Snapshot;
 use std::sync::Wait;
 
 impl<T: Desk> Turns<T> {
     /// A lock round the desk, and its first pass, which has seat number 0 and has seen the desk's history. Where there
-    /// is no memory, the desk comes back.
+    /// is no memory, the desk comes back. Where there is some for these, but none for the places at which passes wait for others'
+    /// turns, each call has a turn of its own.
     pub fn new(alloc: Global, desk: T) -> Result<(Turns<T>, Pass), T>
         requires { end_of (T.history desk) ≡ (T.figures desk).opening }
         ensures own { IfOk result (λ r. IsPassOf r.0 r.1) }
@@ -27,31 +30,36 @@ impl<T: Desk> Turns<T> {
         ensures made { IfOk result (λ r. made r.1 ≡ []) }
         ensures err { IfErr result (λ d. d ≡ desk) }
     {
-        let at = desk.length();
         let about = Snapshot::of(&desk);
-        let mut slots = Vec::new(alloc);
-        if let Err(AllocFailed { value }) = slots.push(Some(desk)) {
-            slots.destroy_empty();
-            let Some(desk) = value else { unreachable!() };
+        let Ok(batch) = Batch::new(alloc) else {
             return Err(desk);
+        };
+        let home = Home { desk, batch };
+        let at = home.length();
+        let mut slots = Vec::new(alloc);
+        if let Err(AllocFailed { value }) = slots.push(Some(home)) {
+            slots.destroy_empty();
+            let Some(home) = value else { unreachable!() };
+            return Err(home.into_desk());
         }
         let mut words = [0; WORDS];
         words[0] = at;
         words[3] = 1;
         match Table::new(alloc, &words, slots, &about) {
-            Ok((table, seat)) => Ok((
-                Turns { table },
-                Pass {
+            Ok((table, seat)) => {
+                let pass = Pass {
                     badge: seat.into_badge(),
                     number: 0,
                     at,
-                },
-            )),
+                };
+                let places = PublicationList::new(alloc, &Snapshot::of(&pass)).ok();
+                Ok((Turns { table, places }, pass))
+            }
             Err(Refused { mut slots }) => {
-                let Some(Some(desk)) = slots.pop() else {
+                let Some(Some(home)) = slots.pop() else {
                     unreachable!()
                 };
-                Err(desk)
+                Err(home.into_desk())
             }
         }
     }
@@ -69,7 +77,8 @@ impl<T: Desk> Turns<T> {
     {
         let Pass { badge, .. } = pass;
         let mut seat: SeatOf<T> = badge.into_seat();
+        self.stand_back(rt);
         self.enter(rt, &mut seat);
-        self.take_out(&mut seat)
+        self.take_out(&mut seat).into_desk()
     }
 }

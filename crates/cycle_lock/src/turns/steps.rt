@@ -3,23 +3,27 @@ ghost use Rattle.std.specs.Prelude.{◌≡◌, ℕ, ◌+◌, ◌%◌, ◌^◌, �
 ghost use Rattle.command_types.specs.declared.ask.Entry.{Entry};
 ghost use Rattle.cycle_lock.specs.declared.rule.Stage.TheVariants.{Resting, HasTurn, Passed};
 ghost use Rattle.cycle_lock.specs.Line.{bell};
+ghost use Rattle.cycle_lock.specs.Home.{of_desk};
+ghost use Rattle.cycle_lock.specs.declared.home.Home.{Home};
 ghost use Rattle.cycle_lock.specs.Plays.{Took, noted, Becomes};
 ghost use Rattle.cycle_lock.specs.Views.{resting};
 ghost use Rattle.cycle_lock.specs.declared.rule.TheConstants.{WORDS};
 
 use super::Turns;
+use crate::home::Home;
 use crate::plays::{Draw, Look, LookBehind, Note, Outcome, Ring};
 use crate::rule::{View, WORDS};
 use atomic_table::Seat;
 use command_types::Desk;
+use publication_list::PLACES;
 use std::hint::spin_loop;
 use std::sync::Wait;
 use std::time::Duration;
 
-pub(super) type SeatOf<T> = Seat<Option<T>, View>;
+pub(super) type SeatOf<T> = Seat<Option<Home<T>>, View>;
 
 // How many looks a seat takes, for a free lock or for its ticket, before it sleeps.
-const LOOKS: u32 = 200;
+pub(super) const LOOKS: u32 = 200;
 
 // How often a seat sleeps for a moment where the lock is not free, before it draws a ticket all the same.
 const PAUSES: u32 = 20;
@@ -35,10 +39,15 @@ fn bell_of(ticket: u64) -> usize
 }
 
 impl<T: Desk> Turns<T> {
-    // Looks whether each ticket that was drawn has been served, but not for long.
-    fn is_free(&self) -> bool {
+    // Whether each ticket that was drawn has been served.
+    pub(super) fn looks_free(&self) -> bool {
+        self.table.shared.peek(1) == self.table.shared.peek(2)
+    }
+
+    // The same, looking for a little while.
+    pub(super) fn is_free(&self) -> bool {
         for _ in 0..LOOKS {
-            if self.table.shared.peek(1) == self.table.shared.peek(2) {
+            if self.looks_free() {
                 return true;
             }
             spin_loop();
@@ -48,7 +57,7 @@ impl<T: Desk> Turns<T> {
 
     // Stands back while others have tickets. Tickets are served in their order, so that each that is drawn behind a seat
     // that sleeps waits for that seat to wake.
-    fn stand_back<R: Wait>(&self, rt: &R) {
+    pub(super) fn stand_back<R: Wait>(&self, rt: &R) {
         for _ in 0..PAUSES {
             if self.is_free() {
                 return;
@@ -79,9 +88,8 @@ impl<T: Desk> Turns<T> {
         requires resting { (seat.old.me.0.stage ≡ Resting) × (seat.old.me.0.account.spent ≡ false) }
         ensures own { (seat.new.table_id ≡ seat.old.table_id) × (seat.new.id ≡ seat.old.id) }
         ensures same { seat.new.me.0.account ≡ seat.old.me.0.account }
-        ensures took { Took T.history T.figures T.stopped seat.old.me.1 seat.new.me }
+        ensures took { Took (of_desk T.history) (of_desk T.figures) (of_desk T.stopped) seat.old.me.1 seat.new.me }
     {
-        self.stand_back(rt);
         let ticket = self.table.shared.fetch_add::<Draw>(seat, 1, 1);
         let bell = bell_of(ticket);
         for _ in rt.forever() {
@@ -97,7 +105,8 @@ impl<T: Desk> Turns<T> {
         unreachable!()
     }
 
-    // Wakes the seat of the next ticket, if that was drawn. Who draws it behind this look finds it served.
+    // Wakes the seat of the next ticket, if that was drawn. Who draws it behind this look finds it served. Where it was not drawn, one
+    // of those at places is waked: who leaves a call there behind this look finds the lock free.
     pub(super) fn wake(&self, seat: &mut SeatOf<T>, next: u64)
         requires own { seat.old.table_id ≡ self.now.table.shared.table_id }
         requires passed { (seat.old.me.0.stage ≡ Passed) × (seat.old.me.0.ticket ≡ next) }
@@ -108,19 +117,38 @@ impl<T: Desk> Turns<T> {
             let bell = bell_of(next);
             self.table.shared.fetch_add::<Ring>(seat, bell, 1);
             self.table.shared.wake_all(bell);
+        } else {
+            self.ring_one();
+        }
+    }
+
+    // Wakes one of those whose calls wait at places, if there are any, so that it leads a turn.
+    pub(super) fn ring_one(&self) {
+        let Some(list) = &self.places else {
+            return;
+        };
+        let waiting = list.waiting();
+        if waiting == 0 {
+            return;
+        }
+        for place in 0..PLACES {
+            if (waiting >> place) & 1 == 1 {
+                list.ring(place);
+                return;
+            }
         }
     }
 
     // The desk leaves the slot.
-    pub(super) fn take_out(&self, seat: &mut SeatOf<T>) -> T
+    pub(super) fn take_out(&self, seat: &mut SeatOf<T>) -> Home<T>
         requires own { seat.old.table_id ≡ self.now.table.shared.table_id }
-        requires took { (d : T) × (seat.old.me.1 ≡ (0, Some d) ∷ []) }
+        requires took { (d : Home T) × (seat.old.me.1 ≡ (0, Some d) ∷ []) }
         ensures own { (seat.new.table_id ≡ seat.old.table_id) × (seat.new.id ≡ seat.old.id) }
         ensures seat { seat.new.me ≡ (seat.old.me.0, (0, None) ∷ []) }
         ensures desk { seat.old.me.1 ≡ (0, Some result) ∷ [] }
     {
         match self.table.shared.exchange(seat, 0, None) {
-            Some(desk) => desk,
+            Some(home) => home,
             None => unreachable!(),
         }
     }
@@ -129,7 +157,7 @@ impl<T: Desk> Turns<T> {
     pub(super) fn note<M: Outcome>(&self, seat: &mut SeatOf<T>, more: u64)
         requires own { seat.old.table_id ≡ self.now.table.shared.table_id }
         requires turn { seat.old.me.0.stage ≡ HasTurn }
-        requires desk { (d : T) × (added : List Entry) × (more ≡ length added) × (seat.old.me.1 ≡ (0, Some d) ∷ []) × (M.log ≡ (T.history d).entries) × (M.stop ≡ T.stopped d) × Becomes T.history T.stopped seat.old.me.0 added d }
+        requires desk { (d : Home T) × (added : List Entry) × (more ≡ length added) × (seat.old.me.1 ≡ (0, Some d) ∷ []) × (M.log ≡ (T.history d.desk).entries) × (M.stop ≡ T.stopped d.desk) × Becomes (of_desk T.history) (of_desk T.stopped) seat.old.me.0 added d }
         ensures own { (seat.new.table_id ≡ seat.old.table_id) × (seat.new.id ≡ seat.old.id) }
         ensures noted { noted M.log M.stop seat.old.me seat.new.me }
     {

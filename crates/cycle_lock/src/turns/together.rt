@@ -53,16 +53,19 @@ impl<T: Desk> Turns<T> {
         ensures later { entries_of_seat (seen pass.new) (seat_of pass.old) (end_of (seen pass.old)) ≡ all_recorded (take (vec_len replies.new) commands.old) replies.new.items }
     {
         let mut seat: SeatOf<T> = mem::replace(&mut pass.badge, Badge::blank()).into_seat();
+        self.stand_back(rt);
         self.enter(rt, &mut seat);
-        let Some(desk) = seat.slot_mut(&self.table.shared, 0) else {
+        let Some(home) = seat.slot_mut(&self.table.shared, 0) else {
             unreachable!()
         };
-        let before = desk.length();
-        desk.ask_all(commands, replies);
-        let at = desk.length();
+        let before = home.length();
+        home.ask_all(commands, replies);
+        let at = home.length();
         self.note::<Brand>(&mut seat, at - before);
         let ticket = self.table.shared.fetch_add::<PassOn>(&mut seat, 2, 1);
         self.wake(&mut seat, ticket.wrapping_add(1));
+        // A turn like this makes no other's call: who waits at a place may be tired of it.
+        self.ring_one();
         pass.badge = seat.into_badge();
         pass.at = at;
     }

@@ -1,3 +1,4 @@
+use Rattle.cycle_lock.specs.Home.{of_desk}
 use Rattle.std.proofs.Common.{rules, ◌∙◌, ◌≡◌, ◌≤◌, ℕ, List, [], ◌∷◌, Some, sym, ap, subst, ◌++◌, drop, take, refl, arith}
 use Rattle.std.proofs.lemmas.List.{append-nil}
 use Rattle.std.specs.Prelude.{vec_len}
@@ -26,7 +27,7 @@ note-requires-clause-desk g c κs within =
     let is = rested p.badge.views _ c.into_seat-seat.result.me.0 p.rests (ap (λ b. b.views) c.replace.ensures.value) c.into_seat-seat.ensures.2 in
     let from : c.enter.new.seat.me.0.account ≡ account_of p.badge.views = c.enter.ensures.same ∙ ap (λ v. v.account) is in
     let alone : slots ≡ [] = ap rest c.enter.ensures.took.2.1 ∙ c.into_seat-seat.ensures.3 in
-    let here : c.enter.new.seat.me.1 ≡ (0, Some c.in-Some.desk) ∷ slots = c.slot_mut.ensures.value ∙ ap (λ o. (0, o) ∷ slots) c.in-Some.is in
+    let here : c.enter.new.seat.me.1 ≡ (0, Some c.in-Some.home) ∷ slots = c.slot_mut.ensures.value ∙ ap (λ o. (0, o) ∷ slots) c.in-Some.is in
     let n : ℕ = vec_len c.ask_all.new.replies in
     let added : List Entry = all_recorded (take n c.args.commands.now) c.ask_all.new.replies.items in
     let number : p.number ≡ c.enter.new.seat.me.0.account.number = sym (ap (λ a. a.number) from ∙ p.numbered) in
@@ -38,7 +39,7 @@ note-requires-clause-desk g c κs within =
       ap (λ l. (0, Some d') ∷ l) alone,
       refl,
       refl,
-      becomes g.T.Desk.history g.T.Desk.figures g.T.Desk.stopped c.enter.new.seat.me (c.enter.new.seat.me.0, slots) _ _ _ c.in-Some.desk d' added c.enter.ensures.took here refl (ap (λ a. a.spent) from ∙ p.live)
+      becomes (of_desk g.T.Desk.history) (of_desk g.T.Desk.figures) (of_desk g.T.Desk.stopped) c.enter.new.seat.me (c.enter.new.seat.me.0, slots) _ _ _ c.in-Some.home d' added c.enter.ensures.took here refl (ap (λ a. a.spent) from ∙ p.live)
           (subst (λ (k : ℕ). AreOf k added) number (front_of p.number n c.args.commands.now c.ask_all.new.replies.items c.requires.seats)) grows ask.legal ask.short (stays_in_turn _ _ _ _ _ _ _ ask.told),
     )
 
@@ -47,12 +48,12 @@ fetch_add-ticket-requires g c =
     let p = c.args.pass.now in let d' = c.ask_all.new.self in let slots = rest c.enter.new.seat.me.1 in
     let is = rested p.badge.views _ c.into_seat-seat.result.me.0 p.rests (ap (λ b. b.views) c.replace.ensures.value) c.into_seat-seat.ensures.2 in
     let alone : slots ≡ [] = ap rest c.enter.ensures.took.2.1 ∙ c.into_seat-seat.ensures.3 in
-    let here : c.enter.new.seat.me.1 ≡ (0, Some c.in-Some.desk) ∷ slots = c.slot_mut.ensures.value ∙ ap (λ o. (0, o) ∷ slots) c.in-Some.is in
+    let here : c.enter.new.seat.me.1 ≡ (0, Some c.in-Some.home) ∷ slots = c.slot_mut.ensures.value ∙ ap (λ o. (0, o) ∷ slots) c.in-Some.is in
     let noted = c.note.ensures.noted in
     let put : c.note.new.seat.me.1 ≡ (0, Some d') ∷ [] = noted.4 ∙ ap (λ l. (0, Some d') ∷ l) alone in (
       search rules,
       search rules,
-      passes_after g.T.Desk.history g.T.Desk.figures g.T.Desk.stopped _ _ _ _ _ _ c.enter.new.seat.me (c.enter.new.seat.me.0, (0, Some d') ∷ slots) c.note.new.seat.me c.note.new.seat.me c.in-Some.desk d' c.enter.ensures.took here
+      passes_after (of_desk g.T.Desk.history) (of_desk g.T.Desk.figures) (of_desk g.T.Desk.stopped) _ _ _ _ _ _ c.enter.new.seat.me (c.enter.new.seat.me.0, (0, Some d') ∷ slots) c.note.new.seat.me c.note.new.seat.me c.in-Some.home d' c.enter.ensures.took here
           refl c.ask_all.ensures.figures c.ask_all.ensures.base noted (λ i. (c.note.new.seat.me.0, put i))
           (ap (λ a. a.spent) c.enter.ensures.same ∙ (ap (λ v. v.account.spent) is ∙ p.live)),
     )
@@ -63,15 +64,15 @@ added_in g c = all_recorded (take (vec_len c.ask_all.new.replies) c.args.command
 
 -- what the call has done
 done : (g : Over) (c : goal.After-pass-1 g)
-    → Called (account_of c.args.pass.now.badge.views) (account_of c.into_badge.result.views) (g.T.Desk.figures c.in-Some.desk) (g.T.Desk.history c.ask_all.new.self)
-    (g.T.Desk.stopped c.in-Some.desk) (g.T.Desk.stopped c.ask_all.new.self) (added_in g c)
+    → Called (account_of c.args.pass.now.badge.views) (account_of c.into_badge.result.views) (g.T.Desk.figures c.in-Some.home.desk) (g.T.Desk.history c.ask_all.new.self.desk)
+    (g.T.Desk.stopped c.in-Some.home.desk) (g.T.Desk.stopped c.ask_all.new.self.desk) (added_in g c)
 done g c =
     let p = c.args.pass.now in let d' = c.ask_all.new.self in let slots = rest c.enter.new.seat.me.1 in
     let is = rested p.badge.views _ c.into_seat-seat.result.me.0 p.rests (ap (λ b. b.views) c.replace.ensures.value) c.into_seat-seat.ensures.2 in
     let from : c.enter.new.seat.me.0.account ≡ account_of p.badge.views = c.enter.ensures.same ∙ ap (λ v. v.account) is in
-    let here : c.enter.new.seat.me.1 ≡ (0, Some c.in-Some.desk) ∷ slots = c.slot_mut.ensures.value ∙ ap (λ o. (0, o) ∷ slots) c.in-Some.is in
-    called g.T.Desk.history g.T.Desk.figures g.T.Desk.stopped (account_of p.badge.views) c.enter.new.seat.me (c.enter.new.seat.me.0, (0, Some d') ∷ slots) c.note.new.seat.me c.note.new.seat.me c.fetch_add-ticket.new.seat.me
-    _ _ _ _ c.note.new.seat.me.1 c.into_badge.result.views c.in-Some.desk d' _ from c.enter.ensures.took here refl (grown_in_turn _ _ _ _ _ _ _ c.ask_all.ensures.told) c.note.ensures.noted refl c.fetch_add-ticket.ensures.2
+    let here : c.enter.new.seat.me.1 ≡ (0, Some c.in-Some.home) ∷ slots = c.slot_mut.ensures.value ∙ ap (λ o. (0, o) ∷ slots) c.in-Some.is in
+    called (of_desk g.T.Desk.history) (of_desk g.T.Desk.figures) (of_desk g.T.Desk.stopped) (account_of p.badge.views) c.enter.new.seat.me (c.enter.new.seat.me.0, (0, Some d') ∷ slots) c.note.new.seat.me c.note.new.seat.me c.fetch_add-ticket.new.seat.me
+    _ _ _ _ c.note.new.seat.me.1 c.into_badge.result.views c.in-Some.home d' _ from c.enter.ensures.took here refl (grown_in_turn _ _ _ _ _ _ _ c.ask_all.ensures.told) c.note.ensures.noted refl c.fetch_add-ticket.ensures.2
     (c.into_badge.ensures.2 ∙ ap (λ m. m.0 ∷ []) c.wake.ensures.rests)
 
 pub returns-clause-seen : goal.returns-clause-seen
@@ -81,11 +82,11 @@ pub returns-clause-told : goal.returns-clause-told
 returns-clause-told g c =
     let p = c.args.pass.now in let t = done g c in let slots = rest c.enter.new.seat.me.1 in
     let is = rested p.badge.views _ c.into_seat-seat.result.me.0 p.rests (ap (λ b. b.views) c.replace.ensures.value) c.into_seat-seat.ensures.2 in
-    let here : c.enter.new.seat.me.1 ≡ (0, Some c.in-Some.desk) ∷ slots = c.slot_mut.ensures.value ∙ ap (λ o. (0, o) ∷ slots) c.in-Some.is in
+    let here : c.enter.new.seat.me.1 ≡ (0, Some c.in-Some.home) ∷ slots = c.slot_mut.ensures.value ∙ ap (λ o. (0, o) ∷ slots) c.in-Some.is in
     record {
-      from = g.T.Desk.history c.in-Some.desk;
-      before = g.T.Desk.stopped c.in-Some.desk;
-      goes_on = asked_behind g.T.Desk.history g.T.Desk.figures g.T.Desk.stopped (account_of p.badge.views) c.enter.new.seat.me _ _ c.in-Some.desk (c.enter.ensures.same ∙ ap (λ v. v.account) is) c.enter.ensures.took here;
+      from = g.T.Desk.history c.in-Some.home.desk;
+      before = g.T.Desk.stopped c.in-Some.home.desk;
+      goes_on = asked_behind (of_desk g.T.Desk.history) (of_desk g.T.Desk.figures) (of_desk g.T.Desk.stopped) (account_of p.badge.views) c.enter.new.seat.me _ _ c.in-Some.home (c.enter.ensures.same ∙ ap (λ v. v.account) is) c.enter.ensures.took here;
       knew = t.halted;
       told = told_all_of _ _ _ _ _ _ _ _ t _ _ c.ask_all.ensures.told;
     }

@@ -1,9 +1,10 @@
+use Rattle.cycle_lock.specs.Home.{of_desk}
 use Rattle.std.proofs.Common.{rules, arith, ap, sym, subst, ◌∙◌, ◌≡◌, ◌≤◌}
 use Rattle.cycle_lock.proofs.Histories.{continues}
 use Rattle.cycle_lock.specs.Accounts.{times}
 use Rattle.cycle_lock.specs.Views.{account_of}
 use Rattle.cycle_lock.proofs.Numbers.{times-append}
-use Rattle.cycle_lock.proofs.Steps.{joins, settles}
+use Rattle.cycle_lock.proofs.Steps.{joins, settles, stands_for}
 use Rattle.cycle_lock.proofs.Calls.{rested, takes_host, takes_guest}
 use Rattle.cycle_lock.proofs.turns.Turns.join.Goals as goal
 
@@ -11,14 +12,14 @@ pub join_seat-requires : goal.join_seat-requires
 join_seat-requires g c = let p = c.args.pass.now in let q = c.args.other in
     let is = rested p.badge.views _ c.into_seat-seat.result.me.0 p.rests (ap (λ b. b.views) c.replace.ensures.value) c.into_seat-seat.ensures.2 in
     let is' = rested q.badge.views _ c.into_seat.result.me.0 q.rests (λ i. q.badge.views) c.into_seat.ensures.2 in
-    (search rules, search rules, search rules, search rules, joins g.T.Desk.history g.T.Desk.figures g.T.Desk.stopped _ _ _ _ _ _ _ is is')
+    (search rules, search rules, search rules, search rules, joins (of_desk g.T.Desk.history) (of_desk g.T.Desk.figures) (of_desk g.T.Desk.stopped) _ _ _ _ _ _ _ is is' (stands_for p.number (account_of p.badge.views).stands p.mine) (stands_for q.number (account_of q.badge.views).stands q.mine))
 
 pub load-pass-requires : goal.load-pass-requires
 load-pass-requires g c = let p = c.args.pass.now in let q = c.args.other in
     let is = rested p.badge.views _ c.into_seat-seat.result.me.0 p.rests (ap (λ b. b.views) c.replace.ensures.value) c.into_seat-seat.ensures.2 in
     let is' = rested q.badge.views _ c.into_seat.result.me.0 q.rests (λ i. q.badge.views) c.into_seat.ensures.2 in
     let h = ap (λ m. m.0) c.join_seat.ensures.2 in
-    (search rules, search rules, settles g.T.Desk.history g.T.Desk.figures g.T.Desk.stopped _ _ _ _ (ap (λ v. v.stage) h) (ap (λ v. v.ticket) h) (ap (λ v. v.account.spent) h ∙ (ap (λ v. v.account.spent) is ∙ p.live)) (ap (λ v. v.guest.spent) h ∙ (ap (λ v. v.account.spent) is' ∙ q.live)))
+    (search rules, search rules, settles (of_desk g.T.Desk.history) (of_desk g.T.Desk.figures) (of_desk g.T.Desk.stopped) _ _ _ _ (ap (λ v. v.stage) h) (ap (λ v. v.ticket) h) (ap (λ v. v.account.spent) h ∙ (ap (λ v. v.account.spent) is ∙ p.live)) (ap (λ v. v.guest.spent) h ∙ (ap (λ v. v.account.spent) is' ∙ q.live)))
 
 pub returns-clause-old : goal.returns-clause-old
 returns-clause-old g c =

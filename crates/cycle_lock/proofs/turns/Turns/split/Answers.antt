@@ -1,3 +1,4 @@
+use Rattle.cycle_lock.specs.Home.{of_desk}
 use Rattle.std.proofs.Common.{rules, arith, sym, ap, ◌∙◌, ◌≡◌}
 use Rattle.cycle_lock.specs.Views.{resting, account_of}
 use Rattle.cycle_lock.proofs.Steps.{draws_number, splits}
@@ -8,7 +9,7 @@ pub fetch_add-number-requires : goal.fetch_add-number-requires
 fetch_add-number-requires g c = let p = c.args.pass.now in let v = c.into_seat-seat.result.me.0 in
     let is = rested p.badge.views _ v p.rests (ap (λ b. b.views) c.replace.ensures.value) c.into_seat-seat.ensures.2 in
     let acc : v.account ≡ account_of p.badge.views = ap (λ w. w.account) is in
-    (search rules, search rules, draws_number g.T.Desk.history g.T.Desk.figures g.T.Desk.stopped _ _ _ _ (is ∙ ap resting (sym acc)) (ap (λ a. a.spent) acc ∙ p.live) (let l = ap (λ a. a.left) acc in let m = c.requires.left in omega arith))
+    (search rules, search rules, draws_number (of_desk g.T.Desk.history) (of_desk g.T.Desk.figures) (of_desk g.T.Desk.stopped) _ _ _ _ (is ∙ ap resting (sym acc)) (ap (λ a. a.spent) acc ∙ p.live) (let l = ap (λ a. a.left) acc in let m = c.requires.left in omega arith))
 
 pub split_seat-child-requires : goal.split_seat-child-requires
-split_seat-child-requires g c = let t = c.fetch_add-number.ensures.2 in (search rules, search rules, splits g.T.Desk.history g.T.Desk.figures g.T.Desk.stopped _ _ _ _ _ t.0 t.4)
+split_seat-child-requires g c = let t = c.fetch_add-number.ensures.2 in (search rules, search rules, splits (of_desk g.T.Desk.history) (of_desk g.T.Desk.figures) (of_desk g.T.Desk.stopped) _ _ _ _ _ t.0 t.4)

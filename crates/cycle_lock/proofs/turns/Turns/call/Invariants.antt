@@ -1,5 +1,0 @@
-use Rattle.cycle_lock.specs.Plays.{log_in, stop_in}
-use Rattle.cycle_lock.proofs.turns.Turns.call.Given as goal
-
-abbrev pub ghosts-note : goal.ghosts-note
-ghosts-note g a = record { log = log_in g.T.Desk.history a.seat.now.me.1; stop = stop_in g.T.Desk.stopped a.seat.now.me.1 }
