@@ -12,4 +12,6 @@ mod machine;
 #[cfg(test)]
 mod market;
 #[cfg(test)]
+mod places;
+#[cfg(test)]
 mod trade_book;
