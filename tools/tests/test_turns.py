@@ -8,10 +8,10 @@ from turns import Lock, Wrong
 
 SECONDS = 60.0
 
-SIZES = [(2, 3, 1), (2, 3, 2), (3, 2, 2)]
-"""Seats, calls of each, and bells; `turns.py` walks other sizes."""
+SIZES = [(2, 2, 1, 2), (2, 2, 2, 1), (3, 1, 2, 3), (3, 1, 2, 2)]
+"""Seats, calls of each, bells, and places; `turns.py` walks other sizes."""
 
-LOST = {wrong: (2, 2, 2) for wrong in Wrong} | {Wrong.WAKES_ONE: (3, 1, 1)}
+LOST = {wrong: (2, 2, 2, 2) for wrong in Wrong} | {Wrong.WAKES_ONE: (3, 1, 1, 3)}
 """Where a wrong lock loses a wake-up: to wake one of two is wrong only where they share a bell."""
 
 
