@@ -9,7 +9,7 @@ step, as the system has it; that all who sleep on a word wake is another. No sle
 A seat that stands back, or looks again before it sleeps, draws and looks later, and a later step is walked, too.
 
 A seat that finds the lock taken leaves its call at a place, if that is free. Who has the turn claims the calls that wait, answers them,
-passes the turn on, and rings. A run of lines draws a ticket at once. Whether a seat that was waked is tired of waiting is left open.
+passes the turn on, and rings. A run of lines draws a ticket at once. Whether a seat that was woken is tired of waiting is left open.
 """
 
 import argparse
@@ -40,7 +40,7 @@ class At(Enum):
     REST = auto()
     """It sleeps at its place, if the bell is as it noted it."""
     RESTS = auto()
-    """It does nothing until it is waked."""
+    """It does nothing until it is woken."""
     WITHDRAW = auto()
     """It takes its call back, unless that is claimed."""
     UNMARK = auto()
@@ -54,7 +54,7 @@ class At(Enum):
     SLEEP = auto()
     """It sleeps on its bell, if that is as it noted it."""
     ASLEEP = auto()
-    """It does nothing until it is waked."""
+    """It does nothing until it is woken."""
     BITS = auto()
     """It has the turn, and looks which calls wait."""
     CLAIM = auto()
@@ -87,11 +87,11 @@ class Wrong(Enum):
     LOOKS_BEFORE_IT_PASSES_ON = auto()
     """Whether the next ticket was drawn is looked at before the turn is passed on."""
     RAISES_NO_BELL = auto()
-    """Who sleeps on the bell is waked, and the bell stays as it was."""
+    """Who sleeps on the bell is woken, and the bell stays as it was."""
     RINGS_ITS_OWN_BELL = auto()
     """A turn rings the bell of the ticket that ends."""
     WAKES_ONE = auto()
-    """One of those who sleep on the bell is waked."""
+    """One of those who sleep on the bell is woken."""
     MAKES_ITS_BELL_ODD_LAST = auto()
     """Who waits at a place looks at the lock first, and then makes its bell odd."""
     LEAVES_THE_PLACES = auto()
@@ -99,7 +99,7 @@ class Wrong(Enum):
     RINGS_NO_CLAIM = auto()
     """A turn does not ring those whose calls it made."""
     LEAVES_THE_BELL_ODD = auto()
-    """Who sleeps at a place is waked, and the bell stays as it was."""
+    """Who sleeps at a place is woken, and the bell stays as it was."""
 
 
 class Call(Enum):
@@ -115,7 +115,7 @@ class Call(Enum):
 class Seat(NamedTuple):
     """What it does next, how many calls it has still to begin, its ticket, what it noted of a bell or a ticket, the places whose calls it
     may claim, those that it claimed, those where it is to ring, and whether it
-    makes a run, or was waked at its place."""
+    makes a run, or was woken at its place."""
 
     at: At
     calls: int

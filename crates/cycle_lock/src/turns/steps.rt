@@ -106,7 +106,7 @@ impl<T: Desk> Turns<T> {
     }
 
     // Wakes the seat of the next ticket, if that was drawn. Who draws it behind this look finds it served. Where it was not drawn, one
-    // of those at places is waked: who leaves a call there behind this look finds the lock free.
+    // of those at places is woken: who leaves a call there behind this look finds the lock free.
     pub(super) fn wake(&self, seat: &mut SeatOf<T>, next: u64)
         requires own { seat.old.table_id ≡ self.now.table.shared.table_id }
         requires passed { (seat.old.me.0.stage ≡ Passed) × (seat.old.me.0.ticket ≡ next) }
