@@ -1,5 +1,5 @@
 -- A turn in which several passes are called: the desk has answered, and the passes note their replies one behind the other.
-use Rattle.std.specs.Prelude.{◌≡◌, ◌<◌, ◌^◌, All, Bool, false, List, [], ◌∷◌, ◌++◌, length, take, drop, map, reverse, None}
+use Rattle.std.specs.Prelude.{◌≡◌, ℕ, Some, ◌<◌, ◌^◌, All, Bool, false, List, [], ◌∷◌, ◌++◌, length, take, drop, map, reverse, None}
 use Rattle.command_types.specs.declared.answer.Reply.{Reply}
 use Rattle.command_types.specs.declared.ask.Entry.{Entry}
 use Rattle.command_types.specs.declared.figures.Figures.{Figures}
@@ -14,6 +14,8 @@ use Rattle.cycle_lock.specs.declared.rule.Stage.TheVariants.{HasTurn}
 use Rattle.cycle_lock.specs.declared.pass.Pass.{Pass}
 use Rattle.cycle_lock.specs.Accounts.{whole}
 use Rattle.cycle_lock.specs.Errands.{command_of, pass_of}
+use Rattle.cycle_lock.specs.Home.{of_desk}
+use Rattle.cycle_lock.specs.Kept.{IsDesk}
 use Rattle.cycle_lock.specs.Passes.{LockId, lock_of}
 use Rattle.cycle_lock.specs.Plays.{Sat}
 
@@ -56,6 +58,28 @@ module _ {T : Type 0} (history : T → History) (figures_of : T → Figures) (st
   IsFirst m home [] log stop = ⊥
   IsFirst m home (errand ∷ errands) log stop =
       IsNext m.0.account.figures m.0.known m.0.halted (history home.desk) (stopped home.desk) (command_of errand) (map command_of errands) (reverse home.batch.replies.items) log stop
+
+  -- the first reply is that of the seat's own command, before those of the errands
+  abbrev pub IsOwnFirst : Sat (Home T) → Home T → Entry → List Errand → List Entry → Bool → Type 0
+  IsOwnFirst m home own errands log stop =
+      IsNext m.0.account.figures m.0.known m.0.halted (history home.desk) (stopped home.desk) own (map command_of errands) (reverse home.batch.replies.items) log stop
+
+  -- the desk, which was d and is e, answered these commands in turn
+  abbrev pub HasAnswered : T → T → List Entry → List Reply → Type 0
+  HasAnswered d e commands replies = AreToldInTurn (figures_of d) (stopped d) (stopped e) (history d) commands replies (history e)
+
+  -- whichever seat is ahead with the home as it was is so as it is
+  abbrev pub StaysAhead : Home T → Home T → Type 0
+  StaysAhead home after = (m : Sat (Home T)) (commands : List Entry) (passes : List Pass) → length commands ≡ length passes → IsAhead m home commands passes → IsAhead m after commands passes
+
+  -- the same, where the commands stand from a place on
+  abbrev pub StaysAheadFrom : ℕ → Home T → Home T → Type 0
+  StaysAheadFrom from home after = (m : Sat (Home T)) (front commands : List Entry) (passes : List Pass) → length front ≡ from → home.batch.commands.items ≡ front ++ commands
+      → IsAhead m home commands passes → IsAhead m after commands passes
+
+  -- the seat has the slot, in which the desk is where the seat knows it
+  abbrev pub HoldsDesk : Sat (Home T) → Type 0
+  HoldsDesk m = (home : Home T) × (m.1 ≡ (0, Some home) ∷ []) × IsDesk (of_desk history) (of_desk figures_of) (of_desk stopped) m.0.known m.0.halted m.0.account.figures home
 
 -- More errands were claimed, all of this lock's passes, and the batch has their commands and passes behind the others.
 abbrev pub Gathers : LockId → Batch → Batch → List Errand → List Errand → Type 0

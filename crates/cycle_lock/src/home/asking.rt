@@ -1,11 +1,6 @@
 //! The desk is asked what a batch holds.
-ghost use Rattle.std.specs.Prelude.{◌≡◌, ◌+◌, ◌<◌, ◌≤◌, List, ◌++◌, length, take, drop, reverse, vec_len};
-ghost use Rattle.command_types.specs.declared.ask.Entry.{Entry};
-ghost use Rattle.command_types.specs.InTurn.{AreToldInTurn};
-ghost use Rattle.cycle_lock.specs.declared.home.Home.{Home};
-ghost use Rattle.cycle_lock.specs.declared.pass.Pass.{Pass};
-ghost use Rattle.cycle_lock.specs.Plays.{Sat};
-ghost use Rattle.cycle_lock.specs.Turn.{IsSound, IsAhead};
+ghost use Rattle.std.specs.Prelude.{◌≡◌, ◌+◌, ◌<◌, ◌≤◌, take, drop, reverse, vec_len};
+ghost use Rattle.cycle_lock.specs.Turn.{HasAnswered, IsSound, StaysAhead, StaysAheadFrom};
 
 use super::{Batch, Home};
 use command_types::Desk;
@@ -18,7 +13,7 @@ impl Batch {
         ensures at { self.new.at ≡ self.old.at }
         ensures some { 0 < vec_len self.new.replies }
         ensures rest { drop (from + vec_len self.new.replies) self.new.commands.items ≡ drop (from + vec_len self.new.replies) self.old.commands.items }
-        ensures told { AreToldInTurn (T.figures desk.old) (T.stopped desk.old) (T.stopped desk.new) (T.history desk.old) (take (vec_len self.new.replies) (drop from self.old.commands.items)) (reverse self.new.replies.items) (T.history desk.new) }
+        ensures told { HasAnswered T.history T.figures T.stopped desk.old desk.new (take (vec_len self.new.replies) (drop from self.old.commands.items)) (reverse self.new.replies.items) }
         ensures sound { IsSound T.history T.figures T.stopped (T.figures desk.old) desk.new }
     {
         desk.ask_all(&mut self.commands[from..], &mut self.replies);
@@ -31,7 +26,7 @@ impl<T: Desk> Home<T> {
     pub(crate) fn refill(&mut self, from: usize)
         requires within { from < vec_len self.old.batch.commands }
         requires none { vec_len self.old.batch.replies ≡ 0 }
-        ensures ahead { (m : Sat (Home T)) (front commands : List Entry) (passes : List Pass) → length front ≡ from → self.old.batch.commands.items ≡ front ++ commands → IsAhead T.history T.figures T.stopped m self.old commands passes → IsAhead T.history T.figures T.stopped m self.new commands passes }
+        ensures ahead { StaysAheadFrom T.history T.figures T.stopped from self.old self.new }
         ensures some { 0 < vec_len self.new.batch.replies }
         ensures passes { self.new.batch.passes.items ≡ self.old.batch.passes.items }
     {
@@ -42,7 +37,7 @@ impl<T: Desk> Home<T> {
     pub(crate) fn ready(&mut self)
         requires some { 0 < vec_len self.old.batch.passes }
         requires left { vec_len self.old.batch.passes ≤ vec_len self.old.batch.commands + vec_len self.old.batch.replies }
-        ensures ahead { (m : Sat (Home T)) (commands : List Entry) (passes : List Pass) → length commands ≡ length passes → IsAhead T.history T.figures T.stopped m self.old commands passes → IsAhead T.history T.figures T.stopped m self.new commands passes }
+        ensures ahead { StaysAhead T.history T.figures T.stopped self.old self.new }
         ensures some { 0 < vec_len self.new.batch.replies }
         ensures passes { self.new.batch.passes.items ≡ self.old.batch.passes.items }
     {

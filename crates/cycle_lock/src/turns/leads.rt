@@ -1,15 +1,13 @@
 //! One turn for several passes.
-ghost use Rattle.std.specs.Prelude.{◌≡◌, ◌<◌, ◌≤◌, Bool, List, [], ◌∷◌, map, reverse, vec_len, Some, None, false};
+ghost use Rattle.std.specs.Prelude.{◌≡◌, ◌<◌, ◌≤◌, Bool, List, [], ◌∷◌, map, vec_len, Some, None, false};
 ghost use Rattle.command_types.specs.declared.ask.Entry.{Entry};
 ghost use Rattle.cycle_lock.specs.Accounts.{times};
-ghost use Rattle.cycle_lock.specs.declared.home.Home.{Home};
 ghost use Rattle.cycle_lock.specs.declared.rule.Stage.TheVariants.{HasTurn};
 ghost use Rattle.cycle_lock.specs.Errands.{IsCalled, command_of, pass_of};
 ghost use Rattle.cycle_lock.specs.Home.{of_desk};
-ghost use Rattle.cycle_lock.specs.Kept.{IsDesk};
 ghost use Rattle.cycle_lock.specs.Passes.{IsPassOf, lock_of};
 ghost use Rattle.cycle_lock.specs.Plays.{Took};
-ghost use Rattle.cycle_lock.specs.Turn.{IsAhead, IsNext, IsNoted};
+ghost use Rattle.cycle_lock.specs.Turn.{HoldsDesk, IsAhead, IsNoted, IsOwnFirst};
 ghost use Rattle.publication_list.specs.Tokens.{claims, key_of};
 
 use super::Turns;
@@ -40,8 +38,8 @@ impl<T: Desk> Turns<T> {
         requires some { 0 < vec_len home.old.batch.replies }
         requires mine { (own.now.value.seat ≡ seat.old.me.0.account.number) × (1 ≤ times seat.old.me.0.account.number seat.old.me.0.account.stands) }
         requires ahead { IsAhead T.history T.figures T.stopped seat.old.me home.old (own.now.value ∷ map command_of (claims clerk.now)) (map pass_of (claims clerk.now)) }
-        requires to { (log : List Entry) (stop : Bool) → IsNext seat.old.me.0.account.figures seat.old.me.0.known seat.old.me.0.halted (T.history home.old.desk) (T.stopped home.old.desk) own.now.value (map command_of (claims clerk.now)) (reverse home.old.batch.replies.items) log stop → M.next log stop }
-        requires from { (log : List Entry) (stop : Bool) → M.next log stop → IsNext seat.old.me.0.account.figures seat.old.me.0.known seat.old.me.0.halted (T.history home.old.desk) (T.stopped home.old.desk) own.now.value (map command_of (claims clerk.now)) (reverse home.old.batch.replies.items) log stop }
+        requires to { (log : List Entry) (stop : Bool) → IsOwnFirst T.history T.figures T.stopped seat.old.me home.old own.now.value (claims clerk.now) log stop → M.next log stop }
+        requires from { (log : List Entry) (stop : Bool) → M.next log stop → IsOwnFirst T.history T.figures T.stopped seat.old.me home.old own.now.value (claims clerk.now) log stop }
         ensures own { (seat.new.table_id ≡ seat.old.table_id) × (seat.new.id ≡ seat.old.id) }
         ensures noted { IsNoted seat.old.me.0 own.now.value result seat.new.me.0.account }
         ensures ahead { IsAhead T.history T.figures T.stopped seat.new.me home.new (map command_of (claims clerk.now)) (map pass_of (claims clerk.now)) }
@@ -73,7 +71,7 @@ impl<T: Desk> Turns<T> {
         ensures own { (seat.new.table_id ≡ seat.old.table_id) × (seat.new.id ≡ seat.old.id) }
         ensures noted { IsNoted seat.old.me.0 own result.0 seat.new.me.0.account }
         ensures turn { seat.new.me.0.stage ≡ HasTurn }
-        ensures home { (d : Home T) × (seat.new.me.1 ≡ (0, Some d) ∷ []) × IsDesk (of_desk T.history) (of_desk T.figures) (of_desk T.stopped) seat.new.me.0.known seat.new.me.0.halted seat.new.me.0.account.figures d }
+        ensures home { HoldsDesk T.history T.figures T.stopped seat.new.me }
     {
         let mut home = self.take_out(seat);
         let at = home.desk.length();
