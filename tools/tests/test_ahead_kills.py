@@ -1,4 +1,4 @@
-"""A kill under lines that are sent ahead of their replies loses nothing that was acknowledged."""
+"""A kill under lines that are sent ahead of their replies, or by many connections, loses nothing that was acknowledged."""
 
 import os
 import re
@@ -33,10 +33,10 @@ def replayed(program: str | Path, journal: Path) -> int:
 
 
 class Sender:
-    """A connection that sends its lines 16 ahead, until it is cut off; which of them were sent, and at which position each was told."""
+    """A connection that sends so many lines ahead, until it is cut off; which were sent, and at which position each was told."""
 
-    def __init__(self, place: int) -> None:
-        self.place, self.speaker, self.other = place, "ABC"[place % 3], "ABC"[(place + 1) % 3]
+    def __init__(self, place: int, ahead: int = AHEAD) -> None:
+        self.ahead, self.place, self.speaker, self.other = ahead, place, "ABC"[place % 3], "ABC"[(place + 1) % 3]
         self.lines: list[str] = []
         self.positions: list[int] = []
 
@@ -52,7 +52,7 @@ class Sender:
             file.readline()
             try:
                 while len(self.lines) < most and len(self.positions) == len(self.lines):
-                    more = [self.line(len(self.lines) + count) for count in range(AHEAD)]
+                    more = [self.line(len(self.lines) + count) for count in range(self.ahead)]
                     self.lines += more
                     connection.sendall("".join(line + "\n" for line in more).encode())
                     self.positions += self.told(file.readline() for _ in more)
@@ -80,7 +80,7 @@ def losses(senders: list[Sender], records: list[Kept]) -> list[str]:
             if [(record.party, record.line) for record in records[position - 1 : position]] != [(sender.speaker, line)]:
                 found.append(f"{line} was told at {position}")
         kept = [record.line for record in records if whose.get(record.line) is sender]
-        if kept != sender.lines[: len(kept)] or len(kept) - len(sender.positions) not in range(AHEAD + 1):
+        if kept != sender.lines[: len(kept)] or len(kept) - len(sender.positions) not in range(sender.ahead + 1):
             found.append(f"{len(kept)} lines of connection {sender.place} are kept, and {len(sender.positions)} were told")
     return found
 
@@ -103,29 +103,36 @@ class Judged(unittest.TestCase):
 
 
 class Killed(InService):
-    CONNECTIONS = 6
-    MOST = 20_000
-    """Lines of a connection: three quarters of them are trades, of which a journal takes 100,000."""
+    TURNS = 6
+    MOST = 120_000
+    """Lines of all connections: three quarters of them are trades, of which a journal takes 100,000."""
+
+    def judge(self, turn: int, senders: list[Sender]) -> None:
+        self.journal = self.folder / f"journal{turn}"
+        self.start("--seats", str(len(senders)))
+        assert self.service is not None
+        threads = [threading.Thread(target=sender.send, args=(self.port, self.MOST // len(senders))) for sender in senders]
+        for thread in threads:
+            thread.start()
+        while not all(sender.positions for sender in senders):
+            time.sleep(0.001)
+        time.sleep(0.02 * turn)
+        self.service.send_signal(signal.SIGKILL)
+        for thread in threads:
+            thread.join()
+        self.kill()
+        records = self.records()
+        self.assertEqual(losses(senders, records), [])
+        self.assertEqual(replayed(self.program, self.journal), len(records))
 
     def test_a_kill_under_lines_ahead_loses_nothing_acknowledged(self) -> None:
-        for turn in range(6):
-            self.journal = self.folder / f"journal{turn}"
-            self.start("--seats", str(self.CONNECTIONS))
-            assert self.service is not None
-            senders = [Sender(place) for place in range(self.CONNECTIONS)]
-            threads = [threading.Thread(target=sender.send, args=(self.port, self.MOST)) for sender in senders]
-            for thread in threads:
-                thread.start()
-            while not all(sender.positions for sender in senders):
-                time.sleep(0.001)
-            time.sleep(0.02 * turn)
-            self.service.send_signal(signal.SIGKILL)
-            for thread in threads:
-                thread.join()
-            self.kill()
-            records = self.records()
-            self.assertEqual(losses(senders, records), [])
-            self.assertEqual(replayed(self.program, self.journal), len(records))
+        for turn in range(self.TURNS):
+            self.judge(turn, [Sender(place) for place in range(6)])
+
+    def test_a_kill_under_64_connections_loses_nothing_acknowledged(self) -> None:
+        """Most send a line at a time, whose changes share syncs with other connections'."""
+        for turn in range(self.TURNS):
+            self.judge(turn, [Sender(place, AHEAD if place % 4 == 0 else 1) for place in range(64)])
 
 
 SESSION = ["HELLO A KA", f"TRADE A B P 10 {DAY}", f"TRADE A B P 20 {DAY}", "AFFIRM 1", "NETS P", "TOL B P in 2 -"]
