@@ -57,7 +57,7 @@ class VotesWithoutMemory(Refused):
         self.serve()
         a, b, c, operator = (self.session(name) for name in ("A", "B", "C", "OPS"))
         for number, (seller, buyer, names) in enumerate([(a, b, "AB"), (b, c, "BC"), (c, a, "CA")], 1):
-            seller.trade(*names, "P", 10, DAY)
+            seller.trade(names[0], names[1], "P", 10, DAY)
             buyer.affirm(number)
         operator.freeze("2026-03-31")
         a.trade("A", "C", "P", 5, DAY)

@@ -280,9 +280,9 @@ class Lock:
             at = seat.claims[-1]
             yield state.placed(at, state.places[at]._replace(bit=False)).seated(number, self.claiming(seat))
         else:
-            at, rest = seat.claims[0], seat.claims[1:]
+            at, left = seat.claims[0], seat.claims[1:]
             rings = seat.rings if self.wrong is Wrong.RINGS_NO_CLAIM else (*seat.rings, at)
-            ended = seat._replace(at=At.ANSWER if rest else self.ends[0], claims=rest, rings=rings)
+            ended = seat._replace(at=At.ANSWER if left else self.ends[0], claims=left, rings=rings)
             yield state.placed(at, state.places[at]._replace(call=Call.ANSWERED)).seated(number, ended)
 
     def claiming(self, seat: Seat) -> Seat:
