@@ -8,8 +8,9 @@ no seat can step, and one has not made its calls, is a wake-up that was lost. Th
 step, as the system has it; that all who sleep on a word wake is another. No sleep ends by itself here, though the system may end one.
 A seat that stands back, or looks again before it sleeps, draws and looks later, and a later step is walked, too.
 
-A seat that finds the lock taken leaves its call at a place, if that is free. Who has the turn claims the calls that wait, answers them,
-passes the turn on, and rings. A run of lines draws a ticket at once. Whether a seat that was woken is tired of waiting is left open.
+A seat that finds the lock taken leaves its call at a place, if that is free. Else it looks whether calls wait, and draws a ticket. If
+some waited, it claims in its turn those that wait then, and answers them. Behind its turn it passes that on, and rings. A run of lines
+draws a ticket at once, and claims none. Whether a seat that was woken is tired of waiting is left open.
 """
 
 import argparse
@@ -45,6 +46,8 @@ class At(Enum):
     """It takes its call back, unless that is claimed."""
     UNMARK = auto()
     """It clears its bit, and its place is free."""
+    LOOK = auto()
+    """It looks whether calls wait. If none does, its turn is for itself alone."""
     DRAW = auto()
     """It draws a ticket."""
     BELL = auto()
@@ -114,8 +117,8 @@ class Call(Enum):
 
 class Seat(NamedTuple):
     """What it does next, how many calls it has still to begin, its ticket, what it noted of a bell or a ticket, the places whose calls it
-    may claim, those that it claimed, those where it is to ring, and whether it
-    makes a run, or was woken at its place."""
+    may claim, those that it claimed, those where it is to ring, whether it makes a run, or was woken at its place, and whether its turn is
+    for itself alone."""
 
     at: At
     calls: int
@@ -125,6 +128,7 @@ class Seat(NamedTuple):
     claims: tuple[int, ...] = ()
     rings: tuple[int, ...] = ()
     run: bool = False
+    alone: bool = False
 
 
 class Place(NamedTuple):
@@ -181,7 +185,7 @@ class Lock:
         if wrong is Wrong.MAKES_ITS_BELL_ODD_LAST:
             self.waiting = [At.COLLECT, At.NEXT, At.AGAIN, At.SIGNAL, At.REST]
         parts = {
-            self.begins: (At.BEGIN, At.FREE, At.DRAW),
+            self.begins: (At.BEGIN, At.FREE, At.LOOK, At.DRAW),
             self.publishes: (At.MARK, At.PUBLISH),
             self.waits_at_place: (At.SIGNAL, At.COLLECT, At.NEXT, At.AGAIN, At.REST, At.WITHDRAW, At.UNMARK),
             self.waits_for_turn: (At.BELL, At.SERVED, At.SLEEP),
@@ -204,13 +208,15 @@ class Lock:
         """A call is begun: by a ticket, where the lock is free or the place is taken."""
         if seat.at is At.BEGIN and seat.calls:
             yield state.seated(number, Seat(At.FREE, seat.calls - 1, noted=state.drawn))
-            yield state.seated(number, Seat(At.DRAW, seat.calls - 1, run=True))
+            yield state.seated(number, Seat(At.DRAW, seat.calls - 1, run=True, alone=True))
+        elif seat.at is At.LOOK:
+            yield state.seated(number, seat._replace(at=At.DRAW, alone=not state.bits()))
         elif seat.at is At.DRAW:
-            yield state._replace(drawn=state.drawn + 1).seated(number, Seat(self.looks[0], seat.calls, state.drawn, run=seat.run))
+            yield state._replace(drawn=state.drawn + 1).seated(number, seat._replace(at=self.looks[0], ticket=state.drawn))
         elif seat.at is At.FREE:
             at = self.place_of(state, number)
             if seat.noted == state.served or state.places[at].call is not Call.NONE:
-                yield state.seated(number, Seat(At.DRAW, seat.calls))
+                yield state.seated(number, Seat(At.LOOK, seat.calls))
             else:
                 taken = state.places[at]._replace(call=Call.COMING, seat=number)
                 yield state.placed(at, taken).seated(number, Seat(At.MARK, seat.calls))
@@ -246,7 +252,7 @@ class Lock:
         elif seat.at is At.WITHDRAW:
             yield state.seated(number, seat._replace(at=At.REST, noted=0))
         elif seat.at is At.UNMARK:
-            yield state.placed(at, place._replace(call=Call.NONE, bit=False)).seated(number, Seat(At.DRAW, seat.calls))
+            yield state.placed(at, place._replace(call=Call.NONE, bit=False)).seated(number, Seat(At.LOOK, seat.calls))
 
     def after(self, seat: Seat) -> Seat:
         """The seat at the next of the steps with which it waits at a place."""
@@ -260,7 +266,7 @@ class Lock:
         if seat.at is At.SLEEP:
             yield state.seated(number, seat._replace(at=At.ASLEEP if seat.noted == bell else self.looks[0], noted=0))
         elif seat.at is At.SERVED and state.served == seat.ticket:
-            yield state.seated(number, seat._replace(at=self.ends[0] if seat.run else At.BITS, noted=0))
+            yield state.seated(number, seat._replace(at=self.ends[0] if seat.alone else At.BITS, noted=0))
         else:
             at = self.looks[1] if seat.at is self.looks[0] else At.SLEEP
             yield state.seated(number, seat._replace(at=at, noted=bell if seat.at is At.BELL else seat.noted))
