@@ -57,6 +57,7 @@ module _ {A B : Type 0} (fits : A → Type 0) (answers : A → B → Type 0) whe
   IsPlace (suc (suc (suc (suc (suc n))))) slot owners servers = ⊥
 
 module _ {A B K : Type 0} (fits : A → Type 0) (answers : A → B → Type 0) where
+  -- Each place is in one of these states, and each view has the list's key.
   pub record Kept (key : K) (s : State (Option (Letter A B)) (View A K)) : Type 0 where
     pub wide : length s.words ≡ WORDS
     pub places : (p : ℕ) → p < PLACES → IsPlace fits answers (slice_index s.words p) (slice_index_or s.homes p none) (asked_at p s.views) (claimed_at p s.views)

@@ -11,7 +11,7 @@
 //!                         +-----Withdraw------+----------------Collect----------------+
 //! ```
 //!
-//! Who published goes the way through HELD (`published.rt`), and a server from PUBLISHED to ANSWERED (`server.rt`).
+//! Who asks goes the ways through HELD (`list/publishes.rt`), and a server from PUBLISHED to ANSWERED (`list/serves.rt`).
 
 use crate::service::Service;
 use atomic_table::{Seat, TableRule};
