@@ -1,5 +1,5 @@
 //! What is put into a batch, and taken out of it.
-ghost use Rattle.std.specs.Prelude.{◌≡◌, ◌<◌, [], ◌∷◌, ◌++◌, reverse, vec_len, true};
+ghost use Rattle.std.specs.Prelude.{◌≡◌, ◌<◌, [], ◌∷◌, ◌++◌, reverse, vec_len, true, IfOk};
 ghost use Rattle.command_types.specs.declared.desk.TheConstants.{MOST_TOGETHER};
 ghost use Rattle.cycle_lock.specs.Errands.{command_of};
 
@@ -11,8 +11,10 @@ use std::alloc::{AllocError, Global};
 use std::mem;
 
 impl Batch {
-    /// It takes all its memory now.
-    pub(crate) fn new(alloc: Global) -> Result<Batch, AllocError> {
+    /// An empty one. It takes all its memory now.
+    pub(crate) fn new(alloc: Global) -> Result<Batch, AllocError>
+        ensures empty { IfOk result (λ batch. (batch.passes.items ≡ []) × (batch.commands.items ≡ []) × (batch.replies.items ≡ [])) }
+    {
         Ok(Batch {
             passes: Vec::with_capacity(alloc, MOST_TOGETHER)?,
             commands: Vec::with_capacity(alloc, MOST_TOGETHER)?,
