@@ -1,23 +1,21 @@
 -- A turn in which several passes are called, step by step.
-use Rattle.std.proofs.Common.{◌≡◌, ℕ, ◌+◌, ◌-◌, ◌<◌, ◌≤◌, ◌^◌, All, length, length-append, suc, Bool, true, false, List, [], ◌∷◌, ◌++◌, drop, take, map, reverse, sym, refl, ap, ◌∙◌, subst, arith, append_assoc}
-use Rattle.std.proofs.lemmas.List.{append-nil, reverse-append, reverse-reverse, length-reverse, drop_at, drop-drop, take-append-drop, length-map, map-append, length-take, length-drop}
+use Rattle.std.proofs.Common.{◌≡◌, ℕ, ◌+◌, ◌-◌, ◌≤◌, All, length, length-append, suc, Bool, List, [], ◌∷◌, ◌++◌, drop, take, map, reverse, sym, refl, ap, ◌∙◌, subst, arith, append_assoc}
+use Rattle.std.proofs.lemmas.List.{append-nil, reverse-append, length-reverse, drop_at, drop-drop, take-append-drop, length-map, map-append, length-drop}
 use Rattle.std.proofs.lemmas.List.Elements.{All-nil, All-tail, All-append}
 use Rattle.command_types.specs.declared.ask.Entry.{Entry}
 use Rattle.command_types.specs.declared.answer.Reply.{Reply}
 use Rattle.command_types.specs.declared.figures.Figures.{Figures}
-use Rattle.command_types.specs.History.{History, IsLegal, end_of, recorded}
-use Rattle.command_types.specs.InTurn.{AreToldInTurn, IsToldNext}
+use Rattle.command_types.specs.History.{History}
+use Rattle.command_types.specs.InTurn.{AreToldInTurn}
 use Rattle.cycle_lock.specs.declared.errands.Errand.{Errand}
 use Rattle.cycle_lock.specs.declared.home.Home.{Home}
 use Rattle.cycle_lock.specs.declared.home.Batch.{Batch}
 use Rattle.cycle_lock.specs.declared.pass.Pass.{Pass}
-use Rattle.cycle_lock.specs.declared.rule.View.{View}
 use Rattle.cycle_lock.specs.Accounts.{whole}
-use Rattle.cycle_lock.specs.Errands.{IsCalled, command_of, pass_of}
+use Rattle.cycle_lock.specs.Errands.{command_of, pass_of}
 use Rattle.cycle_lock.specs.Passes.{LockId, lock_of}
-use Rattle.cycle_lock.specs.Plays.{Sat, Adds}
+use Rattle.cycle_lock.specs.Plays.{Sat}
 use Rattle.cycle_lock.specs.Turn.{IsSound, IsAhead, Gathers}
-use Rattle.cycle_lock.specs.Views.{account_of}
 
 none_of : {A : Type 0} (xs : List A) → length xs ≡ 0 → xs ≡ []
 none_of [] e = refl

@@ -1,5 +1,5 @@
 -- A pass comes in to the seat that has the turn, sees what its command has become, and goes out again.
-use Rattle.std.proofs.Common.{◌≡◌, ◌≢◌, ℕ, ◌+◌, ◌%◌, ◌^◌, ◌<◌, ◌≤◌, ◌⊎◌, Bool, true, false, List, [], ◌∷◌, ◌++◌, length, get_or, drop, set, sym, refl, ap, ◌∙◌, subst, inl, inr, ⊎_elim, arith, length-set, length-append, get_or-set_same, get_or-set_other}
+use Rattle.std.proofs.Common.{◌≡◌, ◌≢◌, ℕ, ◌+◌, ◌%◌, ◌^◌, ◌≤◌, ◌⊎◌, Bool, false, List, [], ◌∷◌, ◌++◌, length, get_or, drop, set, sym, refl, ap, ◌∙◌, subst, inl, inr, ⊎_elim, arith, length-set, length-append, get_or-set_same, get_or-set_other}
 use Rattle.std.specs.Prelude.{Option}
 use mathlib.Core.Option.{some}
 use mathlib.Core.Logic.{dite}
@@ -16,14 +16,15 @@ use Rattle.cycle_lock.specs.declared.rule.View.{View}
 use Rattle.cycle_lock.specs.declared.rule.Stage.{Stage}
 use Rattle.cycle_lock.specs.declared.rule.Stage.TheVariants.{HasTurn, Serving}
 use Rattle.cycle_lock.specs.Stage.{tickets, has_turn}
-use Rattle.cycle_lock.specs.Accounts.{times, FitsAccount, opening_count, by}
+use Rattle.cycle_lock.specs.Accounts.{times, opening_count, by}
 use Rattle.cycle_lock.specs.Views.{ticketed, owned, left_of, owns, splits_left, width, resting, blank, serving, by_itself, let_out}
 use Rattle.cycle_lock.specs.Line.{Lies}
 use Rattle.cycle_lock.specs.Kept.{KnowsDesk, FitsGuest, Fits, Kept}
 use Rattle.cycle_lock.specs.Plays.{Sat, Follows, Adds, served, kept, noted_beside}
 use Rattle.cycle_lock.proofs.Line.{line_kept, line_more, at_new}
 use Rattle.cycle_lock.proofs.Numbers.{total_at, times-append, counted_parts, counted_joins}
-use Rattle.cycle_lock.proofs.Steps.{fits_set, quiet_before, quiet_front, loud, below, by_other, account_grows, blank_fits, alone_there, stands_for, records, shown, theirs_same, far_same}
+use Rattle.cycle_lock.proofs.Fitting.{account_grows, alone_there, blank_fits, by_other, fits_set, loud, quiet_before, quiet_front, stands_for}
+use Rattle.cycle_lock.proofs.Notes.{records, shown, theirs_same, far_same}
 
 module _ {T : Type 0} (history : T → History) (figures_of : T → Figures) (stopped : T → Bool) (figures : Figures) where
   abbrev Rule : State (Option T) View → Type 0

@@ -2,7 +2,10 @@ pub mod Histories
 pub mod Line
 pub mod Numbers
 pub mod Owners
+pub mod Fitting
 pub mod Steps
+pub mod Notes
+pub mod Shares
 pub mod Guests
 pub mod Joins
 pub mod Opens

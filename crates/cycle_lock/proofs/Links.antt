@@ -1,5 +1,5 @@
 -- What a link of a turn is to the pass whose command it answers.
-use Rattle.std.proofs.Common.{◌≡◌, ◌≢◌, ℕ, ◌+◌, ◌<◌, ◌≤◌, ◌^◌, length, length-append, Bool, true, false, List, [], ◌∷◌, ◌++◌, drop, take, sym, refl, ap, ◌∙◌, subst, arith, append_assoc}
+use Rattle.std.proofs.Common.{◌≡◌, ℕ, ◌+◌, ◌<◌, ◌^◌, length-append, Bool, true, List, [], ◌∷◌, ◌++◌, drop, sym, refl, ap, ◌∙◌, subst, arith, append_assoc}
 use Rattle.std.proofs.lemmas.List.{append-nil}
 use Rattle.command_types.specs.declared.ask.Ask.{Ask}
 use Rattle.command_types.specs.declared.ask.Entry.{Entry}
@@ -7,17 +7,17 @@ use Rattle.command_types.specs.declared.answer.Reply.{Reply}
 use Rattle.command_types.specs.declared.figures.Figures.{Figures}
 use Rattle.command_types.specs.declared.figures.State.{State}
 use Rattle.command_types.specs.Machine.{state_after}
-use Rattle.command_types.specs.History.{History, IsLegal, IsLegalFrom, end_of, longer, recorded, entries_of_seat}
+use Rattle.command_types.specs.History.{History, IsLegal, IsLegalFrom, end_of, longer, recorded}
 use Rattle.command_types.specs.InTurn.{AreToldInTurn, IsToldNext, all_recorded}
 use Rattle.command_types.specs.Told.{IsTold}
 use Rattle.command_types.proofs.StopFacts.{told_stop}
 use Rattle.cycle_lock.specs.declared.pass.Pass.{Pass}
 use Rattle.cycle_lock.specs.declared.rule.Account.{Account}
 use Rattle.cycle_lock.specs.declared.rule.View.{View}
-use Rattle.cycle_lock.specs.Accounts.{whole, by, times, Extends, opening_count}
+use Rattle.cycle_lock.specs.Accounts.{whole, by, opening_count}
 use Rattle.cycle_lock.specs.Errands.{IsCalled}
-use Rattle.cycle_lock.specs.Passes.{seat_of, seen, saw_stop, figures_of, made_by}
-use Rattle.cycle_lock.specs.Plays.{Follows, Newer, Adds}
+use Rattle.cycle_lock.specs.Passes.{seen}
+use Rattle.cycle_lock.specs.Plays.{Follows, Newer}
 use Rattle.cycle_lock.specs.Views.{account_of}
 use Rattle.cycle_lock.proofs.Calls.{Called, told_of}
 use Rattle.cycle_lock.proofs.Histories.{continues}

@@ -1,10 +1,10 @@
 -- The pass of the seat that has the turn notes its own reply.
-use Rattle.std.proofs.Common.{◌≡◌, ℕ, ◌+◌, ◌-◌, ◌<◌, ◌≤◌, ◌^◌, All, length, length-append, Bool, true, false, List, [], ◌∷◌, ◌++◌, drop, take, map, reverse, sym, refl, ap, ◌∙◌, subst, suc, None, arith}
+use Rattle.std.proofs.Common.{◌≡◌, ℕ, ◌+◌, ◌-◌, ◌≤◌, All, length, length-append, Bool, false, List, [], ◌∷◌, ◌++◌, drop, take, map, reverse, sym, refl, ap, ◌∙◌, subst, suc, None, arith}
 use Rattle.command_types.specs.declared.ask.Ask.{Ask}
 use Rattle.command_types.specs.declared.ask.Entry.{Entry}
 use Rattle.command_types.specs.declared.answer.Reply.{Reply}
 use Rattle.command_types.specs.declared.figures.Figures.{Figures}
-use Rattle.command_types.specs.History.{History, IsLegal, end_of, longer, recorded}
+use Rattle.command_types.specs.History.{History, IsLegal, end_of, recorded}
 use Rattle.command_types.specs.InTurn.{AreToldInTurn, IsToldNext}
 use Rattle.cycle_lock.specs.declared.errands.Errand.{Errand}
 use Rattle.cycle_lock.specs.declared.home.Batch.{Batch}
@@ -15,15 +15,13 @@ use Rattle.cycle_lock.specs.declared.rule.View.{View}
 use Rattle.cycle_lock.specs.declared.rule.Stage.TheVariants.{HasTurn}
 use Rattle.cycle_lock.specs.Accounts.{whole, times}
 use Rattle.cycle_lock.specs.Errands.{IsCalled, command_of, pass_of}
-use Rattle.cycle_lock.specs.Home.{of_desk}
-use Rattle.cycle_lock.specs.Kept.{IsDesk}
 use Rattle.cycle_lock.specs.Passes.{LockId, lock_of}
 use Rattle.cycle_lock.specs.Plays.{Sat, Adds, Newer, Follows, kept}
 use Rattle.cycle_lock.specs.Turn.{IsNext, IsSound, IsAhead, IsNoted, Gathers}
 use Rattle.cycle_lock.specs.Views.{account_of}
 use Rattle.cycle_lock.proofs.Ahead.{taken_last}
 use Rattle.cycle_lock.proofs.Links.{called_by, comes, follows_of}
-use Rattle.cycle_lock.proofs.Owners.{AreOf, recorded_of}
+use Rattle.cycle_lock.proofs.Owners.{recorded_of}
 use Rattle.cycle_lock.proofs.Served.{grows_by, legal_of}
 
 module _ {T : Type 0} (history : T → History) (figures_of : T → Figures) (stopped : T → Bool) where

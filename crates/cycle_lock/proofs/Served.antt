@@ -1,10 +1,10 @@
 -- The pass whose reply is next notes it.
-use Rattle.std.proofs.Common.{◌≡◌, ℕ, ◌+◌, ◌-◌, ◌<◌, ◌≤◌, ◌^◌, All, length, length-append, Bool, true, false, List, [], ◌∷◌, ◌++◌, drop, take, map, reverse, sym, refl, ap, ◌∙◌, subst, arith}
+use Rattle.std.proofs.Common.{◌≡◌, ℕ, ◌+◌, ◌-◌, ◌≤◌, All, length, length-append, Bool, List, [], ◌∷◌, ◌++◌, drop, take, map, reverse, sym, refl, ap, ◌∙◌, subst, arith}
 use Rattle.std.proofs.lemmas.List.Elements.{All-head}
 use Rattle.command_types.specs.declared.ask.Entry.{Entry}
 use Rattle.command_types.specs.declared.answer.Reply.{Reply}
 use Rattle.command_types.specs.declared.figures.Figures.{Figures}
-use Rattle.command_types.specs.History.{History, IsLegal, end_of, longer, recorded}
+use Rattle.command_types.specs.History.{History, IsLegal, end_of, recorded}
 use Rattle.command_types.specs.InTurn.{AreToldInTurn, IsToldNext, all_recorded}
 use Rattle.cycle_lock.specs.declared.errands.Errand.{Errand}
 use Rattle.cycle_lock.specs.declared.home.Home.{Home}
@@ -18,7 +18,7 @@ use Rattle.cycle_lock.specs.Turn.{IsNext, IsSound, IsAhead, IsFirst}
 use Rattle.cycle_lock.specs.Views.{account_of}
 use Rattle.cycle_lock.proofs.Ahead.{Opened}
 use Rattle.cycle_lock.proofs.Links.{called_by, comes, legal_front}
-use Rattle.cycle_lock.proofs.Owners.{AreOf, recorded_of, grown_in_turn}
+use Rattle.cycle_lock.proofs.Owners.{recorded_of, grown_in_turn}
 
 -- what a link leaves is legal, where all that follows is
 pub legal_of : (f : Figures) (stop stopped : Bool) (log : List Entry) (h : History) (behind : List Entry) (replies : List Reply) → AreToldInTurn f stop stopped (whole f log) behind replies h → IsLegal h → IsLegal (whole f log)

@@ -111,6 +111,16 @@ module _ {T : Type 0} where
     pub short : end_of (history d) < 2 ^ 63
     pub still : v.halted ≡ true → stopped d ≡ true
 
+  -- The desk in the slot has this history and this stop, and so many entries more than the seat knows.
+  pub record HasBecome (history : T → History) (stopped : T → Bool) (m : Sat T) (many : ℕ) (log : List Entry) (stop : Bool) : Type 0 where
+    pub desk : T
+    pub more : List Entry
+    pub count : many ≡ length more
+    pub slot : m.1 ≡ (0, Some desk) ∷ []
+    pub has : log ≡ (history desk).entries
+    pub stops : stop ≡ stopped desk
+    pub becomes : Becomes history stopped m.0 more desk
+
   module _ (history : T → History) (figures_of : T → Figures) (stopped : T → Bool) where
     -- the seat has its turn and the slot, in which this desk lies
     abbrev pub Took : List (ℕ × Option T) → Sat T → Type 0

@@ -1,11 +1,10 @@
 //! One turn, step by step.
-ghost use Rattle.std.specs.Prelude.{◌≡◌, ℕ, ◌+◌, ◌%◌, ◌^◌, ◌<◌, ◌≤◌, Bool, true, false, List, [], ◌∷◌, ◌++◌, length, drop, Some, None};
-ghost use Rattle.command_types.specs.declared.ask.Entry.{Entry};
+ghost use Rattle.std.specs.Prelude.{◌≡◌, ◌<◌, ◌≤◌, false, [], ◌∷◌, Some, None};
 ghost use Rattle.cycle_lock.specs.declared.rule.Stage.TheVariants.{Resting, HasTurn, Passed};
 ghost use Rattle.cycle_lock.specs.Line.{bell};
 ghost use Rattle.cycle_lock.specs.Home.{of_desk};
 ghost use Rattle.cycle_lock.specs.declared.home.Home.{Home};
-ghost use Rattle.cycle_lock.specs.Plays.{Took, noted, Becomes};
+ghost use Rattle.cycle_lock.specs.Plays.{Took, noted, HasBecome};
 ghost use Rattle.cycle_lock.specs.Views.{resting};
 ghost use Rattle.cycle_lock.specs.declared.rule.TheConstants.{WORDS};
 
@@ -157,7 +156,7 @@ impl<T: Desk> Turns<T> {
     pub(super) fn note<M: Outcome>(&self, seat: &mut SeatOf<T>, more: u64)
         requires own { seat.old.table_id ≡ self.now.table.shared.table_id }
         requires turn { seat.old.me.0.stage ≡ HasTurn }
-        requires desk { (d : Home T) × (added : List Entry) × (more ≡ length added) × (seat.old.me.1 ≡ (0, Some d) ∷ []) × (M.log ≡ (T.history d.desk).entries) × (M.stop ≡ T.stopped d.desk) × Becomes (of_desk T.history) (of_desk T.stopped) seat.old.me.0 added d }
+        requires desk { HasBecome (of_desk T.history) (of_desk T.stopped) seat.old.me more M.log M.stop }
         ensures own { (seat.new.table_id ≡ seat.old.table_id) × (seat.new.id ≡ seat.old.id) }
         ensures noted { noted M.log M.stop seat.old.me seat.new.me }
     {

@@ -1,4 +1,4 @@
-use Rattle.std.proofs.Common.{length, vec_len, sym, arith}
+use Rattle.std.proofs.Common.{vec_len, sym, arith}
 use Rattle.cycle_lock.proofs.Slices.{put_back}
 use Rattle.cycle_lock.proofs.home.Batch.ask.Goals as goal
 

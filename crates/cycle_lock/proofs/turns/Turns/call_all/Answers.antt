@@ -32,16 +32,16 @@ note-requires-clause-desk g c κs within =
     let added : List Entry = all_recorded (take n c.args.commands.now) c.ask_all.new.replies.items in
     let number : p.number ≡ c.enter.new.seat.me.0.account.number = sym (ap (λ a. a.number) from ∙ p.numbered) in
     let grows = grown_in_turn _ _ _ _ _ _ _ ask.told in
-    let grown = grown_by _ _ added _ _ c.length-before.ensures.length c.length-at.ensures.length grows in (
-      d',
-      added,
-      omega (arith, grown),
-      ap (λ l. (0, Some d') ∷ l) alone,
-      refl,
-      refl,
-      becomes (of_desk g.T.Desk.history) (of_desk g.T.Desk.figures) (of_desk g.T.Desk.stopped) c.enter.new.seat.me (c.enter.new.seat.me.0, slots) _ _ _ c.in-Some.home d' added c.enter.ensures.took here refl (ap (λ a. a.spent) from ∙ p.live)
-          (subst (λ (k : ℕ). AreOf k added) number (front_of p.number n c.args.commands.now c.ask_all.new.replies.items c.requires.seats)) grows ask.legal ask.short (stays_in_turn _ _ _ _ _ _ _ ask.told),
-    )
+    let grown = grown_by _ _ added _ _ c.length-before.ensures.length c.length-at.ensures.length grows in record {
+      desk = d';
+      more = added;
+      count = omega (arith, grown);
+      slot = ap (λ l. (0, Some d') ∷ l) alone;
+      has = refl;
+      stops = refl;
+      becomes = becomes (of_desk g.T.Desk.history) (of_desk g.T.Desk.figures) (of_desk g.T.Desk.stopped) c.enter.new.seat.me (c.enter.new.seat.me.0, slots) _ _ _ c.in-Some.home d' added c.enter.ensures.took here refl (ap (λ a. a.spent) from ∙ p.live)
+          (subst (λ (k : ℕ). AreOf k added) number (front_of p.number n c.args.commands.now c.ask_all.new.replies.items c.requires.seats)) grows ask.legal ask.short (stays_in_turn _ _ _ _ _ _ _ ask.told);
+    }
 
 pub fetch_add-ticket-requires : goal.fetch_add-ticket-requires
 fetch_add-ticket-requires g c =

@@ -1,9 +1,9 @@
 use Rattle.cycle_lock.specs.Home.{of_desk}
-use Rattle.std.proofs.Common.{rules, ◌∙◌, ◌≡◌, ◌≤◌, ℕ, List, [], ◌∷◌, Some, sym, ap, subst, ◌++◌, drop, refl, arith}
+use Rattle.std.proofs.Common.{rules, ◌∙◌, ◌≡◌, List, [], ◌∷◌, Some, sym, ap, subst, ◌++◌, drop, refl, arith}
 use Rattle.atomic_table.specs.Table.{rest}
 use Rattle.command_types.specs.History.{recorded, IsLegal, end_of}
 use Rattle.command_types.specs.declared.ask.Entry.{Entry}
-use Rattle.cycle_lock.specs.Accounts.{by, times, opening_count}
+use Rattle.cycle_lock.specs.Accounts.{by, opening_count}
 use Rattle.cycle_lock.specs.Views.{account_of}
 use Rattle.std.proofs.lemmas.List.{append-nil}
 use Rattle.cycle_lock.proofs.Histories.{continues}
@@ -25,16 +25,16 @@ note-requires-clause-desk g c κs within =
     let alone : slots ≡ [] = ap rest c.enter.ensures.took.2.1 ∙ c.into_seat-seat.ensures.3 in
     let here : c.enter.new.seat.me.1 ≡ (0, Some c.in-Some.home) ∷ slots = c.slot_mut.ensures.value ∙ ap (λ o. (0, o) ∷ slots) c.in-Some.is in
     let added : List Entry = recorded p.number c.args.ask c.ask-reply.result.answer in
-    let grown = grown_by _ _ added _ _ c.length-before.ensures.length ask.place ask.grows in (
-      d',
-      added,
-      omega (arith, grown),
-      ap (λ l. (0, Some d') ∷ l) alone,
-      refl,
-      refl,
-      becomes (of_desk g.T.Desk.history) (of_desk g.T.Desk.figures) (of_desk g.T.Desk.stopped) c.enter.new.seat.me (c.enter.new.seat.me.0, slots) _ _ _ c.in-Some.home d' added c.enter.ensures.took here refl (ap (λ a. a.spent) from ∙ p.live)
-          (recorded_of p.number c.enter.new.seat.me.0.account.number c.args.ask c.ask-reply.result.answer (sym (ap (λ a. a.number) from ∙ p.numbered))) ask.grows ask.legal ask.short ask.stays,
-    )
+    let grown = grown_by _ _ added _ _ c.length-before.ensures.length ask.place ask.grows in record {
+      desk = d';
+      more = added;
+      count = omega (arith, grown);
+      slot = ap (λ l. (0, Some d') ∷ l) alone;
+      has = refl;
+      stops = refl;
+      becomes = becomes (of_desk g.T.Desk.history) (of_desk g.T.Desk.figures) (of_desk g.T.Desk.stopped) c.enter.new.seat.me (c.enter.new.seat.me.0, slots) _ _ _ c.in-Some.home d' added c.enter.ensures.took here refl (ap (λ a. a.spent) from ∙ p.live)
+          (recorded_of p.number c.enter.new.seat.me.0.account.number c.args.ask c.ask-reply.result.answer (sym (ap (λ a. a.number) from ∙ p.numbered))) ask.grows ask.legal ask.short ask.stays;
+    }
 
 pub fetch_add-ticket-requires : goal.fetch_add-ticket-requires
 fetch_add-ticket-requires g c =

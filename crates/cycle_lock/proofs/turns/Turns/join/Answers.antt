@@ -4,7 +4,8 @@ use Rattle.cycle_lock.proofs.Histories.{continues}
 use Rattle.cycle_lock.specs.Accounts.{times}
 use Rattle.cycle_lock.specs.Views.{account_of}
 use Rattle.cycle_lock.proofs.Numbers.{times-append}
-use Rattle.cycle_lock.proofs.Steps.{joins, settles, stands_for}
+use Rattle.cycle_lock.proofs.Fitting.{stands_for}
+use Rattle.cycle_lock.proofs.Shares.{joins, settles}
 use Rattle.cycle_lock.proofs.Calls.{rested, takes_host, takes_guest}
 use Rattle.cycle_lock.proofs.turns.Turns.join.Goals as goal
 

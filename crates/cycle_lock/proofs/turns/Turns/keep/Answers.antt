@@ -1,4 +1,3 @@
-use Rattle.cycle_lock.proofs.Links.{called_by, comes}
 use Rattle.std.proofs.Common.{rules}
 use Rattle.cycle_lock.specs.Home.{of_desk}
 use Rattle.cycle_lock.proofs.Guests.{keeps_own}

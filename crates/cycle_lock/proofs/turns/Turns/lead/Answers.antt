@@ -1,4 +1,4 @@
-use Rattle.std.proofs.Common.{rules, ◌≡◌, [], ◌∷◌, ap, sym, refl, subst, ◌∙◌}
+use Rattle.std.proofs.Common.{rules, ◌≡◌, [], ap, sym, refl, subst, ◌∙◌}
 use Rattle.cycle_lock.specs.Home.{of_desk}
 use Rattle.cycle_lock.specs.Plays.{Took}
 use Rattle.cycle_lock.specs.Turn.{IsNoted}

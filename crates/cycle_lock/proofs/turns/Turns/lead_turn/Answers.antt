@@ -1,4 +1,4 @@
-use Rattle.std.proofs.Common.{◌≡◌, [], ◌∷◌, None, map, reverse, ap, sym, refl, subst, ◌∙◌}
+use Rattle.std.proofs.Common.{[], ◌∷◌, None, map, reverse, ap, sym, refl, subst, ◌∙◌}
 use Rattle.std.proofs.lemmas.List.{reverse-reverse}
 use Rattle.publication_list.specs.Tokens.{claims, key_of}
 use Rattle.cycle_lock.specs.declared.home.Home.{Home}

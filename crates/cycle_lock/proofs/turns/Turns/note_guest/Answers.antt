@@ -1,11 +1,10 @@
-use Rattle.std.proofs.Common.{rules, ◌≤◌, ap, sym, subst, ◌∙◌, ◌≡◌, refl}
+use Rattle.std.proofs.Common.{rules, ◌≤◌, ap, sym, subst, ◌∙◌}
 use Rattle.cycle_lock.specs.Home.{of_desk}
 use Rattle.cycle_lock.specs.Accounts.{times}
-use Rattle.cycle_lock.specs.Plays.{Adds, Follows}
-use Rattle.cycle_lock.specs.Views.{account_of, serving}
+use Rattle.cycle_lock.specs.Views.{account_of}
 use Rattle.cycle_lock.proofs.Calls.{rested}
 use Rattle.cycle_lock.proofs.Guests.{takes_in, notes_guest, lets_out, adds_serving, beside}
-use Rattle.cycle_lock.proofs.Steps.{stands_for}
+use Rattle.cycle_lock.proofs.Fitting.{stands_for}
 use Rattle.cycle_lock.proofs.turns.Turns.note_guest.Goals as goal
 
 pub join_seat-requires : goal.join_seat-requires

@@ -1,4 +1,4 @@
-use Rattle.std.proofs.Common.{◌≡◌, ◌++◌, ◌-◌, ◌∷◌, [], ap, map, sym, refl, ◌∙◌}
+use Rattle.std.proofs.Common.{◌-◌, ap, map, refl}
 use Rattle.cycle_lock.specs.declared.home.Home.{Home}
 use Rattle.cycle_lock.specs.Errands.{command_of, pass_of}
 use Rattle.publication_list.specs.Tokens.{claims}

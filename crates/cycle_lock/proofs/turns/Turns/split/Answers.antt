@@ -1,7 +1,7 @@
 use Rattle.cycle_lock.specs.Home.{of_desk}
 use Rattle.std.proofs.Common.{rules, arith, sym, ap, ◌∙◌, ◌≡◌}
 use Rattle.cycle_lock.specs.Views.{resting, account_of}
-use Rattle.cycle_lock.proofs.Steps.{draws_number, splits}
+use Rattle.cycle_lock.proofs.Shares.{draws_number, splits}
 use Rattle.cycle_lock.proofs.Calls.{rested}
 use Rattle.cycle_lock.proofs.turns.Turns.split.Goals as goal
 

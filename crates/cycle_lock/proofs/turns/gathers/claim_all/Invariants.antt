@@ -1,4 +1,3 @@
-use Rattle.std.proofs.Common.{◌≡◌}
 use Rattle.cycle_lock.specs.Passes.{lock_of}
 use Rattle.cycle_lock.specs.Turn.{Gathers}
 use Rattle.publication_list.specs.Tokens.{IsServerOf, claims, key_of}
