@@ -6,8 +6,8 @@ use Rattle.network_laws.specs.Networks.{NetworkData, place}
 use Rattle.command_types.specs.declared.plan.PlanRow.{PlanRow}
 use Rattle.command_types.specs.declared.plan.PlanRow.TheVariants.{End, Cut, New}
 use Rattle.command_types.specs.declared.trade.TradeRow.{TradeRow}
-use Rattle.command_types.specs.Books.{is_between, is_held}
-use Rattle.command_types.specs.Plans.{falling, free_rows, plan_of}
+use Rattle.command_types.specs.Books.{is_between, is_held, listed_below}
+use Rattle.command_types.specs.Plans.{falling, free_rows, pair_plan, plan_of}
 
 -- a frozen trade that nobody holds
 abbrev pub is_free : TradeRow → Bool
@@ -43,3 +43,7 @@ abbrev pub pair_steps : ℕ → DayParts → List TradeRow → ℕ → ℕ → �
 pair_steps product day rows seller buyer before after =
     if nat_lt after before then falling (before - after) (free_rows rows product seller buyer)
     else (if nat_lt before after then New product seller buyer (after - before) day ∷ [] else [])
+
+-- the steps of all pairs of a seller where a product's network changes
+abbrev pub seller_plan : List TradeRow → DayParts → ℕ → NetworkData → NetworkData → ℕ → List PlanRow
+seller_plan rows day product old new seller = listed_below old.members (pair_plan rows day product old new seller)

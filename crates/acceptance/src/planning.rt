@@ -5,9 +5,9 @@
 ghost use Rattle.std.specs.Prelude.{◌≡◌, ℕ, ◌-◌, ◌+◌, ◌*◌, ◌<◌, ◌≤◌, ◌++◌, length, IfOk, OnOk, OnErr};
 ghost use Rattle.std.specs.List.Sorted.{IsNonDecreasingBy};
 ghost use Rattle.network_laws.specs.Networks.{IsCursor, IsRising};
-ghost use Rattle.command_types.specs.Books.{listed_below, listed_pairs};
-ghost use Rattle.command_types.specs.Plans.{falling, free_rows, pair_plan, product_plan, plan_of};
-ghost use Rattle.acceptance.specs.Planning.{is_free_between, row_fall, pair_steps, trade_place, AreBefore};
+ghost use Rattle.command_types.specs.Books.{listed_pairs};
+ghost use Rattle.command_types.specs.Plans.{falling, free_rows, product_plan, plan_of};
+ghost use Rattle.acceptance.specs.Planning.{is_free_between, row_fall, pair_steps, seller_plan, trade_place, AreBefore};
 ghost use Rattle.units_core.specs.declared.limits.TheConstants.{MOST_GROSS};
 
 use crate::cursors::{Cursors, buyer_at, seller_row};
@@ -126,7 +126,7 @@ fn add_seller(
     requires sorted { IsNonDecreasingBy trade_place free.now }
     requires old { AreBefore change.now.old.now.rows passed.old (seller * 65536) }
     requires new { AreBefore change.now.new.now.rows passed.new (seller * 65536) }
-    ensures steps { OnOk result (plan.new.items ≡ plan.old.items ++ listed_below change.now.old.now.members (pair_plan free.now change.now.day change.now.product change.now.old.now change.now.new.now seller)) }
+    ensures steps { OnOk result (plan.new.items ≡ plan.old.items ++ seller_plan free.now change.now.day change.now.product change.now.old.now change.now.new.now seller) }
     ensures old { IfOk result (λ at. AreBefore change.now.old.now.rows at.old (seller * 65536 + 65536)) }
     ensures new { IfOk result (λ at. AreBefore change.now.new.now.rows at.new (seller * 65536 + 65536)) }
 {
