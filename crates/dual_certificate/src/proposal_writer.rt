@@ -1,12 +1,9 @@
 //! Writing a proposal's text.
-ghost use Rattle.std.specs.Prelude.{◌≡◌, ◌<◌, ◌++◌, List, OnOk, IfOk, length, codes, decimal};
+ghost use Rattle.std.specs.Prelude.{◌≡◌, ◌<◌, ◌++◌, OnOk, IfOk, length, codes, decimal};
 ghost use Rattle.std.specs.Fmt.{signed_decimal};
-ghost use Rattle.network_laws.specs.Networks.{NetworkData};
-ghost use Rattle.network_laws.specs.Solutions.{SolutionData};
-ghost use Rattle.command_types.specs.Roster.{Rows};
 ghost use Rattle.command_types.specs.Text.{member_name, product_name};
-ghost use Rattle.dual_certificate.specs.ProposalText.{product_text, row_text, rows_text, pot_text, pots_text, part_text, parts_below, proposal_text};
-ghost use Rattle.dual_certificate.specs.Joining.{ArePartTexts, IsProposalOf};
+ghost use Rattle.dual_certificate.specs.ProposalText.{product_text, row_text, rows_text, pot_text, pots_text, part_text, proposal_text};
+ghost use Rattle.dual_certificate.specs.Joining.{AreLinesOf, IsProposalOf};
 ghost use Rattle.dual_certificate.specs.Writing.{HasMembers};
 
 use command_types::Roster;
@@ -165,7 +162,7 @@ fn room_for(parts: &[Vec<u8>]) -> usize {
 
 // The lines of all products behind one another.
 fn joined(alloc: Global, parts: &[Vec<u8>]) -> Result<Vec<u8>, AllocError>
-    ensures { IfOk result (λ text. (roster : Rows) (olds : List NetworkData) (news : List SolutionData) → ArePartTexts roster olds news parts.now → text.items ≡ parts_below roster olds news (length parts.now)) }
+    ensures { IfOk result (λ text. AreLinesOf parts.now text.items) }
 {
     let mut out = Vec::with_capacity(alloc, room_for(parts))?;
     for product in 0..parts.len() {
