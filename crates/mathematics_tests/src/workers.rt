@@ -9,7 +9,7 @@ use command_types::Mode;
 use net_positions::gross;
 use network_laws::{Problem, Solution};
 use outside::{Gate, OpenGate};
-use parallel_solver::solve_all;
+use parallel_solver::Workers;
 use path_solver::PathSolver;
 use std::alloc::{AllocGlobal, Global};
 use std::hint::spin_loop;
@@ -72,7 +72,7 @@ fn are_solved<R: Threads + Sync + AllocGlobal, G: Gate>(
 {
     let problems = first_chains(rt.alloc(), count)?;
     let solver = PathSolver::new(rt.alloc());
-    let solutions = solve_all(rt, rt.alloc(), workers, &problems, &solver, gate)?;
+    let solutions = Workers::new(rt, workers, &solver, gate).solve_all(rt.alloc(), &problems)?;
     let solved = solutions.len() == count && have_least_gross(&solutions);
     so(solved, "the solutions are otherwise")
 }

@@ -8,5 +8,4 @@ mod pieces;
 mod solving;
 mod workers;
 
-pub use solving::solve_all;
 pub use workers::Workers;

@@ -4,7 +4,6 @@ ghost use Rattle.std.specs.Prelude.{◌≡◌, ◌≤◌, ◌++◌, length, IfOk
 ghost use Rattle.network_laws.specs.Solved.{IsSolved, AreSolved};
 ghost use Rattle.split_parts.specs.Parts.{IsPartitionOf};
 ghost use Rattle.parallel_solver.specs.Cuts.{pieces_in, pieces_of, AreCuts};
-ghost use Rattle.units_core.specs.declared.limits.TheConstants.{MOST_WORKERS};
 
 use crate::pieces::{Pieces, cuts_of};
 use crate::workers::Workers;
@@ -98,19 +97,4 @@ impl<'a, R: Threads + Sync, V: Solver, G: Gate> Workers<'a, R, V, G> {
         let solutions = self.solve_pieces(alloc, &pieces)?;
         merged(alloc, problems, &cuts, solutions)
     }
-}
-
-/// What so many workers solve with this solver, passing this gate. The only error is want of memory.
-pub fn solve_all<R: Threads + Sync, V: Solver, G: Gate>(
-    rt: &R,
-    alloc: Global,
-    workers: u32,
-    problems: &[Problem],
-    solver: &V,
-    gate: &G,
-) -> Result<Vec<Solution>, AllocError>
-    requires { (1 ≤ workers) × (workers ≤ MOST_WORKERS) }
-    ensures { IfOk result (λ solutions. AreSolved problems.now solutions.items) }
-{
-    Workers::new(rt, workers, solver, gate).solve_all(alloc, problems)
 }
