@@ -1,7 +1,7 @@
 //! What is done by who published a request.
 ghost use Rattle.std.specs.Prelude.{◌≡◌, ◌<◌, Some, IfOk, IfErr};
 ghost use Rattle.publication_list.specs.declared.rule.TheConstants.{PLACES};
-ghost use Rattle.publication_list.specs.Tokens.{IsPublishedIn, asked, key_of, IsReplyTo};
+ghost use Rattle.publication_list.specs.Tokens.{IsPublishedIn, asked, key_of, place_of, IsReplyTo};
 
 use super::PublicationList;
 use crate::plays::{Collect, Free, Publish, Reserve, Signal, Sit, Withdraw};
@@ -17,6 +17,7 @@ impl<A, B, K, P: Service<A, B, K>> PublicationList<A, B, K, P> {
         requires fits { P.fits (key_of self.now) request }
         ensures own { IfOk result (λ p. IsPublishedIn self.now p) }
         ensures asked { IfOk result (λ p. asked p ≡ Some request) }
+        ensures place { IfOk result (λ p. place_of p ≡ place) }
         ensures taken { IfErr result (λ back. back ≡ request) }
     {
         let table = &self.table.shared;
@@ -37,6 +38,7 @@ impl<A, B, K, P: Service<A, B, K>> PublicationList<A, B, K, P> {
         ensures reply { IfOk result (λ reply. IsReplyTo P.answers (asked published) reply) }
         ensures own { IfErr result (λ p. IsPublishedIn self.now p) }
         ensures waits { IfErr result (λ p. asked p ≡ asked published) }
+        ensures stays { IfErr result (λ p. place_of p ≡ place_of published) }
     {
         let Published { mut seat, place } = published;
         let table = &self.table.shared;
@@ -57,6 +59,7 @@ impl<A, B, K, P: Service<A, B, K>> PublicationList<A, B, K, P> {
         ensures request { IfOk result (λ request. asked published ≡ Some request) }
         ensures own { IfErr result (λ p. IsPublishedIn self.now p) }
         ensures waits { IfErr result (λ p. asked p ≡ asked published) }
+        ensures stays { IfErr result (λ p. place_of p ≡ place_of published) }
     {
         let Published { mut seat, place } = published;
         let table = &self.table.shared;

@@ -1,7 +1,7 @@
 //! What is done by who serves.
 ghost use Rattle.std.specs.Prelude.{◌≡◌, ◌<◌, [], ◌∷◌, ◌++◌, drop, IfSome, IfNone};
 ghost use Rattle.publication_list.specs.declared.rule.TheConstants.{PLACES};
-ghost use Rattle.publication_list.specs.Tokens.{IsServerOf, claims, key_of, AnswersFirst};
+ghost use Rattle.publication_list.specs.Tokens.{IsServerOf, claims, places_of, key_of, AnswersFirst};
 
 use super::PublicationList;
 use crate::plays::{Answer, Claim, Signal, Sit};
@@ -15,6 +15,7 @@ impl<A, B, K, P: Service<A, B, K>> PublicationList<A, B, K, P> {
     pub fn server(&self) -> Server<A, B, K>
         ensures own { IsServerOf self.now result }
         ensures claims { claims result ≡ [] }
+        ensures places { places_of result ≡ [] }
     {
         let (_, seat) = self.table.shared.load_new_seat::<Sit>(0);
         Server {
@@ -30,7 +31,9 @@ impl<A, B, K, P: Service<A, B, K>> PublicationList<A, B, K, P> {
         ensures own { IsServerOf self.now server.new }
         ensures fits { IfSome result (λ request. P.fits (key_of self.now) request) }
         ensures claimed { IfSome result (λ request. claims server.new ≡ claims server.old ++ request ∷ []) }
+        ensures at { IfSome result (λ request. places_of server.new ≡ places_of server.old ++ place ∷ []) }
         ensures none { IfNone result (claims server.new ≡ claims server.old) }
+        ensures stays { IfNone result (places_of server.new ≡ places_of server.old) }
     {
         let table = &self.table.shared;
         if table.peek(place) != PUBLISHED || server.places.is_full() {
@@ -57,6 +60,7 @@ impl<A, B, K, P: Service<A, B, K>> PublicationList<A, B, K, P> {
         requires reply { AnswersFirst P.answers (claims server.old) reply }
         ensures own { IsServerOf self.now server.new }
         ensures rest { claims server.new ≡ drop 1 (claims server.old) }
+        ensures first { places_of server.old ≡ result ∷ places_of server.new }
         ensures place { result < PLACES }
     {
         let table = &self.table.shared;

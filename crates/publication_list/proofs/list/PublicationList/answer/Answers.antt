@@ -1,4 +1,4 @@
-use Rattle.std.proofs.Common.{rules, arith, ◌∷◌, ap, sym, ◌∙◌}
+use Rattle.std.proofs.Common.{rules, arith, ◌∷◌, map, drop, ap, sym, ◌∙◌}
 use Rattle.std.specs.Prelude.{None}
 use Rattle.atomic_table.specs.Table.{rest}
 use Rattle.publication_list.specs.Places.{emptied}
@@ -30,3 +30,10 @@ pub returns-clause-place : goal.returns-clause-place
 returns-clause-place g c =
     let first = first_of g.P.Service.answers _ _ _ _ c.args.server.now.number c.requires.reply c.remove-place.ensures.value c.args.server.now.lie in
     first.lies
+
+pub returns-clause-first : goal.returns-clause-first
+returns-clause-first g c =
+    let first = first_of g.P.Service.answers _ _ _ _ c.args.server.now.number c.requires.reply c.remove-place.ensures.value c.args.server.now.lie in
+    let before = ap (λ m. m.0.claims) c.exchange-empty.ensures.3 ∙ first.is in
+    ap (map (λ claim. claim.0)) first.is ∙ ap (λ l. c.remove-place.result ∷ map (λ claim. claim.0) (drop 1 l)) (sym before)
+    ∙ ap (λ m. c.remove-place.result ∷ map (λ claim. claim.0) m.0.claims) (sym c.store.ensures.2)
