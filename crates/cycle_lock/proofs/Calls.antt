@@ -13,7 +13,7 @@ use Rattle.command_types.specs.InTurn.{AreToldInTurn}
 use Rattle.cycle_lock.specs.Accounts.{whole, by, times, Extends, opening_count}
 use Rattle.cycle_lock.specs.Views.{resting, account_of, merged}
 use Rattle.cycle_lock.specs.Passes.{Continues}
-use Rattle.cycle_lock.specs.Plays.{Newer, Sat, Took, Becomes, settled, noted, passed}
+use Rattle.cycle_lock.specs.Plays.{Newer, Sat, Took, Becomes, settled, noted}
 use Rattle.cycle_lock.proofs.Joins.{by_more}
 use Rattle.cycle_lock.proofs.Owners.{AreOf}
 use Rattle.cycle_lock.proofs.Numbers.{times-append}
@@ -59,14 +59,14 @@ in_turn turn a' f h h' was is added newer figures known grows halts to =
     }
 
 module _ {T : Type 0} (history : T → History) (figures_of : T → Figures) (stopped : T → Bool) where
-  pub called : (a : Account) (turn take note put ended : Sat T) (served : ℕ) (slots rest gone back : List (ℕ × Option T)) (views : List View) (d d' : T) (added : List Entry)
+  pub called : (a : Account) (turn take note : Sat T) (slots rest gone : List (ℕ × Option T)) (views : List View) (d d' : T) (added : List Entry)
       → turn.0.account ≡ a → Took history figures_of stopped slots turn → turn.1 ≡ (0, Some d) ∷ rest → take ≡ (turn.0, gone) → history d' ≡ longer (history d) added
-      → noted (history d').entries (stopped d') take note → put ≡ (note.0, back) → passed put served ended → views ≡ resting ended.0.account ∷ []
+      → noted (history d').entries (stopped d') take note → views ≡ resting note.0.account ∷ []
       → Called a (account_of views) (figures_of d) (history d') (stopped d) (stopped d') added
-  called a turn take note put ended served slots rest gone back views d d' added from took has left grows w is p end =
+  called a turn take note slots rest gone views d d' added from took has left grows w end =
       let t = taken history figures_of stopped (figures_of d) slots rest turn d took has in
       let b = subst (λ (m : Sat T). noted (history d').entries (stopped d') m note) left w in
-      let to : account_of views ≡ record turn.0.account { seen = (history d').entries; stop = stopped d' } = ap account_of end ∙ (ap (λ (v : View). v.account) p.0 ∙ (ap (λ (m : Sat T). m.0.account) is ∙ b.3)) in
+      let to : account_of views ≡ record turn.0.account { seen = (history d').entries; stop = stopped d' } = ap account_of end ∙ b.3 in
       subst (λ (x : Account). Called x (account_of views) (figures_of d) (history d') (stopped d) (stopped d') added) from
       (in_turn turn.0 (account_of views) (figures_of d) (history d) (history d') (stopped d) (stopped d') added took.1 t.2 t.0 grows t.1 to)
 

@@ -173,14 +173,11 @@ module _ {T : Type 0} (history : T → History) (figures_of : T → Figures) (st
   pub taken : (slots slots' : List (ℕ × Option T)) (w : Sat T) (d : T) → Took history figures_of stopped slots w → w.1 ≡ (0, Some d) ∷ slots' → IsDesk history figures_of stopped w.0.known w.0.halted w.0.account.figures d
   taken slots slots' w d t has = let both : Some t.2.0 ≡ Some d = ap first_slot (sym t.2.1 ∙ has) in let same : t.2.0 ≡ d = cc in subst (IsDesk history figures_of stopped w.0.known w.0.halted w.0.account.figures) same t.2.2
 
-  -- the turn is passed on once the desk was seen and lies in the slot again
-  pub passes_after : (size id : ℕ) (slots slots' slots'' : List (ℕ × Option T)) (turn take note me : Sat T) (d d' : T) → Took history figures_of stopped slots turn → turn.1 ≡ (0, Some d) ∷ slots' → take ≡ (turn.0, slots'')
-      → figures_of d' ≡ figures_of d → (history d').base ≡ (figures_of d').base → noted (history d').entries (stopped d') take note → me ≡ (note.0, (0, Some d') ∷ []) → turn.0.account.spent ≡ false
-      → Allows Rule size id me 2 (λ n. (n + 1) % 2 ^ 64) (λ n w. passed me n w)
-  passes_after size id slots slots' slots'' turn take note me d d' took has is same base w put live =
-      let t = taken slots slots' turn d took has in let here = ap (λ (m : Sat T). m.0) put in
-      let f : figures_of d' ≡ me.0.account.figures = same ∙ (t.2 ∙ sym (ap (λ (v : View). v.account.figures) here ∙ (ap (λ a. a.figures) w.3 ∙ ap (λ (m : Sat T). m.0.account.figures) is))) in
-      let k : (history d').entries ≡ me.0.known = sym (ap (λ (v : View). v.known) here ∙ w.1) in
-      passes size id me d' [] (ap (λ (v : View). v.stage) here ∙ w.0) (ap (λ (m : Sat T). m.1) put)
-      (from_base history figures_of d' base ∙ (λ i. whole (f i) (k i)), sym (ap (λ (v : View). v.halted) here ∙ w.2), f)
-      (ap (λ (v : View). v.account.spent) here ∙ (ap (λ a. a.spent) w.3 ∙ (ap (λ (m : Sat T). m.0.account.spent) is ∙ live)))
+  -- the desk that was asked is the one that the seat has noted
+  pub seen_after : (slots slots' slots'' : List (ℕ × Option T)) (turn take note : Sat T) (d d' : T) → Took history figures_of stopped slots turn → turn.1 ≡ (0, Some d) ∷ slots' → take ≡ (turn.0, slots'')
+      → figures_of d' ≡ figures_of d → (history d').base ≡ (figures_of d').base → noted (history d').entries (stopped d') take note → IsDesk history figures_of stopped note.0.known note.0.halted note.0.account.figures d'
+  seen_after slots slots' slots'' turn take note d d' took has is same base w =
+      let t = taken slots slots' turn d took has in
+      let f : figures_of d' ≡ note.0.account.figures = same ∙ (t.2 ∙ sym (ap (λ a. a.figures) w.3 ∙ ap (λ (m : Sat T). m.0.account.figures) is)) in
+      let k : (history d').entries ≡ note.0.known = sym w.1 in
+      (from_base history figures_of d' base ∙ (λ i. whole (f i) (k i)), sym w.2, f)

@@ -5,7 +5,6 @@ ghost use Rattle.cycle_lock.specs.Passes.{IsPassOf};
 use super::Turns;
 use super::steps::SeatOf;
 use crate::pass::Pass;
-use crate::plays::PassOn;
 use atomic_table::Badge;
 use command_types::{Ask, Desk, Reply};
 use std::marker::Brand;
@@ -27,8 +26,7 @@ impl<T: Desk> Turns<T> {
         let before = home.length();
         let reply = home.ask(pass.number, ask);
         self.note::<Brand>(&mut seat, reply.at - before);
-        let ticket = self.table.shared.fetch_add::<PassOn>(&mut seat, 2, 1);
-        self.wake(&mut seat, ticket.wrapping_add(1));
+        self.pass_on(&mut seat);
         pass.badge = seat.into_badge();
         pass.at = reply.at;
         reply

@@ -17,7 +17,7 @@ use super::steps::SeatOf;
 use crate::errands::{Clerk, Places};
 use crate::home::Home;
 use crate::pass::Pass;
-use crate::plays::{Next, PassOn};
+use crate::plays::Next;
 use atomic_table::Badge;
 use command_types::{Ask, Desk, Entry, Reply};
 use std::marker::Brand;
@@ -105,8 +105,7 @@ impl<T: Desk> Turns<T> {
             ask,
         };
         let (reply, served) = self.lead_turn(&mut seat, list, own);
-        let ticket = self.table.shared.fetch_add::<PassOn>(&mut seat, 2, 1);
-        self.wake(&mut seat, ticket.wrapping_add(1));
+        self.pass_on(&mut seat);
         ring_all(list, served);
         pass.badge = seat.into_badge();
         pass.at = reply.at;

@@ -5,12 +5,13 @@ ghost use Rattle.cycle_lock.specs.Line.{bell};
 ghost use Rattle.cycle_lock.specs.Home.{of_desk};
 ghost use Rattle.cycle_lock.specs.declared.home.Home.{Home};
 ghost use Rattle.cycle_lock.specs.Plays.{Took, noted, HasBecome};
+ghost use Rattle.cycle_lock.specs.Turn.{HoldsDesk};
 ghost use Rattle.cycle_lock.specs.Views.{resting};
 ghost use Rattle.cycle_lock.specs.declared.rule.TheConstants.{WORDS};
 
 use super::Turns;
 use crate::home::Home;
-use crate::plays::{Draw, Look, LookBehind, Note, Outcome, Ring};
+use crate::plays::{Draw, Look, LookBehind, Note, Outcome, PassOn, Ring};
 use crate::rule::{View, WORDS};
 use atomic_table::Seat;
 use command_types::Desk;
@@ -104,9 +105,21 @@ impl<T: Desk> Turns<T> {
         unreachable!()
     }
 
+    // The turn is over: it is passed on, and the seat of the next ticket is woken.
+    pub(super) fn pass_on(&self, seat: &mut SeatOf<T>)
+        requires own { seat.old.table_id ≡ self.now.table.shared.table_id }
+        requires turn { (seat.old.me.0.stage ≡ HasTurn) × (seat.old.me.0.account.spent ≡ false) }
+        requires home { HoldsDesk T.history T.figures T.stopped seat.old.me }
+        ensures own { (seat.new.table_id ≡ seat.old.table_id) × (seat.new.id ≡ seat.old.id) }
+        ensures rests { seat.new.me ≡ (resting seat.old.me.0.account, []) }
+    {
+        let ticket = self.table.shared.fetch_add::<PassOn>(seat, 2, 1);
+        self.wake(seat, ticket.wrapping_add(1));
+    }
+
     // Wakes the seat of the next ticket, if that was drawn. Who draws it behind this look finds it served. Where it was not drawn, one
     // of those at places is woken: who leaves a call there behind this look finds the lock free.
-    pub(super) fn wake(&self, seat: &mut SeatOf<T>, next: u64)
+    fn wake(&self, seat: &mut SeatOf<T>, next: u64)
         requires own { seat.old.table_id ≡ self.now.table.shared.table_id }
         requires passed { (seat.old.me.0.stage ≡ Passed) × (seat.old.me.0.ticket ≡ next) }
         ensures own { (seat.new.table_id ≡ seat.old.table_id) × (seat.new.id ≡ seat.old.id) }

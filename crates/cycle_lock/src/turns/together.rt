@@ -8,7 +8,6 @@ ghost use Rattle.cycle_lock.specs.Passes.{IsPassOf, seat_of, figures_of, seen, m
 use super::Turns;
 use super::steps::SeatOf;
 use crate::pass::Pass;
-use crate::plays::PassOn;
 use atomic_table::Badge;
 use command_types::{Desk, Entry, Reply};
 use std::marker::Brand;
@@ -62,8 +61,7 @@ impl<T: Desk> Turns<T> {
         home.ask_all(commands, replies);
         let at = home.length();
         self.note::<Brand>(&mut seat, at - before);
-        let ticket = self.table.shared.fetch_add::<PassOn>(&mut seat, 2, 1);
-        self.wake(&mut seat, ticket.wrapping_add(1));
+        self.pass_on(&mut seat);
         // A turn like this makes no other's call: who waits at a place may be tired of it.
         self.ring_one();
         pass.badge = seat.into_badge();

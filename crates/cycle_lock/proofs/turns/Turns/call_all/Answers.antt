@@ -10,7 +10,7 @@ use Rattle.cycle_lock.specs.Views.{account_of}
 use Rattle.cycle_lock.proofs.Joins.{made_later}
 use Rattle.cycle_lock.proofs.Histories.{continues}
 use Rattle.cycle_lock.proofs.Owners.{AreOf, front_of, by_self, by_others, grown_in_turn, stays_in_turn}
-use Rattle.cycle_lock.proofs.Steps.{passes_after}
+use Rattle.cycle_lock.proofs.Steps.{seen_after}
 use Rattle.cycle_lock.proofs.Calls.{rested, becomes, grown_by, called, asked_behind, told_all_of, Called}
 use Rattle.cycle_lock.proofs.turns.Turns.call_all.Given.{Over}
 use Rattle.cycle_lock.proofs.turns.Turns.call_all.Goals as goal
@@ -43,19 +43,20 @@ note-requires-clause-desk g c κs within =
           (subst (λ (k : ℕ). AreOf k added) number (front_of p.number n c.args.commands.now c.ask_all.new.replies.items c.requires.seats)) grows ask.legal ask.short (stays_in_turn _ _ _ _ _ _ _ ask.told);
     }
 
-pub fetch_add-ticket-requires : goal.fetch_add-ticket-requires
-fetch_add-ticket-requires g c =
-    let p = c.args.pass.now in let d' = c.ask_all.new.self in let slots = rest c.enter.new.seat.me.1 in
+pub pass_on-requires-clause-turn : goal.pass_on-requires-clause-turn
+pass_on-requires-clause-turn g c κs within =
+    let p = c.args.pass.now in let noted = c.note.ensures.noted in
     let is = rested p.badge.views _ c.into_seat-seat.result.me.0 p.rests (ap (λ b. b.views) c.replace.ensures.value) c.into_seat-seat.ensures.2 in
+    (noted.0, ap (λ a. a.spent) noted.3 ∙ (ap (λ a. a.spent) c.enter.ensures.same ∙ (ap (λ v. v.account.spent) is ∙ p.live)))
+
+pub pass_on-requires-clause-home : goal.pass_on-requires-clause-home
+pass_on-requires-clause-home g c κs within =
+    let d' = c.ask_all.new.self in let slots = rest c.enter.new.seat.me.1 in let noted = c.note.ensures.noted in
     let alone : slots ≡ [] = ap rest c.enter.ensures.took.2.1 ∙ c.into_seat-seat.ensures.3 in
-    let here : c.enter.new.seat.me.1 ≡ (0, Some c.in-Some.home) ∷ slots = c.slot_mut.ensures.value ∙ ap (λ o. (0, o) ∷ slots) c.in-Some.is in
-    let noted = c.note.ensures.noted in
-    let put : c.note.new.seat.me.1 ≡ (0, Some d') ∷ [] = noted.4 ∙ ap (λ l. (0, Some d') ∷ l) alone in (
-      search rules,
-      search rules,
-      passes_after (of_desk g.T.Desk.history) (of_desk g.T.Desk.figures) (of_desk g.T.Desk.stopped) _ _ _ _ _ _ c.enter.new.seat.me (c.enter.new.seat.me.0, (0, Some d') ∷ slots) c.note.new.seat.me c.note.new.seat.me c.in-Some.home d' c.enter.ensures.took here
-          refl c.ask_all.ensures.figures c.ask_all.ensures.base noted (λ i. (c.note.new.seat.me.0, put i))
-          (ap (λ a. a.spent) c.enter.ensures.same ∙ (ap (λ v. v.account.spent) is ∙ p.live)),
+    let here : c.enter.new.seat.me.1 ≡ (0, Some c.in-Some.home) ∷ slots = c.slot_mut.ensures.value ∙ ap (λ o. (0, o) ∷ slots) c.in-Some.is in (
+      d',
+      noted.4 ∙ ap (λ l. (0, Some d') ∷ l) alone,
+      seen_after (of_desk g.T.Desk.history) (of_desk g.T.Desk.figures) (of_desk g.T.Desk.stopped) (g.T.Desk.figures c.in-Some.home.desk) _ _ _ c.enter.new.seat.me (c.enter.new.seat.me.0, (0, Some d') ∷ slots) c.note.new.seat.me c.in-Some.home d' c.enter.ensures.took here refl c.ask_all.ensures.figures c.ask_all.ensures.base noted,
     )
 
 -- what is recorded of the front that was answered
@@ -71,9 +72,9 @@ done g c =
     let is = rested p.badge.views _ c.into_seat-seat.result.me.0 p.rests (ap (λ b. b.views) c.replace.ensures.value) c.into_seat-seat.ensures.2 in
     let from : c.enter.new.seat.me.0.account ≡ account_of p.badge.views = c.enter.ensures.same ∙ ap (λ v. v.account) is in
     let here : c.enter.new.seat.me.1 ≡ (0, Some c.in-Some.home) ∷ slots = c.slot_mut.ensures.value ∙ ap (λ o. (0, o) ∷ slots) c.in-Some.is in
-    called (of_desk g.T.Desk.history) (of_desk g.T.Desk.figures) (of_desk g.T.Desk.stopped) (account_of p.badge.views) c.enter.new.seat.me (c.enter.new.seat.me.0, (0, Some d') ∷ slots) c.note.new.seat.me c.note.new.seat.me c.fetch_add-ticket.new.seat.me
-    _ _ _ _ c.note.new.seat.me.1 c.into_badge.result.views c.in-Some.home d' _ from c.enter.ensures.took here refl (grown_in_turn _ _ _ _ _ _ _ c.ask_all.ensures.told) c.note.ensures.noted refl c.fetch_add-ticket.ensures.2
-    (c.into_badge.ensures.2 ∙ ap (λ m. m.0 ∷ []) c.wake.ensures.rests)
+    called (of_desk g.T.Desk.history) (of_desk g.T.Desk.figures) (of_desk g.T.Desk.stopped) (account_of p.badge.views) c.enter.new.seat.me (c.enter.new.seat.me.0, (0, Some d') ∷ slots) c.note.new.seat.me
+    _ _ _ c.into_badge.result.views c.in-Some.home d' _ from c.enter.ensures.took here refl (grown_in_turn _ _ _ _ _ _ _ c.ask_all.ensures.told) c.note.ensures.noted
+    (c.into_badge.ensures.2 ∙ ap (λ m. m.0 ∷ []) c.pass_on.ensures.rests)
 
 pub returns-clause-seen : goal.returns-clause-seen
 returns-clause-seen g c = let t = done g c in continues _ _ _ _ t.figures t.extends

@@ -9,7 +9,7 @@ use Rattle.std.proofs.lemmas.List.{append-nil}
 use Rattle.cycle_lock.proofs.Histories.{continues}
 use Rattle.cycle_lock.proofs.Joins.{made_later}
 use Rattle.command_types.proofs.StopFacts.{told_stop}
-use Rattle.cycle_lock.proofs.Steps.{passes_after}
+use Rattle.cycle_lock.proofs.Steps.{seen_after}
 use Rattle.cycle_lock.proofs.Owners.{by_self, by_others, recorded_of}
 use Rattle.cycle_lock.proofs.Calls.{rested, becomes, grown_by, called, told_of, Called}
 use Rattle.cycle_lock.proofs.turns.Turns.call_alone.Goals as goal
@@ -36,19 +36,20 @@ note-requires-clause-desk g c κs within =
           (recorded_of p.number c.enter.new.seat.me.0.account.number c.args.ask c.ask-reply.result.answer (sym (ap (λ a. a.number) from ∙ p.numbered))) ask.grows ask.legal ask.short ask.stays;
     }
 
-pub fetch_add-ticket-requires : goal.fetch_add-ticket-requires
-fetch_add-ticket-requires g c =
-    let p = c.args.pass.now in let d' = c.ask-reply.new.self in let slots = rest c.enter.new.seat.me.1 in
+pub pass_on-requires-clause-turn : goal.pass_on-requires-clause-turn
+pass_on-requires-clause-turn g c κs within =
+    let p = c.args.pass.now in let noted = c.note.ensures.noted in
     let is = rested p.badge.views _ c.into_seat-seat.result.me.0 p.rests (ap (λ b. b.views) c.replace.ensures.value) c.into_seat-seat.ensures.2 in
+    (noted.0, ap (λ a. a.spent) noted.3 ∙ (ap (λ a. a.spent) c.enter.ensures.same ∙ (ap (λ v. v.account.spent) is ∙ p.live)))
+
+pub pass_on-requires-clause-home : goal.pass_on-requires-clause-home
+pass_on-requires-clause-home g c κs within =
+    let d' = c.ask-reply.new.self in let slots = rest c.enter.new.seat.me.1 in let noted = c.note.ensures.noted in
     let alone : slots ≡ [] = ap rest c.enter.ensures.took.2.1 ∙ c.into_seat-seat.ensures.3 in
-    let here : c.enter.new.seat.me.1 ≡ (0, Some c.in-Some.home) ∷ slots = c.slot_mut.ensures.value ∙ ap (λ o. (0, o) ∷ slots) c.in-Some.is in
-    let noted = c.note.ensures.noted in
-    let put : c.note.new.seat.me.1 ≡ (0, Some d') ∷ [] = noted.4 ∙ ap (λ l. (0, Some d') ∷ l) alone in (
-      search rules,
-      search rules,
-      passes_after (of_desk g.T.Desk.history) (of_desk g.T.Desk.figures) (of_desk g.T.Desk.stopped) _ _ _ _ _ _ c.enter.new.seat.me (c.enter.new.seat.me.0, (0, Some d') ∷ slots) c.note.new.seat.me c.note.new.seat.me c.in-Some.home d' c.enter.ensures.took here
-          refl c.ask-reply.ensures.figures c.ask-reply.ensures.base noted (λ i. (c.note.new.seat.me.0, put i))
-          (ap (λ a. a.spent) c.enter.ensures.same ∙ (ap (λ v. v.account.spent) is ∙ p.live)),
+    let here : c.enter.new.seat.me.1 ≡ (0, Some c.in-Some.home) ∷ slots = c.slot_mut.ensures.value ∙ ap (λ o. (0, o) ∷ slots) c.in-Some.is in (
+      d',
+      noted.4 ∙ ap (λ l. (0, Some d') ∷ l) alone,
+      seen_after (of_desk g.T.Desk.history) (of_desk g.T.Desk.figures) (of_desk g.T.Desk.stopped) (g.T.Desk.figures c.in-Some.home.desk) _ _ _ c.enter.new.seat.me (c.enter.new.seat.me.0, (0, Some d') ∷ slots) c.note.new.seat.me c.in-Some.home d' c.enter.ensures.took here refl c.ask-reply.ensures.figures c.ask-reply.ensures.base noted,
     )
 
 pub returns : goal.returns
@@ -59,8 +60,8 @@ returns g c =
     let from : c.enter.new.seat.me.0.account ≡ a = c.enter.ensures.same ∙ ap (λ v. v.account) is in
     let here : c.enter.new.seat.me.1 ≡ (0, Some c.in-Some.home) ∷ slots = c.slot_mut.ensures.value ∙ ap (λ o. (0, o) ∷ slots) c.in-Some.is in
     let t : Called a a' (g.T.Desk.figures c.in-Some.home.desk) (g.T.Desk.history d'.desk) (g.T.Desk.stopped c.in-Some.home.desk) (g.T.Desk.stopped d'.desk) added =
-    called (of_desk g.T.Desk.history) (of_desk g.T.Desk.figures) (of_desk g.T.Desk.stopped) a c.enter.new.seat.me (c.enter.new.seat.me.0, (0, Some d') ∷ slots) c.note.new.seat.me c.note.new.seat.me c.fetch_add-ticket.new.seat.me
-    _ _ _ _ c.note.new.seat.me.1 c.into_badge.result.views c.in-Some.home d' added from c.enter.ensures.took here refl ask.grows c.note.ensures.noted refl c.fetch_add-ticket.ensures.2 (c.into_badge.ensures.2 ∙ ap (λ m. m.0 ∷ []) c.wake.ensures.rests) in
+    called (of_desk g.T.Desk.history) (of_desk g.T.Desk.figures) (of_desk g.T.Desk.stopped) a c.enter.new.seat.me (c.enter.new.seat.me.0, (0, Some d') ∷ slots) c.note.new.seat.me
+    _ _ _ c.into_badge.result.views c.in-Some.home d' added from c.enter.ensures.took here refl ask.grows c.note.ensures.noted (c.into_badge.ensures.2 ∙ ap (λ m. m.0 ∷ []) c.pass_on.ensures.rests) in
     let all = recorded_of p.number p.number c.args.ask c.ask-reply.result.answer refl in
     let more : by p.number (drop (opening_count a'.figures) a'.seen) ≡ by p.number (drop (opening_count a.figures) a.seen) ++ added =
     t.made p.number p.mine ∙ ap (λ (x : List Entry). by p.number (drop (opening_count a.figures) a.seen) ++ x) (by_self p.number added all) in
