@@ -140,7 +140,7 @@ impl Batch {
 
     /// With this change alone, on which the disk failed.
     pub(crate) fn keep(&mut self, entry: Entry)
-        ensures { self.new.entries ≡ entry ∷ [] }
+        ensures { self.new ≡ record self.old { entries = entry ∷ [] } }
     {
         self.entries.clear();
         self.entries.push_reserved(entry);

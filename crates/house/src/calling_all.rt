@@ -164,8 +164,8 @@ impl<D: Disk> House<D> {
     /// Answers the front of these commands that may stand together, each as the machine does behind the one before it, and puts their
     /// changes on the disk at once. Where the disk fails, none of them is made: the house is stopped and keeps them, and each command
     /// is answered from the history before the call. The first of them is told the fault, and a later change that the machine accepts
-    /// there is told 26. The replies take the place of those before. The first command that is not answered is of a kind that is asked alone, or an END that ends: `call` is
-    /// for these.
+    /// there is told 26. The replies take the place of those before. The first command that is not answered is of a kind that is asked
+    /// alone, or an END that ends: `call` is for these.
     pub fn call_all(&mut self, commands: &[Entry], replies: &mut Vec<Reply>)
         requires runs { is_stopped self.old ≡ false }
         requires few { length commands.now ≤ MOST_TOGETHER }
@@ -203,11 +203,13 @@ impl<D: Disk> House<D> {
             }
         }
     }
+
     // The same of a house that runs; one that a fault stopped answers none of them.
     pub(crate) fn call_front(&mut self, commands: &[Entry], replies: &mut Vec<Reply>)
         requires few { length commands.now ≤ MOST_TOGETHER }
         requires room { length commands.now ≤ vec_capacity replies.old }
         ensures calls { CallsAll self.old self.new (take (vec_len replies.new) commands.now) replies.new.items }
+        ensures stops { is_stopped self.old ≡ false → IsAskedAlone (replayed (longer self.old.history (tried self.old self.new))) (drop (vec_len replies.new) commands.now) }
         ensures within { vec_len replies.new ≤ length commands.now }
         ensures capacity { vec_capacity replies.new ≡ vec_capacity replies.old }
         ensures short { end_of self.new.history < 2 ^ 63 }
