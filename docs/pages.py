@@ -100,7 +100,7 @@ def page_of_crate(crate: str) -> list[str]:
 
 def constants() -> dict[str, int]:
     """The limits, by the constants that have them."""
-    sources = text("crates/units_core/src/limits.rt") + text("crates/program_words/src/parting.rt")
+    sources = text("crates/units_core/src/limits.rt") + text("crates/program_words/src/options.rt")
     return {name: int(number.replace("_", "")) for name, number in re.findall(r"^pub const (MOST_\w+): \w+ = ([\d_]+);", sources, re.M)}
 
 

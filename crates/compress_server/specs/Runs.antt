@@ -2,7 +2,7 @@
 use Rattle.std.specs.Prelude.{ℕ, ◌+◌, List, [], ◌∷◌, map, Option}
 use Rattle.doors.specs.Visits.{Visits, Doors}
 use Rattle.seats.specs.declared.place.Place.{Place}
-use Rattle.compress_server.specs.declared.serve.ServiceWords.{ServiceWords}
+use Rattle.program_words.specs.declared.forms.ServiceWords.{ServiceWords}
 use Rattle.compress_server.specs.Serve.{SeatRun, ServicePlan, IsPlannedAt}
 
 abbrev pub run_of : {D In Out : Type 0} → Place D In Out → SeatRun D

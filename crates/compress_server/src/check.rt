@@ -17,17 +17,10 @@ use file_market::{Failing, Terms, check, verdict};
 use network_laws::Solver;
 use outside::{Files, Gate, Sink, write_all};
 use parallel_solver::Workers;
-use program_words::MarketFiles;
+use program_words::CheckWords;
 use std::alloc::{AllocError, Global};
 use std::thread::Threads;
 use trade_file::{FileTrade, Readers};
-
-/// The words of the form.
-#[derive(Clone, Copy)]
-pub struct CheckWords<'a> {
-    pub market: MarketFiles<'a>,
-    pub proposal: &'a str,
-}
 
 /// How a check ended.
 #[derive(Clone, Copy)]

@@ -17,14 +17,8 @@ use crate::replay_text::text_of;
 use house::Executions;
 use journal_core::JournalFault;
 use outside::{Disk, Files, Sink, write_all};
+use program_words::ReplayWords;
 use std::alloc::Global;
-
-/// The words of the form.
-#[derive(Clone, Copy)]
-pub struct ReplayWords<'a> {
-    pub roster: &'a str,
-    pub journal: &'a str,
-}
 
 /// How a replay ended.
 #[derive(Clone, Copy)]

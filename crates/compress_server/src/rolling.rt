@@ -24,6 +24,7 @@ use house::{Executions, Recovered};
 use journal_core::JournalFault;
 use outside::{Disk, Files, Sink, write_all};
 use period_roll::{RollFault, roll};
+use program_words::RollWords;
 use std::alloc::Global;
 use units_core::Day;
 
@@ -88,15 +89,6 @@ fn text_of(alloc: Global, read: &Recovered, period: &Period<'_>) -> Result<Vec<u
         Ok(None) => Err(Unmade::Refused(Obstacle::TooLong)),
         Err(_) => Err(Unmade::Memory),
     }
-}
-
-/// The words of the form.
-#[derive(Clone, Copy)]
-pub struct RollWords<'a> {
-    pub roster: &'a str,
-    pub journal: &'a str,
-    pub new_roster: &'a str,
-    pub matured: Option<Day>,
 }
 
 /// How a roll ended.

@@ -20,18 +20,10 @@ use house::House;
 use journal_core::JournalFault;
 use network_laws::Solver;
 use outside::{Clock, Disk, Files, Gate, Sink, Source};
-use program_words::Count;
+use program_words::ScriptWords;
 use session::{Host, SessionEnd};
 use std::sync::Wait;
 use std::thread::Threads;
-
-/// The words of the form.
-#[derive(Clone, Copy)]
-pub struct ScriptWords<'a> {
-    pub roster: &'a str,
-    pub journal: &'a str,
-    pub workers: Count,
-}
 
 /// How a script ended.
 #[derive(Clone, Copy)]

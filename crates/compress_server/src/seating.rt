@@ -16,7 +16,7 @@ ghost use Rattle.compress_server.specs.Serve.{HasGivenSince, IsWritten, history_
 
 use crate::places::{give_back, has_door_fault, has_no_memory, take_places};
 use crate::resources::Resources;
-use crate::serve::{ServiceEnd, ServiceWords};
+use crate::serve::ServiceEnd;
 use command_types::Roster;
 use cycle_lock::Turns;
 use doors::{Door, Listener};
@@ -24,6 +24,7 @@ use house::House;
 use itoa::Buffer;
 use network_laws::Solver;
 use outside::{Clock, Disk, Gate, Sink, Trouble, write_all};
+use program_words::ServiceWords;
 use seats::{Place, SeatEnd, Service};
 use session::Host;
 use std::sync::Wait;

@@ -20,22 +20,9 @@ use doors::Listener;
 use journal_core::JournalFault;
 use network_laws::Solver;
 use outside::{Clock, Disk, Files, Gate, Sink};
-use program_words::Count;
+use program_words::ServiceWords;
 use std::sync::Wait;
 use std::thread::Threads;
-
-/// The words of the form: how many seats serve, how many connections each of them at most, how many workers solve for a
-/// seat, and for how many seconds a connection may be silent, none where it may be without end.
-#[derive(Clone, Copy)]
-pub struct ServiceWords<'a> {
-    pub roster: &'a str,
-    pub journal: &'a str,
-    pub address: &'a str,
-    pub seats: Count,
-    pub connections: u64,
-    pub workers: Count,
-    pub idle: Option<u64>,
-}
 
 /// How a service ended.
 #[derive(Clone, Copy)]

@@ -8,15 +8,15 @@ ghost use Rattle.compress_server.specs.Seen.{input_by, seen_by, world_by};
 ghost use Rattle.compress_server.specs.Ending.{Runs};
 ghost use Rattle.compress_server.specs.Telling.{Ends};
 
-use crate::check::{CheckWords, run_check};
+use crate::check::run_check;
 use crate::ending::{End, tell_end};
 use crate::following::run_follow;
 use crate::generated::run_gen;
-use crate::replay::{ReplayWords, run_replay};
+use crate::replay::run_replay;
 use crate::resources::Resources;
-use crate::rolling::{RollWords, run_roll};
-use crate::script::{ScriptWords, run_script};
-use crate::serve::{ServiceWords, run_serve};
+use crate::rolling::run_roll;
+use crate::script::run_script;
+use crate::serve::run_serve;
 use crate::solve::run_solve;
 use doors::Listener;
 use network_laws::Solver;
@@ -56,47 +56,16 @@ fn run_form<
 {
     match read_words(words) {
         None => (End::BadWords, disk),
-        Some(
-            Form::Script {
-                roster,
-                journal,
-                workers,
-            },
-        ) => {
-            let words = ScriptWords {
-                roster,
-                journal,
-                workers,
-            };
+        Some(Form::Script(words)) => {
             let (end, disk) = run_script(with, files, &words, input, output, disk);
             (End::from(end), disk)
         }
-        Some(
-            Form::Serve {
-                roster,
-                journal,
-                address,
-                seats,
-                connections,
-                workers,
-                idle,
-            },
-        ) => {
-            let words = ServiceWords {
-                roster,
-                journal,
-                address,
-                seats,
-                connections,
-                workers,
-                idle,
-            };
+        Some(Form::Serve(words)) => {
             let (end, disk) = run_serve(with, files, &words, output, disk, listener);
             (End::from(end), disk)
         }
-        Some(Form::Check { market, proposal }) => {
-            let words = CheckWords { market, proposal };
-            let workers = with.workers(Count { value: 4 });
+        Some(Form::Check(words)) => {
+            let workers = with.workers(Count::usual());
             let end = run_check(with.alloc, files, &words, output, &workers);
             (End::from(end), disk)
         }
@@ -110,32 +79,18 @@ fn run_form<
             let end = run_gen(with.alloc, number, output, &workers);
             (End::from(end), disk)
         }
-        Some(Form::Replay { roster, journal }) => {
-            let words = ReplayWords { roster, journal };
+        Some(Form::Replay(words)) => {
             let mut disk = disk;
             let end = run_replay(with.alloc, files, &words, output, &mut disk);
             (End::from(end), disk)
         }
-        Some(
-            Form::Roll {
-                roster,
-                journal,
-                new_roster,
-                matured,
-            },
-        ) => {
-            let words = RollWords {
-                roster,
-                journal,
-                new_roster,
-                matured,
-            };
+        Some(Form::Roll(words)) => {
             let mut disk = disk;
             let end = run_roll(with.alloc, files, &words, output, &mut disk);
             (End::from(end), disk)
         }
-        Some(Form::Follow { standby }) => {
-            let (end, disk) = run_follow(with.alloc, files, &standby, input, output, disk);
+        Some(Form::Follow(words)) => {
+            let (end, disk) = run_follow(with.alloc, files, &words, input, output, disk);
             (End::from(end), disk)
         }
     }

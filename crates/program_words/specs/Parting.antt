@@ -3,11 +3,11 @@ use Rattle.std.specs.Prelude.{ℕ, ◌+◌, ◌==◌, not, ◌&&◌, ◌||◌, B
 use Rattle.units_core.specs.Day.{DayParts, day_of}
 use Rattle.units_core.specs.Number.{number_of}
 use Rattle.units_core.specs.declared.number.NumberFault.{NumberFault}
-use Rattle.program_words.specs.declared.parting.OptionName.{OptionName}
-use Rattle.program_words.specs.declared.parting.OptionName.TheVariants.{Workers, Seats, Connections, Idle, Matured}
-use Rattle.program_words.specs.declared.parting.Options.{Options as ReadOptions}
+use Rattle.program_words.specs.declared.options.OptionName.{OptionName}
+use Rattle.program_words.specs.declared.options.OptionName.TheVariants.{Workers, Seats, Connections, Idle, Matured}
+use Rattle.program_words.specs.declared.options.Options.{Options as ReadOptions}
 use Rattle.program_words.specs.declared.parting.Parts.{Parts as ReadParts}
-use Rattle.program_words.specs.declared.parting.TheConstants.{MOST_IDLE}
+use Rattle.program_words.specs.declared.options.TheConstants.{MOST_IDLE}
 use Rattle.units_core.specs.declared.limits.TheConstants.{MOST_CONNECTIONS, MOST_SEATS, MOST_WORKERS}
 
 -- the options that are given, each with its number or its day, and whether that one is which has no value

@@ -5,10 +5,10 @@ use Rattle.units_core.specs.Name.{is_name}
 use Rattle.command_types.specs.declared.cycle.Mode.{Mode}
 use Rattle.command_types.specs.Grammar.{mode_word}
 use Rattle.program_words.specs.Parting.{Options, Parts, most_connections, count_of, parts_of}
-use Rattle.program_words.specs.declared.words.MarketFiles.{MarketFiles}
-use Rattle.program_words.specs.declared.words.StandbyWords.{StandbyWords}
-use Rattle.program_words.specs.declared.words.Form.{Form as ReadForm}
-use Rattle.program_words.specs.declared.words.Form.TheVariants as read
+use Rattle.program_words.specs.declared.forms.MarketFiles.{MarketFiles}
+use Rattle.program_words.specs.declared.forms.StandbyWords.{StandbyWords}
+use Rattle.program_words.specs.declared.forms.Form.{Form as ReadForm}
+use Rattle.program_words.specs.declared.forms.Form.TheVariants as read
 use Rattle.units_core.specs.declared.limits.TheConstants.{MOST_NUMBER}
 
 -- the names of a market's two files, and the mode in which it is compressed
@@ -171,12 +171,12 @@ read_standby standby = record { roster = standby.roster.now; journal = standby.j
 
 -- the form of the code's words
 abbrev pub read_form : ReadForm → Form
-read_form (read.Script roster journal workers) = Form.Script roster.now journal.now workers.value
-read_form (read.Serve roster journal address seats connections workers idle) =
-    Form.Serve roster.now journal.now address.now (record { seats = seats.value; connections = connections; workers = workers.value; idle = idle })
-read_form (read.Check market proposal) = Form.Check (read_market market) proposal.now
+read_form (read.Script words) = Form.Script words.roster.now words.journal.now words.workers.value
+read_form (read.Serve words) =
+    Form.Serve words.roster.now words.journal.now words.address.now (record { seats = words.seats.value; connections = words.connections; workers = words.workers.value; idle = words.idle })
+read_form (read.Check words) = Form.Check (read_market words.market) words.proposal.now
 read_form (read.Solve market workers) = Form.Solve (read_market market) workers.value
 read_form (read.Gen number workers) = Form.Gen number workers.value
-read_form (read.Replay roster journal) = Form.Replay roster.now journal.now
-read_form (read.Roll roster journal new_roster matured) = Form.Roll roster.now journal.now new_roster.now matured
+read_form (read.Replay words) = Form.Replay words.roster.now words.journal.now
+read_form (read.Roll words) = Form.Roll words.roster.now words.journal.now words.new_roster.now words.matured
 read_form (read.Follow standby) = Form.Follow (read_standby standby)

@@ -2,8 +2,13 @@
 #![tactic(auto)]
 
 mod count;
+mod forms;
+mod options;
 mod parting;
 mod words;
 
 pub use count::Count;
-pub use words::{Form, MarketFiles, StandbyWords, read_words};
+pub use forms::{
+    CheckWords, Form, MarketFiles, ReplayWords, RollWords, ScriptWords, ServiceWords, StandbyWords,
+};
+pub use words::read_words;

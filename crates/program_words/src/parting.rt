@@ -5,37 +5,11 @@
 //!     --                       ends the options: all words behind it are plain
 //!     -, words without a dash  plain
 
-ghost use Rattle.std.specs.Prelude.{◌≡◌, ◌≤◌, ◌<◌, ◌==◌, Some, IfSome, map, take, drop, position, option_map, string_bytes, length};
-ghost use Rattle.units_core.specs.Day.{day_of};
-ghost use Rattle.program_words.specs.Parting.{most_workers, most_seats, most_connections, most_idle, count_of, once, with_option, option_word, is_dashed, with_plain, with_value, with_compare, with_name, with_dashed, with_next, with_word, no_parts, parts_of, read_options, read_parts};
+ghost use Rattle.std.specs.Prelude.{◌≡◌, ◌<◌, ◌==◌, Some, IfSome, map, position, option_map, string_bytes, length};
+ghost use Rattle.program_words.specs.Parting.{is_dashed, with_plain, with_value, with_compare, with_name, with_dashed, with_next, with_word, no_parts, parts_of, read_parts};
 
-use crate::count::Count;
+use crate::options::{OptionName, Options, option_word};
 use arrayvec::ArrayVec;
-use units_core::{Day, MOST_CONNECTIONS, MOST_SEATS, MOST_WORKERS, read_number};
-
-/// An option that a form may have.
-#[derive(Clone, Copy)]
-pub enum OptionName {
-    Workers,
-    Seats,
-    Connections,
-    Idle,
-    Matured,
-}
-
-/// The options that are given.
-#[derive(Clone, Copy)]
-pub struct Options {
-    pub workers: Option<Count>,
-    pub seats: Option<Count>,
-    pub connections: Option<u64>,
-    pub idle: Option<u64>,
-    pub matured: Option<Day>,
-    pub compare: bool,
-}
-
-/// The most seconds that a connection of a service may be silent: a day.
-pub const MOST_IDLE: u64 = 86_400;
 
 /// How many plain words a form has at the most.
 const MOST_PLAIN: usize = 4;
@@ -47,102 +21,6 @@ pub struct Parts<'a> {
     pub options: Options,
     waiting: Option<OptionName>,
     ended: bool,
-}
-
-/// The number from 1 to `most` that a text writes.
-pub fn count_of(most: u64, text: &[u8]) -> Option<u64>
-    ensures value { result ≡ count_of most text.now }
-    ensures within { IfSome result (λ n. (1 ≤ n) × (n ≤ most)) }
-{
-    match read_number(text, most) {
-        Ok(0) | Err(_) => None,
-        Ok(number) => Some(number),
-    }
-}
-
-// The number of workers or of seats, of so many at the most, that a text writes, for an option that had the one before.
-fn count_once(before: Option<Count>, most: u32, text: &[u8]) -> Option<Count>
-    requires { most ≤ 64 }
-    ensures { option_map (λ count. count.value) result ≡ once (option_map (λ count. count.value) before) (count_of most text.now) }
-{
-    if before.is_some() {
-        return None;
-    }
-    let value = count_of(u64::from(most), text)?;
-    Some(Count {
-        value: value as u32,
-    })
-}
-
-// The number of so much at the most that a text writes, for an option that had the one before.
-fn number_once(before: Option<u64>, most: u64, text: &[u8]) -> Option<u64>
-    ensures { result ≡ once before (count_of most text.now) }
-{
-    match before {
-        Some(_) => None,
-        None => count_of(most, text),
-    }
-}
-
-// The day that a text names, for an option that had the one before.
-fn day_once(before: Option<Day>, text: &[u8]) -> Option<Day>
-    ensures { result ≡ once before (day_of text.now) }
-{
-    match before {
-        Some(_) => None,
-        None => Day::read(text),
-    }
-}
-
-impl Options {
-    // The options with this one too.
-    fn with(self, name: OptionName, value: &[u8]) -> Option<Options>
-        ensures { option_map read_options result ≡ with_option (read_options self) name value.now }
-    {
-        match name {
-            OptionName::Workers => {
-                let workers = Some(count_once(self.workers, MOST_WORKERS, value)?);
-                Some(Options { workers, ..self })
-            }
-            OptionName::Seats => {
-                let seats = Some(count_once(self.seats, MOST_SEATS, value)?);
-                Some(Options { seats, ..self })
-            }
-            OptionName::Connections => {
-                let connections = Some(number_once(self.connections, MOST_CONNECTIONS, value)?);
-                Some(Options {
-                    connections,
-                    ..self
-                })
-            }
-            OptionName::Idle => {
-                let idle = Some(number_once(self.idle, MOST_IDLE, value)?);
-                Some(Options { idle, ..self })
-            }
-            OptionName::Matured => {
-                let matured = Some(day_once(self.matured, value)?);
-                Some(Options { matured, ..self })
-            }
-        }
-    }
-}
-
-fn option_word(word: &[u8]) -> Option<OptionName>
-    ensures { result ≡ option_word word.now }
-{
-    if word == b"--workers".as_slice() {
-        Some(OptionName::Workers)
-    } else if word == b"--seats".as_slice() {
-        Some(OptionName::Seats)
-    } else if word == b"--connections".as_slice() {
-        Some(OptionName::Connections)
-    } else if word == b"--idle".as_slice() {
-        Some(OptionName::Idle)
-    } else if word == b"--matured".as_slice() {
-        Some(OptionName::Matured)
-    } else {
-        None
-    }
 }
 
 // Whether a word begins with a dash and has more behind it.

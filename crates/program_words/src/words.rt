@@ -2,145 +2,16 @@
 //! `specs/Words` has them.
 
 ghost use Rattle.std.specs.Prelude.{◌≡◌, map, string_bytes, option_map};
-ghost use Rattle.program_words.specs.Words.{market_of, script_of, serve_of, check_of, solve_of, gen_of, replay_of, roll_of, standby_of, follow_of, workers_of, seats_of, connections_of, has_none, has_no_service, has_no_other, has_matured_alone, has_compare_alone, has_workers_alone, form_named, form_of, read_market, read_form};
+ghost use Rattle.program_words.specs.Words.{market_of, script_of, serve_of, check_of, solve_of, gen_of, replay_of, roll_of, standby_of, follow_of, form_named, form_of, read_market, read_form};
 ghost use Rattle.program_words.specs.Parting.{read_options, read_parts};
 
-use crate::count::Count;
-use crate::parting::{Options, Parts, count_of, parts_of};
+use crate::forms::{
+    CheckWords, Form, MarketFiles, ReplayWords, RollWords, ScriptWords, ServiceWords, StandbyWords,
+};
+use crate::options::{Options, count_of};
+use crate::parting::{Parts, parts_of};
 use command_types::Mode;
-use units_core::{Day, MOST_CONNECTIONS, MOST_NUMBER, Name};
-
-/// The names of a market's two files, and the mode in which it is compressed.
-#[derive(Clone, Copy)]
-pub struct MarketFiles<'a> {
-    pub roster: &'a str,
-    pub trades: &'a str,
-    pub mode: Mode,
-}
-
-/// The names of a standby's two files, the name and the key with which it greets its primary, and whether it first compares its
-/// last entry.
-#[derive(Clone, Copy)]
-pub struct StandbyWords<'a> {
-    pub roster: &'a str,
-    pub journal: &'a str,
-    pub name: Name,
-    pub key: Name,
-    pub compare: bool,
-}
-
-/// What the program is to do, with the names of its files and the numbers of its options.
-#[derive(Clone, Copy)]
-pub enum Form<'a> {
-    /// One session over a roster and a journal.
-    Script {
-        roster: &'a str,
-        journal: &'a str,
-        workers: Count,
-    },
-    /// Seats at an address, over a roster and a journal.
-    Serve {
-        roster: &'a str,
-        journal: &'a str,
-        address: &'a str,
-        seats: Count,
-        connections: u64,
-        workers: Count,
-        idle: Option<u64>,
-    },
-    /// Whether a proposal is right for a market.
-    Check {
-        market: MarketFiles<'a>,
-        proposal: &'a str,
-    },
-    /// A proposal for a market.
-    Solve {
-        market: MarketFiles<'a>,
-        workers: Count,
-    },
-    /// The summary of the market of a number.
-    Gen {
-        number: u64,
-        workers: Count,
-    },
-    /// What a journal stands for over a roster.
-    Replay {
-        roster: &'a str,
-        journal: &'a str,
-    },
-    /// A journal with which the market of another goes on over a new roster.
-    Roll {
-        roster: &'a str,
-        journal: &'a str,
-        new_roster: &'a str,
-        matured: Option<Day>,
-    },
-    /// A journal that follows that of a primary.
-    Follow {
-        standby: StandbyWords<'a>,
-    },
-}
-
-impl Options {
-    fn workers(&self) -> Count
-        ensures { result.value ≡ workers_of (read_options self.now) }
-    {
-        self.workers.unwrap_or(Count { value: 4 })
-    }
-
-    fn seats(&self) -> Count
-        ensures { result.value ≡ seats_of (read_options self.now) }
-    {
-        self.seats.unwrap_or(Count { value: 4 })
-    }
-
-    fn connections(&self) -> u64
-        ensures { result ≡ connections_of (read_options self.now) }
-    {
-        self.connections.unwrap_or(MOST_CONNECTIONS)
-    }
-
-    // Whether no option of a service alone is given.
-    fn has_no_service(&self) -> bool
-        ensures { result ≡ has_no_service (read_options self.now) }
-    {
-        self.seats.is_none() && self.connections.is_none() && self.idle.is_none()
-    }
-
-    // Whether no option of a roll or of a standby is given.
-    fn has_no_other(&self) -> bool
-        ensures { result ≡ has_no_other (read_options self.now) }
-    {
-        self.matured.is_none() && !self.compare
-    }
-
-    // Whether no option is given, but perhaps the workers.
-    fn has_workers_alone(&self) -> bool
-        ensures { result ≡ has_workers_alone (read_options self.now) }
-    {
-        self.has_no_other() && self.has_no_service()
-    }
-
-    // Whether no option is given, but perhaps the day of a roll.
-    fn has_matured_alone(&self) -> bool
-        ensures { result ≡ has_matured_alone (read_options self.now) }
-    {
-        self.workers.is_none() && !self.compare && self.has_no_service()
-    }
-
-    // Whether no option is given, but perhaps that of a standby.
-    fn has_compare_alone(&self) -> bool
-        ensures { result ≡ has_compare_alone (read_options self.now) }
-    {
-        self.workers.is_none() && self.matured.is_none() && self.has_no_service()
-    }
-
-    fn has_none(&self) -> bool
-        ensures { result ≡ has_none (read_options self.now) }
-    {
-        self.workers.is_none() && self.has_workers_alone()
-    }
-}
+use units_core::{MOST_NUMBER, Name};
 
 // The market of these words; none where the mode is none.
 fn read_market<'a>(roster: &'a str, trades: &'a str, mode: &str) -> Option<MarketFiles<'a>>
@@ -159,11 +30,11 @@ fn read_script<'a>(options: &Options, plain: &[&'a str]) -> Option<Form<'a>>
 {
     match plain {
         [roster, journal] if options.has_workers_alone() => {
-            Some(Form::Script {
+            Some(Form::Script(ScriptWords {
                 roster,
                 journal,
                 workers: options.workers(),
-            })
+            }))
         }
         _ => None,
     }
@@ -174,7 +45,7 @@ fn read_serve<'a>(options: &Options, plain: &[&'a str]) -> Option<Form<'a>>
 {
     match plain {
         [roster, journal, address] if options.has_no_other() => {
-            Some(Form::Serve {
+            Some(Form::Serve(ServiceWords {
                 roster,
                 journal,
                 address,
@@ -182,7 +53,7 @@ fn read_serve<'a>(options: &Options, plain: &[&'a str]) -> Option<Form<'a>>
                 connections: options.connections(),
                 workers: options.workers(),
                 idle: options.idle,
-            })
+            }))
         }
         _ => None,
     }
@@ -194,7 +65,7 @@ fn read_check<'a>(options: &Options, plain: &[&'a str]) -> Option<Form<'a>>
     match plain {
         [roster, trades, mode, proposal] if options.has_none() => {
             let market = read_market(roster, trades, mode)?;
-            Some(Form::Check { market, proposal })
+            Some(Form::Check(CheckWords { market, proposal }))
         }
         _ => None,
     }
@@ -232,7 +103,10 @@ fn read_replay<'a>(options: &Options, plain: &[&'a str]) -> Option<Form<'a>>
     ensures { option_map read_form result ≡ replay_of (read_options options.now) (map (λ word. word.now) plain.now) }
 {
     match plain {
-        [roster, journal] if options.has_none() => Some(Form::Replay { roster, journal }),
+        [roster, journal] if options.has_none() => Some(Form::Replay(ReplayWords {
+            roster,
+            journal,
+        })),
         _ => None,
     }
 }
@@ -242,12 +116,12 @@ fn read_roll<'a>(options: &Options, plain: &[&'a str]) -> Option<Form<'a>>
 {
     match plain {
         [roster, journal, new_roster] if options.has_matured_alone() => {
-            Some(Form::Roll {
+            Some(Form::Roll(RollWords {
                 roster,
                 journal,
                 new_roster,
                 matured: options.matured,
-            })
+            }))
         }
         _ => None,
     }
@@ -265,14 +139,13 @@ fn read_standby<'a>(
 {
     let name = Name::read(name.as_bytes())?;
     let key = Name::read(key.as_bytes())?;
-    let standby = StandbyWords {
+    Some(Form::Follow(StandbyWords {
         roster,
         journal,
         name,
         key,
         compare,
-    };
-    Some(Form::Follow { standby })
+    }))
 }
 
 fn read_follow<'a>(options: &Options, plain: &[&'a str]) -> Option<Form<'a>>

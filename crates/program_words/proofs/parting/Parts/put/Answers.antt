@@ -1,6 +1,6 @@
 use Rattle.std.proofs.Common.{◌∙◌, sym, ap, Option, Some}
 use Rattle.program_words.specs.Parting.{read_parts, with_value, with_word}
-use Rattle.program_words.specs.declared.parting.OptionName.{OptionName}
+use Rattle.program_words.specs.declared.options.OptionName.{OptionName}
 use Rattle.program_words.proofs.parting.Parts.put.Goals as goal
 
 pub returns-in-Some : goal.returns-in-Some
