@@ -77,7 +77,8 @@ pub fn run_check<R: Threads + Sync, V: Solver, G: Gate, F: Files, K: Sink>(
     output: &mut K,
     workers: &Workers<'_, R, V, G>,
 ) -> CheckEnd
-    ensures runs { CheckRuns (read_market words.now.market) words.now.proposal.now (files_by F.Files files.old) (files_by F.Files files.new) (output_by K.Sink output.old) (output_by K.Sink output.new) result }
+    ensures runs { let seen = files_by F.Files in let written = output_by K.Sink in
+        CheckRuns (read_market words.now.market) words.now.proposal.now (seen files.old) (seen files.new) (written output.old) (written output.new) result }
     ensures stays { F.folder files.new ≡ F.folder files.old }
 {
     let CheckWords { market, proposal } = *words;
