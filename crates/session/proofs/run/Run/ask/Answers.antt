@@ -1,5 +1,5 @@
 use Rattle.std.proofs.Common.{length, vec_len, arith}
-use Rattle.session.proofs.CommandFacts.{put_back}
+use Rattle.cycle_lock.proofs.Slices.{put_back}
 use Rattle.session.proofs.run.Run.ask.Goals as goal
 
 pub returns-clause-rest : goal.returns-clause-rest
