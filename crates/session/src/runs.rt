@@ -1,7 +1,7 @@
 //! How a session asks several lines together: those at the front of what it read whose commands it knows before the first of
 //! them is replied to.
 
-ghost use Rattle.std.specs.Prelude.{◌≡◌, ℕ, Bool, ◌≤◌, ◌<◌, List, [], All, length, take, drop, get_or, IfSome, IfOk, OnErr};
+ghost use Rattle.std.specs.Prelude.{◌≡◌, ℕ, Bool, ◌≤◌, ◌<◌, List, [], All, length, take, drop, get_or, IfSome, IfNone, IfOk, OnErr};
 ghost use Rattle.outside.specs.Faults.{CountsFault};
 ghost use Rattle.command_types.specs.Session.{IsTime};
 ghost use Rattle.cycle_lock.specs.Passes.{seat_of};
@@ -23,7 +23,8 @@ use std::thread::Threads;
 
 // Where the first line feed is.
 fn feed_in(bytes: &[u8]) -> Option<usize>
-    ensures { IfSome result (λ size. (size < length bytes.now) × HasNoFeed (take size bytes.now) × (get_or bytes.now size 0 ≡ 10)) }
+    ensures feed { IfSome result (λ size. (size < length bytes.now) × HasNoFeed (take size bytes.now) × (get_or bytes.now size 0 ≡ 10)) }
+    ensures none { IfNone result (HasNoFeed bytes.now) }
 {
     let mut at = 0usize;
     while at < bytes.len() {

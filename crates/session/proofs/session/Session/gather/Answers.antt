@@ -17,10 +17,10 @@ loop-end-preserved g c =
     let size = c.in-Some.size in
     let command = c.in-Some-command_of.command in
     let stays = c.loop-end.invariant.stays in
-    let within = feed_within piece end size c.in-Some.ensures.0 in
+    let within = feed_within piece end size c.in-Some.ensures.feed.0 in
     let P : Stand → Type 0 = λ s. IsCommandOf clock (roster_of s.sight) s.sight.seat.number s.speaker (take (end + size - end) (drop end piece)) command in
     let of = subst P stays c.in-Some-command_of.ensures.command in
-    let longer = piece_push clock (roster_of stand.sight) stand.sight.seat.number stand.speaker piece _ end size c.loop-end.self.run.commands.items command c.loop-end.invariant.run (part_is piece end) within c.in-Some.ensures.1 c.in-Some.ensures.2 of in
+    let longer = piece_push clock (roster_of stand.sight) stand.sight.seat.number stand.speaker piece _ end size c.loop-end.self.run.commands.items command c.loop-end.invariant.run (part_is piece end) within c.in-Some.ensures.feed.1 c.in-Some.ensures.feed.2 of in
     let items = c.push.ensures ∙ ap (λ (r : Run). r.commands.items ++ command ∷ []) c.command_of.ensures.run in
     let R : List Entry → Type 0 = λ es. IsRunOf clock stand (take (end + (size + 1)) piece) es in
     record {
