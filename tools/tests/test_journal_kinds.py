@@ -1,16 +1,17 @@
 """Each form that reads a journal, given files that are none or no regular ones: it ends at once, and within one figure of memory."""
 
 import os
-import subprocess
+import sys
 import tempfile
 import unittest
 from pathlib import Path
 from typing import Callable, NamedTuple
 
-from running import EXAMPLES, Ran, program
+from running import EXAMPLES, TOOLS, Ran, program, run
 from serving import free_port, has_serve
 
 ROSTER = EXAMPLES / "roster.csv"
+MEMORY_OF = TOOLS / "tests/memory_of.py"
 EMPTY_JOURNAL = b"OTCJRNL1\0"
 SLOTTED = bytes.fromhex("4f54434a524e4c43 00 1900000000000000 0000000000000000 00000000 00")
 LONG_BASE = SLOTTED[:25] + b"\xff\xff\xff\xff"
@@ -18,7 +19,6 @@ FAR_BASE = SLOTTED[:9] + b"\xff" * 8 + SLOTTED[17:]
 SPARSE_SIZE = 3_000_000_000
 MOST_KILOBYTES = 300_000
 """A journal's limit of 268,435,456 bytes, and what the program takes besides."""
-MOST_SECONDS = 600
 
 
 class Measured(NamedTuple):
@@ -27,15 +27,10 @@ class Measured(NamedTuple):
 
 
 def measured(words: list[str | Path]) -> Measured:
-    """Runs a program without input, and tells the most memory that it had. One that goes on is killed after ten minutes."""
-    with tempfile.TemporaryFile() as output, tempfile.TemporaryFile() as errors:
-        limited = ["timeout", "-s", "KILL", str(MOST_SECONDS), *words]
-        begun = subprocess.Popen(limited, stdin=subprocess.DEVNULL, stdout=output, stderr=errors)
-        _, state, used = os.wait4(begun.pid, 0)
-        begun.returncode = os.waitstatus_to_exitcode(state)
-        output.seek(0)
-        errors.seek(0)
-        return Measured(Ran(begun.returncode, output.read(), errors.read()), used.ru_maxrss)
+    """Runs a program without input, and tells the most memory that it had."""
+    with tempfile.NamedTemporaryFile("r") as memory:
+        ran = run([sys.executable, MEMORY_OF, memory.name, *words])
+        return Measured(ran, int(memory.read()))
 
 
 def make_sparse(front: bytes) -> Callable[[Path], None]:
