@@ -72,6 +72,13 @@ def kept_by(told: bytes) -> list[Kept]:
     return [Kept(int(seat), party, line) for seat, party, line in found]
 
 
+def trades_by(told: bytes) -> list[str]:
+    """The TRADE line of each trade that members alleged, in the order of the numbers, by what the inspector told: a fold has taken
+    the first ones into the base, and the others have records."""
+    folded = re.findall(r"^  trade \d+ (\S+ \S+ \S+ \d+ \S+) ", told.decode(), re.MULTILINE)
+    return [f"TRADE {terms}" for terms in folded] + [kept.line for kept in kept_by(told) if kept.line.startswith("TRADE ")]
+
+
 class InService(unittest.TestCase):
     """Tests with a folder of their own, and a service in it from `start` on, which ends with the test."""
 
@@ -110,11 +117,15 @@ class InService(unittest.TestCase):
             session.hello(name, "KO" if name == "OPS" else f"K{name}")
         return session
 
-    def records(self, journal: Path | None = None) -> list[Kept]:
-        """The journal's records, by the inspector."""
+    def inspected(self, journal: Path | None = None) -> bytes:
+        """What the inspector tells of the journal."""
         told = run([TOOLS / "journal", journal or self.journal])
         self.assertEqual((told.status, told.errors), (0, b""))
-        return kept_by(told.output)
+        return told.output
+
+    def records(self, journal: Path | None = None) -> list[Kept]:
+        """The journal's records after its base, by the inspector."""
+        return kept_by(self.inspected(journal))
 
     def hold(self) -> None:
         """Stops the service where it is, and waits until it has stopped: only then does it surely read no more."""
