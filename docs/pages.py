@@ -1,25 +1,9 @@
-"""What docs/check counts on the pages: words of sentences, characters of cells, the pages of the crates with the lines that
-they show, and the README's limits."""
+"""What docs/check looks for on the pages: each crate has one, lines of Rattle that a page shows stand in the file that it
+names, and the README's limits are those of the code."""
 
 import os
 import re
 from glob import glob
-
-MOST_CELL = 300
-MOST_SENTENCE = 40
-MOST_PAGE = 500
-MOST_TOGETHER = 20_000
-# How many lines a page shows of a caller.
-CALLER = range(5, 14)
-
-HEADINGS = ["The parts", "A caller", "What a contract sees", "Proved", "Tested only", "Limits"]
-# A program or a crate of tests may be short.
-SHORT = ["The parts", "Limits"]
-
-FENCE = re.compile(r"^```.*?^```$", re.M | re.S)
-CODE = re.compile(r"`[^`]*`")
-ITEM = re.compile(r"^\s*(?:- |\d+\. |#+ |>)")
-END = re.compile(r"(?<=[.!?])[)*\"]*\s+(?=[A-Z0-9`*(\"])")
 
 
 def text(path: str) -> str:
@@ -27,44 +11,8 @@ def text(path: str) -> str:
         return file.read()
 
 
-def words(sentence: str) -> int:
-    """How many words a sentence has; what stands between backquotes is one."""
-    return sum(1 for word in CODE.sub("code", sentence).split() if re.search(r"\w", word))
-
-
-def cells(page: str) -> list[str]:
-    """The cells of a page's tables."""
-    rows = [line for line in FENCE.sub("", page).split("\n") if line.startswith("|") and not re.fullmatch(r"[|\-: ]+", line)]
-    return [cell.strip() for row in rows for cell in row.strip("|").split("|")]
-
-
-def blocks(page: str) -> list[str]:
-    """The paragraphs, items and cells of a page, each as one line."""
-    found: list[str] = [""]
-    for line in FENCE.sub("", page).split("\n"):
-        if line.startswith("|") or not line.strip():
-            found.append("")
-        elif ITEM.match(line):
-            found.append(ITEM.sub("", line))
-        else:
-            found[-1] += " " + line.strip()
-    return [block for block in found if block] + cells(page)
-
-
-def sentences(page: str) -> list[str]:
-    return [sentence.strip() for block in blocks(page) for sentence in END.split(block)]
-
-
-def long_parts(path: str) -> list[str]:
-    """The cells and sentences of a page that are too long."""
-    page = text(path)
-    wide = [f"{path}: a cell of {len(cell)} characters: {cell[:60]}" for cell in cells(page) if len(cell) > MOST_CELL]
-    long = [(words(sentence), sentence) for sentence in sentences(page)]
-    return wide + [f"{path}: a sentence of {count} words: {sentence[:60]}" for count, sentence in long if count > MOST_SENTENCE]
-
-
 def snippets(path: str) -> list[str]:
-    """What is wrong with the lines of Rattle that a page shows: each fence tells behind it from which file they are."""
+    """What is wrong with the lines of Rattle that a page shows. After each fence the page names the file that has them."""
     found = []
     for lines, named in re.findall(r"^```rust\n(.*?)^```\n(?:\nFrom `([^`]+)`)?", text(path), re.M | re.S):
         if not named or not os.path.exists(named):
@@ -74,8 +22,6 @@ def snippets(path: str) -> list[str]:
         source = "\n".join(line.strip() for line in text(named).split("\n"))
         if f"\n{shown}\n" not in f"\n{source}\n":
             found.append(f"{path}: {named} has no such lines: {shown[:40]!r}")
-        if (count := shown.count("\n") + 1) not in CALLER:
-            found.append(f"{path}: it shows {count} lines of a caller")
     return found
 
 
@@ -84,18 +30,9 @@ def page_of_crate(crate: str) -> list[str]:
     path = f"crates/{crate}/README.md"
     if not os.path.exists(path):
         return [f"{path}: it is not there"]
-    page = text(path)
-    is_short = crate.endswith("_tests") or os.path.exists(f"crates/{crate}/src/main.rt")
-    wanted = SHORT if is_short else HEADINGS
-    headings = re.findall(r"^## (.+)$", FENCE.sub("", page), re.M)
-    found = []
-    if not page.startswith(f"# {crate}\n"):
-        found.append(f"{path}: it does not begin with `# {crate}`")
-    if [heading for heading in headings if heading in wanted] != wanted:
-        found.append(f"{path}: its headings are not {', '.join(wanted)}, in this order")
-    if (count := len(page.split())) > MOST_PAGE:
-        found.append(f"{path}: {count} words")
-    return found + snippets(path)
+    if not text(path).startswith(f"# {crate}\n"):
+        return [f"{path}: it does not begin with `# {crate}`"] + snippets(path)
+    return snippets(path)
 
 
 def constants() -> dict[str, int]:
@@ -121,12 +58,5 @@ def limits() -> list[str]:
 
 
 def differences() -> list[str]:
-    pages = ["README.md", *sorted(glob("docs/*.md"))]
     crates = [os.path.basename(crate) for crate in sorted(glob("crates/*")) if os.path.isdir(f"{crate}/src")]
-    of_crates = [path for crate in crates if os.path.exists(path := f"crates/{crate}/README.md")]
-    found = [it for path in pages + of_crates for it in long_parts(path)]
-    found += [it for crate in crates for it in page_of_crate(crate)]
-    together = sum(len(text(path).split()) for path in pages)
-    if together > MOST_TOGETHER:
-        found.append(f"README.md and docs: {together} words")
-    return found + limits()
+    return [it for crate in crates for it in page_of_crate(crate)] + limits()
