@@ -12,7 +12,7 @@ from running import TOOLS, Ran, program, run
 from test_packaging import python_with
 
 HEAD = "day,product,seller,buyer,amount\n"
-TABLES = ["figures.csv", "markets", "names.csv", "trades.csv"]
+TABLES = [".compress-many", "figures.csv", "markets", "names.csv", "trades.csv"]
 """What stands in a folder of a run that ended."""
 
 

@@ -11,6 +11,7 @@ import re
 import select
 import signal
 import subprocess
+import tempfile
 import time
 import unittest
 import urllib.request
@@ -140,9 +141,9 @@ BY_HAND = """\
 GREAT = 2 * 10**15 + 3
 FIGURES = {
     # the roles are those of who both sells and buys, so A, B and C may owe each other anything: 3 from A to C are left, and the fund's 7
-    ("2026-01-01", "Rates"): ["4", "1", "34", "10", "7", "34", "yes", "0"],
-    ("2026-01-01", "Credit"): ["2", "1", "14", "6", "6", "6", "yes", "0"],
-    ("2026-01-02", "Credit"): ["3", "1", *[str(GREAT + 4)] * 4, "yes", "0"],
+    ("2026-01-01", "Rates"): ["4", "1", "34", "10", "7", "34", "yes", "0", "0", "0"],
+    ("2026-01-01", "Credit"): ["2", "1", "14", "6", "6", "6", "yes", "0", "0", "0"],
+    ("2026-01-02", "Credit"): ["3", "1", *[str(GREAT + 4)] * 4, "yes", "0", "0", "0"],
 }
 """Figures of these trades, worked out by hand."""
 
@@ -198,6 +199,63 @@ class Written(Many):
         self.assert_done(Ran(first.returncode, output, errors))
 
 
+WHETHER_LEAST = ("members", "pieces", "after", "least", "lost", "left_out")
+
+
+class OtherFiles(Many):
+    """A run writes to a folder that is new, empty, or its own, and nothing else in it is deleted or replaced."""
+
+    def files(self) -> dict[str, bytes]:
+        return {str(path.relative_to(self.folder)): path.read_bytes() for path in sorted(self.folder.rglob("*")) if path.is_file()}
+
+    def assert_refused(self, why: str) -> None:
+        before = self.files()
+        self.assertEqual(self.compress(), Ran(11, b"", f"{why}\n".encode()))
+        self.assertEqual(self.files(), before)
+
+    def test_a_folder_that_has_other_files(self) -> None:
+        self.trades.write_text(HEAD + ROW)
+        for name in ("notes.txt", "trades.csv", "markets/000001/mine.csv", ".hidden", ".compress-many"):
+            with self.subTest(name=name), tempfile.TemporaryDirectory(dir=self.folder) as place:
+                self.out = Path(place)
+                (self.out / name).parent.mkdir(parents=True, exist_ok=True)
+                (self.out / name).write_text("mine\n")
+                self.assert_refused(f"{self.out} has other files: name a folder that is new, empty, or of an earlier run")
+
+    def test_input_in_the_folder(self) -> None:
+        """Also in one with the mark, by its own name, through a link in either direction, and as the folder itself."""
+        self.trades.write_text(HEAD + ROW)
+        self.assert_done(self.compress())
+        inside, link = self.out / "input.csv", self.folder / "link.csv"
+        inside.write_text(HEAD + ROW)
+        link.symlink_to(inside)
+        (self.out / "linked.csv").symlink_to(self.trades)
+        for place in (inside, link, self.out / "linked.csv", self.out, self.out / "markets"):
+            with self.subTest(place=place):
+                self.trades = place
+                self.assert_refused(f"{place} lies in {self.out}: name another folder to write to")
+
+    def test_members_in_the_folder(self) -> None:
+        self.trades.write_text(HEAD + ROW)
+        self.assert_done(self.compress())
+        members = self.out / "names.csv"
+        ran = self.compress("--members", members)
+        self.assertEqual(ran, Ran(11, b"", f"{members} lies in {self.out}: name another folder to write to\n".encode()))
+
+    def test_what_others_put_into_the_folder_stays(self) -> None:
+        self.trades.write_text(HEAD + ROW)
+        self.out.mkdir()
+        self.assert_done(self.compress())
+        mine = [self.out / name for name in ("notes.txt", "markets/mine/a.csv", "markets/12/b.csv", "markets/.keep/c.csv")]
+        for path in mine:
+            path.parent.mkdir(exist_ok=True)
+            path.write_text("mine\n")
+        (self.out / "markets/000007").mkdir()
+        self.assertEqual(self.compress().status, 0)
+        self.assertTrue(all(path.read_text() == "mine\n" for path in mine))
+        self.assertFalse((self.out / "markets/000007").exists())
+
+
 class Cut(Many):
     def test_parts_that_are_many_or_large(self) -> None:
         """Three rings of 100 are three pieces, since each has its 64 dealers. A ring of 300 is compressed by 256 of its members, so that
@@ -208,10 +266,30 @@ class Cut(Many):
         self.trades.write_text(text_of([*rings, *large, opposite]))
         ran = self.compress("--mode", "conservative")
         rows = {row["product"]: row for row in self.assert_done(ran, "conservative")}
-        self.assertIn(b"; 1 with a part of more than 256 members, not least; 2 with a part of more than 64 dealers", ran.output)
-        self.assertEqual([rows["Small"][name] for name in ("members", "pieces", "after", "least")], ["300", "3", "0", "yes"])
-        self.assertEqual([rows["Large"][name] for name in ("members", "pieces", "after", "least")], ["300", "1", "1495", "no"])
+        self.assertIn(b"; 1 not least, by 1490 at most: members left out 44, dealers taken as customers 192\n", ran.output)
+        self.assertEqual([rows["Small"][name] for name in WHETHER_LEAST], ["300", "3", "0", "yes", "0", "0"])
+        self.assertEqual([rows["Large"][name] for name in WHETHER_LEAST], ["300", "1", "1495", "no", "1490", "44"])
         self.assertEqual([row["demoted"] for row in rows.values()], [str(256 - 64), str(3 * 36)])
+
+    def test_least_is_said_of_the_roles_that_were_given(self) -> None:
+        """A chain of 100 dealers. Hybrid with all of them leaves what the first owes the last; but a market takes 64, so that each pair
+        of the others stays. In the other modes nobody's role bounds a pair."""
+        members = self.folder / "members.csv"
+        chain = ring("D", 100)[:-1]
+        self.trades.write_text(text_of(chain))
+        members.write_text("name,role\n" + "".join(f"D {place},dealer\n" for place in range(100)))
+        for mode, told in (("hybrid", ["185", "no", "180"]), ("conservative", ["495", "yes", "0"]), ("free", ["5", "yes", "0"])):
+            row = self.assert_done(self.compress("--mode", mode, "--members", members), mode)[0]
+            self.assertEqual([row[name] for name in ("after", "least", "lost", "left_out", "demoted")], [*told, "0", "36"], mode)
+
+    def test_what_is_left_out_is_netted_pair_by_pair(self) -> None:
+        """300 members sell 5 to a hub; 255 of them get 4 back, and 45 who have less excess 3. These 45 are left out, and 2 is left of
+        each pair. No network has less than what the members owe on balance, so that this is least all the same."""
+        sold = [Trade("2026-01-01", "P", f"M{place:03}", "Hub", 5) for place in range(300)]
+        back = [Trade("2026-01-01", "P", "Hub", f"M{place:03}", 4 if place < 255 else 3) for place in range(300)]
+        self.trades.write_text(text_of([*sold, *back]))
+        row = self.assert_done(self.compress("--mode", "conservative"), "conservative")[0]
+        self.assertEqual([row[name] for name in WHETHER_LEAST], ["301", "1", str(255 * 1 + 45 * 2), "yes", "0", "45"])
 
     def test_a_large_market(self) -> None:
         """64 products in which each of 32 members owes each other one: files of more than a megabyte, and nothing is told of it."""
@@ -231,6 +309,27 @@ class Cut(Many):
         self.assertIn(b"products 70, markets 2: gross 1050 before, 0 after\n", self.compress().output)
         self.trades.write_text(text_of([trade for place in range(3) for trade in ring(f"P{place}", 60)]))
         self.assertIn(b"products 3, markets 3: gross 900 before, 0 after\n", self.compress().output)
+
+
+INTRUDER = """
+import asyncio
+from distributed.core import rpc
+from distributed.security import Security
+
+async def ask():
+    for address in ("{address}", "{address}".replace("tls:", "tcp:")):
+        key = {key}
+        try:
+            async with rpc(address, connection_args=key and key.get_connection_args("client"), timeout=10) as there:
+                print("let in:", await asyncio.wait_for(there.identity(), 10))
+                return
+        except Exception as fault:
+            pass
+    print("kept out")
+
+asyncio.run(ask())
+"""
+"""Who is not of the run, and asks a port of Dask's who is there, over TLS and without."""
 
 
 def shown(terminal: int, last: bytes) -> bytes:
@@ -285,6 +384,27 @@ class Workers(Many):
             self.assertIn(b"Workers", page.read())
         (self.folder / "state/go").touch()
         self.assertTrue(shown(terminal, b"left\r\n").endswith(b"[####################] 6 of 6 markets, 0 solved again, about 0 s left\r\n"))
+        self.assertEqual((ran.communicate(timeout=PATIENCE)[0][:21], ran.returncode), (b"products 6, markets 6", 0))
+        os.close(terminal)
+
+    def test_nobody_else_gets_to_the_processes_of_a_run(self) -> None:
+        """Each port at which they listen for Dask's messages wants the run's own key: neither a client without one nor one with a key of
+        its own gets in, and it is the same for all users of the machine."""
+        slow = self.stand_in(WAITING)
+        self.let_solve(1)
+        terminal, end = pty.openpty()
+        ran = subprocess.Popen(self.tool("--workers", "2", "--program", slow), stdout=subprocess.PIPE, stderr=end)
+        os.close(end)
+        link = re.findall(rb"dashboard: (http://127.0.0.1:\d+/\S+)", shown(terminal, b"about"))[0].decode()
+        with urllib.request.urlopen(link, timeout=PATIENCE) as page:
+            addresses = {*re.findall(r"(?:tcp|tls)://127\.0\.0\.1:\d+", page.read().decode())}
+        self.assertGreaterEqual(len(addresses), 2)
+        for address in addresses:
+            for key in ("None", "Security.temporary()"):
+                asked = run([self.python, "-c", INTRUDER.format(address=address, key=key)])
+                self.assertEqual((asked.status, asked.output), (0, b"kept out\n"), (address, key, asked.errors))
+        (self.folder / "state/go").touch()
+        shown(terminal, b"left\r\n")
         self.assertEqual((ran.communicate(timeout=PATIENCE)[0][:21], ran.returncode), (b"products 6, markets 6", 0))
         os.close(terminal)
 

@@ -14,9 +14,8 @@ from running import PATIENCE, ROOT, TOOLS, program
 from test_packaging import python_with
 
 STUDIES, DOCS = ROOT / "studies", ROOT / "docs"
-sys.path[:0] = [str(TOOLS), str(STUDIES), str(DOCS)]
+sys.path[:0] = [str(TOOLS), str(STUDIES)]
 
-import pages
 from certified import WAYS, Case, Figures
 from delkwoan.checker import nets_of
 from experiments import EXPERIMENTS, SEEDS, USUAL, Row, places, summary, table
@@ -160,9 +159,6 @@ class Page(unittest.TestCase):
                 self.assertEqual(cells.split(" | "), [f"{100 * mean:.1f}" for mean in found[value]], (name, value))
                 told += 1
         self.assertGreaterEqual(told, 12)
-
-    def test_its_sentences_and_cells_are_as_those_of_the_documents(self) -> None:
-        self.assertEqual(pages.long_parts(str(STUDIES / "README.md")), [])
 
     def test_its_pictures(self) -> None:
         shown = re.findall(r"!\[[^\]]+\]\(study-(\w+)\.png\)", (DOCS / "STUDY.md").read_text())

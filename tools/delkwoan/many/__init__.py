@@ -9,5 +9,5 @@
     delkwoan.many.folder     the folder in which all is put away
     delkwoan.many.command    the command
 
-It wants Debian's python3-scipy and python3-distributed, which nothing else of the package does.
+It wants Debian's python3-scipy, python3-distributed and python3-cryptography, which nothing else of the package does.
 """

@@ -18,9 +18,9 @@ from .. import checker
 from ..client import found_program
 from ..ending import Stop, run
 from ..words import Once, Words, plain
-from .folder import Folder
+from .folder import Folder, is_inside, look
 from .markets import Market, markets_of
-from .pieces import Cutter
+from .pieces import HYBRID, Cutter
 from .processes import INTERRUPTS, checking, connected, interrupt, quiet
 from .tables import Figures, head_of_figures, head_of_trades, names_of, results_of, trades_of
 from .trades import Trades, read_members, read_trades
@@ -53,7 +53,8 @@ def words() -> Words:
     parser.add_argument("--program", metavar="FILE", action=Once, type=plain, help="the program that solves and checks")
     markets = "a file of trades, plain or compressed, or a folder of such files: day, product, seller, buyer, amount"
     parser.add_argument("markets", metavar="MARKETS", type=plain, help=markets)
-    parser.add_argument("output", metavar="OUTPUT", type=plain, help="the folder that is written")
+    output = "the folder that is written: a new one, an empty one, or that of an earlier run, whose results are replaced"
+    parser.add_argument("output", metavar="OUTPUT", type=plain, help=output)
     return parser
 
 
@@ -95,13 +96,24 @@ def beginnings(distribution: Distribution, folder: Folder, markets: list[Market]
         yield partial(distribution.send, sent) if kept is None else partial(distribution.check, sent, kept)
 
 
+def mode_of(given: Namespace) -> str:
+    return given.mode or HYBRID
+
+
+def spare_input(given: Namespace) -> None:
+    """Refuses an output folder in which the input lies: a table could take its place."""
+    for name in (given.markets, given.members):
+        if name is not None and is_inside(Path(name), Path(given.output)):
+            raise Stop(11, f"{name} lies in {given.output}: name another folder to write to")
+
+
 def solve_all(given: Namespace, folder: Folder, markets: list[Market]) -> int:
     """Has each market solved, checked and put away, and tells how many answers were not taken."""
     program = found_program() if given.program is None else shutil.which(given.program)
     if program is None:
         raise Stop(11, f"no program at {given.program}")
     processes = given.workers or os.cpu_count() or 1
-    job = Job(given.mode or "hybrid", given.program if given.scheduler else program)
+    job = Job(mode_of(given), given.program if given.scheduler else program)
 
     def keep(sent: Sent, proposal: bytes) -> None:
         folder.keep(sent.market, sent.roster, sent.trades, proposal)
@@ -117,7 +129,7 @@ def solve_all(given: Namespace, folder: Folder, markets: list[Market]) -> int:
     return len(distribution.again)
 
 
-def write_tables(folder: Folder, markets: list[Market], trades: Trades) -> list[Figures]:
+def write_tables(folder: Folder, markets: list[Market], trades: Trades, mode: str) -> list[Figures]:
     """Writes the tables from the proposals that were put away, and gives the figures."""
     figures: list[Figures] = []
 
@@ -128,7 +140,7 @@ def write_tables(folder: Folder, markets: list[Market], trades: Trades) -> list[
     def left() -> Iterator[str]:
         yield head_of_trades()
         for result in results_of(solved()):
-            figures.append(result.figures(trades.networks[result.key]))
+            figures.append(result.figures(trades.networks[result.key], mode))
             yield from trades_of(result, trades.names)
 
     folder.write("names.csv", names_of(markets, trades))
@@ -140,25 +152,27 @@ def write_tables(folder: Folder, markets: list[Market], trades: Trades) -> list[
 def told(figures: list[Figures], markets: int, again: int) -> str:
     """The line of a run that ended."""
     text = f"products {len(figures)}, markets {markets}: gross {sum(it.gross for it in figures)} before, {sum(it.after for it in figures)} after"
-    large = sum(not it.is_least for it in figures)
-    crowded = sum(it.demoted > 0 for it in figures)
-    text += f"; {large} with a part of more than 256 members, not least" if large else ""
-    text += f"; {crowded} with a part of more than 64 dealers" if crowded else ""
+    larger = [it for it in figures if not it.is_least]
+    if larger:
+        text += f"; {len(larger)} not least, by {sum(it.lost for it in larger)} at most: "
+        text += f"members left out {sum(it.left_out for it in larger)}, dealers taken as customers {sum(it.demoted for it in larger)}"
     return text + (f"; {again} answers were not taken" if again else "")
 
 
 def main(line: list[str]) -> int:
     given = words().parse_args(line)
-    need("scipy", "distributed")
+    need("scipy", "distributed", *([] if given.scheduler else ["cryptography"]))
     for it in INTERRUPTS:
         signal.signal(it, interrupt)
+    spare_input(given)
+    look(Path(given.output))
     roles = None if given.members is None else read_members(Path(given.members))
     trades = read_trades(Path(given.markets), roles)
     markets = list(markets_of(Cutter(trades, roles).pieces()))
     folder = Folder(Path(given.output))
     folder.begin(len(markets))
     again = solve_all(given, folder, markets)
-    figures = write_tables(folder, markets, trades)
+    figures = write_tables(folder, markets, trades, mode_of(given))
     print(told(figures, len(markets), again))
     return 0
 

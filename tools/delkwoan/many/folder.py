@@ -1,11 +1,16 @@
 """The folder in which a run puts away what it has: each market with its proposal as soon as it is certified, and the tables at the end.
 
-Nothing in it is half written: a market's folder and a table get their names when they are whole. What an interrupted run left
-is taken up by the next one, which checks it as if a worker had sent it.
+A run takes a folder that is new, empty, or bears the mark of an earlier run, which is a file of its own. In a folder with the mark the
+tables and the numbered markets are the tool's: a run replaces them, and takes away those that it has not. It touches nothing else.
+A folder without the mark that has anything in it is refused, and so is one in which the input lies, since a table may have its name.
+
+Nothing in the folder is half written: a market's folder and a table get their names when they are whole. If a run is interrupted, the
+next one takes up what it left, and checks that as if a worker had sent it.
 """
 
 import fcntl
 import os
+import re
 import shutil
 from pathlib import Path
 from typing import Iterable
@@ -16,6 +21,31 @@ from .verdicts import FILES
 
 TABLES = ("names.csv", "trades.csv", "figures.csv")
 """The tables, in the order in which they are written."""
+MARK = ".compress-many"
+"""The file by which a run knows that a folder is the tool's own."""
+MARKED = b"This folder is compress-many's: a run replaces its tables and its markets.\n"
+OWN_MARKET = re.compile(r"\.?\d{6,}")
+"""The name of a market's folder, with a point before it as long as it is not whole."""
+
+
+def is_inside(path: Path, place: Path) -> bool:
+    """Whether a path lies in a folder, by its own name or by that of the file which it leads to."""
+    by_name = path.parent.resolve() / path.name
+    return any(place.resolve() in (it, *it.parents) for it in (by_name, path.resolve()))
+
+
+def is_marked(place: Path) -> bool:
+    mark = place / MARK
+    return mark.is_file() and mark.read_bytes() == MARKED
+
+
+def look(place: Path) -> None:
+    """Refuses a folder that has anything in it and is not the tool's own."""
+    try:
+        if place.exists() and not is_marked(place) and any(place.iterdir()):
+            raise Stop(11, f"{place} has other files: name a folder that is new, empty, or of an earlier run")
+    except OSError:
+        raise FILE_FAULT from None
 
 
 class Folder:
@@ -25,7 +55,7 @@ class Folder:
         self.place = place
         self.markets = place / "markets"
         try:
-            self.markets.mkdir(parents=True, exist_ok=True)
+            place.mkdir(parents=True, exist_ok=True)
             self.lock = os.open(place, os.O_RDONLY)
         except OSError:
             raise FILE_FAULT from None
@@ -33,6 +63,13 @@ class Folder:
             fcntl.flock(self.lock, fcntl.LOCK_EX | fcntl.LOCK_NB)
         except OSError:
             raise Stop(11, f"{place} is in use") from None
+        look(place)
+        try:
+            if not is_marked(place):
+                (place / MARK).write_bytes(MARKED)
+            self.markets.mkdir(exist_ok=True)
+        except OSError:
+            raise FILE_FAULT from None
 
     def begin(self, markets: int) -> None:
         """Takes away the tables of an earlier run, what it left unfinished, and markets that this run has not."""
@@ -40,7 +77,7 @@ class Folder:
             for name in reversed(TABLES):
                 (self.place / name).unlink(missing_ok=True)
             for path in self.markets.iterdir():
-                if path.name.startswith(".") or (path.name.isdecimal() and int(path.name) >= markets):
+                if OWN_MARKET.fullmatch(path.name) and (path.name.startswith(".") or int(path.name) >= markets):
                     shutil.rmtree(path)
         except OSError:
             raise FILE_FAULT from None

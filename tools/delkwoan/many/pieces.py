@@ -1,8 +1,8 @@
 """Networks of any size, cut into pieces that the program takes: at most 256 members, 64 of them dealers.
 
-Where a product has more members, its connected parts, which scipy finds, are gathered into pieces. A part that is larger
-still is a piece of its 256 members with the largest excess, what each both sells and buys; its other pairs stay as they are, so
-that every net position stays, and what is left need not be least.
+If a product has more members, its connected parts, which scipy finds, are gathered into pieces. If a part is larger still, a piece is
+made of its 256 members with the largest excess, which is what a member both sells and buys. Of the pairs with a member that is left
+out, each is netted by itself, so that every net position stays. What is left then need not be least.
 """
 
 from typing import Iterator, NamedTuple
@@ -10,12 +10,14 @@ from typing import Iterator, NamedTuple
 from ..checker import MOST_DEALERS, MOST_MEMBERS, Network
 from .trades import Key, Trades
 
+HYBRID = "hybrid"
+
 
 class Piece(NamedTuple):
     """What is compressed at once of a product: its network, who is in it, who of them is a dealer, and what is left out.
 
-    `rest` are the pairs that stay as they are, and `demoted` the members who would be dealers, but stand as customers, since a
-    market has no room for more dealers.
+    `rest` are the pairs outside, netted one by one, and `left_out` counts the members that are in no piece. `demoted` counts the
+    members that would be dealers but are taken as customers, since a market has no room for more dealers.
     """
 
     key: Key
@@ -23,7 +25,19 @@ class Piece(NamedTuple):
     members: list[int]
     dealers: frozenset[int]
     rest: Network
+    left_out: int
     demoted: int
+
+    def is_least(self, mode: str) -> bool:
+        """Whether what a certificate calls least is so for all members in the roles that they have. The roles count in hybrid mode
+        alone: in the others they bound no pair."""
+        return not self.left_out and not (self.demoted and mode == HYBRID)
+
+
+def netted(network: Network) -> Network:
+    """Each pair by itself: what both owe each other goes."""
+    left = {(seller, buyer): amount - min(amount, network.get((buyer, seller), 0)) for (seller, buyer), amount in network.items()}
+    return {pair: amount for pair, amount in left.items() if amount}
 
 
 class Flow(NamedTuple):
@@ -85,16 +99,16 @@ class Cutter:
         members = sorted(most(list(flows), flows, MOST_MEMBERS))
         inside = {*members}
         network = {pair: amount for pair, amount in part.items() if inside.issuperset(pair)}
-        rest = {pair: amount for pair, amount in part.items() if pair not in network}
+        rest = netted({pair: amount for pair, amount in part.items() if pair not in network})
         wanted = [member for member in self.dealers_of(flows) if member in inside]
         dealers = frozenset(most(wanted, flows, MOST_DEALERS))
-        return Piece(key, network, members, dealers, rest, len(wanted) - len(dealers))
+        return Piece(key, network, members, dealers, rest, len(flows) - len(members), len(wanted) - len(dealers))
 
     def pieces_of(self, key: Key) -> Iterator[Piece]:
         """The pieces of a product: all of it at once where it fits, else its parts, as many together as fit."""
         network = self.trades.networks[key]
         whole = self.piece_of(key, network)
-        if not whole.rest and not whole.demoted:
+        if not whole.left_out and not whole.demoted:
             yield whole
             return
         parts = [self.piece_of(key, part) for part in parts_of(network)]
@@ -124,4 +138,5 @@ def joined(pieces: list[Piece]) -> Piece:
     rest = {pair: amount for piece in pieces for pair, amount in piece.rest.items()}
     members = sorted(member for piece in pieces for member in piece.members)
     dealers = frozenset().union(*(piece.dealers for piece in pieces))
-    return Piece(pieces[0].key, network, members, dealers, rest, sum(piece.demoted for piece in pieces))
+    left_out, demoted = sum(piece.left_out for piece in pieces), sum(piece.demoted for piece in pieces)
+    return Piece(pieces[0].key, network, members, dealers, rest, left_out, demoted)

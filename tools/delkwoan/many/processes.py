@@ -109,7 +109,11 @@ def own_room() -> Iterator[str]:
 
 
 def connected(scheduler: str | None, count: int, ending: ExitStack) -> Any:
-    """A client of the scheduler that is named, or of so many workers that are processes of this machine."""
+    """A client of the scheduler that is named, or of this many workers that are processes of this machine.
+
+    Dask has its processes talk over ports, and whoever gets in there runs what he likes. So on this machine they talk over TLS, both
+    sides by a key that Dask makes for the run and that no file has.
+    """
     import dask
     from distributed import Client, LocalCluster
 
@@ -122,7 +126,7 @@ def connected(scheduler: str | None, count: int, ending: ExitStack) -> Any:
         except (OSError, ValueError):
             raise Stop(21, f"no scheduler at {scheduler}") from None
     dask.config.set(SELDOM)
-    settings = {"n_workers": count, "threads_per_worker": 1, "memory_limit": 0, "local_directory": room}
+    settings = {"n_workers": count, "threads_per_worker": 1, "memory_limit": 0, "local_directory": room, "security": True}
     with uninterrupted():
         cluster = ending.enter_context(LocalCluster(**settings, dashboard_address="127.0.0.1:0", silence_logs=logging.CRITICAL))
         client = ending.enter_context(Client(cluster))

@@ -10,7 +10,7 @@ from .pieces import Piece
 from .trades import COLUMNS, Key, Trades
 
 NAMES = ("market", "word", "role", "name", "day")
-FIGURES = ("day", "product", "members", "pieces", "gross", "after", "floor", "bilateral", "least", "demoted")
+FIGURES = ("day", "product", "members", "pieces", "gross", "after", "floor", "bilateral", "least", "lost", "left_out", "demoted")
 
 
 def line(fields: Sequence[object]) -> str:
@@ -30,7 +30,11 @@ def names_of(markets: list[Market], trades: Trades) -> Iterator[str]:
 
 
 class Figures(NamedTuple):
-    """The figures of a product on a day; `is_least` is false where a part was too large to be compressed as a whole."""
+    """The figures of a product on a day.
+
+    `is_certified` says that a certificate covers all of its members in their roles. Else members are left out, or dealers are taken as
+    customers, since a part of the product was too large.
+    """
 
     key: Key
     members: int
@@ -39,11 +43,22 @@ class Figures(NamedTuple):
     after: int
     floor: int
     bilateral: int
-    is_least: bool
+    is_certified: bool
+    left_out: int
     demoted: int
 
+    @property
+    def lost(self) -> int:
+        """How far the gross is above the least at most: no network has less than the sum of the positive net positions."""
+        return 0 if self.is_certified else self.after - self.floor
+
+    @property
+    def is_least(self) -> bool:
+        """Whether it is proved that no network has less gross, for the members and roles that were given."""
+        return not self.lost
+
     def line(self) -> str:
-        return line([*self.key, *self[1:7], "yes" if self.is_least else "no", self.demoted])
+        return line([*self.key, *self[1:7], "yes" if self.is_least else "no", self.lost, self.left_out, self.demoted])
 
 
 class Result(NamedTuple):
@@ -53,7 +68,7 @@ class Result(NamedTuple):
     pieces: list[Piece]
     network: Network
 
-    def figures(self, old: Network) -> Figures:
+    def figures(self, old: Network, mode: str) -> Figures:
         members = sorted({member for pair in old for member in pair})
         places = {member: place for place, member in enumerate(members)}
         nets = nets_of({(places[i], places[j]): amount for (i, j), amount in old.items()}, len(members))
@@ -66,7 +81,8 @@ class Result(NamedTuple):
             sum(self.network.values()),
             sum(net for net in nets if net > 0),
             sum(gaps.values()),
-            not any(piece.rest for piece in self.pieces),
+            all(piece.is_least(mode) for piece in self.pieces),
+            sum(piece.left_out for piece in self.pieces),
             sum(piece.demoted for piece in self.pieces),
         )
 
