@@ -275,6 +275,7 @@ class Types(unittest.TestCase):
 
 
 UNITS = ["delkwoan.service", "delkwoan-gateway.service", "delkwoan-restart.service", "delkwoan-restart.timer", "delkwoan-standby.service"]
+SERVICES = [name for name in UNITS if name.endswith(".service")]
 
 
 def settings_of(unit: Path, name: str) -> list[str]:
@@ -302,6 +303,22 @@ class Unit(Made):
         for name in UNITS:
             text = (self.made / name).read_text()
             self.assertNotIn("@", text.replace("@system-service", "").replace("@privileged @resources", ""), name)
+
+    def test_each_takes_no_more_of_the_machine_than_it_says(self) -> None:
+        """Its memory and its threads are bounded, it is said what is killed at the bound, and no core dump has keys."""
+        for name in SERVICES:
+            given = {setting: settings_of(self.made / name, setting) for setting in ("MemoryMax", "TasksMax", "OOMPolicy", "LimitCORE")}
+            policy = "continue" if name == "delkwoan-gateway.service" else "kill"
+            self.assertEqual((given.pop("OOMPolicy"), given.pop("LimitCORE")), ([policy], ["0"]), name)
+            for setting, values in given.items():
+                self.assertRegex(",".join(values), r"^[1-9]\d*[MG]?$", f"{name}: {setting}")
+
+    def test_what_is_exposed(self) -> None:
+        """By systemd's own count, of the units that listen or hold keys: 1.2 is what is left where the network has to be there."""
+        need("systemd-analyze")
+        for name in ("delkwoan.service", "delkwoan-gateway.service", "delkwoan-standby.service"):
+            ran = run(["systemd-analyze", "security", "--no-pager", "--offline=true", "--threshold=12", self.made / name])
+            self.assertEqual(ran.status, 0, f"{name}: {ran.output.decode()}")
 
     def test_each_night_it_is_started_anew_where_it_runs(self) -> None:
         """The timer's unit is the service of its name, which starts no service that was stopped."""
