@@ -412,13 +412,3 @@ def hash_with(part: Part, other: str, salt: str) -> str:
         near = [it for it in part.roster.members if it in (part.member, other)] if any(pair.upper != 0 for pair in pairs) else []
         lines += [pot_line(part.proof, product, it) for it in near] + [pair.line for pair in pairs]
     return digest(lines)
-
-
-def public_roster(text: bytes) -> str:
-    """The roster's text with `-` for each key."""
-    lines = ["name,role,key"]
-    read_roster(text)
-    for _, fields in checker.rows_of("roster", text, [b"name", b"role", b"key"]):
-        name, role, key = (field.decode() for field in fields)
-        lines.append(f"{name},{role},{key if role == 'product' else '-'}")
-    return "".join(f"{line}\n" for line in lines)

@@ -13,7 +13,7 @@ from running import ROOT, TOOLS, Ran, run
 sys.path.insert(0, str(TOOLS))
 
 import proven
-from delkwoan import checker, own_part
+from delkwoan import checker, keys, own_part
 from delkwoan.book import Tolerance
 from delkwoan.certificate import first_clash
 from proven import Case
@@ -169,7 +169,7 @@ class CheckMine(unittest.TestCase):
             with self.subTest(line=line), self.assertRaisesRegex(checker.Fault, f"^notes row 2: {fault}$"):
                 own_part.read_notes(f"{AB}\n{line}\n".encode(), roster)
         with self.assertRaisesRegex(checker.Fault, "^roster row 3: twice$"):
-            own_part.public_roster(b"name,role,key\nA,dealer,KA\nA,dealer,KB\n")
+            keys.public_roster(b"name,role,key\nA,dealer,KA\nA,dealer,KB\n")
 
 
 def part_of(case: Case, place: int) -> own_part.Part:

@@ -22,9 +22,9 @@ from delkwoan import __version__
 
 PACKAGING = ROOT / "packaging"
 HUB = [str(EXAMPLES / "hub-roster.csv"), str(EXAMPLES / "hub-trades.csv"), "hybrid", str(EXAMPLES / "hub-proposal.txt")]
-TOOL_FILES = ["audit", "check_mine", "check_proposal", "client", "compress_many", "follow", "gateway", "journal", "public_roster", "report", "roll", "wait-ready"]
+TOOL_FILES = ["audit", "check_mine", "check_proposal", "client", "compress_many", "follow", "gateway", "journal", "keys", "public_roster", "report", "roll", "wait-ready"]
 COMMANDS = ["compress-audit", "compress-check-mine", "compress-check-proposal", "compress-client", "compress-follow", "compress-gateway"]
-COMMANDS += ["compress-journal", "compress-many", "compress-public-roster", "compress-report", "compress-roll", "compress-wait-ready", "compress_cli"]
+COMMANDS += ["compress-journal", "compress-keys", "compress-many", "compress-public-roster", "compress-report", "compress-roll", "compress-wait-ready", "compress_cli"]
 
 TYPED: list[tuple[list[str], list[str]]] = [
     (["compress_cli", ""], ["check", "follow", "gen", "replay", "roll", "script", "serve", "solve"]),
@@ -77,6 +77,7 @@ TYPED: list[tuple[list[str], list[str]]] = [
     (["compress-check-mine", "a", "A", "hub-r"], ["hub-roster.csv"]),
     (["compress-check-mine", "-"], ["--salt", "--with"]),
     (["compress-public-roster", "hub-r"], ["hub-roster.csv"]),
+    (["compress-keys", "hub-r"], ["hub-roster.csv"]),
 ]
 """The words of a command line up to the cursor, and what can stand there."""
 

@@ -13,6 +13,7 @@ from running import TOOLS, program
 sys.path.insert(0, str(TOOLS))
 
 from delkwoan import own_part
+from delkwoan.keys import public_roster
 from delkwoan.session import Session
 
 CYCLES = 24
@@ -95,7 +96,7 @@ class Cycle:
 
 
 def part_of(name: str, told: Told) -> own_part.Part:
-    roster = own_part.read_roster(own_part.public_roster(ROSTER.encode()).encode())
+    roster = own_part.read_roster(public_roster(ROSTER.encode()).encode())
     notes = own_part.read_notes("".join([*told.settings, *told.trades]).encode(), roster)
     return own_part.Part(roster, name, notes, own_part.read_proof(told.proof.encode()), own_part.read_plan(told.plan.encode()))
 

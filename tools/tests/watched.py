@@ -8,6 +8,7 @@ from typing import NamedTuple
 
 from days import PRODUCTS, Day, Market, market_of
 from delkwoan import own_part
+from delkwoan.keys import public_roster
 from delkwoan.replies import Answer
 from delkwoan.session import Session
 from running import program
@@ -120,6 +121,6 @@ class WatchedDays(unittest.TestCase):
 
     def part_of(self, member: str, told: Told) -> own_part.Part:
         """What a member tests with, by a roster without keys."""
-        roster = own_part.read_roster(own_part.public_roster(self.roster.read_bytes()).encode())
+        roster = own_part.read_roster(public_roster(self.roster.read_bytes()).encode())
         notes, proof = own_part.read_notes(told.notes.encode(), roster), own_part.read_proof(told.proof.encode())
         return own_part.Part(roster, member, notes, proof, own_part.read_plan(told.plan.encode()))

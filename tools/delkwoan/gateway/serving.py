@@ -8,10 +8,10 @@ from typing import Any
 
 import uvicorn
 
-from .. import own_part
 from ..checker import MOST_BYTES, Fault
 from ..client import found_program
 from ..ending import Stop, read_file
+from ..keys import public_roster
 from .desk import Desk
 from .follower import Follower
 from .kept import Faulty, Kept
@@ -39,9 +39,9 @@ def or_else(given: float | None, otherwise: float) -> float:
 
 
 def roster_of(file: str | None) -> str | None:
-    """A roster's text without keys, whether or not the file has them."""
+    """A roster's text for everybody, with keys that are nobody's."""
     try:
-        return None if file is None else own_part.public_roster(read_file(file, MOST_BYTES + 1))
+        return None if file is None else public_roster(read_file(file, MOST_BYTES + 1))
     except Fault as fault:
         raise Stop(3, str(fault)) from None
 
