@@ -123,6 +123,71 @@ fn what_was_written_is_read_when_the_file_is_opened_again(rt: HostRuntime) -> Re
     Ok(())
 }
 
+const LOST_FOLDER: &str = "outside_lost_disk";
+
+const LOST_FILE: &str = "outside_lost_disk/journal";
+
+// The system has no such place, so that a write there fails.
+const NO_PLACE: u64 = u64::MAX;
+
+/// A call that changes a disk, and that the system would do.
+#[derive(Clone, Copy)]
+enum Change {
+    Write,
+    Cut,
+    Sync,
+}
+
+/// Whether the disk does this change.
+fn does(disk: &mut FileDisk<HostRuntime>, change: Change) -> bool {
+    match change {
+        Change::Write => disk.write_at(0, b"XYZ").is_ok(),
+        Change::Cut => disk.cut(2).is_ok(),
+        Change::Sync => disk.sync().is_ok(),
+    }
+}
+
+/// Whether a write that fails makes this later change fail, while reads go on, and the same disk does it when it is attached
+/// again.
+fn is_lost(rt: HostRuntime, change: Change) -> bool {
+    let Ok(mut disk) = FileDisk::new(rt, Access::Write) else {
+        return false;
+    };
+    let mut into = [0; 6];
+    disk.attach(LOST_FILE).is_ok()
+        && disk.write_at(0, b"ABCDE").is_ok()
+        && disk.write_at(NO_PLACE, b"F").is_err()
+        && !does(&mut disk, change)
+        && disk.faults() == 2
+        && disk.read(0, &mut into) == Ok(5)
+        && into == *b"ABCDE\0"
+        && disk.attach(LOST_FILE).is_ok()
+        && does(&mut disk, change)
+        && disk.faults() == 2
+}
+
+#[test]
+fn a_disk_that_failed_changes_nothing_until_it_is_attached_again(
+    rt: HostRuntime,
+) -> Result<(), Fail> {
+    let _ = fs::remove_dir_all(&rt, LOST_FOLDER);
+    fs::create_dir(&rt, LOST_FOLDER)?;
+    assert!(rt; is_lost(rt, Change::Write));
+    assert!(rt; is_lost(rt, Change::Cut));
+    assert!(rt; is_lost(rt, Change::Sync));
+    fs::remove_dir_all(&rt, LOST_FOLDER)?;
+    Ok(())
+}
+
+#[test]
+fn a_file_that_no_program_can_sync_is_read(rt: HostRuntime) -> Result<(), Fail> {
+    let mut disk = FileDisk::new(rt, Access::Read)?;
+    let mut into = [0; 6];
+    assert!(rt; disk.attach("/proc/version").is_ok() && disk.length().is_ok());
+    assert!(rt; disk.read(0, &mut into) == Ok(6) && into == *b"Linux ");
+    Ok(())
+}
+
 // No regular file: a folder, and devices of which one gives bytes without end.
 const NO_FILES: &[&str] = &["/", "/dev/null", "/dev/zero"];
 

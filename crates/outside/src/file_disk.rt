@@ -1,5 +1,5 @@
 //! A disk over a file of the system. It tells nothing of what it holds: what the file does is trusted.
-ghost use Rattle.std.specs.Prelude.{◌≡◌, ℕ, ◌+◌, ◌≤◌, length, None, Ok, IfOk, OnOk, OnErr};
+ghost use Rattle.std.specs.Prelude.{◌≡◌, ℕ, ◌+◌, ◌≤◌, length, true, false, None, Ok, IfOk, OnOk, OnErr};
 ghost use Rattle.outside.specs.Faults.{CountsFault, one_more};
 
 use crate::system_file::{cut_to, length_of, make, open, read_from};
@@ -13,9 +13,11 @@ use std::rt::Files;
 /// A disk over the regular file that it is attached to. A missing file is an empty one, and any other kind of file a fault.
 ///
 /// A disk that writes locks its file against other programs as long as it has it; the first write makes a file that is
-/// missing, and syncs its folder. For a disk that only reads, each write, cut and sync is a fault. As its length it tells
-/// 8,388,608 bytes more than its file has, so that a read from the front on finds room for what another program adds until
-/// it ends, and fails where there is more.
+/// missing, and syncs its folder. After a write, a cut or a sync that failed nothing is known of the file, so each further
+/// one fails too, until the disk is attached again.
+///
+/// For a disk that only reads, each write, cut and sync is a fault. As its length it reports 8,388,608 bytes more than its file
+/// has, so that a read from the start on finds room for what another program adds until it ends, and fails if there is more.
 #[derive(Drop)]
 pub struct FileDisk<R: Files<File = File> + AllocGlobal + Drop> {
     rt: R,
@@ -24,6 +26,7 @@ pub struct FileDisk<R: Files<File = File> + AllocGlobal + Drop> {
     file: Option<File>,
     told: u64,
     faults: u64,
+    is_lost: bool,
 }
 
 // The most bytes that a name has which the system takes.
@@ -70,11 +73,12 @@ fn read_growing(file: &File, told: u64, at: u64, into: &mut [u8]) -> io::Result<
 }
 
 impl<R: Files<File = File> + AllocGlobal + Drop> FileDisk<R> {
-    ghost use Rattle.outside.specs.FileDisk.{file_faults};
+    ghost use Rattle.outside.specs.FileDisk.{file_faults, is_lost};
 
     /// A disk that is attached to no file yet. It takes the memory for a file's name, and no call takes more.
     pub fn new(rt: R, access: Access) -> Result<FileDisk<R>, AllocError>
-        ensures { IfOk result (λ d. file_faults d ≡ 0) }
+        ensures no_fault { IfOk result (λ d. file_faults d ≡ 0) }
+        ensures not_lost { IfOk result (λ d. is_lost d ≡ false) }
     {
         let name = String::with_capacity(rt.alloc(), LONGEST_NAME)?;
         Ok(FileDisk {
@@ -84,20 +88,89 @@ impl<R: Files<File = File> + AllocGlobal + Drop> FileDisk<R> {
             file: None,
             told: 0,
             faults: 0,
+            is_lost: false,
         })
     }
 
-    // What comes of a change, before it is begun: a fault where the disk only reads.
-    fn may_write(&self) -> io::Result<()> {
-        match self.access {
-            Access::Write => Ok(()),
-            Access::Read => Err(io::Error::from(ErrorKind::PermissionDenied)),
+    // What comes of a change, before it is begun: a fault if the disk only reads, or an earlier change failed.
+    fn may_change(&self) -> io::Result<()>
+        ensures { OnOk result (is_lost self.now ≡ false) }
+    {
+        match (self.access, self.is_lost) {
+            (Access::Read, _) => Err(io::Error::from(ErrorKind::PermissionDenied)),
+            (Access::Write, true) => Err(io::Error::from(ErrorKind::Other)),
+            (Access::Write, false) => Ok(()),
         }
+    }
+
+    // What a change of the file answered, with its fault counted. After a fault the disk is lost.
+    fn changed(&mut self, answer: io::Result<()>) -> Result<(), Failed>
+        requires { OnOk answer (is_lost self.old ≡ false) }
+        ensures no_fault { OnOk result (file_faults self.new ≡ file_faults self.old) }
+        ensures fault { OnErr result (file_faults self.new ≡ one_more (file_faults self.old)) }
+        ensures never_falls { file_faults self.old ≤ file_faults self.new }
+        ensures not_lost { OnOk result ((is_lost self.old ≡ false) × (is_lost self.new ≡ false)) }
+        ensures lost { OnErr result (is_lost self.new ≡ true) }
+    {
+        match counted(&mut self.faults, answer) {
+            Ok(()) => Ok(()),
+            Err(fault) => {
+                self.is_lost = true;
+                Err(fault)
+            }
+        }
+    }
+
+    // Writes to the file, and makes it first if it is missing.
+    fn write_to_file(&mut self, at: u64, bytes: &[u8]) -> io::Result<()>
+        ensures no_fault { file_faults self.new ≡ file_faults self.old }
+        ensures same { is_lost self.new ≡ is_lost self.old }
+        ensures not_lost { OnOk result (is_lost self.new ≡ false) }
+    {
+        self.may_change()?;
+        if self.file.is_none() {
+            self.file = Some(make(&self.rt, self.name.as_str())?);
+        }
+        match &self.file {
+            Some(file) => file.write_all_at(bytes, at),
+            None => Ok(()),
+        }
+    }
+
+    // Cuts the file.
+    fn cut_file(&self, length: u64) -> io::Result<()>
+        ensures { OnOk result (is_lost self.now ≡ false) }
+    {
+        self.may_change()?;
+        match &self.file {
+            Some(file) => cut_to(file, length),
+            None => Ok(()),
+        }
+    }
+
+    // Syncs the file.
+    fn sync_file(&self) -> io::Result<()>
+        ensures { OnOk result (is_lost self.now ≡ false) }
+    {
+        self.may_change()?;
+        match &self.file {
+            Some(file) => file.sync_data(),
+            None => Ok(()),
+        }
+    }
+
+    // Opens the file of this name, and keeps the name.
+    fn open_file(&mut self, name: &str) -> io::Result<()>
+        ensures no_fault { file_faults self.new ≡ file_faults self.old }
+        ensures same { is_lost self.new ≡ is_lost self.old }
+    {
+        self.file = open(&self.rt, name, self.access)?;
+        keep(&mut self.name, name)
     }
 }
 
 impl<R: Files<File = File> + AllocGlobal + Send + Drop> Disk for FileDisk<R> {
-    ghost use Rattle.outside.specs.FileDisk.{file_faults};
+    ghost use Rattle.outside.specs.FileDisk.{file_faults, is_lost};
 
     ghost history = { λ d. None };
 
@@ -109,24 +182,25 @@ impl<R: Files<File = File> + AllocGlobal + Send + Drop> Disk for FileDisk<R> {
         self.faults
     }
 
-    /// Opens the file, if there is one; one that is to be written is locked and synced.
+    /// Lets go of the file that it has, and opens this one, if it is there. One that is to be written is locked and synced.
     fn attach(&mut self, name: &str) -> Result<(), Failed>
         ensures counts { CountsFault result (file_faults self.old) (file_faults self.new) }
         ensures no_fault { OnOk result (file_faults self.new ≡ file_faults self.old) }
         ensures fault { OnErr result (file_faults self.new ≡ one_more (file_faults self.old)) }
+        ensures found { OnOk result (is_lost self.new ≡ false) }
+        ensures lost { OnErr result (is_lost self.new ≡ true) }
     {
-        let opened = open(&self.rt, name, self.access);
-        let file = counted(&mut self.faults, opened)?;
-        let kept = keep(&mut self.name, name);
-        counted(&mut self.faults, kept)?;
-        self.file = file;
-        Ok(())
+        self.file = None;
+        self.is_lost = false;
+        let opened = self.open_file(name);
+        self.changed(opened)
     }
 
     fn length(&mut self) -> Result<u64, Failed>
         ensures counts { CountsFault result (file_faults self.old) (file_faults self.new) }
         ensures no_fault { OnOk result (file_faults self.new ≡ file_faults self.old) }
         ensures fault { OnErr result (file_faults self.new ≡ one_more (file_faults self.old)) }
+        ensures same { is_lost self.new ≡ is_lost self.old }
     {
         let answer = match &self.file {
             Some(file) => length_of(file),
@@ -145,6 +219,7 @@ impl<R: Files<File = File> + AllocGlobal + Send + Drop> Disk for FileDisk<R> {
         ensures counts { CountsFault result (file_faults self.old) (file_faults self.new) }
         ensures no_fault { OnOk result (file_faults self.new ≡ file_faults self.old) }
         ensures fault { OnErr result (file_faults self.new ≡ one_more (file_faults self.old)) }
+        ensures same { is_lost self.new ≡ is_lost self.old }
     {
         let answer = match (&self.file, self.access) {
             (Some(file), Access::Write) => read_from(file, at, into),
@@ -159,46 +234,32 @@ impl<R: Files<File = File> + AllocGlobal + Send + Drop> Disk for FileDisk<R> {
         ensures counts { CountsFault result (file_faults self.old) (file_faults self.new) }
         ensures no_fault { OnOk result (file_faults self.new ≡ file_faults self.old) }
         ensures fault { OnErr result (file_faults self.new ≡ one_more (file_faults self.old)) }
+        ensures not_lost { OnOk result ((is_lost self.old ≡ false) × (is_lost self.new ≡ false)) }
+        ensures lost { OnErr result (is_lost self.new ≡ true) }
     {
-        let may_write = self.may_write();
-        counted(&mut self.faults, may_write)?;
-        if self.file.is_none() {
-            let made = make(&self.rt, self.name.as_str());
-            let file = counted(&mut self.faults, made)?;
-            self.file = Some(file);
-        }
-        let answer = match &self.file {
-            Some(file) => file.write_all_at(bytes, at),
-            None => Ok(()),
-        };
-        counted(&mut self.faults, answer)
+        let answer = self.write_to_file(at, bytes);
+        self.changed(answer)
     }
 
     fn cut(&mut self, length: u64) -> Result<(), Failed>
         ensures counts { CountsFault result (file_faults self.old) (file_faults self.new) }
         ensures no_fault { OnOk result (file_faults self.new ≡ file_faults self.old) }
         ensures fault { OnErr result (file_faults self.new ≡ one_more (file_faults self.old)) }
+        ensures not_lost { OnOk result ((is_lost self.old ≡ false) × (is_lost self.new ≡ false)) }
+        ensures lost { OnErr result (is_lost self.new ≡ true) }
     {
-        let may_write = self.may_write();
-        counted(&mut self.faults, may_write)?;
-        let answer = match &self.file {
-            Some(file) => cut_to(file, length),
-            None => Ok(()),
-        };
-        counted(&mut self.faults, answer)
+        let answer = self.cut_file(length);
+        self.changed(answer)
     }
 
     fn sync(&mut self) -> Result<(), Failed>
         ensures counts { CountsFault result (file_faults self.old) (file_faults self.new) }
         ensures no_fault { OnOk result (file_faults self.new ≡ file_faults self.old) }
         ensures fault { OnErr result (file_faults self.new ≡ one_more (file_faults self.old)) }
+        ensures not_lost { OnOk result ((is_lost self.old ≡ false) × (is_lost self.new ≡ false)) }
+        ensures lost { OnErr result (is_lost self.new ≡ true) }
     {
-        let may_write = self.may_write();
-        counted(&mut self.faults, may_write)?;
-        let answer = match &self.file {
-            Some(file) => file.sync_data(),
-            None => Ok(()),
-        };
-        counted(&mut self.faults, answer)
+        let answer = self.sync_file();
+        self.changed(answer)
     }
 }
