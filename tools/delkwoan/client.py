@@ -19,10 +19,12 @@ from .address import named_address
 from .ending import Stop, read_file, run
 from .names import Names
 from .session import Session
-from .shell import Prompt, Shell
+from .shell import Prompt, Shell, printable
 from .words import Once, Words, flag, plain
 
 MOST_FILE = 67_108_864
+MOST_SHOWN = 200
+"""Characters of what is no reply, of which the rest is left out."""
 PROGRAM = "compress_cli"
 
 
@@ -88,7 +90,7 @@ def main(line: list[str]) -> int:
     try:
         return Shell(session, prompt, given.raw).run()
     except replies.BadReply as reply:
-        raise Stop(20, f"no reply of a session: {reply}") from None
+        raise Stop(20, f"no reply of a session: {printable(str(reply))[:MOST_SHOWN]}") from None
 
 
 def command() -> NoReturn:

@@ -6,6 +6,8 @@ Every answer begins with its position, the history's length after the command. A
 from typing import Any, Callable, NamedTuple, TypeVar, get_type_hints, overload
 
 MOST_RECORD = 268_435_456
+MOST_DIGITS = 19
+"""Of a number on a line, which is 10^18 at most."""
 """The bytes of an entry."""
 
 
@@ -341,13 +343,20 @@ def value_of(kind: Any, word: str) -> str | bool | int | None:
         return word == "held"
     if kind == int | None and word == "-":
         return None
+    if not is_number(word.removeprefix("-")):
+        raise ValueError(word)
     return int(word)
 
 
+def is_number(word: str) -> bool:
+    """Whether a word has digits alone, and no more than a number of a reply has."""
+    return word.isascii() and word.isdigit() and len(word) <= MOST_DIGITS
+
+
 def position_of(head: str) -> int | None:
-    """The position that a head line tells, where it tells one."""
+    """The position that a head line reports, if it reports one."""
     words = head.split(" ")
-    return int(words[1]) if len(words) > 1 and words[1].isascii() and words[1].isdigit() else None
+    return int(words[1]) if len(words) > 1 and is_number(words[1]) else None
 
 
 def count_of(head: str) -> int:
@@ -355,10 +364,9 @@ def count_of(head: str) -> int:
     words = head.split(" ")
     if words[0] != "ok" or words[2:3] not in (["statement"], ["limits"], ["plan"], ["proof"]):
         return 0
-    try:
-        return int(words[-1])
-    except ValueError:
-        raise BadReply(head) from None
+    if not is_number(words[-1]):
+        raise BadReply(head)
+    return int(words[-1])
 
 
 def size_of(head: str) -> int | None:
@@ -366,7 +374,7 @@ def size_of(head: str) -> int | None:
     words = head.split(" ")
     if words[0] != "ok" or words[2:3] != ["entry"]:
         return None
-    if len(words) != 5 or not (words[4].isascii() and words[4].isdigit()) or len(words[4]) > len(str(MOST_RECORD)) or int(words[4]) > MOST_RECORD:
+    if len(words) != 5 or not is_number(words[4]) or int(words[4]) > MOST_RECORD:
         raise BadReply(head)
     return int(words[4])
 

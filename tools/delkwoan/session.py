@@ -18,6 +18,12 @@ from . import replies
 from .replies import expected
 
 
+LONGEST_LINE = 4096
+"""Bytes of a line of a reply, with its line feed; the longest that a service writes has some 150."""
+LONGEST_REPLY = 1 << 26
+"""Bytes of a reply. A statement of 100,000 trades has 5,000,000."""
+
+
 class LinkClosed(Exception):
     """The other side has ended: its status, what it wrote to its errors, and the last reply's position, if there was a reply."""
 
@@ -29,7 +35,8 @@ class LinkClosed(Exception):
 
 
 class Link(Protocol):
-    """What sends lines and gives lines, both with their line feed, or so many bytes; fewer, or an empty line, mean the end."""
+    """What sends lines and gives lines, both with their line feed, or a number of bytes; fewer, or an empty line, mean the end. Of a line
+    that is longer than LONGEST_LINE it gives the first bytes."""
 
     def send(self, line: bytes) -> None:
         ...
@@ -63,7 +70,7 @@ class ScriptLink:
 
     def give(self, size: int | None = None) -> bytes:
         assert self.process.stdout is not None
-        return self.process.stdout.readline() if size is None else self.process.stdout.read(size)
+        return self.process.stdout.readline(LONGEST_LINE) if size is None else self.process.stdout.read(size)
 
     def close(self) -> tuple[int, str]:
         """Ends the input, and gives the process's status and what it wrote to its errors."""
@@ -95,10 +102,10 @@ class TcpLink:
 
     def give(self, size: int | None = None) -> bytes:
         try:
-            line = self.replies.readline() if size is None else self.replies.read(size)
+            line = self.replies.readline(LONGEST_LINE) if size is None else self.replies.read(size)
         except OSError:
             line = b""
-        self.is_lost = not line.endswith(b"\n") or (size is not None and len(line) < size)
+        self.is_lost = len(line) < (LONGEST_LINE if size is None else size) and not (size is None and line.endswith(b"\n"))
         return line
 
     def close(self) -> tuple[int, str]:
@@ -149,17 +156,29 @@ class Session:
         head = self.given()
         text = head.decode(errors="replace").rstrip("\n")
         size = replies.size_of(text)
-        details = [self.given() for _ in range(replies.count_of(text))] if size is None else [self.given(size + 1)]
+        if size is not None and size > LONGEST_REPLY:
+            raise replies.BadReply(f"a reply of more than {LONGEST_REPLY} bytes")
+        details = self.rows(replies.count_of(text)) if size is None else [self.given(size + 1)]
         self.position = replies.position_of(text)
         return [head, *details]
 
+    def rows(self, count: int) -> list[bytes]:
+        """This number of detail lines."""
+        rows, length = [], 0
+        for _ in range(count):
+            rows.append(self.given())
+            length += len(rows[-1])
+            if length > LONGEST_REPLY:
+                raise replies.BadReply(f"a reply of more than {LONGEST_REPLY} bytes")
+        return rows
+
     def given(self, size: int | None = None) -> bytes:
-        """A line, or so many bytes with a line feed as the last."""
+        """A line, or a number of bytes with a line feed as the last."""
         line = self.link.give(size)
-        if size is not None and len(line) == size and not line.endswith(b"\n"):
-            raise replies.BadReply("no line feed behind an entry")
-        if not line.endswith(b"\n") or (size is not None and len(line) < size):
+        if len(line) < (LONGEST_LINE if size is None else size) and not (size is None and line.endswith(b"\n")):
             raise LinkClosed(*self.close(), self.position)
+        if not line.endswith(b"\n"):
+            raise replies.BadReply(f"a line of more than {LONGEST_LINE} bytes" if size is None else "no line feed after an entry")
         return line
 
     def ask(self, line: str) -> replies.Answer:

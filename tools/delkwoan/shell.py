@@ -13,6 +13,12 @@ from .names import COMMANDS, OWN, Names, completions
 from .records import BadField, Kind, record_of
 from .session import CONNECTION_LOST, LinkClosed, Session
 
+
+def printable(text: str) -> str:
+    """A text as a terminal may get it: what is no letter, sign or space is written as its escape, so that a service can't steer it."""
+    return "".join(it if it.isprintable() or it == "\n" else it.encode("unicode_escape").decode() for it in text)
+
+
 def columns(rows: list[list[str]]) -> Iterable[str]:
     """The rows as lines, whose words stand under one another; words that are all numbers stand to the right."""
     widths = [max(map(len, column)) for column in zip(*rows)]
@@ -92,6 +98,13 @@ def help_lines(words: list[str]) -> Iterable[str]:
         yield from (f"{word}: {meaning}" for word, meaning in OWN.items())
 
 
+def is_kept(line: str) -> bool:
+    """Whether the history keeps a line: one that begins with a command, and not with HELLO. A line that is mistyped may be a HELLO, with
+    its key."""
+    word = line.split(" ")[0]
+    return word in {*COMMANDS, *OWN} - {"HELLO"} and "HELLO" not in line.upper().split(" ")
+
+
 class Prompt:
     """Lines from a terminal, with history and completion, or from any other input."""
 
@@ -120,19 +133,23 @@ class Prompt:
         folder = os.environ.get("XDG_STATE_HOME") or os.path.expanduser("~/.local/state")
         self.history = Path(folder) / "delkwoan_history"
         try:
-            readline.read_history_file(self.history)
+            lines = self.history.read_text(errors="replace").splitlines()
         except OSError:
-            pass
+            return
+        for line in filter(is_kept, lines):
+            readline.add_history(line)
 
     def remember(self, line: str) -> None:
-        """Puts a line into the history, but none with a key in it."""
-        if self.history is None or not line or line.upper().startswith("HELLO"):
+        """Puts a line into the history, for its owner alone to read."""
+        if self.history is None or not is_kept(line):
             return
         import readline
 
         readline.add_history(line)
         try:
             self.history.parent.mkdir(parents=True, exist_ok=True)
+            self.history.touch(0o600)
+            self.history.chmod(0o600)
             readline.write_history_file(self.history)
         except OSError:
             pass
@@ -186,7 +203,7 @@ class Shell:
         if (status, errors) == CONNECTION_LOST and self.session.position is not None:
             errors += f" behind position {self.session.position}"
         if status != 0:
-            raise Stop(status, errors or f"the program ended with status {status}")
+            raise Stop(status, printable(errors) or f"the program ended with status {status}")
         return 1 if self.refused and not self.prompt.is_terminal else 0
 
     def take(self, line: str) -> bool:
@@ -197,19 +214,22 @@ class Shell:
             answer = self.session.ask(line)
         except replies.Refused as refusal:
             self.refused += 1
-            text = f"[{refusal.position}]  refused: {refusal.name} {refusal.value}".rstrip() + f" ({refusal.number})"
+            text = printable(f"[{refusal.position}]  refused: {refusal.name} {refusal.value}".rstrip() + f" ({refusal.number})")
             print(f"\033[31m{text}\033[0m" if self.has_colour else text)
             return True
         except LinkClosed:
             return False
-        print("\n".join(shown(answer)))
+        print(printable("\n".join(shown(answer))))
         if isinstance(answer, replies.Hello):
-            self.prompt.speaker = answer.name
+            self.prompt.speaker = printable(answer.name)
         return not isinstance(answer, replies.Bye)
 
     def take_raw(self, line: str) -> bool:
         reply = self.session.ask_raw(line)
         self.refused += reply[0].startswith(b"no ")
+        text = b"".join(reply)
         sys.stdout.flush()
-        sys.stdout.buffer.write(b"".join(reply))
+        if sys.stdout.isatty():
+            text = printable(text.decode(errors="backslashreplace")).encode()
+        sys.stdout.buffer.write(text)
         return reply[0].split(b" ")[2:] != [b"bye\n"]

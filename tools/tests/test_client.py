@@ -21,6 +21,9 @@ from delkwoan.session import LinkClosed, Session
 
 CLIENT = TOOLS / "client"
 FAKE = TOOLS / "tests/fake_program.py"
+MEMORY_OF = TOOLS / "tests/memory_of.py"
+MOST_KILOBYTES = 400_000
+"""What a client takes at most, whatever it is told; a reply of the greatest length takes some 220,000."""
 ROSTER = EXAMPLES / "roster.csv"
 
 LEI = "5493001KJTIIGC8Y1R12"
@@ -372,21 +375,25 @@ class Shells(InFolder):
                 )
                 self.assertEqual((done.returncode, done.stderr), (5, b"sink fault\n"))
 
-    def test_a_terminal(self) -> None:
-        """Completion of a command and of names, the prompt, and a history without keys."""
-        typed = [b"HEL\tA KA\r", b"TRA\tA B P 10 2026-03-02\r", b"\x04"]
-        environ = environment("ring-cycle", XDG_STATE_HOME=str(self.folder), TERM="xterm", NO_COLOR="1")
-        words = [str(CLIENT), str(ROSTER), str(self.journal)]
+    def typed(self, lines: list[bytes], *options: str, **more: str) -> tuple[int, bytes]:
+        """The status of a client at a terminal, and all that was on it, after these lines were typed, each at a prompt."""
+        environ = environment("ring-cycle", XDG_STATE_HOME=str(self.folder), NO_COLOR="1", **{"TERM": "xterm", **more})
+        words = [str(CLIENT), *options, str(ROSTER), str(self.journal)]
         child, terminal = pty.fork()
         if child == 0:
             os.execve(words[0], words, environ)
         text = b""
-        for line in typed:
+        for line in lines:
             text += read_to(terminal, b"> ")
             os.write(terminal, line)
         text += read_to(terminal, b"")
         _, status = os.waitpid(child, 0)
         os.close(terminal)
+        return status, text
+
+    def test_a_terminal(self) -> None:
+        """Completion of a command and of names, the prompt, and a history without keys."""
+        status, text = self.typed([b"HEL\tA KA\r", b"TRA\tA B P 10 2026-03-02\r", b"\x04"])
         self.assertIn(b"HELLO A KA", text)
         self.assertIn(b"[0]  hello  NAME A", text)
         self.assertIn(b"A> ", text)
@@ -395,6 +402,52 @@ class Shells(InFolder):
         self.assertEqual(os.waitstatus_to_exitcode(status), 70)
         history = (self.folder / "delkwoan_history").read_text()
         self.assertEqual(history, "TRADE A B P 10 2026-03-02\n")
+
+    def test_the_history_has_no_line_with_a_key(self) -> None:
+        """Nor one that was mistyped, nor one that an older client has left there; and nobody else may read it."""
+        history = self.folder / "delkwoan_history"
+        history.write_text("HELO A KA\nNETS P\n")
+        typed = [b"HELO A KA", b" HELLO A KA", b"hello A KA", b"HELLO, A KA", b"A HELLO A KA", b"TRADE HELLO A KA", b"STATEMENT"]
+        liar = self.says(f"for line in {' '.join('x' for _ in typed)}; do echo no 0 3 bad-line 0; done")
+        self.typed([line + b"\r" for line in typed] + [b"\x04"], COMPRESS_CLI=liar)
+        self.assertEqual(history.read_text(), "NETS P\nSTATEMENT\n")
+        self.assertEqual(history.stat().st_mode & 0o777, 0o600)
+
+    def test_a_service_can_t_steer_a_terminal(self) -> None:
+        """What is no letter, sign or space comes as its escape, in a reply, in a refusal, in the prompt and by --raw."""
+        steering = "\\033]0;x\\007"
+        liar = self.says(f"printf 'ok 0 hello A{steering}\\n'; printf 'no 0 2 bad{steering}-key\\n'; printf 'ok 0 bye\\n'")
+        for options in ([], ["--raw"]):
+            with self.subTest(options=options):
+                _, text = self.typed([b"NETS P\r", b"NETS P\r", b"BYE\r"], *options, COMPRESS_CLI=liar, TERM="dumb")
+                self.assertNotIn(b"\x1b]", text)
+                self.assertEqual(text.count(b"\\x1b]0;x\\x07"), 2 if options else 4)
+
+    def test_replies_without_end(self) -> None:
+        """They cost a bound of memory, and are told. Of what is no reply its beginning is shown."""
+        for lines, told in (
+            ("tr '\\0' A < /dev/zero", "a line of more than 4096 bytes"),
+            ("echo ok 1 statement 999999999999999999; yes 'trade 1 A B P 10 2026-03-02 live -'", "a reply of more than 67108864 bytes"),
+            ("echo ok 1 entry 1 268435456; cat /dev/zero", "a reply of more than 67108864 bytes"),
+            (f"echo ok {'1' * 4000} bye", f"ok {'1' * 197}"),
+            (f"echo ok 1 statement {'1' * 4000}", f"ok 1 statement {'1' * 185}"),
+            (f"echo ok 1 nets 1 {'1' * 4000} 1", f"ok 1 nets 1 {'1' * 188}"),
+            ("printf 'ok 1 \\033]0;x\\007\\n'", "ok 1 \\x1b]0;x\\x07"),
+        ):
+            with self.subTest(lines=lines[:40]):
+                most = self.folder / "most"
+                words = [sys.executable, MEMORY_OF, most, CLIENT, ROSTER, self.journal]
+                environ = environment("ring-cycle", COMPRESS_CLI=self.says(lines))
+                done = subprocess.run(words, input=b"STATEMENT\n", capture_output=True, env=environ, timeout=PATIENCE)
+                self.assertEqual((done.returncode, done.stderr), (20, f"no reply of a session: {told}\n".encode()))
+                self.assertLess(int(most.read_text()), MOST_KILOBYTES)
+
+    def says(self, lines: str) -> str:
+        """A program in place of the client's, which says what these lines of the shell write, whatever it is asked."""
+        liar = self.folder / "liar"
+        liar.write_text(f"#!/bin/sh\n{lines}\ncat > /dev/null\n")
+        liar.chmod(0o755)
+        return str(liar)
 
 
 if __name__ == "__main__":
