@@ -1,8 +1,8 @@
 """A member's own test of a proposal: by its notes, a roster without keys, and the text of the reply to its PROOF.
 
 It is written from docs/PROTOCOL.md alone, and shares nothing with the program. `read_roster`, `read_notes`, `read_proof` and
-`read_plan` read the texts; a text's first fault is raised as a Fault. `clash_of` tells the first thing that is wrong, with the
-line that shows it.
+`read_plan` read the texts; a text's first fault is raised as a Fault. A text may be all that a session wrote: greetings, refusals
+and replies to other lines are passed over. `clash_of` tells the first thing that is wrong, with the line that shows it.
 `compress-check-mine` is its command.
 """
 
@@ -119,6 +119,63 @@ def most(word: str) -> int | None:
     return None if word == "-" else number(word)
 
 
+COUNTED = ("statement", "limits", "plan", "proof")
+"""The replies that end with how many detail lines they have."""
+
+
+class Reply(NamedTuple):
+    """A line of a text with its row, counted from 1, its words, and, if it is the head of a reply, the reply's detail lines."""
+
+    row: int
+    words: list[str]
+    details: list[tuple[str, list[str]]]
+
+    @property
+    def is_head(self) -> bool:
+        return len(self.words) > 2 and self.words[0] in ("ok", "no") and self.words[1].isdigit()
+
+    @property
+    def kind(self) -> str | None:
+        """The word that tells what is answered; none of a refusal."""
+        return self.words[2] if self.is_head and self.words[0] == "ok" else None
+
+
+def replies_in(file: str, text: bytes) -> Iterator[Reply]:
+    """The replies in a text one after another, and by itself each line that is of none."""
+    lines = list(lines_of(file, text))
+    row = 1
+    while row <= len(lines):
+        reply = Reply(row, lines[row - 1][1], [])
+        row += 1
+        if reply.kind in COUNTED:
+            count = checker.number_of(reply.words[-1].encode())
+            if count is None:
+                raise Fault(f"{file} row {reply.row}: bad-line")
+            reply = reply._replace(details=lines[row - 1 : row - 1 + count])
+            row += count
+        if row > len(lines) + 1:
+            raise Fault(f"{file} row {len(lines) + 1}: bad-line")
+        yield reply
+
+
+def reply_to(verb: str, text: bytes) -> Reply:
+    """The one reply of this kind among those of a session."""
+    found: Reply | None = None
+    refused: int | None = None
+    after = 1
+    for reply in replies_in(verb, text):
+        if not reply.is_head or (found is not None and reply.kind == verb):
+            raise Fault(f"{verb} row {reply.row}: bad-line")
+        if reply.kind == verb:
+            found = reply
+        elif reply.kind is None and refused is None:
+            refused = reply.row
+        after = reply.row + 1 + len(reply.details)
+    if found is None:
+        raise Fault(f"{verb} row {after}: bad-line" if refused is None else f"{verb} row {refused}: refused")
+    return found
+
+
 def note(notes: Notes, roster: Roster, words: list[str]) -> None:
     """Takes in a line of the notes: `POSITION TOL OTHER PRODUCT SIDE FLOOR CEILING`, or a trade of a STATEMENT."""
     if words[0] == "trade":
@@ -139,9 +196,24 @@ def note(notes: Notes, roster: Roster, words: list[str]) -> None:
         raise KeyError(product)
 
 
+def lines_of_notes(notes: Notes, text: bytes) -> Iterator[tuple[int, list[str]]]:
+    """The lines of the notes with their rows: those that are of no reply, and those of a STATEMENT, which replaces the one before."""
+    for reply in replies_in("notes", text):
+        if not reply.is_head:
+            yield reply.row, reply.words
+        elif reply.kind == "statement":
+            notes.numbers.clear()
+            notes.live.clear()
+            for row, (_, words) in enumerate(reply.details, reply.row + 1):
+                if words[0] != "trade":
+                    raise Fault(f"notes row {row}: bad-line")
+                yield row, words
+
+
 def read_notes(text: bytes, roster: Roster) -> Notes:
+    """The notes of a text that has settings, and trades by themselves or in a reply to STATEMENT."""
     notes = Notes({}, set(), {})
-    for row, (_, words) in enumerate(lines_of("notes", text), 1):
+    for row, words in lines_of_notes(notes, text):
         try:
             note(notes, roster, words)
         except ValueError:
@@ -151,12 +223,12 @@ def read_notes(text: bytes, roster: Roster) -> Notes:
     return notes
 
 
-def head_of(words: list[str]) -> tuple[Proof, int]:
-    ok, position, verb, cycle, version, day, mode, begun, count = words
+def head_of(words: list[str]) -> Proof:
+    _, position, _, cycle, version, day, mode, begun, _ = words
     number(position)
-    if (ok, verb) != ("ok", "proof") or mode not in checker.MODES or not checker.is_day(day.encode()):
-        raise ValueError(verb)
-    return Proof(number(cycle), number(version), day, mode, number(begun), {}, []), number(count)
+    if mode not in checker.MODES or not checker.is_day(day.encode()):
+        raise ValueError(mode)
+    return Proof(number(cycle), number(version), day, mode, number(begun), {}, [])
 
 
 def take(proof: Proof, line: str, words: list[str]) -> None:
@@ -176,16 +248,14 @@ def take(proof: Proof, line: str, words: list[str]) -> None:
 
 
 def read_proof(text: bytes) -> Proof:
-    lines = list(lines_of("proof", text))
-    row = 1
+    reply = reply_to("proof", text)
+    row = reply.row
     try:
-        proof, count = head_of(lines[0][1] if lines else [])
-        for row, (line, words) in enumerate(lines[1:], 2):
+        proof = head_of(reply.words)
+        for row, (line, words) in enumerate(reply.details, reply.row + 1):
             take(proof, line, words)
     except ValueError:
         raise Fault(f"proof row {row}: bad-line") from None
-    if len(lines) != count + 1:
-        raise Fault(f"proof row {len(lines) + 1}: bad-line")
     return proof
 
 
@@ -198,17 +268,13 @@ class Plan(NamedTuple):
 
 
 def read_plan(text: bytes) -> Plan:
-    lines = list(lines_of("plan", text))
+    reply = reply_to("plan", text)
     try:
-        ok, position, verb, cycle, version, count = lines[0][1] if lines else []
-        plan = Plan(number(cycle), number(version), [line for line, _ in lines[1:]])
-        if (ok, verb) != ("ok", "plan") or number(position) < 0:
-            raise ValueError(verb)
+        _, position, _, cycle, version, _ = reply.words
+        number(position)
+        return Plan(number(cycle), number(version), [line for line, _ in reply.details])
     except ValueError:
-        raise Fault("plan row 1: bad-line") from None
-    if len(plan.steps) != number(count):
-        raise Fault(f"plan row {len(lines) + 1}: bad-line")
-    return plan
+        raise Fault(f"plan row {reply.row}: bad-line") from None
 
 
 class Part(NamedTuple):

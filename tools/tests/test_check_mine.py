@@ -149,10 +149,57 @@ class CheckMine(unittest.TestCase):
                 self.assertEqual(self.check(KEEPS, "A", text), Ran(3, b"", b"proof row %d: bad-line\n" % row))
         for words in (["--salt", "S1"], ["--with", "B"], ["--with", "A", "--salt", "S1"], ["--with", "Z", "--salt", "S1"]):
             self.assertEqual(self.check(KEEPS, "A", reply, *words), Ran(2, b"", b"bad words\n"))
-        for plan, row in (("", 1), (PLAN.replace("plan", "proof"), 1), (PLAN + "end 1\n", 5), ("ok 15 plan 1 1 1\n", 2)):
+        for plan, row in (("", 1), (PLAN.replace("plan", "proof"), 4), (PLAN + "end 1\n", 4), ("ok 15 plan 1 1 1\n", 2)):
             with self.subTest(plan=plan):
                 (self.folder / "plan").write_text(plan)
                 self.assertEqual(self.check(KEEPS, "A", reply, "plan"), Ran(3, b"", b"plan row %d: bad-line\n" % row))
+
+    def test_what_a_session_wrote_is_taken_as_it_is(self) -> None:
+        """Each row is what a session of A wrote: greetings, refusals and replies to other lines stand around what is looked for."""
+        proof = reply_of(KEEPS, "A")
+        asked = f"no 14 16 wrong-cycle 1\n{proof}{PLAN}ok 15 bye\n"
+        limits = "ok 15 limits 1\nlimit A B 0 10 10\n"
+        for before, after in (("", "ok 15 bye\n"), ("ok 14 hello A\n", ""), (limits, limits), ("", asked.removeprefix("no 14 16 wrong-cycle 1\n" + proof))):
+            with self.subTest(before=before, after=after):
+                self.assertEqual(self.check(KEEPS, "A", before + proof + after).output[:4], b"yes\n")
+        (self.folder / "plan").write_text("ok 14 hello A\n" + asked)
+        self.assertEqual(self.check(KEEPS, "A", "ok 14 hello A\n" + asked, "plan").output[:4], b"yes\n")
+        (self.folder / "plan").write_text("ok 14 hello A\n" + asked.replace("cut 4 10 4", "cut 4 10 5"))
+        self.assertEqual(self.check(KEEPS, "A", "ok 14 hello A\n" + asked, "plan").output[:24], b"no plan leads elsewhere\n")
+
+    def test_a_session_without_the_reply_is_a_fault(self) -> None:
+        proof = reply_of(KEEPS, "A")
+        for text, fault in (
+            ("no 0 2 bad-key\nno 0 1 not-greeted\n", "row 1: refused"),
+            ("ok 14 hello A\nno 14 17 wrong-phase frozen\nok 14 bye\n", "row 2: refused"),
+            ("ok 14 hello A\n", "row 2: bad-line"),
+            ("ok 14 hello A\n" + PLAN, "row 5: bad-line"),
+            ("ok 14 hello A\n" + proof + "ok 14 hello A\n" + proof, "row 9: bad-line"),
+            ("ok 14 hello A\n" + "".join(proof.splitlines(True)[:-1]), "row 7: bad-line"),
+            ("ok 14 hello A\nok\n" + proof, "row 2: bad-line"),
+            ("HELLO A KA\n" + proof, "row 1: bad-line"),
+            ("ok 14 hello A\nok 14 proof 1 1 2026-03-31 conservative 13 x\n", "row 2: bad-line"),
+        ):
+            with self.subTest(text=text):
+                self.assertEqual(self.check(KEEPS, "A", text), Ran(3, b"", f"proof {fault}\n".encode()))
+
+    def test_notes_are_what_was_set_and_what_a_session_wrote(self) -> None:
+        """The last STATEMENT of the notes counts; what is not of it or of a TOL is passed over."""
+        settings, trades = NOTES[KEEPS, "A"][:3], NOTES[KEEPS, "A"][3:]
+        statement = ["ok 4 statement 2", *trades]
+        older = ["ok 1 statement 1", AB.replace("P 10", "P 9")]
+        plain = own_part.read_notes("".join(f"{line}\n" for line in [*settings, *trades]).encode(), self.roster())
+        for lines in (
+            [*settings, "ok 4 hello A", *statement],
+            [*older, "ok 2 tol", *settings[:1], *statement, "no 4 16 wrong-cycle 0", *settings[1:], "ok 4 bye"],
+            [*statement, *settings, "ok 5 plan 1 1 1", "cut 1 10 4", "ok 5 nets 0 10 -10"],
+            [*trades[:1], *statement, *settings],
+        ):
+            with self.subTest(lines=lines):
+                self.assertEqual(own_part.read_notes("".join(f"{line}\n" for line in lines).encode(), self.roster()), plain)
+
+    def roster(self) -> own_part.Roster:
+        return own_part.read_roster((TRANSCRIPTS / "roster.csv").read_bytes())
 
     def test_notes_that_are_out_of_form_are_a_fault(self) -> None:
         roster = own_part.read_roster((TRANSCRIPTS / "roster.csv").read_bytes())
@@ -168,6 +215,9 @@ class CheckMine(unittest.TestCase):
         ):
             with self.subTest(line=line), self.assertRaisesRegex(checker.Fault, f"^notes row 2: {fault}$"):
                 own_part.read_notes(f"{AB}\n{line}\n".encode(), roster)
+        for text, row in (("ok 4 statement 2\n" + AB, 3), ("ok 4 statement 1\nok 4 hello A\n", 2), (f"ok 4 statement x\n{AB}\n", 1), (f"ok 4 statement 2\n{AB}\n{AB}\n", 3)):
+            with self.subTest(text=text), self.assertRaisesRegex(checker.Fault, f"^notes row {row}: bad-line$"):
+                own_part.read_notes(text.encode(), roster)
         with self.assertRaisesRegex(checker.Fault, "^roster row 3: twice$"):
             keys.public_roster(b"name,role,key\nA,dealer,KA\nA,dealer,KB\n")
 
@@ -216,6 +266,31 @@ class RandomProposals(unittest.TestCase):
                 self.assertEqual(hashes[0] != hashes[1], is_near)
                 counts[is_near] += 1
         self.assertGreater(min(counts.values()), 50)
+
+    def test_a_floor_forged_in_a_members_name_is_found_by_that_member_alone(self) -> None:
+        """The proposal is solved and certified under the forged floor, so that all others find nothing."""
+        chance = random.Random(50)
+        found = 0
+        for _ in range(CASES):
+            case = proven.case_of(chance)
+            pair = (0, 1)
+            now, low = case.problem.now.get(pair, 0), case.problem.least.get(pair, 0)
+            if now <= low:
+                continue
+            settings = {**case.settings, (pair, 0): Tolerance(low + 1, None)}
+            problem = case.problem._replace(least={**case.problem.least, pair: low + 1})
+            told = case._replace(settings=settings, problem=problem)
+            new, prices = proven.least(problem, len(case.dealers))
+            told = told._replace(new=new, prices=prices)
+            if proven.upper_owner(told, pair) != proven.upper_owner(case, pair):
+                continue
+            parts = [part_of(told, place)._replace(notes=part_of(case, place).notes) for place in range(len(case.dealers))]
+            clashes = [own_part.clash_of(part) for part in parts]
+            with self.subTest(case=case):
+                self.assertEqual(clashes[0] and clashes[0].words, "lower is not of seller")
+                self.assertEqual(clashes[1:], [None] * (len(case.dealers) - 1))
+            found += 1
+        self.assertGreater(found, 100)
 
     def test_a_bound_that_nobody_set_is_found_by_whom_it_names(self) -> None:
         chance = random.Random(48)
