@@ -146,8 +146,8 @@ def network_charts(product: Product, names: list[str]) -> Markup:
     figures = []
     for when, network, sums in (("before", product.old, product.before), ("after", product.new, product.after)):
         chart = network_chart(network, names, shown, most, f"The network of {product.name} {when}")
-        caption = f"{when.capitalize()}: lines {sums.lines:,}, gross {sums.gross:,}."
+        caption = f"{when.capitalize()}: pairs {sums.lines:,}, gross {sums.gross:,}."
         if len(network) > MOST_LINES:
-            caption += f" The {MOST_LINES:,} greatest lines are drawn."
+            caption += f" The {MOST_LINES:,} greatest pairs are drawn."
         figures.append(tag("figure", chart, tag("figcaption", caption)))
     return joined(*figures)

@@ -37,10 +37,10 @@ def cards(group: Group) -> Markup:
         card("Gross before", amount(before.gross)),
         card("Gross after", amount(after.gross)),
         card("Fall of the gross", fall(before.gross, after.gross)),
-        card("Excess above the floor", amount(before.excess), " → ", amount(after.excess)),
+        card("Excess above M", amount(before.excess), " → ", amount(after.excess)),
         card("Share of the excess that went", fall(before.excess, after.excess)),
         card("Trades", amount(before.trades), " → ", amount(after.trades)),
-        card("Lines", amount(before.lines), " → ", amount(after.lines)),
+        card("Pairs", amount(before.lines), " → ", amount(after.lines)),
         card("Nets that stay", f"{kept:,} of {nets:,}"),
         class_="cards",
     )
@@ -53,14 +53,15 @@ def products_of(group: Group) -> Markup:
     key = soft("Gross notional", tag("i", class_="key before"), "before", tag("i", class_="key"), "after")
     if len(group.products) > charts.MOST_BARS:
         key = joined(key, soft(f"The {charts.MOST_BARS} products of the greatest gross; the table has all {len(group.products)}."))
-    heads = ["Product", "Gross", "Fall", "Excess", "Excess that went", "Floor", "Bilateral", "Lines", "Trades"]
+    heads = ["Product", "Gross", "Fall", "Excess", "Excess that went", "M", "Bilateral", "Pairs", "Trades"]
     return joined(
         tag("h3", "Products"),
         key,
         charts.gross_chart(group.products),
         soft(
-            "The floor is the sum of the positive net positions, the excess the gross above it, the bilateral figure what is "
-            "left where each pair is netted; a line is what one member owes another. ",
+            "M is the sum of the positive net positions: no network with the same net positions has less gross. The excess is the "
+            "gross above M. The bilateral figure is what is left if each two members net what they owe each other. A pair is a seller "
+            "and a buyer with an amount between them. ",
             STACKED,
         ),
         table("broad", heads, [product_row(product) for product in group.products]),
@@ -71,12 +72,12 @@ def members_of(group: Group, leis: dict[str, str]) -> Markup:
     parts = [
         tag("h3", "Dealers and customers"),
         soft("What lies between members of these roles. ", STACKED),
-        table("narrow", ["Between", "Gross", "Fall", "Lines"], [between_row(pairs) for pairs in group.between]),
+        table("narrow", ["Between", "Gross", "Fall", "Pairs"], [between_row(pairs) for pairs in group.between]),
         tag("h3", "Members"),
         soft("Members by the fall of their gross:"),
         charts.reduction_chart(group.members),
         soft(
-            "What a member owes and is owed together, with how many counterparties, in how many lines; and in how many of its "
+            "What a member owes and is owed together, with how many counterparties, in how many pairs; and in how many of its "
             "products its net position stays. ",
             STACKED,
         ),
@@ -84,7 +85,7 @@ def members_of(group: Group, leis: dict[str, str]) -> Markup:
     for role in ("dealer", "customer"):
         rows = [member_row(member, leis.get(member.name)) for member in group.members if member.role == role]
         if rows:
-            parts.append(table("narrow", [f"{role.capitalize()}s", "Gross", "Fall", "Counterparties", "Lines", "Nets that stay"], rows))
+            parts.append(table("narrow", [f"{role.capitalize()}s", "Gross", "Fall", "Counterparties", "Pairs", "Nets that stay"], rows))
     return joined(*parts)
 
 

@@ -51,9 +51,9 @@ def product_row(product: Product) -> list[Markup]:
         cell("Fall", fall(before.gross, after.gross)),
         pair_cell("Excess", before.excess, after.excess),
         cell("Excess that went", fall(before.excess, after.excess)),
-        pair_cell("Floor", before.floor, after.floor),
+        pair_cell("M", before.floor, after.floor),
         pair_cell("Bilateral", before.bilateral, after.bilateral),
-        pair_cell("Lines", before.lines, after.lines),
+        pair_cell("Pairs", before.lines, after.lines),
         pair_cell("Trades", before.trades, after.trades),
     ]
 
@@ -63,7 +63,7 @@ def between_row(pairs: Between) -> list[Markup]:
         tag("th", pairs.roles, scope="row"),
         pair_cell("Gross", pairs.before[0], pairs.after[0]),
         cell("Fall", fall(pairs.before[0], pairs.after[0])),
-        pair_cell("Lines", pairs.before[1], pairs.after[1]),
+        pair_cell("Pairs", pairs.before[1], pairs.after[1]),
     ]
 
 
@@ -75,6 +75,6 @@ def member_row(member: Member, lei: str | None) -> list[Markup]:
         pair_cell("Gross", member.before.gross, member.after.gross),
         cell("Fall", fall(member.before.gross, member.after.gross)),
         pair_cell("Counterparties", member.before.counterparties, member.after.counterparties),
-        pair_cell("Lines", member.before.lines, member.after.lines),
+        pair_cell("Pairs", member.before.lines, member.after.lines),
         cell("Nets that stay", f"{member.nets_kept} of {member.nets}", **stays),
     ]

@@ -68,6 +68,7 @@ class Day(InBrowser):
         page.type("Floor", "5")
         page.press("Set")
         page.shows("It is set.")
+        page.shows("1 of 1")
         self.picture(page, "tolerances-dark")
 
     def proposed(self, operator: Page) -> None:

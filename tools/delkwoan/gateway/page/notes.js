@@ -1,5 +1,5 @@
 // What a member notes for its own test of a proposal: its tolerances with their positions, and its trades at the freeze.
-// The service tells nobody's tolerances; so they are kept here, in the browser's storage, by the member's name.
+// No line lists a member's tolerances; so they are kept here, in the browser's storage, by the member's name.
 
 const SIDES = ["out", "in"];
 

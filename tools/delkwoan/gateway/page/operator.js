@@ -130,7 +130,7 @@ export class Operation {
 }
 
 function votesText({ version, cycle, accepted, declined, left }) {
-  if (!cycle) return "No vote has come through this gateway. The service tells the operator of no vote.";
+  if (!cycle) return "No vote has come through this gateway. Votes that come another way are in the history, and not shown here.";
   const names = accepted.length ? accepted.join(", ") : "nobody";
   const rest = left === null ? "" : left === 0 ? " It is carried out." : ` By the last reply ${left} had not accepted.`;
   return `Cycle ${cycle}, version ${version}, through this gateway: accepted by ${names}.${rest}${declined ? ` Declined by ${declined}.` : ""}`;

@@ -16,7 +16,7 @@ export class Tolerances {
     load.input.addEventListener("change", () => this.load(load.input));
     this.element = make("div", {}, make("p", {}, "Of each pair of yours: what its amount may fall to, and what it may grow to. What is not set is from 0 on without a most."),
       this.entry(), this.table.element,
-      make("p", { class: "soft" }, "The service does not tell tolerances again. So this browser notes those that are set here, and your trades at the freeze, for your own test of a proposal."),
+      make("p", { class: "soft" }, "The service has no line that lists your tolerances. So this browser notes those that you set here, and your trades at the freeze, for your own test of a proposal. The operator can read each tolerance. A counterparty sees one if it is the bound that counts in a proposal."),
       make("div", { class: "line" }, make("p", {}, button("Save notes", () => save(`${name}-notes.txt`, notes.text()))), load.element,
         make("p", {}, button("Forget notes", () => this.forget()))));
   }
