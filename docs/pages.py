@@ -1,14 +1,54 @@
-"""What docs/check looks for on the pages: each crate has one, lines of Rattle that a page shows stand in the file that it
-names, and the README's limits are those of the code."""
+"""What docs/check looks for on the pages: each crate has one, links and paths lead to what is there, lines of Rattle that a page
+shows stand in the file that it names, and the README's limits are those of the code."""
 
 import os
 import re
 from glob import glob
 
+FENCE = re.compile(r"^```.*?^```$", re.M | re.S)
+FOLDERS = "bench|crates|debian|docs|examples|packaging|studies|tools"
+PATH = re.compile(rf"(?<![\w./-])(?:{FOLDERS})/[\w./-]*\w(?![\w*{{<])")
+"""A path from the top of the repository; one that goes on with a pattern is left out."""
+MADE = re.compile(r"/out/|\bNAME\b")
+"""Of a path: what a build makes, or a word for any name."""
+
 
 def text(path: str) -> str:
     with open(path, encoding="utf-8") as file:
         return file.read()
+
+
+def pages() -> list[str]:
+    """All pages of the repository."""
+    folders = ["docs", "docs/pictures", "crates/*", "tools/delkwoan/gateway", "examples", "studies", "bench"]
+    return ["README.md", "CHANGELOG.md", *(page for folder in folders for page in sorted(glob(f"{folder}/*.md")))]
+
+
+def anchors(page: str) -> set[str]:
+    """What a link may name of a page: its headings, in small letters and without marks, with `-` for each space."""
+    headings = re.findall(r"^#+ (.*)$", FENCE.sub("", text(page)), re.M)
+    return {re.sub(r"[^\w -]", "", heading.lower()).replace(" ", "-") for heading in headings}
+
+
+def is_there(page: str, link: str) -> bool:
+    """Whether a link of a page leads somewhere in the repository, or out of it."""
+    if re.match(r"\w+:", link):
+        return True
+    file, _, anchor = link.partition("#")
+    path = os.path.normpath(os.path.join(os.path.dirname(page), file)) if file else page
+    return os.path.exists(path) and (not anchor or anchor in anchors(path))
+
+
+def links(page: str) -> list[str]:
+    """The links of a page, its paths from the top of the repository, and the pages that it names without a folder, as far as
+    they are not there."""
+    shown = text(page)
+    prose = FENCE.sub("", shown)
+    broken = [link for link in re.findall(r"\]\(([^)\s]+)\)", prose) if not is_there(page, link)]
+    broken += [path for path in PATH.findall(shown) if not MADE.search(path) and not os.path.exists(path)]
+    beside = [name for name in re.findall(r"`([\w-]+\.md)`", prose) if name != "README.md"]
+    broken += [name for name in beside if not os.path.exists(os.path.join(os.path.dirname(page), name)) and not os.path.exists(name)]
+    return [f"{page}: nothing is at {it}" for it in broken]
 
 
 def snippets(path: str) -> list[str]:
@@ -59,4 +99,4 @@ def limits() -> list[str]:
 
 def differences() -> list[str]:
     crates = [os.path.basename(crate) for crate in sorted(glob("crates/*")) if os.path.isdir(f"{crate}/src")]
-    return [it for crate in crates for it in page_of_crate(crate)] + limits()
+    return [it for crate in crates for it in page_of_crate(crate)] + [it for page in pages() for it in links(page)] + limits()

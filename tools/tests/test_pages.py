@@ -19,6 +19,11 @@ BROKEN: list[tuple[str, str, str, str]] = [
     ("docs/PROTOCOL.md", "| `10 trades-full`", "| `30 trades-full`", "refusals: no definition has the document's `30 trades-full`"),
     ("docs/PROTOCOL.md", "`ok N bye`", "`ok N gone`", "replies: no definition has the document's `gone`"),
     ("docs/PROTOCOL.md", "ok 8 cancelled 1", "ok 9 cancelled 1", "chain-by-hand: the document's replies are not the end of"),
+    ("docs/MODEL.md", "", "\n[x](NONE.md)\n", "docs/MODEL.md: nothing is at NONE.md"),
+    ("docs/TOOLS.md", "", "\n[x](PROTOCOL.md#a-heading)\n", "docs/TOOLS.md: nothing is at PROTOCOL.md#a-heading"),
+    ("docs/THEORY.md", "", "\n![x](pictures/none.png)\n", "docs/THEORY.md: nothing is at pictures/none.png"),
+    ("docs/TRUST.md", "", "\n```\n$ tools/none roster.csv\n```\n", "docs/TRUST.md: nothing is at tools/none"),
+    ("docs/STUDY.md", "", "\nSee `NONE.md`.\n", "docs/STUDY.md: nothing is at NONE.md"),
     ("crates/seats/README.md", "# seats", "# seat", "crates/seats/README.md: it does not begin with `# seats`"),
     ("crates/posting/README.md", "None => posted_plan(", "None => planned(", "crates/posting/README.md: crates/cycle_states/src/machine/commands/post.rt has no"),
     ("crates/outside/README.md", "From `crates/", "From `crate/", "crates/outside/README.md: lines of no file: 'disk.write_at"),
@@ -31,16 +36,20 @@ class Pages(unittest.TestCase):
         folder = tempfile.TemporaryDirectory()
         self.addCleanup(folder.cleanup)
         self.tree = Path(folder.name)
-        shutil.copytree(ROOT / "docs", self.tree / "docs", ignore=shutil.ignore_patterns("__pycache__", "*.png"))
+        shutil.copytree(ROOT / "docs", self.tree / "docs", ignore=shutil.ignore_patterns("__pycache__"))
         shutil.copy2(ROOT / "README.md", self.tree)
-        (self.tree / "examples").symlink_to(ROOT / "examples")
+        self.link(ROOT, self.tree, {"crates", "docs", "README.md", ".git"})
         for crate in (ROOT / "crates").iterdir():
             copied = self.tree / "crates" / crate.name
             copied.mkdir(parents=True)
-            for name in ("src", "specs"):
-                if (crate / name).is_dir():
-                    (copied / name).symlink_to(crate / name)
+            self.link(crate, copied, {"README.md"})
             shutil.copy2(crate / "README.md", copied)
+
+    def link(self, source: Path, copied: Path, left: set[str]) -> None:
+        """Links to all in a folder but what is left out."""
+        for path in source.iterdir():
+            if path.name not in left:
+                (copied / path.name).symlink_to(path)
 
     def told(self) -> Ran:
         return run([self.tree / "docs/check"])
