@@ -1,5 +1,5 @@
 """What docs/check looks for on the pages: each crate has one, links and paths lead to what is there, lines of Rattle that a page
-shows stand in the file that it names, and the README's limits are those of the code."""
+shows stand in the file that it names, and the limits that pages have are those of the code."""
 
 import os
 import re
@@ -9,7 +9,7 @@ FENCE = re.compile(r"^```.*?^```$", re.M | re.S)
 FOLDERS = "bench|crates|debian|docs|examples|packaging|studies|tools"
 PATH = re.compile(rf"(?<![\w./-])(?:{FOLDERS})/[\w./-]*\w(?![\w*{{<])")
 """A path from the top of the repository; one that goes on with a pattern is left out."""
-MADE = re.compile(r"/out/|\bNAME\b")
+MADE = re.compile(r"/out\b|\bNAME\b")
 """Of a path: what a build makes, or a word for any name."""
 
 
@@ -86,17 +86,36 @@ def number_of(written: str) -> int:
     return int(int(base) ** int(power or "1"))
 
 
+LIMITS = "docs/LIMITS.md"
+SHORT = re.compile(r"([\d,]+) members, ([\d,]+) of them dealers, ([\d,]+) products, ([\d,]+) submitted trades")
+"""The limits that the README has, and the constants that have them."""
+OF_SHORT = ["MOST_MEMBERS", "MOST_DEALERS", "MOST_PRODUCTS", "MOST_SUBMITTED"]
+
+
+def short_limits() -> list[str]:
+    """What differs between the README's few limits and the constants."""
+    found = SHORT.search(text("README.md"))
+    if found is None:
+        return ["README.md: it has no limits"]
+    defined = [constants().get(name) for name in OF_SHORT]
+    return [
+        f"README.md: `{name}` is {limit}, and not {written}"
+        for name, limit, written in zip(OF_SHORT, defined, map(number_of, found.groups()))
+        if limit != written
+    ]
+
+
 def limits() -> list[str]:
-    """What differs between the README's table of limits and the constants."""
-    rows = re.findall(r"^\|[^|]+\| ([\d,^ ]+) \| (`MOST_\w+`(?:, `MOST_\w+`)*) \|$", text("README.md"), re.M)
+    """What differs between the table of limits and the constants."""
+    rows = re.findall(r"^\|[^|]+\| ([\d,^ ]+) \| (`MOST_\w+`(?:, `MOST_\w+`)*) \|$", text(LIMITS), re.M)
     pairs = [pair for numbers, names in rows for pair in zip(names.split(", "), numbers.split(", "))]
     written = {name.strip("`"): number_of(number) for name, number in pairs}
     defined = constants()
-    missing = [f"README.md: no limit has `{name}`" for name in defined if name not in written]
-    wrong = [f"README.md: `{name}` is {defined.get(name)}, and not {number}" for name, number in written.items() if defined.get(name) != number]
+    missing = [f"{LIMITS}: no limit has `{name}`" for name in defined if name not in written]
+    wrong = [f"{LIMITS}: `{name}` is {defined.get(name)}, and not {number}" for name, number in written.items() if defined.get(name) != number]
     return missing + wrong
 
 
 def differences() -> list[str]:
     crates = [os.path.basename(crate) for crate in sorted(glob("crates/*")) if os.path.isdir(f"{crate}/src")]
-    return [it for crate in crates for it in page_of_crate(crate)] + [it for page in pages() for it in links(page)] + limits()
+    return [it for crate in crates for it in page_of_crate(crate)] + [it for page in pages() for it in links(page)] + limits() + short_limits()
