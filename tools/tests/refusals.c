@@ -6,6 +6,7 @@
  *     REFUSE_MEMORY_WITH=FILE      each request for memory is refused while this file is there
  *     REFUSED=FILE                 this file is made when a request for memory, or a call to a file, is refused
  *     REFUSE_DISK=N                of the calls to the file that was locked last the one with this number fails
+ *     SLOW_DISK=MILLISECONDS       each sync of that file takes as many more
  *     KILL_DISK=N                  the program is killed in place of the call with this number
  *     MOMENT=SECONDS               the clock tells these seconds since 1970
  *     SLEPT=FILE                   each sleep takes a hundredth of its time, and its milliseconds go to this file, one line each
@@ -179,6 +180,9 @@ ssize_t pwrite(int file, const void *bytes, size_t count, off_t place) {
 }
 
 int fdatasync(int file) {
+    const char *slow = getenv("SLOW_DISK");
+    if (file == locked && slow != NULL)
+        usleep(1000 * (useconds_t)atol(slow));
     if (is_lost(file))
         return -1;
     int (*next)(int) = (int (*)(int))dlsym(RTLD_NEXT, "fdatasync");

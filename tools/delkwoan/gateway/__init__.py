@@ -7,6 +7,7 @@
     delkwoan.gateway.seats       the connections, and who gets which
     delkwoan.gateway.sessions    who is signed in, and how wrong keys are slowed
     delkwoan.gateway.kept        calls with an Idempotency-Key, in SQLite
+    delkwoan.gateway.doubt       which refusals leave open whether a change was made
     delkwoan.gateway.desk        a call's lines: sent once, or looked for where their replies were lost
     delkwoan.gateway.requests    a request's body, session and words
     delkwoan.gateway.own         the calls that are no line, as the sign-in

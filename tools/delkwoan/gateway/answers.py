@@ -8,7 +8,7 @@ from starlette.responses import Response
 
 from .calls import AGAIN, BadWord, Call
 from .connection import BadKey
-from .desk import Found, NoteRefused, OtherLine, Outcome, Running, Unknown
+from .desk import Found, InDoubt, NoteRefused, OtherLine, Outcome, Running, Unknown
 from .fields import Reply, fields_of, kind_of, refusal_of
 from .kept import Faulty
 from .seats import NoSeat
@@ -37,12 +37,12 @@ def answer(content: Any, status: int = 200, headers: Mapping[str, str] | None = 
     return Response(body, status, {"Cache-Control": "no-store", **(headers or {})}, "application/json")
 
 
-def refused(reply: Reply, told: Mapping[str, Any]) -> Response:
+def refused(reply: Reply, told: Mapping[str, Any], error: str = "refused") -> Response:
     """A refusal, with its number and name."""
     refusal = refusal_of(reply.text)
     assert refusal is not None
     status = 422 if refusal.number == BAD_LINE else 409
-    content = {"error": "refused", "reply": reply.text, "position": reply.position, **refusal._asdict(), **told}
+    content = {"error": error, "reply": reply.text, "position": reply.position, **refusal._asdict(), **told}
     return answer(content, status)
 
 
@@ -60,6 +60,8 @@ async def answer_to(call: Call, outcome: Outcome) -> Response:
     """What is answered to a call."""
     if isinstance(outcome, NoteRefused):
         return refused(outcome.reply, {"line": outcome.line})
+    if isinstance(outcome, InDoubt):
+        return refused(outcome.reply, open_words(call, outcome.candidates), "unknown")
     if isinstance(outcome, Found):
         fields = {"trade": outcome.trade}
         return answer({"reply": None, "position": outcome.position, "kind": "trade", "fields": fields, "found": True})
@@ -87,8 +89,13 @@ def problem_of(fault: Exception, call: Call | None) -> Problem:
     if isinstance(fault, BadWord):
         return Problem(422, "bad-field", {"field": fault.field})
     if isinstance(fault, Unknown) and call is not None:
-        return Problem(409, "unknown", {"candidates": fault.candidates, "again": AGAIN.get(call.verb, again(call))})
+        return Problem(409, "unknown", open_words(call, fault.candidates))
     raise fault
+
+
+def open_words(call: Call, candidates: list[dict[str, Any]]) -> dict[str, Any]:
+    """What is told of a change that may have been made."""
+    return {"candidates": candidates, "again": AGAIN.get(call.verb, again(call))}
 
 
 def again(call: Call) -> str:

@@ -11,6 +11,7 @@ from collections import deque
 from typing import Sequence, cast
 
 from .. import replies
+from .doubt import shows_stop
 from .fields import Reply
 
 MOST_SENT = 536_870_912
@@ -59,6 +60,8 @@ class Connection(asyncio.Protocol):
         """Whether the call that has it wants no other behind it."""
         self.sent = 0
         self.position = 0
+        self.is_stopped = False
+        """Whether a reply has told that the service makes no more changes."""
         self.rest = b""
         self.lines: list[bytes] = []
         self.missing = 0
@@ -117,6 +120,7 @@ class Connection(asyncio.Protocol):
         if position is None:
             raise replies.BadReply(text)
         self.position = max(self.position, position)
+        self.is_stopped = self.is_stopped or shows_stop(text)
         batch = self.due[0]
         batch.replies.append(Reply(text, position))
         if len(batch.replies) == batch.count:

@@ -11,16 +11,27 @@ import time
 from concurrent.futures import ThreadPoolExecutor
 from typing import Any, NamedTuple
 
+from .doubt import SHARING
+
 DAYS = 30
 """How long a call is kept."""
-COLUMNS = "line, largest, is_alone, reply, found"
+COLUMNS = "line, largest, is_alone, reply, found, doubt"
 TABLE = """
 CREATE TABLE IF NOT EXISTS calls (
     member TEXT NOT NULL, key TEXT NOT NULL, line TEXT NOT NULL, at REAL NOT NULL,
-    largest INTEGER, is_alone INTEGER NOT NULL, reply TEXT, found INTEGER,
+    largest INTEGER, is_alone INTEGER NOT NULL, reply TEXT, found INTEGER, doubt TEXT,
     PRIMARY KEY (member, key)
 ) WITHOUT ROWID
 """
+HAS_DOUBT = "SELECT 1 FROM pragma_table_info('calls') WHERE name = 'doubt'"
+ADD_DOUBT = f"""
+BEGIN IMMEDIATE;
+ALTER TABLE calls ADD COLUMN doubt TEXT;
+UPDATE calls SET doubt = reply, reply = NULL, is_alone = 0
+WHERE (reply GLOB 'no * 26 stopped *' OR reply GLOB 'no * 28 memory') AND ({" OR ".join(f"line GLOB '{verb} *'" for verb in SHARING)});
+COMMIT;
+"""
+"""The file of an earlier gateway has no doubts, and took such refusals for answers: whoever sent the same line afterwards left no mark."""
 
 
 class Faulty(Exception):
@@ -28,7 +39,8 @@ class Faulty(Exception):
 
 
 class Row(NamedTuple):
-    """A call that was kept. `found` is the trade that was taken for it, in place of a reply that was lost."""
+    """A call that was kept. `found` is the trade that was taken for it, in place of a reply that was lost or a refusal that left it open,
+    which is its `doubt`."""
 
     line: str
     largest: int | None
@@ -36,10 +48,7 @@ class Row(NamedTuple):
     """Whether a trade of the same terms can be no other's: no other session of the member was open, and nobody else sent the line."""
     reply: str | None
     found: int | None
-
-    @property
-    def is_open(self) -> bool:
-        return self.reply is None and self.found is None
+    doubt: str | None = None
 
 
 class Write(NamedTuple):
@@ -58,6 +67,8 @@ class Kept:
             self.database = sqlite3.connect(path, timeout=1, check_same_thread=False, isolation_level=None)
             for text in ("PRAGMA locking_mode=EXCLUSIVE", "PRAGMA journal_mode=WAL", "PRAGMA synchronous=FULL", TABLE):
                 self.database.execute(text)
+            if not self.database.execute(HAS_DOUBT).fetchall():
+                self.database.executescript(ADD_DOUBT)
             rows = self.database.execute("SELECT member, key, line FROM calls WHERE reply IS NULL AND found IS NULL")
             self.open: dict[str, set[tuple[str, str]]] = {}
             for member, key, line in rows:
@@ -125,6 +136,10 @@ class Kept:
         """The reply came, or the trade was found."""
         await self.run("UPDATE calls SET reply = ?, found = ? WHERE member = ? AND key = ?", reply, found, member, key)
         self.close_line(member, key, line)
+
+    async def leave_open(self, member: str, key: str, doubt: str | None) -> None:
+        """A refusal came that leaves it open whether the change was made; or the line is about to be sent again, and has no reply."""
+        await self.run("UPDATE calls SET doubt = ? WHERE member = ? AND key = ?", doubt, member, key)
 
     async def forget(self, member: str, key: str, line: str) -> None:
         """Nothing was sent."""

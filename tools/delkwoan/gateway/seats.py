@@ -59,6 +59,16 @@ class Seats:
         """How many connections have a call."""
         return sum(connection.taken > 0 for connection in self.ready)
 
+    @property
+    def is_stopped(self) -> bool:
+        """Whether a connection that still stands was told that the service makes no more changes."""
+        return any(connection.is_stopped for connection in self.ready)
+
+    async def have_told(self) -> None:
+        """Waits until what is due now over all connections has come; a command that may take long shares nothing with others."""
+        if due := [batch.done for it in self.ready for batch in it.due if batch.end is not None]:
+            await asyncio.wait(due)
+
     async def keep(self) -> None:
         """Keeps one connection, for ever."""
         pause = PAUSES[0]

@@ -69,11 +69,11 @@ async def call_of(parts: Parts, call: Call, request: Request) -> Response:
     notes = lines_of_draft(given) if given is not None else []
     if given is None:
         given = {**(await given_by(request, parts.patience) if not call.is_question else {}), **request.path_params}
-    asked = Asked(session, call, call.line(given), notes)
+    asked = Asked(session, call, call.line(given), notes, (None if call.is_question else key_of(request)) or "")
     if call.is_question:
         outcome: Any = await parts.desk.question(session, asked.line)
-    elif (key := key_of(request)) is not None:
-        outcome = await parts.desk.once(asked, key)
+    elif asked.key:
+        outcome = await parts.desk.once(asked)
     else:
         outcome = await parts.desk.plainly(asked)
     text = getattr(outcome, "text", None)
@@ -127,10 +127,12 @@ async def tend(parts: Parts) -> None:
     while True:
         try:
             await parts.desk.kept.purge()
+            for _ in range(60):
+                parts.sessions.sweep()
+                await parts.desk.settle()
+                await asyncio.sleep(MINUTE)
         except Faulty:
             log.error("the file of calls failed")
-        for _ in range(60):
-            parts.sessions.sweep()
             await asyncio.sleep(MINUTE)
 
 

@@ -19,7 +19,10 @@ function words(status, content) {
   switch (content.error) {
     case "refused": return `Refused: ${content.name} ${content.value}`.trim();
     case "bad-field": return `This field can't be: ${content.field}.`;
-    case "unknown": return `The reply was lost: look whether it was done. To send it again ${content.again}.`;
+    case "unknown": {
+      const why = content.number ? "The service's disk may have failed: look whether this was done, after a new start." : "The reply was lost: look whether it was done.";
+      return `${why} To send it again ${content.again}.`;
+    }
     case "no-seat": return "The service has no seat free, or does not answer. Nothing was sent: try again.";
     case "bad-key": return "This name and key are not known.";
     case "slowed": return "Too soon behind a wrong key: wait a while.";
