@@ -417,11 +417,12 @@ class Shells(InFolder):
         """What is no letter, sign or space comes as its escape, in a reply, in a refusal, in the prompt and by --raw."""
         steering = "\\033]0;x\\007"
         liar = self.says(f"printf 'ok 0 hello A{steering}\\n'; printf 'no 0 2 bad{steering}-key\\n'; printf 'ok 0 bye\\n'")
-        for options in ([], ["--raw"]):
-            with self.subTest(options=options):
+        for is_raw in (False, True):
+            with self.subTest(is_raw=is_raw):
+                options = ["--raw"] if is_raw else []
                 _, text = self.typed([b"NETS P\r", b"NETS P\r", b"BYE\r"], *options, COMPRESS_CLI=liar, TERM="dumb")
                 self.assertNotIn(b"\x1b]", text)
-                self.assertEqual(text.count(b"\\x1b]0;x\\x07"), 2 if options else 4)
+                self.assertEqual(text.count(b"\\x1b]0;x\\x07"), 2 if is_raw else 4)
 
     def test_replies_without_end(self) -> None:
         """They cost a bound of memory, and are told. Of what is no reply its beginning is shown."""
@@ -436,7 +437,7 @@ class Shells(InFolder):
         ):
             with self.subTest(lines=lines[:40]):
                 most = self.folder / "most"
-                words = [sys.executable, MEMORY_OF, most, CLIENT, ROSTER, self.journal]
+                words: list[str | Path] = [sys.executable, MEMORY_OF, most, CLIENT, ROSTER, self.journal]
                 environ = environment("ring-cycle", COMPRESS_CLI=self.says(lines))
                 done = subprocess.run(words, input=b"STATEMENT\n", capture_output=True, env=environ, timeout=PATIENCE)
                 self.assertEqual((done.returncode, done.stderr), (20, f"no reply of a session: {told}\n".encode()))

@@ -59,8 +59,11 @@ class Readers(InService):
 
     def seen(self, told: bytes) -> Seen:
         """Amounts in text, or as a record has them; a vote is a record of C's, of tag 10."""
-        has = [re.search(rb"\b%s\b" % number.encode(), told) or int(number).to_bytes(8, "little") in told for number in (TRADE, HELD, FLOOR, CEILING)]
-        return Seen(*map(bool, has), b"\x01C\x0a" in told or b"C: ACCEPT 1 1" in told)
+        def has(number: str) -> bool:
+            return re.search(rb"\b%s\b" % number.encode(), told) is not None or int(number).to_bytes(8, "little") in told
+
+        vote = b"\x01C\x0a" in told or b"C: ACCEPT 1 1" in told
+        return Seen(has(TRADE), has(HELD), has(FLOOR), has(CEILING), vote)
 
     def test_a_counterparty_sees_trades_holds_and_the_bounds_that_count(self) -> None:
         told = self.told("B")
