@@ -2,6 +2,7 @@
 
 import { button, field, form, isSure, make, tell, warn } from "/page/elements.js";
 import { call } from "/page/calls.js";
+import { settle } from "/page/looking.js";
 import { grouped, read } from "/page/replies.js";
 import { Table } from "/page/table.js";
 
@@ -76,9 +77,18 @@ export class Book {
     });
   }
 
+  /** Shows the trades; while somebody looks at a row of them, none moves. */
   update(trades) {
+    const alleged = trades.filter((row) => row.state === "alleged" && !this.isOwn(row));
+    settle("book", () => this.draw(trades, alleged), () => {
+      this.trades.mark(trades);
+      this.alleged.mark(alleged);
+    });
+  }
+
+  draw(trades, alleged) {
     this.trades.update(trades);
-    this.alleged.update(trades.filter((row) => row.state === "alleged" && !this.isOwn(row)));
+    this.alleged.update(alleged);
     const nets = new Map();
     for (const { product, seller, amount, state } of trades) {
       const [out, into] = nets.get(product) || [0n, 0n];

@@ -3,6 +3,7 @@
 import { by, make, show, tell, warn } from "/page/elements.js";
 import { call, onOver, signIn, signOut } from "/page/calls.js";
 import { follow } from "/page/follow.js";
+import { forgetRows } from "/page/looking.js";
 import { Book } from "/page/book.js";
 import { Market, Operation } from "/page/operator.js";
 import { Notes } from "/page/notes.js";
@@ -140,6 +141,7 @@ function over(text) {
   const { end, roster } = desk;
   desk = null;
   if (end) end();
+  forgetRows();
   roster.drop();
   by("parts").replaceChildren();
   isIn("");
@@ -179,6 +181,10 @@ addEventListener("hashchange", () => {
   if (shown) shown.focus();
 });
 for (const kind of ["pointerdown", "keydown"]) addEventListener(kind, used);
+by("said").addEventListener("click", () => tell(""));
+addEventListener("keydown", (event) => {
+  if (event.key === "Escape") tell("");
+});
 setInterval(() => {
   if (desk && Date.now() - desk.used > desk.idle) leave("Signed out: nothing was done for a long while.");
 }, LOOK);
