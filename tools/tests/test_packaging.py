@@ -11,6 +11,7 @@ import tempfile
 import unittest
 from pathlib import Path
 
+from packaged import UNITS, built_from, copied, need, need_builders
 from running import EXAMPLES, PATIENCE, ROOT, TOOLS, Ran, program, run
 from serving import InService, has_serve, started
 from standing import WithStandby
@@ -80,13 +81,6 @@ TYPED: list[tuple[list[str], list[str]]] = [
     (["compress-keys", "hub-r"], ["hub-roster.csv"]),
 ]
 """The words of a command line up to the cursor, and what can stand there."""
-
-
-def need(*tools: str) -> None:
-    """Skips where one of these is not there."""
-    for tool in tools:
-        if shutil.which(tool) is None:
-            raise unittest.SkipTest(f"no {tool}")
 
 
 @functools.cache
@@ -195,29 +189,13 @@ class Version(unittest.TestCase):
 
 
 class DebianPackage(Made):
-    def copied(self) -> Path:
-        """The files of the tree that a package is made from, as git or as the tree has them."""
-        tree = self.folder / "tree"
-        tree.mkdir()
-        ignored = shutil.ignore_patterns("out", "__pycache__", ".mypy_cache", "*.egg-info", "made", ".debhelper", "*.service", "*.timer")
-        for name in ("debian", "docs", "examples", "packaging", "tools"):
-            shutil.copytree(ROOT / name, tree / name, ignore=ignored)
-        for name in ("README.md", "CHANGELOG.md", "pyproject.toml"):
-            shutil.copy2(ROOT / name, tree / name)
-        return tree
-
     def build(self, program: Path) -> Ran:
-        environ = {**os.environ, "PROGRAM": str(program)}
-        words = ["dpkg-buildpackage", "-b", "-uc", "-us"]
-        done = subprocess.run(words, cwd=self.copied(), env=environ, capture_output=True, timeout=PATIENCE)
-        return Ran(done.returncode, done.stdout, done.stderr)
+        copied(self.folder / "tree")
+        return built_from(self.folder / "tree", program)
 
     def setUp(self) -> None:
-        need("dpkg-buildpackage", "dh", "pybuild")
+        need_builders()
         super().setUp()
-        words = ["dpkg-checkbuilddeps", str(ROOT / "debian/control")]
-        if (lacks := run(words)).status != 0:
-            raise unittest.SkipTest(lacks.errors.decode().strip())
 
     def test_what_is_in_it(self) -> None:
         built = self.build(self.program)
@@ -275,7 +253,6 @@ class Types(unittest.TestCase):
         self.assertEqual((ran.status, ran.errors), (0, b""), ran.output)
 
 
-UNITS = ["delkwoan.service", "delkwoan-gateway.service", "delkwoan-restart.service", "delkwoan-restart.timer", "delkwoan-standby.service"]
 SERVICES = [name for name in UNITS if name.endswith(".service")]
 
 
