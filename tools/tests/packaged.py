@@ -39,7 +39,7 @@ def copied(tree: Path) -> None:
 
 def built_from(tree: Path, built: Path) -> Ran:
     """Builds the package of a tree around a program; it lies beside the tree then."""
-    environ = {**os.environ, "PROGRAM": str(built)}
+    environ = {**os.environ, "PROGRAM": str(built), "DPKG_DEB_COMPRESSOR_TYPE": "gzip", "DPKG_DEB_COMPRESSOR_LEVEL": "1"}
     done = subprocess.run(["dpkg-buildpackage", "-b", "-uc", "-us"], cwd=tree, env=environ, capture_output=True, timeout=PATIENCE)
     return Ran(done.returncode, done.stdout, done.stderr)
 
@@ -49,7 +49,9 @@ PACKAGES: dict[Path, Path] = {}
 
 
 def package(around: Path) -> Path:
-    """The package around a program. It is built once, and lasts as long as the tests of a file."""
+    """The package around a program, or the one that DELKWOAN_PACKAGE names. It is built once, and lasts as long as the tests of a file."""
+    if named := os.environ.get("DELKWOAN_PACKAGE"):
+        return Path(named)
     if around not in PACKAGES:
         need_builders()
         folder = tempfile.TemporaryDirectory()

@@ -3,12 +3,14 @@
 import re
 import shutil
 import tempfile
+import time
 import unittest
 from pathlib import Path
+from typing import Callable
 
 from booted import Machine
 from packaged import UNITS, changed, package
-from running import EXAMPLES, Ran
+from running import EXAMPLES, PATIENCE, Ran
 from serving import serving_program
 
 RUNNING = ["delkwoan.service", "delkwoan-gateway.service", "delkwoan-restart.timer"]
@@ -16,6 +18,9 @@ SERVING = RUNNING[:2]
 UNIT = "lib/systemd/system/delkwoan.service"
 FIRST_DAY = (EXAMPLES / "first-trades.session").read_bytes()
 REPLIES = (EXAMPLES / "first-trades.replies").read_bytes()
+START = "120"
+"""Seconds behind which a start counts as hanging: less than the ten minutes that it waits for a connection."""
+METRICS = "import urllib.request; print(urllib.request.urlopen('http://127.0.0.1:8080/metrics').read().decode())"
 KEPT = ["/var/lib/delkwoan", "/var/lib/private/delkwoan", "/var/lib/delkwoan-gateway", "/var/lib/private/delkwoan-gateway", "/etc/delkwoan"]
 """What a purge names, of which the second and the fourth are what the first and the third lead to."""
 ASKED = b"HELLO B KB\nNETS P\n"
@@ -61,8 +66,63 @@ def said(machine: Machine, lines: bytes) -> bytes:
     return told.encode() + b"\n"
 
 
+def wait_until(is_so: Callable[[], bool]) -> None:
+    end = time.monotonic() + PATIENCE
+    while not is_so():
+        if time.monotonic() > end:
+            raise AssertionError("it did not come to be so")
+        time.sleep(0.2)
+
+
 def processes(machine: Machine) -> dict[str, str]:
     return {unit: machine.shown(unit, "MainPID") for unit in SERVING}
+
+
+FAULTS = {
+    "a bad roster": ("echo x >> /etc/delkwoan/roster.csv", "3", "roster row 7: columns"),
+    "too many seats": ("echo SEATS=200 > /etc/default/delkwoan", "2", "bad words"),
+    "no journal": ("mkdir -p /var/lib/delkwoan/journal", "6", "disk fault"),
+}
+"""What is wrong with a start, the program's status, and its line."""
+
+
+class Start(Installed):
+    def test_one_that_fails(self) -> None:
+        """It is over as soon as the program has ended. What a person has to mend is not tried again; what may mend itself is."""
+        machine = self.machine()
+        machine.told("cp", "/etc/delkwoan/roster.csv", "/mnt/kept.csv")
+        for name, (fault, status, line) in FAULTS.items():
+            with self.subTest(name):
+                machine.told("sh", "-c", fault)
+                start = machine.run("timeout", START, "systemctl", "start", "delkwoan")
+                self.assertEqual(start.status, 1, start.errors)
+                self.assertIn(line, machine.told("journalctl", "--unit=delkwoan", "--output=cat"))
+                self.assertEqual(machine.shown("delkwoan", "ExecMainStatus"), status)
+                self.assertEqual(machine.shown("delkwoan", "SubState"), "auto-restart" if status == "6" else "failed")
+                machine.told("sh", "-c", "systemctl stop delkwoan; systemctl reset-failed delkwoan; rm -f /etc/default/delkwoan; cp /mnt/kept.csv /etc/delkwoan/roster.csv")
+
+    def test_its_limit(self) -> None:
+        """What may mend itself is tried again, and no more often than the unit says: here with less patience."""
+        machine = self.machine()
+        self.assertEqual((machine.shown("delkwoan", "StartLimitBurst"), machine.shown("delkwoan", "RestartUSec")), ("20", "5s"))
+        limits = "[Unit]\nStartLimitBurst=3\nStartLimitIntervalSec=1d\n[Service]\nRestartSec=100ms\n"
+        machine.told("mkdir", "-p", "/etc/systemd/system/delkwoan.service.d")
+        machine.told("tee", "/etc/systemd/system/delkwoan.service.d/limits.conf", input=limits.encode())
+        machine.told("systemctl", "daemon-reload")
+        machine.told("sh", "-c", FAULTS["no journal"][0])
+        self.assertEqual(machine.run("timeout", START, "systemctl", "start", "delkwoan").status, 1)
+        wait_until(lambda: machine.shown("delkwoan", "SubState") == "failed")
+        self.assertEqual((machine.shown("delkwoan", "NRestarts"), machine.shown("delkwoan", "ExecMainStatus")), ("3", "6"))
+
+    def test_beside_a_gateway(self) -> None:
+        """The gateway's seats count: each start is over once all are answered or the gateway's, and no line says that some lack."""
+        machine = self.machine()
+        machine.told("sh", "-c", "echo SEATS=8 > /etc/default/delkwoan; echo SEATS=4 > /etc/default/delkwoan-gateway")
+        machine.told("systemctl", "start", *SERVING)
+        for _ in range(3):
+            wait_until(lambda: b"delkwoan_seats 4" in machine.run("python3", "-c", METRICS).output)
+            machine.told("systemctl", "restart", "delkwoan")
+        self.assertNotIn("answered", machine.told("journalctl", "--unit=delkwoan", "--output=cat"))
 
 
 class Upgrade(Installed):

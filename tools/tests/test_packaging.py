@@ -57,7 +57,7 @@ TYPED: list[tuple[list[str], list[str]]] = [
     (["compress-gateway", "--c"], ["--certificate", "--clients"]),
     (["compress-gateway", "--key", "rost"], ["roster.csv"]),
     (["compress-wait-ready", ""], []),
-    (["compress-wait-ready", "-"], ["--seats"]),
+    (["compress-wait-ready", "-"], ["--process", "--seats"]),
     (["compress-client", "--program", "hub-r"], ["hub-roster.csv"]),
     (["compress-client", "--program", "x", "--raw", "hub-r"], ["hub-roster.csv"]),
     (["compress-report", "--product", "P", "hub-r"], ["hub-roster.csv"]),
@@ -161,7 +161,7 @@ class Pages(Made):
             for option in set(re.findall(r"^  --(\w+)", shown.output.decode(), re.MULTILINE)) - {"version"}:
                 self.assertRegex(page, rf"(?m)^\.It Fl -{option}\b")
                 told += 1
-        self.assertEqual(told, 34)
+        self.assertEqual(told, 35)
 
     def test_the_programs_forms_are_those_of_its_page(self) -> None:
         page = (PACKAGING / "man/compress_cli.1").read_text()
@@ -336,7 +336,7 @@ class UnitServes(InService):
         values: dict[str, object] = {"CREDENTIALS_DIRECTORY": credentials, "STATE_DIRECTORY": state, "ADDRESS": self.address, "SEATS": 2, "IDLE": 3}
         (start,) = commands_of(unit, "ExecStart", values)
         self.service = subprocess.Popen(start, stdout=subprocess.PIPE, stderr=subprocess.PIPE)
-        for command in commands_of(unit, "ExecStartPost", values):
+        for command in commands_of(unit, "ExecStartPost", {**values, "MAINPID": self.service.pid}):
             self.assertEqual(run(command), Ran(0, b"", b""))
         self.assertEqual([path.name for path in state.iterdir()], ["journal"])
         with socket.create_connection(("127.0.0.1", self.port), PATIENCE) as silent:
