@@ -60,9 +60,9 @@ class Installed(unittest.TestCase):
         machine.told("dpkg", "--install", "/mnt/later.deb")
 
 
-def said(machine: Machine, lines: bytes) -> bytes:
+def said(machine: Machine, lines: bytes, port: int = 7000) -> bytes:
     """What a client of the machine's service is answered."""
-    told = machine.told("compress-client", "--raw", "--connect", "127.0.0.1:7000", "/mnt/roster.csv", input=lines)
+    told = machine.told("compress-client", "--raw", "--connect", f"127.0.0.1:{port}", "/mnt/roster.csv", input=lines)
     return told.encode() + b"\n"
 
 
@@ -184,6 +184,47 @@ class Removal(Installed):
                 self.assertEqual("Remove the journal, the keys and the settings too?" in told, frontend == "teletype", told)
                 self.assertEqual(re.findall(r"delkwoan: kept (\S+)", told), KEPT if stays else [], told)
                 self.assertEqual(machine.told("find", "/var/lib", "/etc", "-name", "*delkwoan*", "-not", "-path", "*/systemd/*").split() == [], not stays)
+
+
+class Restored(Installed):
+    """A copy that root made, which the unit's user can't open, is put in place by one command."""
+
+    def test_over_a_later_journal(self) -> None:
+        """Never under a service that runs; then the copy's changes are there, and the later ones are kept beside them."""
+        machine = self.market()
+        copied = replay(machine)
+        machine.told("sh", "-c", "umask 077; cp /var/lib/delkwoan/journal /root/copy")
+        self.assertTrue(said(machine, b"HELLO A KA\nTRADE A B P 5 2026-03-02\n").endswith(b"ok 3 trade 2\n"))
+        taken = machine.run("compress-restore", "/root/copy")
+        self.assertEqual(taken, Ran(6, b"", b"/var/lib/delkwoan/journal is in use\n"))
+        self.assertTrue(replay(machine).endswith("end 3"))
+        machine.told("systemctl", "stop", "delkwoan")
+        told = machine.told("compress-restore", "/root/copy")
+        self.assertRegex(told, r"\A/var/lib/delkwoan/journal: position 2; before: /var/lib/delkwoan/journal\.before-\w+, position 3\Z")
+        machine.told("systemctl", "start", "delkwoan")
+        self.assertEqual((said(machine, ASKED), replay(machine)), (ANSWERED, copied))
+        before = told.split("before: ")[1].split(",")[0]
+        self.assertTrue(machine.told("compress_cli", "replay", "/etc/delkwoan/roster.csv", before).endswith("end 3"))
+
+    def test_on_another_machine(self) -> None:
+        """Where nothing was started yet: as the service, and then as a standby of the first."""
+        first = self.market()
+        first.told("cp", "/var/lib/delkwoan/journal", "/mnt/copy")
+        other = self.machine("two", first)
+        shutil.copyfile(first.shared / "copy", other.shared / "copy")
+        (other.shared / "copy").chmod(0o600)
+        other.told("rm", "-r", "/etc/delkwoan")
+        other.told("compress-restore", "--roster", "/mnt/roster.csv", "/mnt/copy")
+        other.told("sh", "-c", "echo ADDRESS=127.0.0.1:7001 > /etc/default/delkwoan")
+        other.told("systemctl", "start", "delkwoan")
+        self.assertEqual(said(other, ASKED, 7001), ANSWERED)
+        other.told("systemctl", "stop", "delkwoan")
+        told = other.told("compress-restore", "--seed", "/mnt/copy")
+        self.assertIn("/var/lib/delkwoan/journal: position 1; before: ", told)
+        other.told("sh", "-c", "umask 077; echo KO > /etc/delkwoan/standby.key")
+        other.told("systemctl", "start", "delkwoan-standby")
+        wait_until(lambda: other.run("cat", "/var/lib/delkwoan/behind").output.startswith(b"standby 2 primary 2 "))
+        self.assertEqual(replay(other), replay(first))
 
 
 def replay(machine: Machine) -> str:

@@ -1,0 +1,205 @@
+"""The command compress-restore: puts a copy of a journal, and its roster, in a service's or a standby's place.
+
+    compress-restore [--roster ROSTER] [--seed] [--state FOLDER] [--settings FOLDER] [--program FILE] COPY
+
+The copy is checked first: it is read as `compress-audit` reads it, and `compress_cli replay` has to tell the same of it. It gets the
+owner of the folder that it goes into, so that the unit's user can open it. Nobody has the journal meanwhile, and what was in place is
+kept beside it. A tool that is killed leaves the journal as it was or as the copy is, and in both cases the old one has a name.
+"""
+
+import os
+import tempfile
+import time
+from argparse import Namespace
+from contextlib import ExitStack, contextmanager
+from pathlib import Path
+from typing import Iterator, NamedTuple, NoReturn
+
+from . import checker
+from .audit import Audit, names_of
+from .client import found_program
+from .ending import Stop, run
+from .frames import MOST_BYTES, Damaged, Form, lead_of
+from .history import Moved
+from .placing import give_name, locked, sync_folder
+from .roll import written_by
+from .seed import front_of
+from .words import Once, Words, flag, text
+
+STATE, SETTINGS = "/var/lib/delkwoan", "/etc/delkwoan"
+"""The folders of the units."""
+
+
+class Placed(NamedTuple):
+    """A file that gets a place: its bytes, its owner and its rights."""
+
+    place: Path
+    content: bytes
+    user: int
+    group: int
+    rights: int
+
+
+@contextmanager
+def about(name: str | Path) -> Iterator[None]:
+    """Has each fault say which file it is of, and why."""
+    try:
+        yield
+    except Stop as stop:
+        raise Stop(stop.status, f"{name}: {stop.line}") from None
+    except Damaged as damaged:
+        raise Stop(7, f"{name}: damaged at {damaged}") from None
+    except Moved as moved:
+        raise Stop(1, f"{name}: {moved}") from None
+    except (OSError, ValueError) as fault:
+        raise Stop(11, f"{name}: {getattr(fault, 'strerror', None) or fault}") from None
+
+
+def bytes_of(name: str | Path, most: int) -> bytes:
+    with about(name), open(name, "rb") as file:
+        return file.read(most)
+
+
+def replayed(roster: bytes, journal: bytes) -> list[str]:
+    """What the tools replay of a journal, which has to encode a history of the roster."""
+    if lead_of(journal).form in (Form.SHORT, Form.SHORT_SLOTTED):
+        raise Stop(7, "no journal: it has no change")
+    audit = Audit(names_of(roster), journal)
+    audit.run()
+    return [f"{line}\n" for line in audit.history.lines()]
+
+
+def position_of(lines: list[str]) -> int:
+    return int(lines[-1].removeprefix("end "))
+
+
+def told_of(roster: Path, journal: Path) -> str:
+    """What a journal is that is in place: its position, or that its roster can't replay it."""
+    try:
+        return f"position {position_of(replayed(bytes_of(roster, checker.MOST_BYTES + 1), bytes_of(journal, MOST_BYTES)))}"
+    except (Damaged, Moved, Stop):
+        return "not replayed"
+
+
+def written(file: Placed) -> str:
+    """Writes a file beside its place, on the disk with its owner and its rights; its name."""
+    with about(file.place):
+        number, part = tempfile.mkstemp(prefix=f"{file.place.name}.", suffix=".part", dir=file.place.parent)
+        with os.fdopen(number, "wb") as opened:
+            opened.write(file.content)
+            opened.flush()
+            if (file.user, file.group) != (os.geteuid(), os.getegid()):
+                os.fchown(number, file.user, file.group)
+            os.fchmod(number, file.rights)
+            os.fsync(number)
+    return part
+
+
+def kept_aside(place: Path, moment: str) -> Path:
+    """Gives what is in place a second name, which no other file may have."""
+    aside = place.with_name(f"{place.name}.before-{moment}")
+    give_name(str(place), aside)
+    return aside
+
+
+def put(part: str, place: Path, moment: str) -> Path | None:
+    """Puts a whole file in place; the name under which what was there is kept."""
+    with about(place):
+        if not place.exists():
+            give_name(part, place)
+            return None
+        aside = kept_aside(place, moment)
+        os.replace(part, place)
+        sync_folder(place.parent)
+        return aside
+
+
+class Restore:
+    """A copy that is put in place: what is given, and what was found."""
+
+    def __init__(self, given: Namespace) -> None:
+        self.given = given
+        self.journal = Path(given.state) / "journal"
+        self.roster = Path(given.settings) / "roster.csv"
+        self.moment = time.strftime("%Y%m%dT%H%M%SZ", time.gmtime())
+
+    def journal_file(self, content: bytes) -> Placed:
+        """The journal, which is its folder's owner's alone. Where there is no folder yet, the unit makes it its own."""
+        folder = self.journal.parent
+        with about(folder):
+            folder.mkdir(mode=0o700, parents=True, exist_ok=True)
+            status = folder.stat()
+        return Placed(self.journal, content, status.st_uid, status.st_gid, 0o600)
+
+    def roster_file(self, content: bytes) -> Placed:
+        """The roster, which is as that was in its place, or root's alone."""
+        with about(self.roster.parent):
+            self.roster.parent.mkdir(mode=0o755, parents=True, exist_ok=True)
+            if not self.roster.exists():
+                return Placed(self.roster, content, os.geteuid(), os.getegid(), 0o600)
+            status = self.roster.stat()
+        return Placed(self.roster, content, status.st_uid, status.st_gid, status.st_mode & 0o777)
+
+    def checked(self, part: str, roster: str, due: list[str]) -> None:
+        """Stops where the program replays other than the tools do."""
+        with about(self.given.copy):
+            if written_by(self.given.program or found_program(), "replay", "--", roster, part) != "".join(due).encode():
+                raise Stop(20, "the program replays another history")
+
+    def run(self) -> list[str]:
+        """Puts both in place; what is to be told."""
+        named = self.given.roster or self.roster
+        roster, content = bytes_of(named, checker.MOST_BYTES + 1), bytes_of(self.given.copy, MOST_BYTES)
+        with about(named):
+            names_of(roster)
+        with about(self.given.copy):
+            content = front_of(content) if self.given.seed else content
+            due = replayed(roster, content)
+        with ExitStack() as stack:
+            if self.journal.exists():
+                stack.enter_context(locked(str(self.journal)))
+            return self.place(roster, content, due)
+
+    def place(self, roster: bytes, content: bytes, due: list[str]) -> list[str]:
+        parts: list[str] = []
+        try:
+            parts.append(written(self.journal_file(content)))
+            self.checked(parts[0], str(self.given.roster or self.roster), due)
+            was = told_of(self.roster, self.journal) if self.journal.exists() else ""
+            told: list[str] = []
+            if not self.roster.exists() or bytes_of(self.roster, checker.MOST_BYTES + 1) != roster:
+                parts.append(written(self.roster_file(roster)))
+                aside = put(parts[1], self.roster, self.moment)
+                told.append(f"{self.roster}: {self.given.roster}" + (f"; before: {aside}" if aside else ""))
+            aside = put(parts[0], self.journal, self.moment)
+            told.append(f"{self.journal}: position {position_of(due)}" + (f"; before: {aside}, {was}" if aside else ""))
+            return told
+        finally:
+            for part in parts:
+                if os.path.exists(part):
+                    os.unlink(part)
+
+
+def words() -> Words:
+    parser = Words(
+        "compress-restore",
+        "Puts a copy of a journal in the place of a service's or a standby's, which has to be stopped, once the tools and the program "
+        "have read the same in it. What was in place is kept beside it.",
+    )
+    parser.add_argument("--roster", metavar="ROSTER", action=Once, type=text, help="the copy's roster, which is put in place too; the one in place where it is absent")
+    flag(parser, "--seed", "leave out the copy's last change, which may not be on the service's disk yet: for a standby that follows it")
+    parser.add_argument("--state", metavar="FOLDER", action=Once, type=text, default=STATE, help=f"the folder of the journal; {STATE} where it is absent")
+    parser.add_argument("--settings", metavar="FOLDER", action=Once, type=text, default=SETTINGS, help=f"the folder of roster.csv; {SETTINGS} where it is absent")
+    parser.add_argument("--program", metavar="FILE", action=Once, help="the program that replays the copy")
+    parser.add_argument("copy", metavar="COPY", type=text, help="the copy of a journal")
+    return parser
+
+
+def main(line: list[str]) -> int:
+    for told in Restore(words().parse_args(line)).run():
+        print(told)
+    return 0
+
+
+def command() -> NoReturn:
+    run(main)
