@@ -2,7 +2,7 @@
 
     compress-restore [--roster ROSTER] [--seed] [--state FOLDER] [--settings FOLDER] [--program FILE] COPY
 
-The copy is checked first: it is read as `compress-audit` reads it, and `compress_cli replay` has to tell the same of it. It gets the
+The copy is checked first: it is read as `compress-audit` reads it, and `compress_cli replay` has to report the same of it. It gets the
 owner of the folder that it goes into, so that the unit's user can open it. Nobody has the journal meanwhile, and what was in place is
 kept beside it. A tool that is killed leaves the journal as it was or as the copy is, and in both cases the old one has a name.
 """
@@ -73,7 +73,7 @@ def position_of(lines: list[str]) -> int:
     return int(lines[-1].removeprefix("end "))
 
 
-def told_of(roster: Path, journal: Path) -> str:
+def report_of(roster: Path, journal: Path) -> str:
     """What a journal is that is in place: its position, or that its roster can't replay it."""
     try:
         return f"position {position_of(replayed(bytes_of(roster, checker.MOST_BYTES + 1), bytes_of(journal, MOST_BYTES)))}"
@@ -124,7 +124,7 @@ class Restore:
         self.moment = time.strftime("%Y%m%dT%H%M%SZ", time.gmtime())
 
     def journal_file(self, content: bytes) -> Placed:
-        """The journal, which is its folder's owner's alone. Where there is no folder yet, the unit makes it its own."""
+        """The journal, which is its folder's owner's alone. If there is no folder yet, it is made, and the unit makes it its own."""
         folder = self.journal.parent
         with about(folder):
             folder.mkdir(mode=0o700, parents=True, exist_ok=True)
@@ -141,13 +141,13 @@ class Restore:
         return Placed(self.roster, content, status.st_uid, status.st_gid, status.st_mode & 0o777)
 
     def checked(self, part: str, roster: str, due: list[str]) -> None:
-        """Stops where the program replays other than the tools do."""
+        """Stops if the program replays something else than the tools do."""
         with about(self.given.copy):
             if written_by(self.given.program or found_program(), "replay", "--", roster, part) != "".join(due).encode():
                 raise Stop(20, "the program replays another history")
 
     def run(self) -> list[str]:
-        """Puts both in place; what is to be told."""
+        """Puts both in place; the lines to print."""
         named = self.given.roster or self.roster
         roster, content = bytes_of(named, checker.MOST_BYTES + 1), bytes_of(self.given.copy, MOST_BYTES)
         with about(named):
@@ -165,15 +165,15 @@ class Restore:
         try:
             parts.append(written(self.journal_file(content)))
             self.checked(parts[0], str(self.given.roster or self.roster), due)
-            was = told_of(self.roster, self.journal) if self.journal.exists() else ""
-            told: list[str] = []
+            was = report_of(self.roster, self.journal) if self.journal.exists() else ""
+            lines: list[str] = []
             if not self.roster.exists() or bytes_of(self.roster, checker.MOST_BYTES + 1) != roster:
                 parts.append(written(self.roster_file(roster)))
                 aside = put(parts[1], self.roster, self.moment)
-                told.append(f"{self.roster}: {self.given.roster}" + (f"; before: {aside}" if aside else ""))
+                lines.append(f"{self.roster}: {self.given.roster}" + (f"; before: {aside}" if aside else ""))
             aside = put(parts[0], self.journal, self.moment)
-            told.append(f"{self.journal}: position {position_of(due)}" + (f"; before: {aside}, {was}" if aside else ""))
-            return told
+            lines.append(f"{self.journal}: position {position_of(due)}" + (f"; before: {aside}, {was}" if aside else ""))
+            return lines
         finally:
             for part in parts:
                 if os.path.exists(part):
@@ -186,18 +186,18 @@ def words() -> Words:
         "Puts a copy of a journal in the place of a service's or a standby's, which has to be stopped, once the tools and the program "
         "have read the same in it. What was in place is kept beside it.",
     )
-    parser.add_argument("--roster", metavar="ROSTER", action=Once, type=text, help="the copy's roster, which is put in place too; the one in place where it is absent")
+    parser.add_argument("--roster", metavar="ROSTER", action=Once, type=text, help="the copy's roster, which is put in place too; if it is absent, the one in place")
     flag(parser, "--seed", "leave out the copy's last change, which may not be on the service's disk yet: for a standby that follows it")
-    parser.add_argument("--state", metavar="FOLDER", action=Once, type=text, default=STATE, help=f"the folder of the journal; {STATE} where it is absent")
-    parser.add_argument("--settings", metavar="FOLDER", action=Once, type=text, default=SETTINGS, help=f"the folder of roster.csv; {SETTINGS} where it is absent")
+    parser.add_argument("--state", metavar="FOLDER", action=Once, type=text, default=STATE, help=f"the folder of the journal; if it is absent, {STATE}")
+    parser.add_argument("--settings", metavar="FOLDER", action=Once, type=text, default=SETTINGS, help=f"the folder of roster.csv; if it is absent, {SETTINGS}")
     parser.add_argument("--program", metavar="FILE", action=Once, help="the program that replays the copy")
     parser.add_argument("copy", metavar="COPY", type=text, help="the copy of a journal")
     return parser
 
 
 def main(line: list[str]) -> int:
-    for told in Restore(words().parse_args(line)).run():
-        print(told)
+    for report in Restore(words().parse_args(line)).run():
+        print(report)
     return 0
 
 

@@ -24,7 +24,7 @@ LEAST_WAIT = 0.1
 MOST_PROCESSES = 1 << 22
 """The system's processes have lesser numbers."""
 LONGEST_TRY = 1.0
-"""Seconds for which one connection is asked for, where a process is watched meanwhile."""
+"""Seconds for which one connection is asked for, if a process is watched meanwhile."""
 
 
 def seconds_of(text: str) -> float:
@@ -41,7 +41,7 @@ def seats_of(text: str) -> int:
 
 
 class Watched:
-    """The process of a service, whose end is seen also where nobody has asked for its status yet."""
+    """The process of a service, whose end is seen even if nobody has asked for its status yet."""
 
     def __init__(self, number: int) -> None:
         try:
@@ -54,7 +54,7 @@ class Watched:
 
 
 def process_of(text: str) -> Watched:
-    """The process of a number. Where the number is missing, as systemd has none of a process that is gone, it has ended."""
+    """The process of a number. If the number is missing, the process has ended: systemd has none then."""
     if not text:
         return Watched(MOST_PROCESSES)
     if not (text.isascii() and text.isdigit() and not text.startswith("0") and int(text) < MOST_PROCESSES):
@@ -120,7 +120,7 @@ class Seats:
 
 
 def lack_of_seats(address: Address, seats: int, end: float) -> str:
-    """Which of these connections, all open at once, are not answered in time; nothing, where all are, or others have the rest."""
+    """A line if not all of these connections, open at once, are answered in time; nothing if all are, or others have the rest."""
     with ExitStack() as opened:
         try:
             connections = [opened.enter_context(connect(address, end)) for _ in range(seats)]
@@ -142,7 +142,7 @@ def words() -> Words:
         "Ends with 0 once a service takes a connection, or with 1 where none was taken in time. Without --seats it sends nothing.",
     )
     seats = "send an empty line over each of N connections at once, and end once each is answered or others have the rest of the N seats, "
-    seats += "or tell how many were answered; 1 to 64"
+    seats += "or report how many were answered; 1 to 64"
     parser.add_argument("--seats", metavar="N", type=seats_of, default=0, help=seats)
     process = "end with 1 as soon as the process of this number has ended, as the service's own"
     parser.add_argument("--process", metavar="NUMBER", action=Once, type=process_of, help=process)
@@ -153,7 +153,7 @@ def words() -> Words:
 
 
 def wait(address: Address, end: float, process: Watched | None) -> bool:
-    """Whether the address takes a connection in time; stops where the process ends first."""
+    """Whether the address takes a connection in time; stops if the process ends first."""
     while True:
         if process is not None and process.has_ended():
             raise Stop(1, "the service ended before it took a connection: its own line and status say why")

@@ -1,7 +1,7 @@
 """A small Debian of its own, booted by systemd-nspawn, for the tests of the package: real units, a real dpkg.
 
 The root is made once by mmdebstrap and kept in the user's cache. What a test changes lies in an overlay above it, and goes with the
-test. Where the machine can't make or boot it, the test is skipped with a line that says why.
+test. If the machine can't make or boot it, the test is skipped with a line that says why.
 """
 
 import fcntl
@@ -26,7 +26,7 @@ MAKING = ["mmdebstrap", "--quiet", "--variant=apt", '--aptopt=Acquire::http::Tim
 MAKING += [f"--include={','.join(PACKAGES)}"]
 GROUPS = Path("/sys/fs/cgroup")
 TREES = [tree for tree in (GROUPS / "systemd", GROUPS / "unified") if (tree / "cgroup.procs").exists()] or [GROUPS]
-"""Where the groups of processes stand: one tree, or two beside each other."""
+"""The folders of the groups of processes: one tree, or two beside each other."""
 SYSTEMD_RUNS = Path("/run/systemd/system")
 
 BOOT = """
@@ -45,7 +45,7 @@ def suite() -> str:
 
 @functools.cache
 def lack() -> str:
-    """Why no root can be made here; nothing, where it is there."""
+    """Why no root can be made here; nothing, if it is there."""
     missing = [name for name in PROGRAMS if shutil.which(name) is None]
     if missing:
         return f"no {missing[0]}"
@@ -64,7 +64,7 @@ def kept_root() -> Path:
 
 
 def fault_of_making(root: Path) -> str:
-    """Makes the root; why not, where it can't be made."""
+    """Makes the root; why not, if it can't be made."""
     part = root.with_suffix(".part")
     shutil.rmtree(part, ignore_errors=True)
     made = run([*MAKING, suite(), part])
@@ -106,13 +106,13 @@ class Machine:
         while not self.is_up():
             if self.process.poll() is not None or time.monotonic() > end:
                 self.end()
-                told = self.log.read_text(errors="replace").splitlines() or ["systemd-nspawn ended"]
-                raise unittest.SkipTest(f"no small Debian boots here: {told[-1]}")
+                lines = self.log.read_text(errors="replace").splitlines() or ["systemd-nspawn ended"]
+                raise unittest.SkipTest(f"no small Debian boots here: {lines[-1]}")
             time.sleep(0.1)
 
     @property
     def leader(self) -> int:
-        """The machine's first process; 0 where there is none yet."""
+        """The machine's first process; 0 if there is none yet."""
         try:
             children = Path(f"/proc/{self.process.pid}/task/{self.process.pid}/children").read_text().split()
         except OSError:
@@ -130,7 +130,7 @@ class Machine:
         settings = ["/usr/bin/env", "-i", "PATH=/usr/sbin:/usr/bin:/sbin:/bin", "HOME=/root", "LC_ALL=C.UTF-8", "DEBIAN_FRONTEND=noninteractive"]
         return run(["nsenter", f"--target={self.leader}", "--all", "--wd=/", *settings, *words], input)
 
-    def told(self, *words: str | Path, input: bytes = b"") -> str:
+    def output_of(self, *words: str | Path, input: bytes = b"") -> str:
         """What a command that has to succeed writes."""
         ran = self.run(*words, input=input)
         if ran.status != 0:
@@ -139,7 +139,7 @@ class Machine:
 
     def shown(self, unit: str, name: str) -> str:
         """A property of a unit."""
-        return self.told("systemctl", "show", "--value", f"--property={name}", unit)
+        return self.output_of("systemctl", "show", "--value", f"--property={name}", unit)
 
     def states(self, units: Sequence[str]) -> dict[str, str]:
         return {unit: self.shown(unit, "ActiveState") for unit in units}

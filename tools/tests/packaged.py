@@ -14,14 +14,14 @@ UNITS = ["delkwoan.service", "delkwoan-gateway.service", "delkwoan-restart.servi
 
 
 def need(*tools: str) -> None:
-    """Skips where one of these is not there."""
+    """Skips if one of these is not there."""
     for tool in tools:
         if shutil.which(tool) is None:
             raise unittest.SkipTest(f"no {tool}")
 
 
 def need_builders() -> None:
-    """Skips where no package can be built."""
+    """Skips if no package can be built."""
     need("dpkg-buildpackage", "dh", "pybuild")
     if (lacks := run(["dpkg-checkbuilddeps", str(ROOT / "debian/control")])).status != 0:
         raise unittest.SkipTest(lacks.errors.decode().strip())
@@ -66,7 +66,7 @@ def package(around: Path) -> Path:
 
 
 def changed(package: Path, folder: Path, version: str, edits: dict[str, tuple[str, str]]) -> Path:
-    """A package like this one, of another version, in whose files a text stands for another."""
+    """A package like this one, of another version, in whose files texts are replaced."""
     root = folder / "changed"
     shutil.rmtree(root, ignore_errors=True)
     assert run(["dpkg-deb", "-R", package, root]).status == 0
