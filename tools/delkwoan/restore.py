@@ -135,9 +135,9 @@ class Restore:
         """The roster, which is as that was in its place, or root's alone."""
         with about(self.roster.parent):
             self.roster.parent.mkdir(mode=0o755, parents=True, exist_ok=True)
-            if not self.roster.exists():
-                return Placed(self.roster, content, os.geteuid(), os.getegid(), 0o600)
-            status = self.roster.stat()
+            status = self.roster.stat() if self.roster.exists() else None
+        if status is None:
+            return Placed(self.roster, content, os.geteuid(), os.getegid(), 0o600)
         return Placed(self.roster, content, status.st_uid, status.st_gid, status.st_mode & 0o777)
 
     def checked(self, part: str, roster: str, due: list[str]) -> None:
@@ -158,7 +158,8 @@ class Restore:
         with ExitStack() as stack:
             if self.journal.exists():
                 stack.enter_context(locked(str(self.journal)))
-            return self.place(roster, content, due)
+            lines = self.place(roster, content, due)
+        return lines
 
     def place(self, roster: bytes, content: bytes, due: list[str]) -> list[str]:
         parts: list[str] = []

@@ -129,7 +129,10 @@ class Upgrade(Installed):
     def test_running_units_are_restarted(self) -> None:
         """By an upgrade, and by dpkg-reconfigure: each with its journal, its members, and the new unit."""
         machine = self.market()
-        ways = {"upgrade": self.upgrade, "dpkg-reconfigure": lambda it: it.output_of("dpkg-reconfigure", "delkwoan")}
+        ways: dict[str, Callable[[Machine], object]] = {
+            "upgrade": self.upgrade,
+            "dpkg-reconfigure": lambda it: it.output_of("dpkg-reconfigure", "delkwoan"),
+        }
         for name, way in ways.items():
             with self.subTest(name):
                 before, replayed = processes(machine), replay(machine)

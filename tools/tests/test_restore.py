@@ -114,7 +114,8 @@ class Restore(unittest.TestCase):
         before = self.files()
         for words, status, line in cases:
             with self.subTest(line):
-                ran = run([RESTORE, "--state", self.state, "--settings", self.settings, *([] if "--program" in words else ["--program", program()]), *words])
+                own: list[str | Path] = [] if "--program" in words else ["--program", program()]
+                ran = run([RESTORE, "--state", self.state, "--settings", self.settings, *own, *words])
                 self.assertEqual((ran.status, ran.output, ran.errors.decode()[: len(line)]), (status, b"", line))
                 self.assertEqual(self.files(), before)
 
@@ -130,7 +131,8 @@ class Restore(unittest.TestCase):
         self.assertEqual(self.files(), before)
 
     def test_words(self) -> None:
-        for words in ([], ["a", "b"], ["--roster"], ["--seed", "--seed", "a"], ["--state", "a", "--state", "b", "c"], ["--nothing", "a"]):
+        cases: list[list[str]] = [[], ["a", "b"], ["--roster"], ["--seed", "--seed", "a"], ["--state", "a", "--state", "b", "c"], ["--nothing", "a"]]
+        for words in cases:
             with self.subTest(words=words):
                 self.assertEqual(run([RESTORE, *words]), Ran(2, b"", b"bad words\n"))
 
