@@ -88,6 +88,14 @@ class History:
             if not self.cycle.left:
                 self.execute(moment)
 
+    def cancel_open(self) -> int:
+        """Has the operator cancel the open cycle, if one is open; answers how many changes that is."""
+        operator = self.names.operator
+        if operator is None or self.cycle.phase == "none":
+            return 0
+        self.take(Record(0, operator, changes.Cancel(self.cycle.number)))
+        return 1
+
     def execute(self, moment: int) -> None:
         """Executes the plan that stands at a moment, and tests that each net position stays and no gross grows."""
         before = [*self.book.gross]

@@ -1,6 +1,6 @@
 """The command compress-roll: begins a new journal over a new roster, with the open trades of an old one.
 
-    compress-roll ROSTER JOURNAL NEW-ROSTER NEW-JOURNAL [--matured DAY] [--map FILE] [--program FILE]
+    compress-roll ROSTER JOURNAL NEW-ROSTER NEW-JOURNAL [--matured DAY] [--cancel] [--map FILE] [--program FILE]
 
 The old journal is replayed as `compress-audit` does, and the new one made of what that finds: `compress_cli roll` has to write the same
 bytes. They go into a file beside the new name, are synced, read again, and compared with the old journal: by names, and by what
@@ -26,7 +26,7 @@ from .history import History, Moved
 from .placing import give_name, locked
 from .rolled import Differs, Told, check_base, numbers_of, told_of
 from .rolling import Obstacle, Period, journal_of
-from .words import Once, Words, text
+from .words import Once, Words, flag, text
 
 STATUSES = range(2, 20)
 """The program's own, which are told as they are."""
@@ -51,6 +51,7 @@ def words() -> Words:
     parser.add_argument("new_journal", metavar="NEW-JOURNAL", type=text, help="the new journal, which may not be there")
     matured = "leave out the trades of products that mature by this day in ROSTER"
     parser.add_argument("--matured", metavar="DAY", action=Once, type=day, help=matured)
+    flag(parser, "--cancel", "cancel the open cycle first, also if the journal is full")
     parser.add_argument("--map", metavar="FILE", action=Once, type=text, help="write the old and the new number of each trade, as CSV")
     parser.add_argument("--program", metavar="FILE", action=Once, help="the program that rolls, and replays both")
     return parser
@@ -83,8 +84,10 @@ def written_by(program: str, *words: str) -> bytes:
 
 def rolled_by(program: str, given: Namespace) -> bytes:
     """The journal that the program rolls."""
-    matured = [] if given.matured is None else ["--matured", given.matured]
-    return written_by(program, "roll", *matured, "--", given.roster, given.journal, given.new_roster)
+    options = [] if given.matured is None else ["--matured", given.matured]
+    if given.cancel:
+        options.append("--cancel")
+    return written_by(program, "roll", *options, "--", given.roster, given.journal, given.new_roster)
 
 
 def replay_of(program: str, roster: str, journal: str) -> Told:
@@ -121,12 +124,12 @@ def matured_by(names: Names, last: str | None) -> set[str]:
 
 
 def compared(given: Namespace, program: str, period: Period, new: str) -> Rolled:
-    """Compares both journals; stops where the new one is not what it has to be."""
+    """Compares both journals; stops where the new one is not what it has to be. A CANCEL takes a position too."""
     base = base_of(lead_of(read_file(new, MOST_BYTES)).base)
     before, after = replay_of(program, given.roster, given.journal), replay_of(program, given.new_roster, new)
     try:
         check_base(period.history, period.new, base, period.matured)
-        return Rolled(before, after, numbers_of(before, after, period.matured), base)
+        return Rolled(before, after, numbers_of(before, after, period.matured, 1 + period.cancels), base)
     except Differs as difference:
         raise Stop(20, f"the new journal has another {difference}") from None
 
@@ -147,7 +150,7 @@ def roll(given: Namespace, program: str, status: os.stat_result) -> Rolled:
     """Makes the new journal, with the old one's owner and rights."""
     new = Path(given.new_journal)
     names, new_names = names_of(read_file(given.roster, checker.MOST_BYTES + 1)), new_names_of(given.new_roster)
-    period = Period(history_of(names, given.journal), new_names, matured_by(names, given.matured))
+    period = Period(history_of(names, given.journal), new_names, matured_by(names, given.matured), given.cancel)
     try:
         content = journal_of(period.base())
     except Obstacle as obstacle:

@@ -60,8 +60,8 @@ def nets_of(rows: Iterable[Row]) -> dict[tuple[str, str], int]:
     return {place: net for place, net in nets.items() if net}
 
 
-def numbers_of(before: Told, after: Told, matured: set[str]) -> list[tuple[int, int]]:
-    """The number of each trade that went on, before and after, without products that matured."""
+def numbers_of(before: Told, after: Told, matured: set[str], further: int) -> list[tuple[int, int]]:
+    """The number of each trade that went on, before and after, without products that matured; the new history is longer by `further`."""
     kept = [row for row in before.rows if row.state != "ended" and row.parties[2] not in matured]
     if nets_of(kept) != nets_of(after.rows):
         raise Differs("net position")
@@ -69,7 +69,7 @@ def numbers_of(before: Told, after: Told, matured: set[str]) -> list[tuple[int, 
         raise Differs("trade")
     if [row.number for row in after.rows] != list(range(1, len(kept) + 1)):
         raise Differs("number")
-    if after.end != before.end + 1:
+    if after.end != before.end + further:
         raise Differs("position")
     return [(old.number, new.number) for old, new in zip(kept, after.rows)]
 

@@ -23,9 +23,10 @@ class Obstacle(Exception):
 
 
 class Period:
-    """A market, and the names that it goes on with."""
+    """A market, and the names that it goes on with. With `cancel` it is the one after a CANCEL of the open cycle, if one is open."""
 
-    def __init__(self, history: History, new: Names, matured: set[str]) -> None:
+    def __init__(self, history: History, new: Names, matured: set[str], cancel: bool = False) -> None:
+        self.cancels = history.cancel_open() if cancel else 0
         self.history = history
         self.before = places_of(history.names)
         self.new = new

@@ -1,10 +1,13 @@
-"""Lines that are made together over a journal without room for all of them: each that has none is refused, and the others are kept."""
+"""A journal without room for all that is asked: each change that has none is refused, and the others are kept.
+
+One that is full in an open cycle is rolled with --cancel, and its market goes on.
+"""
 
 import tempfile
 import unittest
 from pathlib import Path
 
-from running import EXAMPLES, Ran, program, run
+from running import EXAMPLES, TOOLS, Ran, program, run
 
 ROSTER = EXAMPLES / "roster.csv"
 MOST = 268_435_456
@@ -16,7 +19,8 @@ DAY = "2026-03-02"
 BEFORE = f"HELLO A KA\nTRADE A B P 10 {DAY}\nTRADE A B P 20 {DAY}\nHELLO B KB\n"
 TOLD_BEFORE = "ok 0 hello A\nok 1 trade 1\nok 2 trade 2\nok 2 hello B\n"
 TRADE = 38
-"""The bytes of a trade's record with its frame. Each other one here has 28."""
+FREEZE = 26
+"""The bytes of the records of a TRADE and of a FREEZE with their frames. Each other one here has 28."""
 LINES = f"AFFIRM 1\nHOLD 1\nNETS P\nTRADE B C P 5 {DAY}\nAFFIRM 2\nFREE 1\nNETS P\n"
 
 
@@ -37,7 +41,7 @@ CASES = {
 """The room that B's lines have, the room that they leave, and what they are told."""
 
 
-class FullJournal(unittest.TestCase):
+class OfFullJournals(unittest.TestCase):
     def setUp(self) -> None:
         folder = tempfile.TemporaryDirectory()
         self.addCleanup(folder.cleanup)
@@ -54,6 +58,8 @@ class FullJournal(unittest.TestCase):
             file.seek(place)
             file.write(body)
 
+
+class FullJournal(OfFullJournals):
     def test_what_has_no_room_is_refused_and_the_rest_is_kept(self) -> None:
         for room, (left, replies) in CASES.items():
             with self.subTest(room=room):
@@ -68,6 +74,25 @@ class FullJournal(unittest.TestCase):
                 self.begin(25, body)
                 last = replies[-1]
                 self.assertEqual(self.told("HELLO B KB\nNETS P\n"), Ran(0, f"ok {last.split()[1]} hello B\n{last}\n".encode(), b""))
+
+
+STUCK = "HELLO OPS KO\nFREEZE 2026-03-31\nCANCEL 1\nHELLO A KA\nEND 1\n"
+"""In a journal with room for the FREEZE alone, nothing is left that could be done."""
+TOLD_STUCK = f"ok 2 hello OPS\nok 3 frozen 1 0\nno 3 {full(0)}\nok 3 hello A\nno 3 {full(0)}\n"
+
+
+class StuckCycle(OfFullJournals):
+    def test_a_full_journal_with_an_open_cycle_is_rolled(self) -> None:
+        self.begin(MOST - FREEZE - 2 * TRADE - len(BODY), BODY)
+        self.assertEqual(self.told(BEFORE + STUCK), Ran(0, (TOLD_BEFORE + TOLD_STUCK).encode(), b""))
+        self.assertEqual(self.told("HELLO OPS KO\nCANCEL 1\n"), Ran(0, f"ok 3 hello OPS\nno 3 {full(0)}\n".encode(), b""))
+        new = self.journal.parent / "new"
+        words = [TOOLS / "roll", "--program", self.program, ROSTER, self.journal, ROSTER, new]
+        self.assertEqual(run(words), Ran(15, b"", b"cannot roll: a cycle is open\n"))
+        self.assertEqual(run([*words, "--cancel"]), Ran(0, b"position 5: trades 2, settings 0; trades left out 0\n", b""))
+        self.journal = new
+        due = "ok 5 hello B\nok 6 live 1\nok 6 hello OPS\nok 7 frozen 2 1\n"
+        self.assertEqual(self.told("HELLO B KB\nAFFIRM 1\nHELLO OPS KO\nFREEZE 2026-03-31\n"), Ran(0, due.encode(), b""))
 
 
 if __name__ == "__main__":

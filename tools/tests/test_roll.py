@@ -5,6 +5,7 @@ import stat
 import sys
 import unittest
 from pathlib import Path
+from typing import NamedTuple
 
 from days import Day, market_of
 from running import EXAMPLES, TOOLS, Ran, run
@@ -82,10 +83,10 @@ class OfRolls(OfJournals):
         self.assertEqual(self.journal.read_bytes(), content)
         return ran
 
-    def assert_refused(self, roster: Path, status: int, told: bytes, *matured: str) -> None:
+    def assert_refused(self, roster: Path, status: int, told: bytes, *options: str) -> None:
         """The tool and the form refuse alike, and write nothing."""
-        self.assertEqual(self.roll(roster, *matured), Ran(status, b"", told))
-        self.assertEqual(run([self.program, "roll", *matured, ROSTER, self.journal, roster]), Ran(status, b"", told))
+        self.assertEqual(self.roll(roster, *options), Ran(status, b"", told))
+        self.assertEqual(run([self.program, "roll", *options, ROSTER, self.journal, roster]), Ran(status, b"", told))
         self.assertFalse(self.new.exists())
         self.assertEqual(self.parts(), [])
 
@@ -172,9 +173,103 @@ class Rolls(OfRolls):
         self.assertEqual((ran.status, ran.errors), (0, b""))
 
 
+SETTINGS = ["2 1 1 out 2 40", "2 1 3 in 1 -"]
+HELD, ALLEGED, MARKED, BACK = (
+    "2 1 1 10 2026-03-02 live out - 2",
+    "2 3 1 7 2026-03-02 alleged out - 0",
+    "2 3 1 5 2026-03-02 live out in 0",
+    "3 2 1 5 2026-03-02 live out - 0",
+)
+"""What stands of the trades behind OLD over the grown roster, and one by which C owes A 5."""
+OWED = b"HELLO C KC\nTRADE C A P 5 2026-03-02\nHELLO A KA\nAFFIRM 5\n"
+FROZEN = b"HELLO OPS KO\nFREEZE 2026-03-31\n"
+PROPOSED = OWED + FROZEN + b"PROPOSE 1 hybrid\n"
+
+
+class Cycle(NamedTuple):
+    """Lines behind OLD, how many of them are changes, and what is rolled with --cancel: its cycle and version, and how it is written."""
+
+    lines: bytes
+    changes: int
+    version: tuple[int, int]
+    trades: list[str]
+    settings: list[str] = SETTINGS
+    is_open: bool = True
+
+
+CYCLES = {
+    "frozen": Cycle(FROZEN, 1, (1, 0), [HELD, ALLEGED, MARKED]),
+    "begun": Cycle(FROZEN + b"BEGIN 1 hybrid\n", 2, (1, 1), [HELD, ALLEGED, MARKED]),
+    "begun twice": Cycle(FROZEN + b"BEGIN 1 hybrid\nBEGIN 1 free\n", 3, (1, 2), [HELD, ALLEGED, MARKED]),
+    "proposed": Cycle(PROPOSED, 5, (1, 1), [HELD, ALLEGED, MARKED, BACK]),
+    "voted": Cycle(PROPOSED + b"HELLO C KC\nACCEPT 1 1\n", 6, (1, 1), [HELD, ALLEGED, MARKED, BACK]),
+    "declined": Cycle(PROPOSED + b"HELLO C KC\nDECLINE 1 1\n", 6, (1, 1), [HELD, ALLEGED, MARKED, BACK]),
+    "broken": Cycle(FROZEN + b"HELLO A KA\nEND 4\n", 2, (1, 0), [HELD, ALLEGED]),
+    "marked": Cycle(FROZEN + b"HELLO A KA\nEND 1\n", 2, (1, 0), ["2 1 1 10 2026-03-02 live out out 2", ALLEGED, MARKED]),
+    "set": Cycle(FROZEN + b"HELLO A KA\nTOL B P out 3 41\n", 2, (1, 0), [HELD, ALLEGED, MARKED], ["2 1 1 out 3 41", SETTINGS[1]]),
+    "second": Cycle(FROZEN + b"CANCEL 1\nFREEZE 2026-03-31\n", 3, (2, 0), [HELD, ALLEGED, MARKED]),
+    "none": Cycle(b"", 0, (0, 0), [HELD, ALLEGED, MARKED], is_open=False),
+    "cancelled": Cycle(FROZEN + b"CANCEL 1\n", 2, (1, 0), [HELD, ALLEGED, MARKED], is_open=False),
+}
+
+
+class Cancelled(OfRolls):
+    def assert_cancelled(self, cycle: Cycle) -> None:
+        self.journal.unlink(missing_ok=True)
+        self.new.unlink(missing_ok=True)
+        self.written(OLD + cycle.lines)
+        position = CHANGES + cycle.changes + cycle.is_open + 1
+        due = slotted(Base(position, *cycle.version, "DBAC", "QP", cycle.settings, cycle.trades, b"\2").spelled(), [])
+        self.assertEqual(run([self.program, "roll", "--cancel", ROSTER, self.journal, self.grown]), Ran(0, due, b""))
+        ran = self.roll(self.grown, "--cancel")
+        self.assertEqual((ran.status, ran.errors), (0, b""))
+        self.assertEqual(self.new.read_bytes(), due)
+        if cycle.is_open:
+            self.written(b"HELLO OPS KO\nCANCEL %d\n" % cycle.version[0])
+        self.assertEqual(run([self.program, "roll", ROSTER, self.journal, self.grown]), Ran(0, due, b""))
+
+    def test_a_cycle_in_each_phase(self) -> None:
+        """The bytes are those of a roll after the operator cancelled it."""
+        for name, cycle in CYCLES.items():
+            with self.subTest(name):
+                self.assert_cancelled(cycle)
+
+    def test_the_next_cycle_opens_there(self) -> None:
+        self.written(OLD + FROZEN)
+        self.roll(self.grown, "--cancel")
+        ran = run([self.program, "script", self.grown, self.new], b"HELLO OPS KO\nCANCEL 1\nFREEZE 2026-03-31\n")
+        self.assertEqual(ran.output.splitlines(), [b"ok 16 hello OPS", b"no 16 17 wrong-phase none", b"ok 17 frozen 2 2"])
+
+    def test_it_is_refused_as_without(self) -> None:
+        self.written(OLD + FROZEN)
+        without = self.file("without.csv", GROWN.replace(b"C,dealer,KC\n", b""))
+        self.assert_refused(without, 15, b"cannot roll: a member of trade 2 is gone\n", "--cancel")
+
+    def test_a_roster_without_an_operator(self) -> None:
+        """In its market no cycle is open."""
+        alone = self.file("alone.csv", b"name,role,key\nA,dealer,KA\nB,dealer,KB\nC,dealer,KC\nP,product,2031-06-30\n")
+        lines = b"HELLO A KA\nTRADE A B P 10 2026-03-02\n"
+        self.assertEqual(run([self.program, "script", alone, self.journal], lines).status, 0)
+        due = run([self.program, "roll", alone, self.journal, self.grown])
+        self.assertEqual(due.status, 0)
+        self.assertEqual(run([self.program, "roll", "--cancel", alone, self.journal, self.grown]), due)
+
+    def test_the_last_positions(self) -> None:
+        """A CANCEL takes a position too: of 10^18 and those behind it none is left."""
+        for before, told in ((2, None), (1, b"no position is left"), (0, b"a number is above 10^18")):
+            with self.subTest(before=before):
+                self.journal.write_bytes(slotted(Base(10**18 - before - 1, 0, 0, "ABC", "P").spelled(), [record("OPS: FREEZE 2026-03-31")]))
+                if told is None:
+                    ran = Ran(0, f"position {10**18}: trades 0, settings 0; trades left out 0\n".encode(), b"")
+                    self.assertEqual(self.roll(self.grown, "--cancel"), ran)
+                    self.new.unlink()
+                else:
+                    self.assert_refused(self.grown, 15, b"cannot roll: " + told + b"\n", "--cancel")
+
+
 class Refusals(OfRolls):
     def test_an_open_cycle(self) -> None:
-        self.written(OLD + b"HELLO OPS KO\nFREEZE 2026-03-31\n")
+        self.written(OLD + FROZEN)
         self.assert_refused(self.grown, 15, b"cannot roll: a cycle is open\n")
 
     def test_members_that_are_gone_or_have_another_role(self) -> None:
@@ -231,7 +326,7 @@ class Refusals(OfRolls):
         self.assertEqual(self.parts(), [])
 
     def test_bad_words(self) -> None:
-        for options in (["--matured", "2031-02-29"], ["--matured"], ["another"], ["--map", "a", "--map", "b"]):
+        for options in (["--matured", "2031-02-29"], ["--matured"], ["another"], ["--map", "a", "--map", "b"], ["--cancel", "--cancel"], ["--cancel=yes"]):
             with self.subTest(options=options):
                 self.assertEqual(run([TOOLS / "roll", "a", "b", "c", "d", *options]), Ran(2, b"", b"bad words\n"))
 

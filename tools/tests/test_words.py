@@ -69,16 +69,19 @@ class Words(unittest.TestCase):
                 self.assert_out_of_form(form, f"--{name}=1", *words)
             if form != "roll":
                 self.assert_out_of_form(form, *words, "--matured", "2027-03-01")
+                self.assert_out_of_form(form, *words, "--cancel")
             if form != "follow":
                 self.assert_out_of_form(form, *words, "--compare")
 
-    def test_days_of_a_roll(self) -> None:
+    def test_options_of_a_roll(self) -> None:
         words = ["roll", *FORMS["roll"]]
         self.assert_out_of_form(*words, "--matured")
         for day in ["", "1", "2027-02-29", "2027-3-1", "20270301", "2027-13-01", "10000-01-01", " 2027-03-01", "--"]:
             self.assert_out_of_form(*words, "--matured", day)
             self.assert_out_of_form(*words, f"--matured={day}")
         self.assert_out_of_form(*words, "--matured", "2027-03-01", "--matured=2027-03-01")
+        for options in (["--cancel", "--cancel"], ["--cancel=yes"], ["--cancel="], ["--cancel", "yes"], ["--cancel", "--compare"]):
+            self.assert_out_of_form(*words, *options)
 
     def test_names_of_a_standby(self) -> None:
         for bad in ["", "ops", "A" * 17, "A B", "Ä", "A_B"]:

@@ -75,8 +75,8 @@ files_rose files files' (Form.Check market proposal) role (inr (rows, trades, sa
 files_rose files files' (Form.Solve market workers) role is = market_rose files files' market role is
 files_rose files files' (Form.Gen number workers) role is = absurd is
 files_rose files files' (Form.Replay roster journal) role is = is.1
-files_rose files files' (Form.Roll roster journal new_roster matured) role (inl is) = is.1
-files_rose files files' (Form.Roll roster journal new_roster matured) role (inr (rows, says, is)) = is.1
+files_rose files files' (Form.Roll roster journal new_roster matured cancel) role (inl is) = is.1
+files_rose files files' (Form.Roll roster journal new_roster matured cancel) role (inr (rows, says, is)) = is.1
 files_rose files files' (Form.Follow standby) role is = is.1
 
 -- a fault is one of the files as they were
@@ -87,7 +87,7 @@ faulty_before files files' (Form.Check market proposal) role fault is = is
 faulty_before files files' (Form.Solve market workers) role fault is = is
 faulty_before files files' (Form.Gen number workers) role fault is = is
 faulty_before files files' (Form.Replay roster journal) role fault is = is
-faulty_before files files' (Form.Roll roster journal new_roster matured) role fault is = is
+faulty_before files files' (Form.Roll roster journal new_roster matured cancel) role fault is = is
 faulty_before files files' (Form.Follow standby) role fault is = is
 
 module _ (files files' : FilesState) (form : Form) (held : Rose files.faults files'.faults → ⊥) where
@@ -166,14 +166,14 @@ module _ (files files' : FilesState) (output output' : OutputState) (no_files : 
     replay_answered roster journal replays.SinkFault (says, rose) = absurd (no_output rose)
     replay_answered roster journal replays.Memory is = inr (inr (inl refl))
 
-    roll_answered : (roster journal new_roster : List ℕ) (matured : Option DayParts) (own : RollEnd) → RollRuns roster new_roster matured files files' output output' disk left own → IsAnswered files (Form.Roll roster journal new_roster matured) (status_of (roll_end own))
-    roll_answered roster journal new_roster matured rolls.Done is = inl refl
-    roll_answered roster journal new_roster matured (rolls.Unloaded fault) (unwritten, kept, is) = load_answered files files' (Form.Roll roster journal new_roster matured) no_files fault is
-    roll_answered roster journal new_roster matured (rolls.Unread fault) (unwritten, (kept, (old, says, are, (new, says_new, are_new, is)))) =
-        unread_answered old disk left no_disk files (Form.Roll roster journal new_roster matured) (inl refl) fault is
-    roll_answered roster journal new_roster matured (rolls.Unrolled obstacle) is = inr (inr (inr (inr (inl refl))))
-    roll_answered roster journal new_roster matured rolls.SinkFault (says, rose) = absurd (no_output rose)
-    roll_answered roster journal new_roster matured rolls.Memory is = inr (inr (inl refl))
+    roll_answered : (roster journal new_roster : List ℕ) (matured : Option DayParts) (cancel : Bool) (own : RollEnd) → RollRuns roster new_roster matured cancel files files' output output' disk left own → IsAnswered files (Form.Roll roster journal new_roster matured cancel) (status_of (roll_end own))
+    roll_answered roster journal new_roster matured cancel rolls.Done is = inl refl
+    roll_answered roster journal new_roster matured cancel (rolls.Unloaded fault) (unwritten, kept, is) = load_answered files files' (Form.Roll roster journal new_roster matured cancel) no_files fault is
+    roll_answered roster journal new_roster matured cancel (rolls.Unread fault) (unwritten, (kept, (old, says, are, (new, says_new, are_new, is)))) =
+        unread_answered old disk left no_disk files (Form.Roll roster journal new_roster matured cancel) (inl refl) fault is
+    roll_answered roster journal new_roster matured cancel (rolls.Unrolled obstacle) is = inr (inr (inr (inr (inl refl))))
+    roll_answered roster journal new_roster matured cancel rolls.SinkFault (says, rose) = absurd (no_output rose)
+    roll_answered roster journal new_roster matured cancel rolls.Memory is = inr (inr (inl refl))
 
 module _ (standby : Standby) (files files' : FilesState) (before after : Streams) (disk left : DiskState)
     (no_files : Rose files.faults files'.faults → ⊥) (no_input : Rose before.input.faults after.input.faults → ⊥) (no_output : Rose before.output.faults after.output.faults → ⊥) (no_disk : Rose disk.faults left.faults → ⊥) where
@@ -255,8 +255,8 @@ end_answered clock visits (Form.Gen number workers) before after end (same, only
     told_as gen_end before.files (Form.Gen number workers) end own e (gen_answered before.files after.files before.seen.output after.seen.output held.files_held held.output_held number workers own runs)
 end_answered clock visits (Form.Replay roster journal) before after end (unread, same, (own, e, runs)) held =
     told_as replay_end before.files (Form.Replay roster journal) end own e (replay_answered before.files after.files before.seen.output after.seen.output held.files_held held.output_held before.seen.disk after.seen.disk held.disk_held roster journal own runs)
-end_answered clock visits (Form.Roll roster journal new_roster matured) before after end (unread, same, (own, e, runs)) held =
-    told_as roll_end before.files (Form.Roll roster journal new_roster matured) end own e (roll_answered before.files after.files before.seen.output after.seen.output held.files_held held.output_held before.seen.disk after.seen.disk held.disk_held roster journal new_roster matured own runs)
+end_answered clock visits (Form.Roll roster journal new_roster matured cancel) before after end (unread, same, (own, e, runs)) held =
+    told_as roll_end before.files (Form.Roll roster journal new_roster matured cancel) end own e (roll_answered before.files after.files before.seen.output after.seen.output held.files_held held.output_held before.seen.disk after.seen.disk held.disk_held roster journal new_roster matured cancel own runs)
 end_answered clock visits (Form.Follow standby) before after end (same, (own, e, runs)) held =
     told_as standby_end before.files (Form.Follow standby) end own e (standby_answered standby before.files after.files _ _ before.seen.disk after.seen.disk held.files_held held.input_held held.output_held held.disk_held own runs)
 

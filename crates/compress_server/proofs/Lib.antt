@@ -11,6 +11,7 @@ pub mod CompleteFacts
 pub mod StatementFacts
 pub mod CheckFacts
 pub mod ReplayFacts
+pub mod CancelFacts
 pub mod RollFacts
 pub mod AnsweredFacts
 pub mod IdleFacts

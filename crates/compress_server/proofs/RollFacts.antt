@@ -8,6 +8,7 @@ use Rattle.command_types.specs.declared.base.Base.{Base}
 use Rattle.command_types.specs.declared.cycle.Phase.{Phase}
 use Rattle.command_types.specs.declared.cycle.Phase.TheVariants.{None as NoPhase, Frozen, Solving, Proposed, Broken}
 use Rattle.command_types.specs.declared.figures.State.{State}
+use Rattle.command_types.specs.declared.figures.Start.{Start}
 use Rattle.command_types.specs.declared.spelling.Spelling.TheVariants.{Second}
 use Rattle.command_types.specs.Bases.{CanBeWritten, Fits, base_spelling, written}
 use Rattle.command_types.specs.Cycles.{is_open}
@@ -33,10 +34,12 @@ use Rattle.house.specs.Storing.{ContentStandsFor}
 use Rattle.compress_server.specs.declared.ending.Obstacle.{Obstacle}
 use Rattle.compress_server.specs.declared.ending.Obstacle.TheVariants.{Misfit}
 use Rattle.compress_server.specs.declared.rolling.RollEnd.TheVariants.{Done, Unrolled, SinkFault}
+use Rattle.compress_server.specs.declared.rolling.Unmade.{Unmade}
+use Rattle.compress_server.specs.Cancelled.{rolled_past}
 use Rattle.compress_server.specs.Files.{FilesState, SaysRoster}
 use Rattle.compress_server.specs.Housed.{DiskState}
 use Rattle.compress_server.specs.Replay.{IsKept}
-use Rattle.compress_server.specs.Roll.{last_base, rolled_history, IsObstacle, IsRolled, OverRosters, RollRuns}
+use Rattle.compress_server.specs.Roll.{last_base, rolled_history, IsObstacle, IsObstacleAt, IsRolled, IsUnmade, IsUnmadeAt, OverRosters, RollRuns}
 use Rattle.compress_server.specs.Seen.{OutputState}
 
 -- ---- the base at the end of a history
@@ -71,21 +74,47 @@ pub misfit : (old : Rows) (o : Option Base) → (IfSome o (Fits old) → ⊥) �
 misfit old None none = absurd (none tt)
 misfit old (Some b) none = (b, refl, none)
 
-module _ (s : State) (h : History) (there : IsReplayed s h) (o : Option Base) (is : o ≡ base_of (end_of h) s) where
-  last_is : last_base h ≡ o
-  last_is = sym (last_of s h there) ∙ sym is
+module _ (s : State) (position : ℕ) (o : Option Base) (is : o ≡ base_of position s) where
+  -- what a machine gives comes to what is written of its state
+  pub rolled_there : (old new : Rows) (matured : Option DayParts) (r : Result Base Cause) → rolled old new matured o ≡ r → rolled old new matured (base_of position s) ≡ r
+  rolled_there old new matured r comes = ap (λ (x : Option Base). rolled old new matured x) (sym is) ∙ comes
 
-  -- what a machine's base comes to is what the history's does
-  pub rolled_there : (old new : Rows) (matured : Option DayParts) (r : Result Base Cause) → rolled old new matured o ≡ r → rolled_history old new matured h ≡ r
-  rolled_there old new matured r comes = ap (λ (x : Option Base). rolled old new matured x) last_is ∙ comes
+  pub fits_there : (old : Rows) → IfSome o (Fits old) → IfSome (base_of position s) (Fits old)
+  fits_there old fits = subst (λ (x : Option Base). IfSome x (Fits old)) is fits
 
-  pub fits_there : (old : Rows) → IfSome o (Fits old) → IfSome (last_base h) (Fits old)
-  fits_there old fits = subst (λ (x : Option Base). IfSome x (Fits old)) (sym last_is) fits
-
-  pub misfit_there : (old new : Rows) (matured : Option DayParts) (result : Bool) → (IsTrue result ↔ IfSome o (Fits old)) → result ≡ false → IsObstacle old new matured h Misfit
+  pub misfit_there : (old new : Rows) (matured : Option DayParts) (result : Bool) → (IsTrue result ↔ IfSome o (Fits old)) → result ≡ false → IsObstacleAt old new matured (base_of position s) Misfit
   misfit_there old new matured result tells fails =
       let found = misfit old o (λ fits. not_both result (tells.1 fits) fails) in
-      (found.0, last_is ∙ found.1, found.2)
+      (found.0, sym is ∙ found.1, found.2)
+
+-- ---- where what was read is rolled
+
+-- a history begins where it did, whatever its operator asks for at its end
+begins_there : (cancel : Bool) (h : History) → (rolled_past cancel h).base ≡ h.base
+begins_there false h = refl
+begins_there true h = refl
+
+module _ (cancel : Bool) (was s : State) (past : History) (there : IsReplayed was past) (rests : IsReplayed s (rolled_past cancel past)) (position : ℕ) (at : position ≡ end_of (rolled_past cancel past)) where
+  pub rows_stay : s.roster ≡ was.roster
+  rows_stay = roster_replayed s (rolled_past cancel past) rests ∙ ap (λ (b : Start). b.state.roster) (begins_there cancel past) ∙ sym (roster_replayed was past there)
+
+  last_is : base_of position s ≡ last_base (rolled_past cancel past)
+  last_is = ap (λ n. base_of n s) at ∙ last_of s (rolled_past cancel past) rests
+
+  pub rests_writable : (rows : Rows) → IsWritable rows past.base.state → IsWritable rows (rolled_past cancel past).base.state
+  rests_writable rows writable = subst (λ (b : Start). IsWritable rows b.state) (sym (begins_there cancel past)) writable
+
+  pub rolled_at_rest : (new : Rows) (matured : Option DayParts) (r : Result Base Cause) → rolled s.roster new matured (base_of position s) ≡ r → rolled_history was.roster new matured (rolled_past cancel past) ≡ r
+  rolled_at_rest new matured r comes =
+      ap (λ (o : Option Base). rolled was.roster new matured o) (sym last_is) ∙ ap (λ (rows : Rows). rolled rows new matured (base_of position s)) (sym rows_stay) ∙ comes
+
+  pub fits_at_rest : IfSome (base_of position s) (Fits s.roster) → IfSome (last_base (rolled_past cancel past)) (Fits was.roster)
+  fits_at_rest fits =
+      subst (λ (o : Option Base). IfSome o (Fits was.roster)) last_is (subst (λ (rows : Rows). IfSome (base_of position s) (Fits rows)) rows_stay fits)
+
+  pub unmade_at_rest : (new : Rows) (matured : Option DayParts) (cause : Unmade) → IsUnmadeAt s.roster new matured (base_of position s) cause → IsUnmade was.roster new matured (rolled_past cancel past) cause
+  unmade_at_rest new matured cause is =
+      subst (λ (o : Option Base). IsUnmadeAt was.roster new matured o cause) last_is (subst (λ (rows : Rows). IsUnmadeAt rows new matured (base_of position s) cause) rows_stay is)
 
 -- ---- the base over the new rows
 
@@ -131,7 +160,7 @@ same_rows old read there base = roster_replayed read.machine.state read.past the
 
 -- ---- how a roll ends, over a disk that holds what it held
 
-module _ (roster new_roster : List ℕ) (matured : Option DayParts) (files files' : FilesState) (output output' : OutputState) (disk left : DiskState)
+module _ (roster new_roster : List ℕ) (matured : Option DayParts) (cancel : Bool) (files files' : FilesState) (output output' : OutputState) (disk left : DiskState)
     (old new : Rows) (says : SaysRoster files.folder roster old) (are : IsRoster old) (says_new : SaysRoster files.folder new_roster new) (are_new : IsRoster new) (same : left.history ≡ disk.history)
     (read : Recovered) (stands : ContentStandsFor disk.history read.past) (replayed_there : IsReplayed read.machine.state read.past) (base : IsWritable old read.past.base.state) where
   kept : IsKept old disk.history read.past
@@ -140,18 +169,18 @@ module _ (roster new_roster : List ℕ) (matured : Option DayParts) (files files
   rows_same : read.machine.state.roster ≡ old
   rows_same = same_rows old read replayed_there base
 
-  over : {P : Rows → Rows → Type 0} → P old new → OverRosters roster new_roster matured files files' output output' disk left P
+  over : {P : Rows → Rows → Type 0} → P old new → OverRosters roster new_roster matured cancel files files' output output' disk left P
   over is = (same, (old, says, are, (new, says_new, are_new, is)))
 
-  module _ (text : List ℕ) (is : IsRolled read.machine.state.roster new matured read.past text) where
-    is_there : IsRolled old new matured read.past text
-    is_there = subst (λ (rows : Rows). IsRolled rows new matured read.past text) rows_same is
+  module _ (text : List ℕ) (is : IsRolled read.machine.state.roster new matured (rolled_past cancel read.past) text) where
+    is_there : IsRolled old new matured (rolled_past cancel read.past) text
+    is_there = subst (λ (rows : Rows). IsRolled rows new matured (rolled_past cancel read.past) text) rows_same is
 
-    pub rolls : Takes output.taken output'.taken text → RollRuns roster new_roster matured files files' output output' disk left Done
+    pub rolls : Takes output.taken output'.taken text → RollRuns roster new_roster matured cancel files files' output output' disk left Done
     rolls takes = over (read.past, text, kept, is_there, takes)
 
-    pub rolls_front : TakesFront output.taken output'.taken text → Rose output.faults output'.faults → RollRuns roster new_roster matured files files' output output' disk left SinkFault
+    pub rolls_front : TakesFront output.taken output'.taken text → Rose output.faults output'.faults → RollRuns roster new_roster matured cancel files files' output output' disk left SinkFault
     rolls_front takes rose = (over (read.past, text, kept, is_there, takes), rose)
 
-  pub unrolled : (obstacle : Obstacle) → IsObstacle read.machine.state.roster new matured read.past obstacle → output' ≡ output → RollRuns roster new_roster matured files files' output output' disk left (Unrolled obstacle)
-  unrolled obstacle is none = (none, over (read.past, kept, subst (λ (rows : Rows). IsObstacle rows new matured read.past obstacle) rows_same is))
+  pub unrolled : (obstacle : Obstacle) → IsObstacle read.machine.state.roster new matured (rolled_past cancel read.past) obstacle → output' ≡ output → RollRuns roster new_roster matured cancel files files' output output' disk left (Unrolled obstacle)
+  unrolled obstacle is none = (none, over (read.past, kept, subst (λ (rows : Rows). IsObstacle rows new matured (rolled_past cancel read.past) obstacle) rows_same is))

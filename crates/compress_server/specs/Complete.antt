@@ -25,7 +25,7 @@ IsFormUnread files files' (Form.Check market proposal) = IsCheckUnread files fil
 IsFormUnread files files' (Form.Solve market workers) = IsMarketUnread files files' market
 IsFormUnread files files' (Form.Gen number workers) = λ fault. ⊥
 IsFormUnread files files' (Form.Replay roster journal) = IsRosterUnread files files' roster
-IsFormUnread files files' (Form.Roll roster journal new_roster matured) = IsRollUnread files files' roster new_roster
+IsFormUnread files files' (Form.Roll roster journal new_roster matured cancel) = IsRollUnread files files' roster new_roster
 IsFormUnread files files' (Form.Follow standby) = IsRosterUnread files files' standby.roster
 
 -- a file of the form has a fault, and those that are read before it have none
@@ -48,7 +48,7 @@ statuses_of (Form.Check market proposal) = check_statuses
 statuses_of (Form.Solve market workers) = []
 statuses_of (Form.Gen number workers) = []
 statuses_of (Form.Replay roster journal) = replay_statuses
-statuses_of (Form.Roll roster journal new_roster matured) = roll_statuses
+statuses_of (Form.Roll roster journal new_roster matured cancel) = roll_statuses
 statuses_of (Form.Follow standby) = standby_statuses
 
 abbrev pub IsAmong : List ℕ → ℕ → Type 0

@@ -35,7 +35,7 @@ module _ {D : Type 0} (clock : ℕ → Bool) (visits : D → Option Visits) wher
       (input' ≡ input) × IsOnlyOutput before after × EndsAs gen_end (GenRuns number before.output after.output) end
   Runs (Some (Form.Replay roster journal)) files files' input input' before after end =
       (input' ≡ input) × (after.listener ≡ before.listener) × EndsAs replay_end (ReplayRuns roster files files' before.output after.output before.disk after.disk) end
-  Runs (Some (Form.Roll roster journal new_roster matured)) files files' input input' before after end =
-      (input' ≡ input) × (after.listener ≡ before.listener) × EndsAs roll_end (RollRuns roster new_roster matured files files' before.output after.output before.disk after.disk) end
+  Runs (Some (Form.Roll roster journal new_roster matured cancel)) files files' input input' before after end =
+      (input' ≡ input) × (after.listener ≡ before.listener) × EndsAs roll_end (RollRuns roster new_roster matured cancel files files' before.output after.output before.disk after.disk) end
   Runs (Some (Form.Follow standby)) files files' input input' before after end =
       (after.listener ≡ before.listener) × EndsAs standby_end (StandbyRuns standby files files' (streams_of input before.output) (streams_of input' after.output) before.disk after.disk) end

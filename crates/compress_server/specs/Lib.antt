@@ -13,6 +13,7 @@ pub mod Solve
 pub mod Gen
 pub mod Told
 pub mod Replay
+pub mod Cancelled
 pub mod Roll
 pub mod Follow
 pub mod StandbyLaws

@@ -1,5 +1,5 @@
 -- What a roll writes: a journal with which the market of a kept history goes on over new rows.
-use Rattle.std.specs.Prelude.{◌≡◌, ℕ, ◌+◌, ◌≤◌, List, [], ◌∷◌, length, Option, Some, Result, Ok, Err}
+use Rattle.std.specs.Prelude.{◌≡◌, ℕ, ◌+◌, ◌≤◌, Bool, List, [], ◌∷◌, length, Option, Some, Result, Ok, Err}
 use Rattle.units_core.specs.Day.{DayParts}
 use Rattle.outside.specs.Faults.{Rose}
 use Rattle.outside.specs.Flow.{Takes, TakesFront}
@@ -24,6 +24,7 @@ use Rattle.compress_server.specs.declared.rolling.RollEnd.{RollEnd}
 use Rattle.compress_server.specs.declared.rolling.RollEnd.TheVariants.{Done, Unloaded, Unread, Unrolled, SinkFault, Memory}
 use Rattle.compress_server.specs.declared.rolling.Unmade.{Unmade}
 use Rattle.compress_server.specs.declared.rolling.Unmade.TheVariants as unmade
+use Rattle.compress_server.specs.Cancelled.{rolled_past}
 use Rattle.compress_server.specs.Files.{FilesState, OverRoster, IsRollUnread}
 use Rattle.compress_server.specs.Housed.{DiskState}
 use Rattle.compress_server.specs.Replay.{IsKept, IsUnread}
@@ -60,37 +61,44 @@ pub record IsRolled (old new : Rows) (matured : Option DayParts) (h : History) (
   pub spelled : text ≡ journal_of (base_spelling Second base)
   pub stands : StandsFor text (begun_history new base)
 
--- This keeps the market of a history from going on: a cause of the roll; or what is written of it does not fit its own rows; or what is to be written would not end before a journal's most.
+-- This keeps a market, of which that is written, from going on: a cause of the roll; or what is written does not fit its own rows; or what is to be written would not end before a journal's most.
+abbrev pub IsObstacleAt : Rows → Rows → Option DayParts → Option Base → Obstacle → Type 0
+IsObstacleAt old new matured last (Market cause) = rolled old new matured last ≡ Err cause
+IsObstacleAt old new matured last Misfit = (base : Base) × (last ≡ Some base) × (¬ Fits old base)
+IsObstacleAt old new matured last TooLong = (base : Base) × (rolled old new matured last ≡ Ok base) × (limit ≤ 29 + length (base_spelling Second base))
+
+-- this keeps the market of a history from going on
 abbrev pub IsObstacle : Rows → Rows → Option DayParts → History → Obstacle → Type 0
-IsObstacle old new matured h (Market cause) = rolled_history old new matured h ≡ Err cause
-IsObstacle old new matured h Misfit = (base : Base) × (last_base h ≡ Some base) × (¬ Fits old base)
-IsObstacle old new matured h TooLong = (base : Base) × (rolled_history old new matured h ≡ Ok base) × (limit ≤ 29 + length (base_spelling Second base))
+IsObstacle old new matured h obstacle = IsObstacleAt old new matured (last_base h) obstacle
 
 -- why there is no text
-abbrev pub IsUnmade : Rows → Rows → Option DayParts → History → Unmade → Type 0
-IsUnmade old new matured h (unmade.Refused obstacle) = IsObstacle old new matured h obstacle
-IsUnmade old new matured h unmade.Memory = Unit {0}
+abbrev pub IsUnmadeAt : Rows → Rows → Option DayParts → Option Base → Unmade → Type 0
+IsUnmadeAt old new matured last (unmade.Refused obstacle) = IsObstacleAt old new matured last obstacle
+IsUnmadeAt old new matured last unmade.Memory = Unit {0}
 
--- the whole text for what the disk keeps was written
-abbrev pub Rolls : Rows → Rows → Option DayParts → DiskState → Option (List ℕ) → Option (List ℕ) → Type 0
-Rolls old new matured disk begun taken =
-    (h : History) × (text : List ℕ) × IsKept old disk.history h × IsRolled old new matured h text × Takes begun taken text
+abbrev pub IsUnmade : Rows → Rows → Option DayParts → History → Unmade → Type 0
+IsUnmade old new matured h cause = IsUnmadeAt old new matured (last_base h) cause
+
+-- the whole text for what the disk keeps was written; if that is asked for, after its open cycle is cancelled
+abbrev pub Rolls : Rows → Rows → Option DayParts → Bool → DiskState → Option (List ℕ) → Option (List ℕ) → Type 0
+Rolls old new matured cancel disk begun taken =
+    (h : History) × (text : List ℕ) × IsKept old disk.history h × IsRolled old new matured (rolled_past cancel h) text × Takes begun taken text
 
 -- a front of it was
-abbrev pub RollsFront : Rows → Rows → Option DayParts → DiskState → Option (List ℕ) → Option (List ℕ) → Type 0
-RollsFront old new matured disk begun taken =
-    (h : History) × (text : List ℕ) × IsKept old disk.history h × IsRolled old new matured h text × TakesFront begun taken text
+abbrev pub RollsFront : Rows → Rows → Option DayParts → Bool → DiskState → Option (List ℕ) → Option (List ℕ) → Type 0
+RollsFront old new matured cancel disk begun taken =
+    (h : History) × (text : List ℕ) × IsKept old disk.history h × IsRolled old new matured (rolled_past cancel h) text × TakesFront begun taken text
 
-module _ (roster new_roster : List ℕ) (matured : Option DayParts) (files files' : FilesState) (output output' : OutputState) (disk left : DiskState) where
+module _ (roster new_roster : List ℕ) (matured : Option DayParts) (cancel : Bool) (files files' : FilesState) (output output' : OutputState) (disk left : DiskState) where
   -- over the rows of both rosters this holds, and the disk holds what it held
   abbrev pub OverRosters : (Rows → Rows → Type 0) → Type 0
   OverRosters P = (left.history ≡ disk.history) × OverRoster files.folder roster (λ old. OverRoster files.folder new_roster (P old))
 
   -- by the end of a roll, which writes nothing to the disk
   abbrev pub RollRuns : RollEnd → Type 0
-  RollRuns Done = OverRosters (λ old new. Rolls old new matured disk output.taken output'.taken)
+  RollRuns Done = OverRosters (λ old new. Rolls old new matured cancel disk output.taken output'.taken)
   RollRuns (Unloaded fault) = (output' ≡ output) × (left ≡ disk) × IsRollUnread files files' roster new_roster fault
   RollRuns (Unread fault) = (output' ≡ output) × OverRosters (λ old new. IsUnread old disk left fault)
-  RollRuns (Unrolled obstacle) = (output' ≡ output) × OverRosters (λ old new. (h : History) × IsKept old disk.history h × IsObstacle old new matured h obstacle)
-  RollRuns SinkFault = OverRosters (λ old new. RollsFront old new matured disk output.taken output'.taken) × Rose output.faults output'.faults
+  RollRuns (Unrolled obstacle) = (output' ≡ output) × OverRosters (λ old new. (h : History) × IsKept old disk.history h × IsObstacle old new matured (rolled_past cancel h) obstacle)
+  RollRuns SinkFault = OverRosters (λ old new. RollsFront old new matured cancel disk output.taken output'.taken) × Rose output.faults output'.faults
   RollRuns Memory = (output' ≡ output) × OverRosters (λ old new. Unit {0})

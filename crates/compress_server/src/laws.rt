@@ -1,5 +1,6 @@
 //! The laws on statuses, on lines and on standbys, the contracts of functions that do nothing.
 ghost use Rattle.compress_server.specs.Answered.{ScriptsAreAnswered, ServicesAreAnswered};
+ghost use Rattle.compress_server.specs.Cancelled.{CancelsEndCycles};
 ghost use Rattle.compress_server.specs.Complete.{AnswersWhatItCan};
 ghost use Rattle.compress_server.specs.StandbyLaws.{StandbysHoldPrefixes, StandbysLeaveSoundWorlds};
 ghost use Rattle.compress_server.specs.Telling.{StatusesTellTheEnd};
@@ -26,6 +27,11 @@ pub fn answers_what_it_can<L: Listener>()
 pub fn every_line_is_answered<L: Listener>()
     ensures scripts { ScriptsAreAnswered L.Door.visits }
     ensures services { ServicesAreAnswered L.Door.visits }
+{}
+
+/// If the roster has an operator, what is rolled with `--cancel` is a legal history in which no cycle is open.
+pub fn cancels_end_cycles()
+    ensures { CancelsEndCycles }
 {}
 
 /// Where the journal of a standby stood for a prefix of the entries of a primary, and it read what that primary sent at any time, what a

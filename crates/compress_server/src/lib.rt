@@ -1,6 +1,7 @@
 //! The program: its words, its files, its streams and its disk.
 #![tactic(auto)]
 
+mod cancelling;
 mod check;
 mod ending;
 mod faults;
@@ -22,7 +23,7 @@ mod solve;
 mod top;
 
 pub use laws::{
-    answers_what_it_can, every_line_is_answered, standbys_hold_prefixes,
+    answers_what_it_can, cancels_end_cycles, every_line_is_answered, standbys_hold_prefixes,
     standbys_leave_sound_worlds, statuses_tell_the_end,
 };
 pub use top::run;

@@ -110,9 +110,10 @@ fn run_form<
 /// - `gen NUMBER [--workers W]`: the summary of the market of a number from 1 to 10^18, solved in the hybrid mode.
 /// - `replay ROSTER JOURNAL`: what the journal stands for: each member and the trades in which it has a side, each
 ///   execution, and how many changes there are. Nothing is written to the disk.
-/// - `roll ROSTER JOURNAL NEW-ROSTER [--matured DAY]`: a journal over the new roster, with which the market of this one goes
-///   on: one position further, with its open trades, numbered from 1, and the settings of members and products that are
-///   there. With DAY the trades of products that mature by it are left out. Nothing is written to the disk.
+/// - `roll ROSTER JOURNAL NEW-ROSTER [--matured DAY] [--cancel]`: a journal over the new roster, with which the market of this
+///   one goes on: one position further, with its open trades, numbered from 1, and the settings of members and products that
+///   are there. With DAY the trades of products that mature by it are left out. With `--cancel` all this is of the history
+///   after a CANCEL of the open cycle by the operator, if one is open. Nothing is written to the disk.
 /// - `follow ROSTER JOURNAL NAME KEY [--compare]`: a standby. It greets a primary at the other end of input and output as NAME with
 ///   KEY, and asks for one entry after another, from the journal's end on; each is in the journal before the next is asked for. With
 ///   `--compare` it first asks for its last entry again.

@@ -10,7 +10,7 @@ use Rattle.program_words.specs.declared.parting.Parts.{Parts as ReadParts}
 use Rattle.program_words.specs.declared.options.TheConstants.{MOST_IDLE}
 use Rattle.units_core.specs.declared.limits.TheConstants.{MOST_CONNECTIONS, MOST_SEATS, MOST_WORKERS}
 
--- the options that are given, each with its number or its day, and whether that one is which has no value
+-- the options that are given, each with its number or its day, and whether those are which have no value
 pub record Options : Type 0 where
   pub workers : Option ℕ
   pub seats : Option ℕ
@@ -18,6 +18,7 @@ pub record Options : Type 0 where
   pub idle : Option ℕ
   pub matured : Option DayParts
   pub compare : Bool
+  pub cancel : Bool
 
 -- Some words, parted: the plain ones and the options. A name may wait for its value, which is the next word; where the options have ended, all others are plain.
 pub record Parts : Type 0 where
@@ -28,7 +29,7 @@ pub record Parts : Type 0 where
 
 -- no words
 abbrev pub no_parts : Parts
-no_parts = record { plain = []; options = record { workers = None; seats = None; connections = None; idle = None; matured = None; compare = false }; waiting = None; ended = false }
+no_parts = record { plain = []; options = record { workers = None; seats = None; connections = None; idle = None; matured = None; compare = false; cancel = false }; waiting = None; ended = false }
 
 -- a number that was read, but 0
 abbrev pub of_count : Result ℕ NumberFault → Option ℕ
@@ -89,15 +90,20 @@ abbrev pub with_value : Parts → Option OptionName → List ℕ → Option Part
 with_value parts name value =
     option_and_then (λ name. option_map (λ options. record parts { options = options; waiting = None }) (with_option parts.options name value)) name
 
--- the option that has no value; none where it was given
+-- the option by which a standby compares; none where it was given
 abbrev pub with_compare : Parts → Option Parts
 with_compare parts = if parts.options.compare then None else Some (record parts { options = record parts.options { compare = true } })
 
--- `--compare`, or `--name`, which waits for its value
+-- the option by which a roll cancels; none where it was given
+abbrev pub with_cancel : Parts → Option Parts
+with_cancel parts = if parts.options.cancel then None else Some (record parts { options = record parts.options { cancel = true } })
+
+-- `--compare`, `--cancel`, or `--name`, which waits for its value
 abbrev pub with_name : Parts → List ℕ → Option Parts
 with_name parts word =
     if bytes_eq word (codes "--compare") then with_compare parts
-    else option_map (λ name. record parts { waiting = Some name }) (option_word word)
+    else (if bytes_eq word (codes "--cancel") then with_cancel parts
+    else option_map (λ name. record parts { waiting = Some name }) (option_word word))
 
 -- a word with dashes that are an option's: `--name=V`, or without a value
 abbrev pub with_dashed : Parts → List ℕ → Option ℕ → Option Parts
@@ -130,7 +136,7 @@ parts_of words = option_and_then has_values (fold parted_with (Some no_parts) wo
 
 -- the options of the code's
 abbrev pub read_options : ReadOptions → Options
-read_options o = record { workers = option_map (λ count. count.value) o.workers; seats = option_map (λ count. count.value) o.seats; connections = o.connections; idle = o.idle; matured = o.matured; compare = o.compare }
+read_options o = record { workers = option_map (λ count. count.value) o.workers; seats = option_map (λ count. count.value) o.seats; connections = o.connections; idle = o.idle; matured = o.matured; compare = o.compare; cancel = o.cancel }
 
 -- the parts of the code's
 abbrev pub read_parts : ReadParts → Parts

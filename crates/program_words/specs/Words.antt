@@ -40,7 +40,7 @@ pub data Form : Type 0 where
   Solve : (market : Market) (workers : ℕ) → Form
   Gen : (number workers : ℕ) → Form
   Replay : (roster journal : List ℕ) → Form
-  Roll : (roster journal new_roster : List ℕ) (matured : Option DayParts) → Form
+  Roll : (roster journal new_roster : List ℕ) (matured : Option DayParts) (cancel : Bool) → Form
   Follow : (standby : Standby) → Form
 
 -- the numbers where the option is not given
@@ -62,19 +62,19 @@ has_no_service options = (is_none options.seats && is_none options.connections) 
 
 -- no option of a roll or of a standby is given
 abbrev pub has_no_other : Options → Bool
-has_no_other options = is_none options.matured && not options.compare
+has_no_other options = (is_none options.matured && not options.compare) && not options.cancel
 
 -- no option is given, but perhaps the workers
 abbrev pub has_workers_alone : Options → Bool
 has_workers_alone options = has_no_other options && has_no_service options
 
--- no option is given, but perhaps the day of a roll
-abbrev pub has_matured_alone : Options → Bool
-has_matured_alone options = (is_none options.workers && not options.compare) && has_no_service options
+-- no option is given, but perhaps those of a roll
+abbrev pub has_roll_alone : Options → Bool
+has_roll_alone options = (is_none options.workers && not options.compare) && has_no_service options
 
 -- no option is given, but perhaps that of a standby
 abbrev pub has_compare_alone : Options → Bool
-has_compare_alone options = (is_none options.workers && is_none options.matured) && has_no_service options
+has_compare_alone options = ((is_none options.workers && is_none options.matured) && not options.cancel) && has_no_service options
 
 abbrev pub has_none : Options → Bool
 has_none options = is_none options.workers && has_workers_alone options
@@ -120,10 +120,10 @@ abbrev pub replay_of : Options → List (List ℕ) → Option Form
 replay_of options (roster ∷ journal ∷ []) = if has_none options then Some (Form.Replay roster journal) else None
 replay_of options plain = None
 
--- `roll ROSTER JOURNAL NEW-ROSTER [--matured DAY]`
+-- `roll ROSTER JOURNAL NEW-ROSTER [--matured DAY] [--cancel]`
 abbrev pub roll_of : Options → List (List ℕ) → Option Form
 roll_of options (roster ∷ journal ∷ new_roster ∷ []) =
-    if has_matured_alone options then Some (Form.Roll roster journal new_roster options.matured) else None
+    if has_roll_alone options then Some (Form.Roll roster journal new_roster options.matured options.cancel) else None
 roll_of options plain = None
 
 -- a standby of these words; none where its name or its key is no name
@@ -178,5 +178,5 @@ read_form (read.Check words) = Form.Check (read_market words.market) words.propo
 read_form (read.Solve market workers) = Form.Solve (read_market market) workers.value
 read_form (read.Gen number workers) = Form.Gen number workers.value
 read_form (read.Replay words) = Form.Replay words.roster.now words.journal.now
-read_form (read.Roll words) = Form.Roll words.roster.now words.journal.now words.new_roster.now words.matured
+read_form (read.Roll words) = Form.Roll words.roster.now words.journal.now words.new_roster.now words.matured words.cancel
 read_form (read.Follow standby) = Form.Follow (read_standby standby)

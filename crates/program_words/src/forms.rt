@@ -47,13 +47,15 @@ pub struct ReplayWords<'a> {
     pub journal: &'a str,
 }
 
-/// The names of a roll's three files, and the day by which products have matured, if one is given.
+/// The names of a roll's three files, the day by which products have matured, if one is given, and whether an open cycle is
+/// cancelled first.
 #[derive(Clone, Copy)]
 pub struct RollWords<'a> {
     pub roster: &'a str,
     pub journal: &'a str,
     pub new_roster: &'a str,
     pub matured: Option<Day>,
+    pub cancel: bool,
 }
 
 /// The names of a standby's two files, the name and the key with which it greets its primary, and whether it first compares its

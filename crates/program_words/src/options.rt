@@ -3,7 +3,7 @@
 ghost use Rattle.std.specs.Prelude.{◌≡◌, ◌≤◌, IfSome, option_map};
 ghost use Rattle.units_core.specs.Day.{day_of};
 ghost use Rattle.program_words.specs.Parting.{count_of, once, with_option, option_word, read_options};
-ghost use Rattle.program_words.specs.Words.{workers_of, seats_of, connections_of, has_none, has_no_service, has_no_other, has_matured_alone, has_compare_alone, has_workers_alone};
+ghost use Rattle.program_words.specs.Words.{workers_of, seats_of, connections_of, has_none, has_no_service, has_no_other, has_roll_alone, has_compare_alone, has_workers_alone};
 
 use crate::count::Count;
 use units_core::{Day, MOST_CONNECTIONS, MOST_SEATS, MOST_WORKERS, read_number};
@@ -27,6 +27,7 @@ pub struct Options {
     pub idle: Option<u64>,
     pub matured: Option<Day>,
     pub compare: bool,
+    pub cancel: bool,
 }
 
 /// The most seconds that a connection of a service may be silent: a day.
@@ -160,7 +161,7 @@ impl Options {
     pub fn has_no_other(&self) -> bool
         ensures { result ≡ has_no_other (read_options self.now) }
     {
-        self.matured.is_none() && !self.compare
+        self.matured.is_none() && !self.compare && !self.cancel
     }
 
     /// Whether no option is given, but perhaps the workers.
@@ -170,9 +171,9 @@ impl Options {
         self.has_no_other() && self.has_no_service()
     }
 
-    /// Whether no option is given, but perhaps the day of a roll.
-    pub fn has_matured_alone(&self) -> bool
-        ensures { result ≡ has_matured_alone (read_options self.now) }
+    /// Whether no option is given, but perhaps those of a roll.
+    pub fn has_roll_alone(&self) -> bool
+        ensures { result ≡ has_roll_alone (read_options self.now) }
     {
         self.workers.is_none() && !self.compare && self.has_no_service()
     }
@@ -181,7 +182,7 @@ impl Options {
     pub fn has_compare_alone(&self) -> bool
         ensures { result ≡ has_compare_alone (read_options self.now) }
     {
-        self.workers.is_none() && self.matured.is_none() && self.has_no_service()
+        self.workers.is_none() && self.matured.is_none() && !self.cancel && self.has_no_service()
     }
 
     /// Whether no option is given.

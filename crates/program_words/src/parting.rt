@@ -1,12 +1,12 @@
 //! The words behind a form's name: the plain ones, and the options.
 //!
 //!     --name V, --name=V       an option with its value, a number or a day
-//!     --compare                an option that has none
+//!     --compare, --cancel      options that have none
 //!     --                       ends the options: all words behind it are plain
 //!     -, words without a dash  plain
 
 ghost use Rattle.std.specs.Prelude.{◌≡◌, ◌<◌, ◌==◌, Some, IfSome, map, position, option_map, string_bytes, length};
-ghost use Rattle.program_words.specs.Parting.{is_dashed, with_plain, with_value, with_compare, with_name, with_dashed, with_next, with_word, no_parts, parts_of, read_parts};
+ghost use Rattle.program_words.specs.Parting.{is_dashed, with_plain, with_value, with_compare, with_cancel, with_name, with_dashed, with_next, with_word, no_parts, parts_of, read_parts};
 
 use crate::options::{OptionName, Options, option_word};
 use arrayvec::ArrayVec;
@@ -54,6 +54,7 @@ impl<'a> Parts<'a> {
                 idle: None,
                 matured: None,
                 compare: false,
+                cancel: false,
             },
             waiting: None,
             ended: false,
@@ -81,7 +82,7 @@ impl<'a> Parts<'a> {
         }
     }
 
-    // Puts the option that has no value; none where it was given.
+    // Puts the option by which a standby compares; none where it was given.
     fn put_compare(&mut self) -> Option<()>
         ensures { option_map (λ done. read_parts self.new) result ≡ with_compare (read_parts self.old) }
     {
@@ -92,12 +93,26 @@ impl<'a> Parts<'a> {
         Some(())
     }
 
+    // Puts the option by which a roll cancels; none where it was given.
+    fn put_cancel(&mut self) -> Option<()>
+        ensures { option_map (λ done. read_parts self.new) result ≡ with_cancel (read_parts self.old) }
+    {
+        if self.options.cancel {
+            return None;
+        }
+        self.options.cancel = true;
+        Some(())
+    }
+
     // Puts a word with dashes and no value; none where it is no option.
     fn put_name(&mut self, word: &[u8]) -> Option<()>
         ensures { option_map (λ done. read_parts self.new) result ≡ with_name (read_parts self.old) word.now }
     {
         if word == b"--compare".as_slice() {
             return self.put_compare();
+        }
+        if word == b"--cancel".as_slice() {
+            return self.put_cancel();
         }
         self.waiting = Some(option_word(word)?);
         Some(())

@@ -115,12 +115,13 @@ fn read_roll<'a>(options: &Options, plain: &[&'a str]) -> Option<Form<'a>>
     ensures { option_map read_form result ≡ roll_of (read_options options.now) (map (λ word. word.now) plain.now) }
 {
     match plain {
-        [roster, journal, new_roster] if options.has_matured_alone() => {
+        [roster, journal, new_roster] if options.has_roll_alone() => {
             Some(Form::Roll(RollWords {
                 roster,
                 journal,
                 new_roster,
                 matured: options.matured,
+                cancel: options.cancel,
             }))
         }
         _ => None,

@@ -47,12 +47,30 @@ const MATURED_JOURNAL: &[u8] =
 const NONE_JOURNAL: &[u8] =
     b"OTCJRNLC\0\x19\0\0\0\0\0\0\0\0\0\0\0\0\0\0\0\x35\0\0\0\x02\x01\0\0\0\0\0\0\0\0\0\0\0\0\0\0\0\0\0\0\0\0\0\0\0\x03\0\x01A\x01B\x01C\x01\0\x01P\0\0\0\0\0\0\0\0\0\0\0\0\0\0\0\0\0";
 
+// Behind a FREEZE, a CANCEL and a roll: position 10, and cycle 3 without a version.
+const FROZEN_JOURNAL: &[u8] =
+    b"OTCJRNLC\0\x19\0\0\0\0\0\0\0\0\0\0\0\0\0\0\0\x63\0\0\0\x02\x0a\0\0\0\0\0\0\0\x03\0\0\0\0\0\0\0\0\0\0\0\0\0\0\0\x03\0\x01A\x01B\x01C\x01\0\x01P\x01\0\0\0\0\0\0\0\0\0\0\0\x02\0\0\x05\0\0\0\0\0\0\0\x01\x09\0\0\0\0\0\0\0\x01\0\0\0\0\0\0\0\0\0\x01\0\0\0\x0a\0\0\0\0\0\0\0\xea\x07\x03\x02\x01\x01\0\x02\0";
+
+// Behind a BEGIN too.
+const BEGUN_JOURNAL: &[u8] =
+    b"OTCJRNLC\0\x19\0\0\0\0\0\0\0\0\0\0\0\0\0\0\0\x63\0\0\0\x02\x0b\0\0\0\0\0\0\0\x03\0\0\0\0\0\0\0\x01\0\0\0\0\0\0\0\x03\0\x01A\x01B\x01C\x01\0\x01P\x01\0\0\0\0\0\0\0\0\0\0\0\x02\0\0\x05\0\0\0\0\0\0\0\x01\x09\0\0\0\0\0\0\0\x01\0\0\0\0\0\0\0\0\0\x01\0\0\0\x0a\0\0\0\0\0\0\0\xea\x07\x03\x02\x01\x01\0\x02\0";
+
+// Where A asked to end the trade while it was frozen.
+const MARKED_JOURNAL: &[u8] =
+    b"OTCJRNLC\0\x19\0\0\0\0\0\0\0\0\0\0\0\0\0\0\0\x63\0\0\0\x02\x0b\0\0\0\0\0\0\0\x03\0\0\0\0\0\0\0\0\0\0\0\0\0\0\0\x03\0\x01A\x01B\x01C\x01\0\x01P\x01\0\0\0\0\0\0\0\0\0\0\0\x02\0\0\x05\0\0\0\0\0\0\0\x01\x09\0\0\0\0\0\0\0\x01\0\0\0\0\0\0\0\0\0\x01\0\0\0\x0a\0\0\0\0\0\0\0\xea\x07\x03\x02\x01\x01\x01\x02\0";
+
+// Where it ended.
+const BROKEN_JOURNAL: &[u8] =
+    b"OTCJRNLC\0\x19\0\0\0\0\0\0\0\0\0\0\0\0\0\0\0\x4d\0\0\0\x02\x0c\0\0\0\0\0\0\0\x03\0\0\0\0\0\0\0\0\0\0\0\0\0\0\0\x03\0\x01A\x01B\x01C\x01\0\x01P\x01\0\0\0\0\0\0\0\0\0\0\0\x02\0\0\x05\0\0\0\0\0\0\0\x01\x09\0\0\0\0\0\0\0\0\0\0\0\0\0\0\0\0";
+
 // The words of a roll; with the day before that on which P matures in `ROSTER`; with that day.
 const PLAIN: &[&str] = &["roll", "T", "j", "N"];
 
 const BEFORE: &[&str] = &["roll", "T", "j", "N", "--matured", "2031-06-29"];
 
 const MATURED: &[&str] = &["roll", "T", "j", "N", "--matured", "2031-06-30"];
+
+const CANCEL: &[&str] = &["roll", "T", "j", "N", "--cancel"];
 
 // A roll of `BASED` over the same roster. The first read of an input would fail, but there is none.
 const ROLL: Trial<'static> = Trial {
@@ -222,6 +240,49 @@ fn are_refused<R: Threads + Wait + Sync + AllocGlobal>(rt: &R) -> Result<(), Fai
 #[test]
 fn an_open_cycle_and_the_last_positions_are_told(rt: HostRuntime) -> Result<(), Fail> {
     are_refused(&rt)
+}
+
+// A script's lines over `BASED`, and the journal that is rolled of what it leaves, with its open cycle cancelled.
+const CANCELLED: &[(&[u8], &[u8])] = &[
+    (b"", SAME_JOURNAL),
+    (b"HELLO OPS KO\nFREEZE 2026-03-31\n", FROZEN_JOURNAL),
+    (
+        b"HELLO OPS KO\nFREEZE 2026-03-31\nBEGIN 3 hybrid\n",
+        BEGUN_JOURNAL,
+    ),
+    (
+        b"HELLO OPS KO\nFREEZE 2026-03-31\nHELLO A KA\nEND 1\n",
+        MARKED_JOURNAL,
+    ),
+    (
+        b"HELLO OPS KO\nFREEZE 2026-03-31\nHELLO A KA\nEND 1\nHELLO B KB\nEND 1\n",
+        BROKEN_JOURNAL,
+    ),
+];
+
+fn cycles_are_cancelled<R: Threads + Wait + Sync + AllocGlobal>(rt: &R) -> Result<(), Fail> {
+    for &(input, text) in CANCELLED {
+        let script = Trial {
+            input,
+            disk: BASED,
+            output: Text::Ends(b""),
+            ..SCRIPT
+        };
+        let left = script.left(rt)?.written;
+        let roll = Trial {
+            words: CANCEL,
+            disk: &left,
+            output: Text::Is(text),
+            ..ROLL
+        };
+        roll.leaves(rt, &left)?;
+    }
+    Ok(())
+}
+
+#[test]
+fn an_open_cycle_is_cancelled_in_each_phase(rt: HostRuntime) -> Result<(), Fail> {
+    cycles_are_cancelled(&rt)
 }
 
 // Each of the three calls of a disk that a roll makes: it is attached, its length is asked for, and it is read.

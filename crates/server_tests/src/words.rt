@@ -47,6 +47,18 @@ const WORDS: &[Trial<'static>] = &[
         words: &["roll", "T", "j", "N", "--matured", ""],
         ..REFUSED
     },
+    Trial {
+        words: &["roll", "T", "j", "N", "--cancel", "--cancel"],
+        ..REFUSED
+    },
+    Trial {
+        words: &["roll", "T", "j", "N", "--cancel="],
+        ..REFUSED
+    },
+    Trial {
+        words: &["replay", "T", "j", "--cancel"],
+        ..REFUSED
+    },
 ];
 
 #[test]

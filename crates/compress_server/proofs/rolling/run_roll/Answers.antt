@@ -48,7 +48,7 @@ returns-in-Err-Refused-clause-runs g c =
     let says = subst (λ (folder : Option Folder). SaysRoster folder words.new_roster.now second.new) first.ensures.stays second.ensures.says in
     let e = c.in-Ok-read_journal.ensures in
     let other = rw c.in-Err-Refused.field-0-is at c.in-Err-Refused.ensures.other in
-    unrolled words.roster.now words.new_roster.now words.matured files files' output output disk left first.old second.new first.ensures.says first.ensures.roster says second.ensures.roster e.same c.in-Ok-read_journal.read e.stands e.replayed e.base
+    unrolled words.roster.now words.new_roster.now words.matured words.cancel files files' output output disk left first.old second.new first.ensures.says first.ensures.roster says second.ensures.roster e.same c.in-Ok-read_journal.read e.stands e.replayed e.base
     c.in-Err-Refused.obstacle other refl
 
 pub returns-then-is_err-clause-runs : goal.returns-then-is_err-clause-runs
@@ -64,7 +64,7 @@ returns-then-is_err-clause-runs g c =
     let second = c.in-Ok-load_roster_as in
     let says = subst (λ (folder : Option Folder). SaysRoster folder words.new_roster.now second.new) first.ensures.stays second.ensures.says in
     let e = c.in-Ok-read_journal.ensures in
-    rolls_front words.roster.now words.new_roster.now words.matured files files' output output' disk left first.old second.new first.ensures.says first.ensures.roster says second.ensures.roster e.same c.in-Ok-read_journal.read e.stands e.replayed e.base
+    rolls_front words.roster.now words.new_roster.now words.matured words.cancel files files' output output' disk left first.old second.new first.ensures.says first.ensures.roster says second.ensures.roster e.same c.in-Ok-read_journal.read e.stands e.replayed e.base
     c.in-Ok-text_of.text.items c.in-Ok-text_of.ensures.text
     (subst (λ t. TakesFront output.taken output'.taken t) c.deref.ensures.value (err_holds c.write_all.result c.is_err.result _ c.is_err.ensures.value c.if-is_err.true c.write_all.ensures.front))
     (err_holds c.write_all.result c.is_err.result _ c.is_err.ensures.value c.if-is_err.true c.write_all.ensures.counts.1)
@@ -82,7 +82,7 @@ returns-clause-runs g c =
     let second = c.in-Ok-load_roster_as in
     let says = subst (λ (folder : Option Folder). SaysRoster folder words.new_roster.now second.new) first.ensures.stays second.ensures.says in
     let e = c.in-Ok-read_journal.ensures in
-    rolls words.roster.now words.new_roster.now words.matured files files' output output' disk left first.old second.new first.ensures.says first.ensures.roster says second.ensures.roster e.same c.in-Ok-read_journal.read e.stands e.replayed e.base
+    rolls words.roster.now words.new_roster.now words.matured words.cancel files files' output output' disk left first.old second.new first.ensures.says first.ensures.roster says second.ensures.roster e.same c.in-Ok-read_journal.read e.stands e.replayed e.base
     c.in-Ok-text_of.text.items c.in-Ok-text_of.ensures.text
     (subst (λ t. Takes output.taken output'.taken t) c.deref.ensures.value (ok_holds c.write_all.result c.is_err.result _ c.is_err.ensures.value c.if-is_err.false c.write_all.ensures.takes))
 

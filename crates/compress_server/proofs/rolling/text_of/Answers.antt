@@ -1,20 +1,30 @@
-use Rattle.compress_server.proofs.RollFacts.{made_can_be_written, is_rolled}
+use Rattle.compress_server.proofs.RollFacts.{made_can_be_written, is_rolled, rests_writable, rolled_at_rest, fits_at_rest, unmade_at_rest}
+use Rattle.compress_server.specs.Cancelled.{rolled_past}
 use Rattle.compress_server.proofs.rolling.text_of.Goals as goal
 
 pub fresh_journal-requires : goal.fresh_journal-requires
 fresh_journal-requires c =
-    let read = c.args.read.now in
+    let was = c.args.read.now in
     let period = c.args.period.now in
     let r = c.requires in
-    made_can_be_written read.machine.state.roster period.roster.now period.matured read.past r.base read.machine.state r.replayed r.old r.new c.in_ok-made.made c.in_ok-made.ensures.rolled
+    let s = c.bring_to_rest.new.read.machine.state in
+    let rests = c.in-Ok.ensures in
+    let writable = rests_writable period.cancel was.machine.state s was.past r.replayed rests.replayed c.in-Ok.position rests.position was.machine.state.roster r.base in
+    let goes_on = rolled_at_rest period.cancel was.machine.state s was.past r.replayed rests.replayed c.in-Ok.position rests.position period.roster.now period.matured _ c.in_ok-made.ensures.rolled in
+    made_can_be_written was.machine.state.roster period.roster.now period.matured (rolled_past period.cancel was.past) writable s rests.replayed r.old r.new c.in_ok-made.made goes_on
 
 pub returns-in-Ok-Some-clause-text : goal.returns-in-Ok-Some-clause-text
 returns-in-Ok-Some-clause-text c =
-    let read = c.args.read.now in
+    let was = c.args.read.now in
     let period = c.args.period.now in
     let r = c.requires in
+    let s = c.bring_to_rest.new.read.machine.state in
+    let rests = c.in-Ok.ensures in
+    let writable = rests_writable period.cancel was.machine.state s was.past r.replayed rests.replayed c.in-Ok.position rests.position was.machine.state.roster r.base in
     let e = c.in_ok-made.ensures in
+    let goes_on = rolled_at_rest period.cancel was.machine.state s was.past r.replayed rests.replayed c.in-Ok.position rests.position period.roster.now period.matured _ e.rolled in
+    let fits = fits_at_rest period.cancel was.machine.state s was.past r.replayed rests.replayed c.in-Ok.position rests.position e.fits in
     let now = c.in-Ok-Some in
     let bytes = rw now.field-0-is at now.ensures.bytes in
     let stands = rw now.field-0-is at now.ensures.stands in
-    is_rolled read.machine.state.roster period.roster.now period.matured read.past r.base read.machine.state r.replayed r.old r.new c.in_ok-made.made e.rolled e.fits now.text.items bytes stands
+    is_rolled was.machine.state.roster period.roster.now period.matured (rolled_past period.cancel was.past) writable s rests.replayed r.old r.new c.in_ok-made.made goes_on fits now.text.items bytes stands
