@@ -87,7 +87,7 @@ class StuckCycle(OfFullJournals):
         self.assertEqual(self.told(BEFORE + STUCK), Ran(0, (TOLD_BEFORE + TOLD_STUCK).encode(), b""))
         self.assertEqual(self.told("HELLO OPS KO\nCANCEL 1\n"), Ran(0, f"ok 3 hello OPS\nno 3 {full(0)}\n".encode(), b""))
         new = self.journal.parent / "new"
-        words = [TOOLS / "roll", "--program", self.program, ROSTER, self.journal, ROSTER, new]
+        words: list[str | Path] = [TOOLS / "roll", "--program", self.program, ROSTER, self.journal, ROSTER, new]
         self.assertEqual(run(words), Ran(15, b"", b"cannot roll: a cycle is open\n"))
         self.assertEqual(run([*words, "--cancel"]), Ran(0, b"position 5: trades 2, settings 0; trades left out 0\n", b""))
         self.journal = new
