@@ -12,6 +12,7 @@ from typing import Callable, NoReturn
 
 from . import checker
 from .ending import FILE_FAULT, Stop, read_file, run
+from .placing import sync_folder
 from .words import Words, text
 
 LETTERS = string.ascii_uppercase + string.digits
@@ -69,6 +70,7 @@ def write(path: Path, content: str) -> None:
             opened.write(content)
             opened.flush()
             os.fsync(file)
+        sync_folder(path.parent)
     except OSError:
         path.unlink(missing_ok=True)
         raise FILE_FAULT from None

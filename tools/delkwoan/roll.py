@@ -23,7 +23,7 @@ from .client import found_program
 from .ending import FILE_FAULT, Stop, read_file, run
 from .frames import MOST_BYTES, Damaged, lead_of
 from .history import History, Moved
-from .placing import give_name, locked
+from .placing import give_name, locked, sync_folder
 from .rolled import Differs, Told, check_base, numbers_of, told_of
 from .rolling import Obstacle, Period, journal_of
 from .words import Once, Words, flag, text
@@ -135,11 +135,14 @@ def compared(given: Namespace, program: str, period: Period, new: str) -> Rolled
 
 
 def write_map(name: str, numbers: list[tuple[int, int]]) -> None:
-    """Writes the numbers, never over a file that is there."""
+    """Writes the numbers to the disk, never over a file that is there."""
     try:
         with open(name, "x", encoding="ascii") as file:
             file.write("before,after\n")
             file.writelines(f"{before},{after}\n" for before, after in numbers)
+            file.flush()
+            os.fsync(file.fileno())
+        sync_folder(Path(name).parent)
     except FileExistsError:
         raise Stop(11, f"{name} is there already") from None
     except (OSError, ValueError):

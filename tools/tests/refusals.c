@@ -8,10 +8,15 @@
  *     REFUSE_DISK=N                of the calls to the file that was locked last the one with this number fails
  *     SLOW_DISK=MILLISECONDS       each sync of that file takes as many more
  *     KILL_DISK=N                  the program is killed in place of the call with this number
+ *     REFUSE_SYNC=ERROR:COUNT      the first COUNT calls of fsync fail with this number
+ *     REFUSE_DROP=ERROR:COUNT      so do the first COUNT calls that drop the kernel's copies of a file
+ *     CALLED=FILE                  each lock, look, sync, datasync, drop and read adds a line to this file: the call's name, the path of
+ *                                  what it was made to, and after a folder's path the names in it, in order
  *     MOMENT=SECONDS               the clock tells these seconds since 1970
  *     SLEPT=FILE                   each sleep takes a hundredth of its time, and its milliseconds go to this file, one line each
  */
 #define _GNU_SOURCE
+#include <dirent.h>
 #include <dlfcn.h>
 #include <errno.h>
 #include <fcntl.h>
@@ -20,13 +25,14 @@
 #include <stdatomic.h>
 #include <stdio.h>
 #include <stdlib.h>
+#include <string.h>
 #include <sys/file.h>
 #include <sys/socket.h>
 #include <sys/stat.h>
 #include <time.h>
 #include <unistd.h>
 
-static atomic_long accepts, threads, requests, disk_calls;
+static atomic_long accepts, threads, requests, disk_calls, syncs, drops;
 static atomic_int locked = -1;
 
 extern void *__libc_malloc(size_t size);
@@ -138,11 +144,47 @@ int nanosleep(const struct timespec *asked, struct timespec *left) {
     return next(&hundredth, left);
 }
 
+/* Adds the names in a folder to a line, in order. */
+static void add_names(const char *folder, char *line, size_t room) {
+    struct dirent **names;
+    int count = scandir(folder, &names, NULL, alphasort);
+    for (int at = 0; at < count; at++) {
+        size_t size = strlen(line);
+        if (names[at]->d_name[0] != '.')
+            snprintf(line + size, room - size, " %s", names[at]->d_name);
+        free(names[at]);
+    }
+    if (count >= 0)
+        free(names);
+}
+
+/* Notes that this call was made to a file. */
+static void note(const char *call, int file) {
+    const char *name = getenv("CALLED");
+    char link[64], path[4096], line[16384];
+    if (name == NULL)
+        return;
+    snprintf(link, sizeof link, "/proc/self/fd/%d", file);
+    ssize_t size = readlink(link, path, sizeof path - 1);
+    if (size < 0)
+        return;
+    path[size] = 0;
+    snprintf(line, sizeof line, "%s %s", call, path);
+    add_names(path, line, sizeof line - 1);
+    strcat(line, "\n");
+    int log = open(name, O_WRONLY | O_CREAT | O_APPEND | O_CLOEXEC, 0600);
+    if (log < 0 || write(log, line, strlen(line)) < 0)
+        abort();
+    close(log);
+}
+
 int flock(int file, int operation) {
     int (*next)(int, int) = (int (*)(int, int))dlsym(RTLD_NEXT, "flock");
     int done = next(file, operation);
-    if (done == 0 && operation != LOCK_UN)
+    if (done == 0 && operation != LOCK_UN) {
         locked = file;
+        note("lock", file);
+    }
     return done;
 }
 
@@ -157,6 +199,8 @@ static int is_lost(int file) {
 }
 
 int statx(int folder, const char *path, int flags, unsigned int mask, struct statx *found) {
+    if (*path == 0)
+        note("look", folder);
     if (*path == 0 && is_lost(folder))
         return -1;
     int (*next)(int, const char *, int, unsigned int, struct statx *) =
@@ -165,6 +209,7 @@ int statx(int folder, const char *path, int flags, unsigned int mask, struct sta
 }
 
 ssize_t pread(int file, void *bytes, size_t count, off_t place) {
+    note("read", file);
     if (is_lost(file))
         return -1;
     ssize_t (*next)(int, void *, size_t, off_t) = (ssize_t (*)(int, void *, size_t, off_t))dlsym(RTLD_NEXT, "pread");
@@ -179,7 +224,38 @@ ssize_t pwrite(int file, const void *bytes, size_t count, off_t place) {
     return next(file, bytes, count, place);
 }
 
+int fsync(int file) {
+    note("sync", file);
+    int error = refusal("REFUSE_SYNC", &syncs);
+    if (error != 0) {
+        errno = error;
+        return -1;
+    }
+    if (is_lost(file))
+        return -1;
+    int (*next)(int) = (int (*)(int))dlsym(RTLD_NEXT, "fsync");
+    return next(file);
+}
+
+int posix_fadvise(int file, off_t place, off_t length, int advice) {
+    if (advice == POSIX_FADV_DONTNEED && place == 0 && length == 0)
+        note("drop", file);
+    int error = refusal("REFUSE_DROP", &drops);
+    if (error != 0)
+        return error;
+    if (is_lost(file))
+        return errno;
+    int (*next)(int, off_t, off_t, int) = (int (*)(int, off_t, off_t, int))dlsym(RTLD_NEXT, "posix_fadvise");
+    return next(file, place, length, advice);
+}
+
+/* As programs call it whose places have 64 bits. */
+int posix_fadvise64(int file, off_t place, off_t length, int advice) {
+    return posix_fadvise(file, place, length, advice);
+}
+
 int fdatasync(int file) {
+    note("datasync", file);
     const char *slow = getenv("SLOW_DISK");
     if (file == locked && slow != NULL)
         usleep(1000 * (useconds_t)atol(slow));

@@ -69,7 +69,7 @@ class Broken(Refused):
                 self.assertEqual(run([self.program, "script", ROSTER, self.journal]), Ran(0, b"", b""))
                 self.assertEqual((self.replay(self.journal), self.journal.read_bytes()), (ONE, turned))
         self.assertEqual((told, self.journal.read_bytes()), (Ran(0, b"", b""), turned))
-        self.assertGreaterEqual(fails, 6)
+        self.assertGreaterEqual(fails, 9)
 
     def test_lines_of_bytes_that_are_no_text(self) -> None:
         bad = b"no 0 3 bad-line 0\n"
