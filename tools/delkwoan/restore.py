@@ -23,7 +23,7 @@ from .frames import MOST_BYTES, Damaged, Form, lead_of
 from .history import Moved
 from .placing import give_name, locked, sync_folder
 from .roll import written_by
-from .seed import front_of
+from .seed import Copy
 from .words import Once, Words, flag, text
 
 STATE, SETTINGS = "/var/lib/delkwoan", "/etc/delkwoan"
@@ -120,16 +120,17 @@ class Restore:
     def __init__(self, given: Namespace) -> None:
         self.given = given
         self.journal = Path(given.state) / "journal"
+        self.place_of_copy = Path(given.state) / "seed" if given.seed else self.journal
         self.roster = Path(given.settings) / "roster.csv"
         self.moment = time.strftime("%Y%m%dT%H%M%SZ", time.gmtime())
 
     def journal_file(self, content: bytes) -> Placed:
-        """The journal, which is its folder's owner's alone. If there is no folder yet, it is made, and the unit makes it its own."""
+        """The copy, which is its folder's owner's alone. If there is no folder yet, it is made, and the unit makes it its own."""
         folder = self.journal.parent
         with about(folder):
             folder.mkdir(mode=0o700, parents=True, exist_ok=True)
             status = folder.stat()
-        return Placed(self.journal, content, status.st_uid, status.st_gid, 0o600)
+        return Placed(self.place_of_copy, content, status.st_uid, status.st_gid, 0o600)
 
     def roster_file(self, content: bytes) -> Placed:
         """The roster, which is as that was in its place, or root's alone."""
@@ -153,13 +154,23 @@ class Restore:
         with about(named):
             names_of(roster)
         with about(self.given.copy):
-            content = front_of(content) if self.given.seed else content
+            content = Copy(content).content if self.given.seed else content
             due = replayed(roster, content)
         with ExitStack() as stack:
             if self.journal.exists():
                 stack.enter_context(locked(str(self.journal)))
             lines = self.place(roster, content, due)
         return lines
+
+    def moved_aside(self) -> Path | None:
+        """Gives the journal in place, if there is one, another name, so that the standby begins with the seed."""
+        with about(self.journal):
+            if not self.journal.exists():
+                return None
+            aside = kept_aside(self.journal, self.moment)
+            self.journal.unlink()
+            sync_folder(self.journal.parent)
+        return aside
 
     def place(self, roster: bytes, content: bytes, due: list[str]) -> list[str]:
         parts: list[str] = []
@@ -172,8 +183,10 @@ class Restore:
                 parts.append(written(self.roster_file(roster)))
                 aside = put(parts[1], self.roster, self.moment)
                 lines.append(f"{self.roster}: {self.given.roster}" + (f"; before: {aside}" if aside else ""))
-            aside = put(parts[0], self.journal, self.moment)
-            lines.append(f"{self.journal}: position {position_of(due)}" + (f"; before: {aside}, {was}" if aside else ""))
+            aside = put(parts[0], self.place_of_copy, self.moment)
+            if self.given.seed:
+                aside = self.moved_aside()
+            lines.append(f"{self.place_of_copy}: position {position_of(due)}" + (f"; before: {aside}, {was}" if aside else ""))
             return lines
         finally:
             for part in parts:
@@ -188,7 +201,7 @@ def words() -> Words:
         "have read the same in it. What was in place is kept beside it.",
     )
     parser.add_argument("--roster", metavar="ROSTER", action=Once, type=text, help="the copy's roster, which is put in place too; if it is absent, the one in place")
-    flag(parser, "--seed", "leave out the copy's last change, which may not be on the service's disk yet: for a standby that follows it")
+    flag(parser, "--seed", "put the copy beside the journal's place, as seed, for a standby that begins with it; a journal in place gets another name")
     parser.add_argument("--state", metavar="FOLDER", action=Once, type=text, default=STATE, help=f"the folder of the journal; if it is absent, {STATE}")
     parser.add_argument("--settings", metavar="FOLDER", action=Once, type=text, default=SETTINGS, help=f"the folder of roster.csv; if it is absent, {SETTINGS}")
     parser.add_argument("--program", metavar="FILE", action=Once, help="the program that replays the copy")

@@ -14,8 +14,9 @@ import unittest
 from pathlib import Path
 
 from failing_disk import FailingDisk
-from running import TOOLS, program, run
-from serving import ROSTER
+from gateway_relay import Relay
+from running import PATIENCE, TOOLS, program, run
+from serving import ROSTER, started
 from spelled import TURN, record, slotted
 from standing import WithStandby, stored
 
@@ -237,6 +238,40 @@ class Standbys(OnFailingDisk):
         self.assertEqual(self.stopped().status, 0)
         self.cut_power()
         self.assert_prefix()
+
+
+class Seeds(OnFailingDisk):
+    """A standby that begins as a copy while the service waits for the second sync of many changes: the file has them, and no disk."""
+
+    def setUp(self) -> None:
+        super().setUp()
+        write_synced(self.journal, journal_of(trades(1)))
+        self.start()
+        relay = Relay(self.port)
+        self.addCleanup(relay.listener.close)
+        relay.lose("HELLO", is_sent=False)
+        # (the page is written for the records, then for the gate)
+        self.disk.hold(self.journal, page=0, number=2)
+        self.session("A").link.send("".join(f"{trade_line(amount)}\n" for amount in range(1, TOGETHER + 1)).encode())
+        self.wait(lambda: self.disk.has_come)
+        words = self.follow_words("--seed", self.journal)
+        self.following = started([f"127.0.0.1:{relay.port}" if word == self.address else word for word in words])
+        # (a copy that was made before the service is greeted is there now)
+        self.assertTrue(relay.lost.wait(PATIENCE))
+
+    def test_the_plug_is_pulled(self) -> None:
+        self.cut_power()
+        self.start()
+        self.assert_prefix()
+        self.wait_for(1)
+        self.trade(10)
+        self.wait_for(2)
+        self.assertEqual(stored(self.standby), stored(self.journal))
+
+    def test_the_sync_ends(self) -> None:
+        self.disk.let_go()
+        self.wait_for(1 + TOGETHER)
+        self.assertEqual(stored(self.standby), stored(self.journal))
 
 
 class Life:

@@ -223,8 +223,10 @@ class Restored(Installed):
         self.assertEqual(said(other, ASKED, 7001), ANSWERED)
         other.output_of("systemctl", "stop", "delkwoan")
         printed = other.output_of("compress-restore", "--seed", "/mnt/copy")
-        self.assertIn("/var/lib/delkwoan/journal: position 1; before: ", printed)
+        self.assertIn("/var/lib/delkwoan/seed: position 2; before: ", printed)
         other.output_of("sh", "-c", "umask 077; echo KO > /etc/delkwoan/standby.key")
+        options = "--compare --seed /var/lib/delkwoan/seed"
+        other.output_of("sh", "-c", f"echo 'OPTIONS=\"{options}\"' > /etc/default/delkwoan-standby")
         other.output_of("systemctl", "start", "delkwoan-standby")
         wait_until(lambda: other.run("cat", "/var/lib/delkwoan/behind").output.startswith(b"standby 2 primary 2 "))
         self.assertEqual(replay(other), replay(first))

@@ -52,7 +52,7 @@ TYPED: list[tuple[list[str], list[str]]] = [
     (["compress-client", "-"], ["--about", "--connect", "--program", "--raw"]),
     (["compress-client", "--connect", ""], []),
     (["compress-client", "--connect", "127.0.0.1:7000", "rost"], ["roster.csv"]),
-    (["compress-follow", "-"], ["--behind", "--compare", "--connect", "--pause", "--program", "--seed"]),
+    (["compress-follow", "-"], ["--behind", "--compare", "--connect", "--patience", "--pause", "--program", "--seed"]),
     (["compress-follow", "--compare", "--seed", "x", "a", "b", "OPS", "hub-r"], ["hub-roster.csv"]),
     (["compress-gateway", "--c"], ["--certificate", "--clients"]),
     (["compress-gateway", "--key", "rost"], ["roster.csv"]),
@@ -163,7 +163,7 @@ class Pages(Made):
             for option in set(re.findall(r"^  --(\w+)", shown.output.decode(), re.MULTILINE)) - {"version"}:
                 self.assertRegex(page, rf"(?m)^\.It Fl -{option}\b")
                 told += 1
-        self.assertEqual(told, 40)
+        self.assertEqual(told, 41)
 
     def test_the_programs_forms_are_those_of_its_page(self) -> None:
         page = (PACKAGING / "man/compress_cli.1").read_text()

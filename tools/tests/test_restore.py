@@ -82,11 +82,14 @@ class Restore(unittest.TestCase):
         self.assertEqual((found.st_uid, found.st_gid, found.st_mode & 0o777), (7001, 7002, 0o600))
 
     def test_a_seed(self) -> None:
-        """A standby's journal has all of its primary's changes but the last."""
+        """It stands beside the journal's place, and the journal that was there has another name."""
         self.market()
         shutil.copyfile(self.journal, self.copy)
+        before = self.journal.read_bytes()
         self.assertEqual(self.restore("--seed", self.copy).status, 0)
-        self.assertTrue(run([program(), "replay", ROSTER, self.journal]).output.endswith(b"end 2\n"))
+        self.assertTrue(run([program(), "replay", ROSTER, self.state / "seed"]).output.endswith(b"end 3\n"))
+        self.assertEqual([path.read_bytes() for path in self.state.glob("journal*")], [before])
+        self.assertFalse(self.journal.exists())
 
     def test_what_is_refused(self) -> None:
         """With the file and the reason; all files are as they were."""
