@@ -99,7 +99,8 @@ class Figures(InGateway):
         told = {name: figures[name] for name in figures if not name.startswith("delkwoan_call_") and "created" not in name}
         self.assertEqual(told.pop("delkwoan_journal_bytes"), self.journal.stat().st_size)
         self.assertEqual(told.pop("delkwoan_journal_bytes_left"), 268_435_456 - self.journal.stat().st_size)
-        due = {"history_length": 5, "trades_used": 5, "trades_left": 99_995, "seats": 4, "seats_busy": 0, "sessions": 1}
+        self.assertGreaterEqual(told.pop("delkwoan_connections"), 2)
+        due = {"requests": 1, "history_length": 5, "trades_used": 5, "trades_left": 99_995, "seats": 4, "seats_busy": 0, "sessions": 1}
         due |= {'replies_total{kind="trade"}': 5, 'replies_total{kind="not-party"}': 1, "wrong_keys_total": 0, "calls_waiting": 0}
         self.assertEqual(told, {f"delkwoan_{name}": value for name, value in due.items()})
         self.assertEqual(figures['delkwoan_call_seconds_count{verb="TRADE"}'], 5)

@@ -1,4 +1,4 @@
-"""Figures for Prometheus: of the service's history and journal, of the seats, and of the calls."""
+"""Figures for Prometheus: of the service's history and journal, of the seats, of the peers, and of the calls."""
 
 from typing import Any, Iterator, cast
 
@@ -6,6 +6,7 @@ from prometheus_client import CollectorRegistry, Counter, Histogram, generate_la
 from prometheus_client.core import GaugeMetricFamily, Metric
 
 from .follower import Fill, Follower
+from .peers import Peers
 from .seats import Seats
 from .sessions import Sessions
 
@@ -24,6 +25,7 @@ class Figures:
     def __init__(self, seats: Seats, sessions: Sessions, follower: Follower | None) -> None:
         self.seats = seats
         self.sessions = sessions
+        self.peers = Peers()
         self.follower = follower
         self.fill: Fill | None = None
         self.registry = CollectorRegistry()
@@ -48,6 +50,8 @@ class Figures:
             "delkwoan_seats_busy": ("Connections that have a call", self.seats.busy),
             "delkwoan_calls_waiting": ("Calls that wait for a seat", self.seats.queue),
             "delkwoan_sessions": ("Members and operators who are signed in", len(self.sessions)),
+            "delkwoan_connections": ("Peers that are connected", self.peers.connected),
+            "delkwoan_requests": ("Requests of peers that are not answered yet, and pages that listen", self.peers.requests),
         }
         for name, (told, value) in values.items():
             yield GaugeMetricFamily(name, told, value)

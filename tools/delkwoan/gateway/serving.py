@@ -17,6 +17,7 @@ from .follower import Follower
 from .kept import Faulty, Kept
 from .metrics import Figures
 from .parts import Parts
+from .reading import protocol
 from .seats import Seats
 from .server import application
 from .sessions import Sessions, Slowing
@@ -85,6 +86,7 @@ def serve(given: Namespace, bound: socket.socket) -> None:
 
     config = uvicorn.Config(
         application(parts),
+        http=protocol(),
         log_config=None,
         access_log=False,
         server_header=False,
@@ -100,4 +102,5 @@ def serve(given: Namespace, bound: socket.socket) -> None:
     except (OSError, ssl.SSLError):
         raise Stop(11, "file fault") from None
     server = uvicorn.Server(config)
+    parts.figures.peers.state = server.server_state
     server.run(sockets=[bound])
