@@ -1,5 +1,5 @@
 -- What the operator's CANCEL is answered, and how it leaves a history.
-use Rattle.std.proofs.Common.{◌≡◌, ◌∙◌, ℕ, ◌==◌, ◌||◌, not, Bool, true, false, List, [], ◌∷◌, ◌++◌, Option, Some, is_some, if◌then◌else◌, refl, sym, ap, subst, eq-eqb}
+use Rattle.std.proofs.Common.{◌≡◌, ◌∙◌, ℕ, ◌==◌, ◌||◌, not, Bool, true, false, List, [], ◌∷◌, ◌++◌, Option, Some, is_some, if◌then◌else◌, refl, sym, ap, subst, arith, eq-eqb}
 use Rattle.std.proofs.lemmas.Slice.Eq.{bytes_eq-Decides}
 use Rattle.std.proofs.lemmas.List.Sums.{fold-append}
 use Rattle.command_types.specs.declared.answer.Answer.{Answer}
@@ -67,11 +67,11 @@ abbrev Ends : State → List Entry → Type 0
 Ends s es = IsLegalFrom s es × ((replayed_from s es).cycle.phase ≡ NoPhase)
 
 ends : (s : State) (row : OperatorRow) → s.roster.operator ≡ Some row → (b : Bool) → is_open s.cycle.phase ≡ b → Ends s (cancel_of s)
-ends s row there true is = subst (Ends s) (sym (kept s row there true is)) (((recorded_open s row there ∙ is, tt), tt), refl)
+ends s row there true is = subst (Ends s) (sym (kept s row there true is)) (((recorded_open s row there ∙ is, λ k d below. absurd (omega (arith, below))), tt), refl)
 ends s row there false is = subst (Ends s) (sym (kept s row there false is)) (tt, phase_none s.cycle.phase is)
 
 -- a legal history goes on by changes that are legal behind it
-legal_behind : (s : State) (es more : List Entry) → IsLegalFrom s es → IsLegalFrom (replayed_from s es) more → IsLegalFrom s (es ++ more)
+pub legal_behind : (s : State) (es more : List Entry) → IsLegalFrom s es → IsLegalFrom (replayed_from s es) more → IsLegalFrom s (es ++ more)
 legal_behind s [] more legal behind = behind
 legal_behind s (e ∷ es) more (now, later) behind = (now, legal_behind (state_after s e.ask) es more later behind)
 

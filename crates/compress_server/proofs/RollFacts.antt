@@ -1,9 +1,11 @@
 -- What a roll writes, and why it does not: what was read of a disk, over the new rows.
 use Rattle.std.proofs.Common.{◌≡◌, ◌∙◌, refl, sym, subst, ap, ℕ, Bool, true, false, List, Option, Some, None}
+use Rattle.std.proofs.lemmas.List.Sums.{fold-append}
 use Rattle.std.specs.Prelude.{◌↔◌, Result, Ok, IfSome, IsTrue, if◌then◌else◌}
 use Rattle.units_core.specs.Day.{DayParts}
 use Rattle.outside.specs.Faults.{Rose}
 use Rattle.outside.specs.Flow.{Takes, TakesFront}
+use Rattle.command_types.specs.declared.ask.Entry.{Entry}
 use Rattle.command_types.specs.declared.base.Base.{Base}
 use Rattle.command_types.specs.declared.cycle.Phase.{Phase}
 use Rattle.command_types.specs.declared.cycle.Phase.TheVariants.{None as NoPhase, Frozen, Solving, Proposed, Broken}
@@ -13,7 +15,8 @@ use Rattle.command_types.specs.declared.spelling.Spelling.TheVariants.{Second}
 use Rattle.command_types.specs.Bases.{CanBeWritten, Fits, base_spelling, written}
 use Rattle.command_types.specs.Cycles.{is_open}
 use Rattle.command_types.specs.Folds.{IsAtRest, folded}
-use Rattle.command_types.specs.History.{History, end_of, replayed}
+use Rattle.command_types.specs.History.{History, IsLegalFrom, end_of, replayed, replayed_from}
+use Rattle.command_types.specs.Machine.{state_after}
 use Rattle.command_types.specs.Roster.{Rows, IsRoster}
 use Rattle.cycle_laws.specs.Bases.{IsWritable}
 use Rattle.cycle_laws.proofs.Bases.{folds_are_writable}
@@ -35,12 +38,13 @@ use Rattle.compress_server.specs.declared.ending.Obstacle.{Obstacle}
 use Rattle.compress_server.specs.declared.ending.Obstacle.TheVariants.{Misfit}
 use Rattle.compress_server.specs.declared.rolling.RollEnd.TheVariants.{Done, Unrolled, SinkFault}
 use Rattle.compress_server.specs.declared.rolling.Unmade.{Unmade}
-use Rattle.compress_server.specs.Cancelled.{rolled_past}
+use Rattle.compress_server.specs.Cancelled.{cancel_of, rolled_past}
 use Rattle.compress_server.specs.Files.{FilesState, SaysRoster}
 use Rattle.compress_server.specs.Housed.{DiskState}
 use Rattle.compress_server.specs.Replay.{IsKept}
 use Rattle.compress_server.specs.Roll.{last_base, rolled_history, IsObstacle, IsObstacleAt, IsRolled, IsUnmade, IsUnmadeAt, OverRosters, RollRuns}
 use Rattle.compress_server.specs.Seen.{OutputState}
+use Rattle.compress_server.proofs.CancelFacts.{legal_behind}
 
 -- ---- the base at the end of a history
 
@@ -88,6 +92,16 @@ module _ (s : State) (position : ℕ) (o : Option Base) (is : o ≡ base_of posi
       (found.0, sym is ∙ found.1, found.2)
 
 -- ---- where what was read is rolled
+
+-- a machine that made the changes, and then had the operator cancel the open cycle, is where the cancelled history leads
+pub rests : (cancel : Bool) (was s : State) (past : History) → cancel ≡ true → IsReplayed was past → s ≡ replayed_from was (cancel_of was) → IsLegalFrom was (cancel_of was) → IsReplayed s (rolled_past cancel past)
+rests false was s past asked there made legal = absurd (cc)
+rests true was s past asked there made legal =
+    let more = cancel_of (replayed past) in
+    record {
+      same = made ∙ ap (λ (t : State). replayed_from t (cancel_of t)) there.same ∙ sym (fold-append (λ (state : State) (entry : Entry). state_after state entry.ask) past.base.state past.entries more);
+      legal = legal_behind past.base.state past.entries more there.legal (subst (λ (t : State). IsLegalFrom t (cancel_of t)) there.same legal);
+    }
 
 -- a history begins where it did, whatever its operator asks for at its end
 begins_there : (cancel : Bool) (h : History) → (rolled_past cancel h).base ≡ h.base
