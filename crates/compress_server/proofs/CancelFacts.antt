@@ -1,8 +1,7 @@
 -- What the operator's CANCEL is answered, and how it leaves a history.
-use Rattle.std.proofs.Common.{◌≡◌, ◌∙◌, ℕ, ◌==◌, ◌||◌, not, Bool, true, false, List, [], ◌∷◌, ◌++◌, Option, Some, is_some, if◌then◌else◌, refl, sym, ap, subst, arith, eq-eqb}
+use Rattle.std.proofs.Common.{◌≡◌, ◌∙◌, ℕ, ◌||◌, not, Bool, true, false, List, [], ◌∷◌, ◌++◌, Some, is_some, if◌then◌else◌, refl, sym, ap, subst, arith, eq-eqb}
 use Rattle.std.proofs.lemmas.Slice.Eq.{bytes_eq-Decides}
 use Rattle.std.proofs.lemmas.List.Sums.{fold-append}
-use Rattle.command_types.specs.declared.answer.Answer.{Answer}
 use Rattle.command_types.specs.declared.answer.Answer.TheVariants.{Cancelled}
 use Rattle.command_types.specs.declared.ask.Entry.{Entry}
 use Rattle.command_types.specs.declared.ask.What.TheVariants.{Cancel}
@@ -13,11 +12,10 @@ use Rattle.command_types.specs.declared.refusal.Refusal.TheVariants.{NotGreeted,
 use Rattle.command_types.specs.declared.roster.OperatorRow.{OperatorRow}
 use Rattle.command_types.specs.Cycles.{is_open}
 use Rattle.command_types.specs.CycleRefusals.{unless_cycle, unless_phase}
-use Rattle.command_types.specs.Folds.{IsAtRest}
-use Rattle.command_types.specs.History.{History, IsLegal, IsLegalFrom, is_recorded, replayed, replayed_from}
+use Rattle.command_types.specs.History.{IsLegalFrom, is_recorded, replayed, replayed_from}
 use Rattle.command_types.specs.Machine.{answer_to, first_of, refused_or, state_after}
 use Rattle.command_types.specs.Roster.{is_operator, is_operator_row, member_place}
-use Rattle.compress_server.specs.Cancelled.{CancelsEndCycles, cancel_ask, cancel_by, cancel_of, cancelled}
+use Rattle.compress_server.specs.Cancelled.{CancelsEndCycles, cancel_ask, cancel_by, cancel_of}
 
 or_true : (b : Bool) → (b || true) ≡ true
 or_true true = refl
