@@ -223,6 +223,22 @@ class DebianPackage(Made):
             told = run(["lintian", "--allow-root", "--fail-on", "error,warning", package])
             self.assertEqual((told.status, told.output), (0, b""))
 
+    def test_the_tree_stays_clean(self) -> None:
+        """After each command that the pages name: what it leaves is ignored, and no folder has the name of a module."""
+        need("git")
+        python = python_with("build", "setuptools", "wheel")
+        tree = self.folder / "tree"
+        copied(tree)
+        shutil.copy2(ROOT / ".gitignore", tree)
+        own = ["git", "-c", "user.name=A", "-c", "user.email=a@example.org"]
+        for words in (["init", "--quiet"], ["add", "--all"], ["commit", "--quiet", "--message=all"]):
+            self.assertEqual(run([*own, *words], folder=tree).status, 0)
+        for _ in range(2):
+            self.assertEqual(run([python, "-m", "build", "--no-isolation"], folder=tree).status, 0)
+            self.assertEqual(built_from(tree, self.program).status, 0)
+            self.assertEqual(run(["git", "status", "--porcelain"], folder=tree), Ran(0, b"", b""))
+            self.assertFalse((tree / "build").exists())
+
     def test_without_a_program(self) -> None:
         built = self.build(self.folder / "none")
         self.assertNotEqual(built.status, 0)
