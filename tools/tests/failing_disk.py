@@ -1,5 +1,6 @@
 """A disk of which one chosen write fails or is held, and whose power can be cut, for the tests: an ext4 over `failing_device`."""
 
+import contextlib
 import fcntl
 import functools
 import json
@@ -12,7 +13,7 @@ import unittest
 from pathlib import Path
 from typing import Any, NamedTuple
 
-from running import PATIENCE, TOOLS
+from running import PATIENCE, TOOLS, run
 from test_packaging import python_with
 
 PAGE = 4096
@@ -32,15 +33,19 @@ WITHOUT_A_FLUSH = struct.pack("=L", 2)
 
 @functools.cache
 def want_a_machine() -> str:
-    """The Python that serves a device; where this machine can have none, skips."""
+    """The Python that serves a device; if this machine can't have one, skips."""
     if os.geteuid() != 0:
         raise unittest.SkipTest("only root can mount a disk")
     for device in DEVICES:
-        if not device.exists():
-            raise unittest.SkipTest(f"no {device}")
+        try:
+            os.close(os.open(device, os.O_RDWR))
+        except OSError as fault:
+            raise unittest.SkipTest(f"no {device}: {fault.strerror}") from None
     for command in COMMANDS:
         if shutil.which(command) is None:
             raise unittest.SkipTest(f"no {command}")
+    if run(["unshare", "--mount", "true"]).status != 0:
+        raise unittest.SkipTest("no mounts of a program's own")
     return python_with(*MODULES)
 
 
@@ -96,9 +101,13 @@ class FailingDisk:
     def order(self, *words: Any) -> bool:
         """Has the device obey; whether the chosen write has come."""
         assert self.server.stdin is not None and self.server.stdout is not None
-        self.server.stdin.write(json.dumps(words) + "\n")
-        self.server.stdin.flush()
-        answer = json.loads(self.server.stdout.readline() or '{"fault": "the device is gone"}')
+        with contextlib.suppress(BrokenPipeError):
+            self.server.stdin.write(json.dumps(words) + "\n")
+            self.server.stdin.flush()
+        line = self.server.stdout.readline()
+        if not line:
+            raise RuntimeError("the device has ended")
+        answer = json.loads(line)
         if isinstance(answer, dict):
             raise OSError(answer["fault"])
         return bool(answer)
