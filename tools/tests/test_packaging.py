@@ -163,7 +163,7 @@ class Pages(Made):
             for option in set(re.findall(r"^  --(\w+)", shown.output.decode(), re.MULTILINE)) - {"version"}:
                 self.assertRegex(page, rf"(?m)^\.It Fl -{option}\b")
                 told += 1
-        self.assertEqual(told, 41)
+        self.assertGreaterEqual(told, 42)  # that the helps were read: more options may come
 
     def test_the_programs_forms_are_those_of_its_page(self) -> None:
         page = (PACKAGING / "man/compress_cli.1").read_text()
