@@ -136,7 +136,7 @@ class Reply(NamedTuple):
 
     @property
     def kind(self) -> str | None:
-        """The word that tells what is answered; none of a refusal."""
+        """The word that says what is answered; none of a refusal."""
         return self.words[2] if self.is_head and self.words[0] == "ok" else None
 
 

@@ -52,37 +52,37 @@ class Readers(InService):
             with self.session(name) as session:
                 session.ask_raw(line)
 
-    def told(self, name: str) -> bytes:
-        """All that a reader is shown over a connection."""
+    def shown_to(self, name: str) -> bytes:
+        """All that a reader gets over a connection."""
         with self.session(name) as session:
             return b"".join(part for line in READS for part in session.ask_raw(line))
 
-    def seen(self, told: bytes) -> Seen:
+    def seen(self, shown: bytes) -> Seen:
         """Amounts in text, or as a record has them; a vote is a record of C's, of tag 10."""
         def has(number: str) -> bool:
-            return re.search(rb"\b%s\b" % number.encode(), told) is not None or int(number).to_bytes(8, "little") in told
+            return re.search(rb"\b%s\b" % number.encode(), shown) is not None or int(number).to_bytes(8, "little") in shown
 
-        vote = b"\x01C\x0a" in told or b"C: ACCEPT 1 1" in told
+        vote = b"\x01C\x0a" in shown or b"C: ACCEPT 1 1" in shown
         return Seen(has(TRADE), has(HELD), has(FLOOR), has(CEILING), vote)
 
     def test_a_counterparty_sees_trades_holds_and_the_bounds_that_count(self) -> None:
-        told = self.told("B")
-        self.assertEqual(self.seen(told), Seen(True, True, True, True, False))
-        self.assertRegex(told, rb"pair P A B %s seller" % FLOOR.encode())
-        self.assertRegex(told, rb"trade 2 B A P %s \S+ live held\n" % HELD.encode())
+        shown = self.shown_to("B")
+        self.assertEqual(self.seen(shown), Seen(True, True, True, True, False))
+        self.assertRegex(shown, rb"pair P A B %s seller" % FLOOR.encode())
+        self.assertRegex(shown, rb"trade 2 B A P %s \S+ live held\n" % HELD.encode())
 
     def test_whoever_is_no_party_of_a_pair_sees_nothing_of_it(self) -> None:
-        self.assertEqual(self.seen(self.told("C")), NONE)
+        self.assertEqual(self.seen(self.shown_to("C")), NONE)
 
     def test_the_operator_sees_each_change_by_next(self) -> None:
-        self.assertEqual(self.seen(self.told("OPS")), ALL)
+        self.assertEqual(self.seen(self.shown_to("OPS")), ALL)
 
     def test_an_auditor_sees_all_but_keys(self) -> None:
-        told = run([TOOLS / "journal", self.journal]).output
-        self.assertEqual(self.seen(told), ALL)
+        shown = run([TOOLS / "journal", self.journal]).output
+        self.assertEqual(self.seen(shown), ALL)
         for line in ROSTER.read_text().splitlines():
             if line.split(",")[1] in ("dealer", "operator"):
-                self.assertNotIn(line.split(",")[2].encode(), self.journal.read_bytes() + told)
+                self.assertNotIn(line.split(",")[2].encode(), self.journal.read_bytes() + shown)
 
     def test_a_vote_is_counted_for_members_and_not_named(self) -> None:
         with self.session("B") as session:
