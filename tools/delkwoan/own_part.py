@@ -82,10 +82,14 @@ class Proof(NamedTuple):
 
 
 class Clash(NamedTuple):
-    """What is wrong, and the line that shows it; none where a line is missing."""
+    """What is wrong, and the line that shows it; none where a line is missing.
+
+    One by the notes need not be the proposal's fault: a tolerance or a trade of the member that they lack may be the cause. Any other
+    follows from the replies and the roster alone."""
 
     words: str
     line: str | None
+    is_by_notes: bool = False
 
 
 def read_roster(text: bytes) -> Roster:
@@ -319,6 +323,20 @@ class Part(NamedTuple):
         ]
 
 
+def is_strange(part: Part, pair: Pair) -> bool:
+    """Whether a pair has to be in no reply to the member, whatever its trades are."""
+    names = (pair.seller, pair.buyer)
+    if pair.product not in part.roster.products or part.member not in names or not {*names} <= {*part.roster.members}:
+        return True
+    return pair.now == 0 and not part.grows(*names)
+
+
+def place_of(part: Part, key: Key) -> tuple[int, ...]:
+    """Where a pair stands in the order of the roster."""
+    members = [*part.roster.members]
+    return [*part.roster.products].index(key[0]), members.index(key[1]), members.index(key[2])
+
+
 def told_clash(part: Part) -> Iterator[Clash]:
     """Names that the roster has not, pairs that are missing, or told though they need not be, and frozen amounts that are not
     those of the trades."""
@@ -329,14 +347,16 @@ def told_clash(part: Part) -> Iterator[Clash]:
     wanted = {key: None for key in part.wanted()}
     for key in wanted:
         if key not in told:
-            yield Clash(f"missing {key[0]} {key[1]} {key[2]}", None)
+            yield Clash(f"missing {key[0]} {key[1]} {key[2]}", None, not part.grows(key[1], key[2]))
     for key, pair in told.items():
         if key not in wanted:
-            yield Clash("strange", pair.line)
+            yield Clash("strange", pair.line, not is_strange(part, pair))
         elif pair.now != part.now(key):
-            yield Clash("now", pair.line)
-    if [pair.key for pair in part.proof.pairs] != list(wanted):
-        yield Clash("order", None)
+            yield Clash("now", pair.line, True)
+    keys = [pair.key for pair in part.proof.pairs]
+    if keys != list(wanted):
+        places = [place_of(part, key) for key in keys]
+        yield Clash("order", None, places == sorted({*places}))
 
 
 def owners_of_lower(part: Part, pair: Pair) -> set[str]:
@@ -351,13 +371,17 @@ def owners_of_lower(part: Part, pair: Pair) -> set[str]:
     return {"seller", "buyer"} if is_mine else {"seller"}
 
 
-def lower_clash(part: Part, pair: Pair) -> str | None:
+def lower_clash(part: Part, pair: Pair) -> Iterator[Clash]:
     kept = max(part.setting(*pair.key).floor, part.held(pair.key))
+    words = f"lower is not of {pair.lower_of}"
     if pair.lower < min(pair.now, kept):
-        return "lower below your own"
-    if pair.lower > pair.now:
-        return "lower above now"
-    return None if pair.lower_of in owners_of_lower(part, pair) else f"lower is not of {pair.lower_of}"
+        yield Clash("lower below your own", pair.line, True)
+    elif pair.lower > pair.now:
+        yield Clash("lower above now", pair.line)
+    elif pair.lower_of not in owners_of_lower(part, pair):
+        yield Clash(words, pair.line, True)
+    if pair.lower_of == "now" or (pair.lower == 0) != (pair.lower_of == "none"):
+        yield Clash(words, pair.line)
 
 
 def owners_of_upper(part: Part, pair: Pair, limit: int | None) -> set[str]:
@@ -370,18 +394,29 @@ def owners_of_upper(part: Part, pair: Pair, limit: int | None) -> set[str]:
     return {"seller", "buyer"} if pair.upper == limit else {other}
 
 
-def upper_clash(part: Part, pair: Pair) -> str | None:
+def possible_owners_of_upper(part: Part, pair: Pair) -> set[str]:
+    """Whose the upper bound may be, whatever the member has set."""
+    if not part.grows(pair.seller, pair.buyer):
+        return {"now"} if pair.upper == pair.now else set()
+    return {"none"} if pair.upper is None else {"seller", "buyer"}
+
+
+def upper_clash(part: Part, pair: Pair) -> Iterator[Clash]:
     ceiling = part.setting(*pair.key).ceiling
     limit = None if ceiling is None else max(pair.now, ceiling)
     grows = part.grows(pair.seller, pair.buyer)
+    words = f"upper is not of {pair.upper_of}"
     if grows and limit is not None and (pair.upper is None or pair.upper > limit):
-        return "upper above your own"
-    if pair.upper is not None and (pair.upper < pair.now or (not grows and pair.upper > pair.now)):
-        return "upper is not now"
-    return None if pair.upper_of in owners_of_upper(part, pair, limit) else f"upper is not of {pair.upper_of}"
+        yield Clash("upper above your own", pair.line, True)
+    elif pair.upper is not None and (pair.upper < pair.now or (not grows and pair.upper > pair.now)):
+        yield Clash("upper is not now", pair.line)
+    elif pair.upper_of not in owners_of_upper(part, pair, limit):
+        yield Clash(words, pair.line, True)
+    if pair.upper_of not in possible_owners_of_upper(part, pair):
+        yield Clash(words, pair.line)
 
 
-def slack_clash(part: Part, pair: Pair) -> str | None:
+def slack_words(part: Part, pair: Pair) -> str | None:
     """Complementary slackness: what may still grow does not gain by it, nor what may still fall."""
     if pair.next < pair.lower or (pair.upper is not None and pair.next > pair.upper):
         return "next out of bounds"
@@ -396,6 +431,12 @@ def slack_clash(part: Part, pair: Pair) -> str | None:
     if cost > 0 and pair.next > pair.lower:
         return "slack"
     return None
+
+
+def slack_clash(part: Part, pair: Pair) -> Iterator[Clash]:
+    words = slack_words(part, pair)
+    if words is not None:
+        yield Clash(words, pair.line)
 
 
 def net_clash(part: Part) -> Iterator[Clash]:
@@ -419,6 +460,16 @@ def steps_of(part: Part, pair: Pair) -> Iterator[str]:
             fall -= trade.amount - after
 
 
+def new_clash(part: Part, plan: Plan) -> Iterator[Clash]:
+    """The plan's new trades, which follow from the PROOF alone."""
+    left = iter([step for step in plan.steps if step.startswith("new ")])
+    for pair in part.proof.pairs:
+        if pair.next > pair.now and next(left, "") not in steps_of(part, pair):
+            yield Clash("plan leads elsewhere", pair.line)
+    for step in left:
+        yield Clash("plan has a step more", step)
+
+
 def plan_clash(part: Part) -> Iterator[Clash]:
     """A plan of another version, a pair whose steps are not all there in their order, and a step of none."""
     if part.plan is None:
@@ -429,9 +480,10 @@ def plan_clash(part: Part) -> Iterator[Clash]:
     for pair in part.proof.pairs:
         for step in steps_of(part, pair):
             if next(left, None) != step:
-                yield Clash("plan leads elsewhere", pair.line)
+                yield Clash("plan leads elsewhere", pair.line, True)
     for step in left:
-        yield Clash("plan has a step more", step)
+        yield Clash("plan has a step more", step, True)
+    yield from new_clash(part, part.plan)
 
 
 def clashes(part: Part) -> Iterator[Clash]:
@@ -439,15 +491,37 @@ def clashes(part: Part) -> Iterator[Clash]:
     yield from plan_clash(part)
     for pair in part.proof.pairs:
         for test in (lower_clash, upper_clash, slack_clash):
-            words = test(part, pair)
-            if words is not None:
-                yield Clash(words, pair.line)
+            yield from test(part, pair)
     yield from net_clash(part)
 
 
 def clash_of(part: Part) -> Clash | None:
     """The first thing that is wrong, or none."""
     return next(clashes(part), None)
+
+
+class Compared(NamedTuple):
+    """What a test compared, by count: the pairs of the PROOF; of the tolerances that the notes have, those that stood at the BEGIN against a
+    pair's bounds, those set since then, and those of pairs that the PROOF leaves out; and the trades that the freeze took."""
+
+    pairs: int
+    tolerances: int
+    later: int
+    untold: int
+    trades: int
+
+
+def compared(part: Part) -> Compared:
+    told = {pair.key for pair in part.proof.pairs}
+    stood = later = untold = 0
+    for (product, other, side), settings in part.notes.settings.items():
+        key = (product, part.member, other) if side == "out" else (product, other, part.member)
+        is_set = any(it.position < part.proof.begun for it in settings)
+        later += any(it.position >= part.proof.begun for it in settings)
+        stood += is_set and key in told
+        untold += is_set and key not in told
+    trades = sum(len(part.frozen(key)) for key in part.notes.live)
+    return Compared(len(told), stood, later, untold, trades)
 
 
 def digest(lines: list[str]) -> str:
