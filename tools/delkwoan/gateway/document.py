@@ -22,6 +22,7 @@ SCHEMAS: dict[str, dict[str, Any]] = {
 """The form of each field of a request."""
 TYPES: dict[Any, dict[str, Any]] = {int: {"type": "integer"}, str: {"type": "string"}, bool: {"type": "boolean"}}
 TYPES[int | None] = {"type": "integer", "nullable": True}
+ENDED = {"type": "string", "enum": ["executed", "cancelled", "nothing"]}
 REFUSED = {"error": "string", "reply": "string", "position": "integer", "number": "integer", "name": "string", "value": "string"}
 STATUSES = {
     "401": "Nobody is signed in with this token, or the key is not the name's any more.",
@@ -95,7 +96,7 @@ def own_paths() -> dict[str, Any]:
     """The calls that are no line."""
     token = object_of({"token": TYPES[str], "name": NAME, "role": TYPES[str], "idle": {"type": "number"}, "position": TYPES[int]})
     who = object_of({"name": NAME, "role": {"type": "string", "enum": ["member", "operator"]}})
-    fields = object_of({"cycle": TYPES[int], "phase": TYPES[str], "version": TYPES[int], "trade": TYPES[int]}, ["cycle", "phase"])
+    fields = object_of({"cycle": TYPES[int], "phase": TYPES[str], "version": TYPES[int], "trade": TYPES[int], "ended": ENDED}, ["cycle", "phase"])
     secured: dict[str, Any] = {"security": [{"token": []}]}
     wrong = {"401": {"description": "The key is not the name's."}, "429": {"description": "Too soon behind a wrong key; Retry-After says when."}}
     sign_in = {
@@ -118,20 +119,32 @@ def paths_of_page() -> dict[str, Any]:
         return {"summary": summary, "responses": {"200": {"description": told, **content(schema)}}, "security": [{"token": []}], **more}
 
     text = TYPES[str]
-    parts = object_of({name: text for name in ("roster", "notes", "proof", "plan")}, ["notes", "proof", "plan"])
-    verdict = object_of({name: text for name in ("verdict", "all", "clash", "line")}, ["verdict"])
+    roster = object_of({"roster": text, "currencies": {"type": "object", "additionalProperties": text}})
+    since = {"name": "since", "in": "query", "required": False, "schema": NUMBER, "description": "The position of the trades that are known."}
+    book = object_of({"position": NUMBER, "since": {**NUMBER, "nullable": True}, "lines": {"type": "array", "items": text}})
+    texts = {name: text for name in ("roster", "notes", "proof", "plan")}
+    parts = object_of({**texts, "complete": TYPES[bool]}, ["notes", "proof", "plan"])
+    counts = object_of({name: NUMBER for name in ("pairs", "tolerances", "later", "untold", "trades")})
+    lacks = {"type": "array", "items": {"type": "string", "enum": ["tolerances", "trades"]}}
+    word = {"type": "string", "enum": ["yes", "no", "unsure"]}
+    line = {**text, "nullable": True}
+    verdict = object_of({"verdict": word, "all": text, "clash": text, "line": line, "compared": counts, "lacks": lacks}, ["verdict"])
     fields: dict[str, Any] = {"cycle": NUMBER, "version": NUMBER, "accepted": {"type": "array", "items": NAME}}
     fields["declined"] = {**NAME, "nullable": True}
     fields["left"] = {**NUMBER, "nullable": True}
     votes = object_of(fields)
+    vote = {"type": "string", "enum": ["accepted", "declined"], "nullable": True}
+    mine = object_of({"cycle": NUMBER, "version": NUMBER, "vote": vote})
     played = object_of({"mode": SCHEMAS["mode"], "reply": text, "kind": text, "fields": {"type": "object"}}, ["mode", "reply", "kind"])
     modes = object_of({"modes": {"type": "array", "items": played}})
     rehearsed = {"requestBody": {"required": True, **content(object_of({"cycle": NUMBER}))}}
     body = {"requestBody": {"required": True, **content(parts)}}
     return {
-        "/api/roster": {"get": operation("The roster without keys.", "Its text.", object_of({"roster": text}), {})},
-        "/api/check": {"post": operation("A member's own test of a proposal, by its texts.", "yes, or no with the first clash.", verdict, body)},
+        "/api/roster": {"get": operation("The roster without keys.", "Its text, and currencies by product.", roster, {})},
+        "/api/book": {"get": operation("A member's trades, or those that have changed since a position.", "Lines of its STATEMENT.", book, {"parameters": [since]})},
+        "/api/check": {"post": operation("A member's own test of a proposal, by its texts.", "yes, no, or unsure, with what was compared and what not.", verdict, body)},
         "/api/rehearsal": {"post": operation("What a PROPOSE in each mode would be answered, for the operator.", "The replies.", modes, rehearsed)},
+        "/api/votes/mine": {"get": operation("What the member has voted through this gateway.", "The vote on the last version that had one.", mine, {})},
         "/api/votes": {"get": operation("Who has voted through this gateway, for the operator.", "The votes on a version.", votes, {})},
     }
 

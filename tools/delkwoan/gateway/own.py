@@ -75,7 +75,8 @@ async def sign_out(parts: Parts, request: Request) -> Response:
 
 
 async def cycle(parts: Parts, request: Request) -> Response:
-    """Where the last cycle stands: its number, its phase, and the version that is proposed or the trade that broke it."""
+    """Where the last cycle stands: its number, its phase, and the version that is proposed, the trade that broke it,
+    or how it ended where that came through this gateway."""
     session = session_of(request, parts.sessions)
     reply = await parts.desk.question(session, "PLAN 0")
     refusal = refusal_of(reply.text)
@@ -90,6 +91,8 @@ async def cycle(parts: Parts, request: Request) -> Response:
             fields |= {"phase": "broken", "trade": int(refusal.value)}
         elif refusal.number == WRONG_PHASE:
             fields["phase"] = refusal.value
+            if refusal.value == "none" and (ended := parts.votes.ended(number)) is not None:
+                fields["ended"] = ended
     return answer({"reply": reply.text, "position": reply.position, "kind": "cycle", "fields": fields})
 
 

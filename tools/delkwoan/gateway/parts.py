@@ -1,6 +1,6 @@
 """What the routes of the gateway work with."""
 
-from typing import NamedTuple
+from typing import TYPE_CHECKING, NamedTuple
 
 from .desk import Desk
 from .metrics import Figures
@@ -8,6 +8,9 @@ from .sessions import Sessions, Slowing
 from .stage import Stage
 from .votes import Votes
 from .watch import Watch
+
+if TYPE_CHECKING:
+    from .books import Books
 
 
 class Parts(NamedTuple):
@@ -25,3 +28,7 @@ class Parts(NamedTuple):
     """The roster's text without keys, where there is one."""
     stage: Stage | None
     """Where proposals are rehearsed, where there is a program, a roster and a journal for it."""
+    books: "Books"
+    """The statements that pages were answered last."""
+    currencies: dict[str, str]
+    """The products' currencies, where the roster's side file tells them."""

@@ -8,6 +8,7 @@ from functools import partial
 from typing import Any, AsyncIterator, Awaitable, Callable
 
 from starlette.applications import Starlette
+from starlette.middleware import Middleware
 from starlette.requests import Request
 from starlette.responses import Response
 from starlette.routing import BaseRoute, Route, WebSocketRoute
@@ -15,7 +16,9 @@ from starlette.websockets import WebSocket
 
 from . import document, page, verdict
 from .answers import answer_to, problem_of, told
+from .books import book
 from .calls import CALLS, POSTING, POTENTIAL, ROW, BadWord, Call
+from .compressed import Compressed
 from .connection import BadKey
 from .desk import Asked
 from .fields import kind_of
@@ -27,7 +30,8 @@ from .requests import MOST_DRAFT, given_by, key_of, session_of
 from .watch import follow
 
 MINUTE = 60.0
-VOTES = ("ACCEPT", "DECLINE")
+VOTES = ("ACCEPT", "DECLINE", "PROPOSE", "POST", "CANCEL")
+"""The commands that are votes, or that may end a cycle."""
 
 log = logging.getLogger("delkwoan.gateway")
 
@@ -78,7 +82,7 @@ async def call_of(parts: Parts, call: Call, request: Request) -> Response:
         outcome = await parts.desk.plainly(asked)
     text = getattr(outcome, "text", None)
     if text and call.verb in VOTES:
-        parts.votes.take(session.name, text)
+        parts.votes.take(session.name, asked.line, text)
     parts.figures.replies.labels(kind_of(text) if text else "found").inc()
     return await answer_to(call, outcome)
 
@@ -102,7 +106,9 @@ def routes_of(parts: Parts) -> list[BaseRoute]:
         ("/api/session", "DELETE", "sign-out", partial(sign_out, parts)),
         ("/api/cycle", "GET", "cycle", partial(cycle, parts)),
         ("/api/rehearsal", "POST", "rehearsal", partial(rehearse, parts, asyncio.Lock())),
+        ("/api/book", "GET", "book", partial(book, parts)),
         ("/api/votes", "GET", "votes", partial(verdict.votes, parts)),
+        ("/api/votes/mine", "GET", "votes", partial(verdict.vote, parts)),
         ("/api/roster", "GET", "roster", partial(verdict.roster, parts)),
         ("/api/check", "POST", "check", partial(verdict.check, parts, asyncio.Lock())),
         ("/healthz", "GET", "health", partial(health, parts)),
@@ -147,4 +153,4 @@ def application(parts: Parts) -> Starlette:
         await parts.desk.seats.stop()
         parts.desk.kept.close()
 
-    return Starlette(routes=routes_of(parts), lifespan=lifespan)
+    return Starlette(routes=routes_of(parts), lifespan=lifespan, middleware=[Middleware(Compressed)])

@@ -8,10 +8,12 @@ from typing import Any
 
 import uvicorn
 
+from ..about import about_of
 from ..checker import MOST_BYTES, Fault
 from ..client import found_program
 from ..ending import Stop, read_file
 from ..keys import public_roster
+from .books import Books
 from .desk import Desk
 from .follower import Follower
 from .kept import Faulty, Kept
@@ -57,6 +59,7 @@ def stage_of(given: Namespace) -> Stage | None:
 
 def parts_of(given: Namespace) -> Parts:
     roster = roster_of(given.roster)
+    currencies = {} if given.roster is None else about_of(given.roster, None).currencies
     try:
         kept = Kept(given.calls)
     except Faulty:
@@ -65,7 +68,7 @@ def parts_of(given: Namespace) -> Parts:
     sessions = Sessions(or_else(given.idle, IDLE))
     figures = Figures(seats, sessions, None if given.journal is None else Follower(given.journal))
     desk, watch = Desk(seats, sessions, kept), Watch(seats)
-    return Parts(desk, sessions, Slowing(), figures, or_else(given.patience, PATIENCE), watch, Votes(), roster, stage_of(given))
+    return Parts(desk, sessions, Slowing(), figures, or_else(given.patience, PATIENCE), watch, Votes(), roster, stage_of(given), Books(), currencies)
 
 
 def secured(given: Namespace) -> dict[str, Any]:
