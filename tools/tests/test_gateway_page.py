@@ -1,11 +1,14 @@
 """The gateway's page, in a headless Chromium and with the program that was built."""
 
+import gzip
+import json
 import os
 import re
 from pathlib import Path
+from typing import Any
 
 from browsing import PHONE, InBrowser, Page
-from gateways import InGateway
+from gateways import Caller, InGateway
 from running import PATIENCE
 from serving import ROSTER
 
@@ -26,7 +29,8 @@ class Day(InBrowser):
         page.type("Amount", amount)
         page.type("Day", "2026-03-02")
         page.press("Allege")
-        page.shows(f"is alleged; {other} has to affirm it.")
+        page.shows(f"owes {other} {amount} of P, 2026-03-02. {other} has to affirm it.")
+        page.until(lambda: page.shown("main input", "Amount").get_attribute("value") == "", "empty fields")
 
     def test_from_sign_in_to_execution(self) -> None:
         self.serve()
@@ -57,7 +61,7 @@ class Day(InBrowser):
         self.picture(third, "affirm-phone")
         third.press("Affirm trade 2")
         third.shows("Trade 2 is live.")
-        first.shows("owes 10, is owed 0")
+        first.shows("You owe 10: short")
         self.picture(first, "book")
         self.picture(third, "book-phone")
 
@@ -90,8 +94,14 @@ class Day(InBrowser):
         """The proposal came by itself, and the member's own test takes it."""
         page.go("Proposal")
         page.shows(f"Cycle 1, version {version}, ")
-        page.shows("yes — by check_mine, it is right for all that this browser noted.")
+        page.shows("not sure — nothing speaks against it, but not all could be compared.")
         self.picture(page, name)
+        page.shown("main input", self.vouched(page)).click()
+        page.shows("yes — by check_mine it is right, where these are all the tolerances that you have set.")
+
+    def vouched(self, page: Page) -> str:
+        """The words of the box by which a member says that it has set no more than its browser noted."""
+        return "The 1 tolerance that this browser noted is all that I have set." if page.driver.title.startswith("B ") else "I have set no tolerance."
 
     def declined(self, first: Page, second: Page, third: Page, operator: Page) -> None:
         self.finds(first, 1, "proposal")
@@ -101,11 +111,18 @@ class Day(InBrowser):
         self.picture(second, "sure-dark")
         second.press("Accept", "dialog button")
         second.shows("Version 1 is accepted: 2 more to accept.")
+        second.driver.refresh()
+        second.sign_in("B")
+        second.go("Proposal")
+        second.shows("You have accepted this version.")
+        self.assertFalse(second.shown("button", "Accepted").is_enabled())
+        third.shows("Whether one came by another way is not known here")
         operator.shows("Cycle 1, version 1, through this gateway: accepted by B. By the last reply 2 had not accepted.")
         third.press("Decline")
         third.press("Decline", "dialog button")
         third.shows("Nothing is proposed.")
         first.shows("Cycle 1: trades are frozen.")
+        operator.shows("Version 1 was declined by C.")
         operator.shows("Declined by C.")
 
     def executed(self, first: Page, second: Page, third: Page, operator: Page) -> None:
@@ -118,13 +135,16 @@ class Day(InBrowser):
             page.press("Accept", "dialog button")
             page.shows("carried out" if page is third else "more to accept.")
         for page in (first, operator):
-            page.shows("No cycle is open; the last was 1.")
+            page.shows("No cycle is open. Cycle 1 was carried out.")
         operator.shows("It is carried out.")
         self.picture(operator, "votes")
         first.go("Book")
         first.shows("2 of 2")
-        first.shows("owes 10, is owed 0")
+        first.shows("You owe 10: short")
         self.picture(first, "executed")
+        asked = first.run("return performance.getEntriesByType('resource').map((it) => it.name)")
+        self.assertEqual([it for it in asked if it.endswith(("/api/statement", "/api/book"))][1:], [])
+        self.assertTrue(any("/api/book?since=" in it for it in asked), asked)
 
 
 class Following(InBrowser):
@@ -176,7 +196,7 @@ class Following(InBrowser):
         page.type("Product", "P")
         page.type("Amount", "1")
         page.press("Allege")
-        page.shows("Refused: own-trade")
+        page.shows("Refused. Other party: this is yourself (own-trade).")
 
 
 class Served(InGateway):
@@ -196,12 +216,14 @@ class Served(InGateway):
         for path in ("/page/../command.py", "/page/main.py", "/page/"):
             self.assertEqual(self.caller().ask("GET", path).status, 404, path)
         caller = self.caller("A")
-        told = caller.ask("GET", "/api/roster").content["roster"]
-        self.assertEqual(told, "name,role,key\nA,dealer,-\nB,dealer,-\nC,dealer,-\nOPS,operator,-\nP,product,2031-06-30\n")
+        told = caller.ask("GET", "/api/roster").content
+        self.assertEqual(told["currencies"], {})
+        self.assertEqual(re.sub("[A-Z0-9]{16}", "-", told["roster"]), "name,role,key\nA,dealer,-\nB,dealer,-\nC,dealer,-\nOPS,operator,-\nP,product,2031-06-30\n")
         without = [self.caller().ask(*it) for it in (("GET", "/api/roster"), ("GET", "/api/votes"), ("POST", "/api/check"))]
         self.assertEqual([it.status for it in without], [401, 401, 401])
         self.assertEqual(caller.ask("GET", "/api/votes").error, "wrong-role")
         self.assertEqual(self.caller("OPS").ask("GET", "/api/votes").content["accepted"], [])
+        self.assertEqual(caller.ask("GET", "/api/votes/mine").content, {"cycle": 0, "version": 0, "vote": None})
 
     def test_a_members_own_test(self) -> None:
         """The verdict is that of check_mine: over right notes, and over those with a tolerance more."""
@@ -214,12 +236,71 @@ class Served(InGateway):
         for line in ("FREEZE 2026-03-31", "PROPOSE 1 conservative"):
             self.assertEqual(operator.say(line).status, 200)
         texts = {"notes": notes, "proof": first.say("PROOF 1").text + "\n", "plan": first.say("PLAN 1").text + "\n"}
-        self.assertEqual(first.ask("POST", "/api/check", texts).content["verdict"], "yes")
-        more = first.ask("POST", "/api/check", {**texts, "notes": f"1 TOL B P out 9 -\n{notes}"}).content
-        self.assertEqual((more["verdict"], more["clash"]), ("no", "lower below your own"))
+        compared = {"pairs": 2, "tolerances": 0, "later": 0, "untold": 0, "trades": 2}
+        cases: list[tuple[dict[str, Any], dict[str, int], Any]] = [
+            ({}, {}, ("unsure", None, ["tolerances"])),
+            ({"complete": True}, {}, ("yes", None, [])),
+            ({"notes": f"1 TOL B P out 9 -\n{notes}"}, {"tolerances": 1}, ("unsure", "lower below your own", ["tolerances"])),
+            ({"notes": f"1 TOL B P out 9 -\n{notes}", "complete": True}, {"tolerances": 1}, ("unsure", "lower below your own", [])),
+            ({"notes": f"99 TOL B P out 9 -\n{notes}"}, {"later": 1}, ("unsure", None, ["tolerances"])),
+            ({"notes": f"1 TOL C P out 9 -\n{notes}"}, {"untold": 1}, ("unsure", None, ["tolerances"])),
+            ({"notes": "", "complete": True}, {"trades": 0}, ("unsure", "strange", ["trades"])),
+        ]
+        for more, changed, wanted in cases:
+            with self.subTest(more=more):
+                told = first.ask("POST", "/api/check", {**texts, **more}).content
+                self.assertEqual((told["verdict"], told.get("clash"), told["lacks"]), wanted)
+                self.assertEqual(told["compared"], {**compared, **changed})
+        for old, new, clash in (("pot P B 0", "pot P B 1", "slack"), ("pot P", "pot Z", "strange")):
+            with self.subTest(new=new):
+                told = first.ask("POST", "/api/check", {**texts, "proof": texts["proof"].replace(old, new, 1)}).content
+                self.assertEqual((told["verdict"], told["clash"]), ("no", clash))
+        self.assertEqual(first.ask("POST", "/api/check", {**texts, "complete": 1}).content["field"], "complete")
         bad = first.ask("POST", "/api/check", {**texts, "proof": "no\n"})
         self.assertEqual((bad.status, bad.content["told"]), (422, "proof row 1: bad-line"))
         self.assertEqual(first.ask("POST", "/api/check", {**texts, "more": ""}).error, "bad-field")
         self.assertEqual(operator.ask("POST", "/api/check", texts).error, "not-in-roster")
         self.assertEqual(first.ask("POST", "/api/check", {**texts, "roster": "name"}).error, "fault")
 
+
+    def test_what_has_changed(self) -> None:
+        """A page is sent the lines that it lacks, and the whole where the gateway has not kept what it knows."""
+        self.start("--seats", "5")
+        self.open("--roster", ROSTER)
+        first, second, third = (self.caller(name) for name in ("A", "B", "C"))
+
+        def asked(caller: Caller, since: int | None = None) -> tuple[int | None, list[str]]:
+            told = caller.ask("GET", "/api/book" if since is None else f"/api/book?since={since}").content
+            return told["since"], told["lines"]
+
+        self.assertEqual(first.say("TRADE A B P 10 2026-03-02").status, 200)
+        self.assertEqual(asked(second), (None, ["trade 1 A B P 10 2026-03-02 alleged -"]))
+        self.assertEqual(asked(second, 1), (1, []))
+        self.assertEqual(third.say("TRADE C A P 3 2026-03-02").status, 200)
+        self.assertEqual(asked(second, 1), (1, []))
+        self.assertEqual(second.say("AFFIRM 1").status, 200)
+        self.assertEqual(second.say("TRADE B C P 7 2026-03-02").status, 200)
+        lines = ["trade 1 A B P 10 2026-03-02 live -", "trade 3 B C P 7 2026-03-02 alleged -"]
+        self.assertEqual(asked(second, 2), (2, lines))
+        self.assertEqual(asked(second, 0), (None, lines))
+        self.assertEqual(asked(second, 99), (None, lines))
+        for since in ("-1", "x", "", "9" * 20):
+            self.assertEqual(second.ask("GET", f"/api/book?since={since}").content["field"], "since", since)
+        self.assertEqual(self.caller("OPS").ask("GET", "/api/book").error, "refused")
+
+    def test_answers_are_compressed(self) -> None:
+        self.start("--seats", "5")
+        self.open("--roster", ROSTER)
+        caller = self.caller("A")
+        for amount in range(40):
+            self.assertEqual(caller.say(f"TRADE A B P {amount + 1} 2026-03-02").status, 200)
+        for path, coding in (("/api/book", "gzip"), ("/page/main.js", "gzip"), ("/api/session", None)):
+            caller.http.request("GET", path, headers={"Accept-Encoding": "gzip", "Authorization": f"Bearer {caller.token}"})
+            response = caller.http.getresponse()
+            content = response.read()
+            self.assertEqual(response.headers["Content-Encoding"], coding, path)
+            if path == "/api/book":
+                self.assertEqual(len(json.loads(gzip.decompress(content))["lines"]), 40)
+        lengths = {len(caller.ask("GET", "/api/cycle").headers["X-Padding"]) for _ in range(20)}
+        self.assertGreater(len(lengths), 1)
+        self.assertIsNone(caller.ask("GET", "/api/cycle").headers["Content-Encoding"])

@@ -1,7 +1,8 @@
 // A member's trades.
 
-import { button, field, form, isSure, make, tell, warn } from "/page/elements.js";
+import { amountField, button, field, form, isSure, make, tell, warn } from "/page/elements.js";
 import { call } from "/page/calls.js";
+import { blame } from "/page/faults.js";
 import { settle } from "/page/looking.js";
 import { grouped, read } from "/page/replies.js";
 import { Table } from "/page/table.js";
@@ -11,17 +12,23 @@ const COLUMNS = [
   ["amount", "Amount", true], ["day", "Day"], ["state", "State"], ["held", "Held"],
 ];
 const NOT_PARTY = 7;
+const TERMS = ["seller", "buyer", "product", "amount", "day"];
+
+/** A trade in words. */
+const told = ({ seller, buyer, product, amount, day }) => `${seller} owes ${buyer} ${grouped(amount)} of ${product}, ${day}.`;
 
 export class Book {
-  constructor({ name, notes, act }) {
-    Object.assign(this, { name, notes, act });
+  constructor({ name, notes, roster, act }) {
+    Object.assign(this, { name, notes, roster, act });
+    this.rows = [];
     const common = { key: "trade", columns: COLUMNS, actions: (row) => this.actions(row) };
     const terms = COLUMNS.slice(0, 6);
-    this.alleged = new Table({ ...common, columns: terms, label: "Trades to affirm", empty: "No trade waits for your word.", filters: false });
+    this.alleged = new Table({ ...common, columns: terms, label: "Trades to affirm", empty: "No trade waits for your word." });
+    this.whose = make("p", { class: "soft" });
     this.trades = new Table({ ...common, label: "My trades", empty: "No trades yet.", choice: ["state", "State", ["live", "alleged", "ended"]] });
     this.nets = make("dl", { class: "cards" });
     this.none = make("p", { class: "soft" }, "No positions yet.");
-    this.element = make("div", {}, make("h2", {}, "To affirm"), this.alleged.element, make("h2", {}, "A new trade"), this.entry(),
+    this.element = make("div", {}, make("h2", {}, "To affirm"), this.whose, this.alleged.element, make("h2", {}, "A new trade"), this.entry(),
       make("h2", {}, "My positions"), this.none, this.nets, make("h2", {}, "My trades"), this.trades.element);
   }
 
@@ -29,24 +36,35 @@ export class Book {
     const side = field("I am the", {}, [["seller", "seller, who owes"], ["buyer", "buyer"]]);
     const other = field("Other party", { list: "members", required: true });
     const product = field("Product", { list: "products", required: true });
-    const amount = field("Amount", { inputmode: "numeric", pattern: "[0-9]+", required: true });
+    const amount = amountField("Amount", { required: true });
     const day = field("Day", { type: "date", required: true });
-    day.input.value = new Date().toISOString().slice(0, 10);
-    return form("A new trade", [side, other, product, amount, day], "Allege", () => this.allege({
-      seller: side.input.value === "seller" ? this.name : other.input.value,
-      buyer: side.input.value === "seller" ? other.input.value : this.name,
-      product: product.input.value,
-      amount: amount.input.value,
-      day: day.input.value,
-    }));
+    day.input.defaultValue = new Date().toISOString().slice(0, 10);
+    return form("A new trade", [side, other, product, amount, day], "Allege", () => {
+      const isSeller = side.value() === "seller";
+      const [seller, buyer] = isSeller ? [this.name, other.value()] : [other.value(), this.name];
+      const terms = { seller, buyer, product: product.value(), amount: amount.value(), day: day.value() };
+      return this.allege(terms, { other, [isSeller ? "buyer" : "seller"]: other, product, amount, day });
+    });
   }
 
-  allege(terms) {
+  /** Whether a trade is to be alleged though one with the same terms is there. */
+  isWanted(terms) {
+    const twin = this.rows.find((row) => row.state !== "ended" && TERMS.every((it) => row[it] === terms[it]));
+    return !twin || isSure("The same trade once more?", `Trade ${twin.trade} has the same terms, and is ${twin.state}: ${told(twin)}`, "Allege another");
+  }
+
+  /** Alleges a trade, and gives true where it is done. */
+  allege(terms, fields) {
     return this.act(async () => {
-      const told = await call("POST", "/api/trades", terms);
-      const trade = String(told.fields.trade);
-      this.notes.addOwn(trade);
-      tell(`Trade ${trade} is alleged; ${terms.seller === this.name ? terms.buyer : terms.seller} has to affirm it.`);
+      if (!(await this.isWanted(terms))) return false;
+      try {
+        const { fields: { trade } } = await call("POST", "/api/trades", terms);
+        this.notes.addOwn(String(trade));
+        tell(`Trade ${trade} is alleged: ${told(terms)} ${terms.seller === this.name ? terms.buyer : terms.seller} has to affirm it.`);
+        return true;
+      } catch (problem) {
+        return blame(problem, fields, ["TRADE", ...TERMS.map((it) => terms[it])], ["", ...TERMS]);
+      }
     });
   }
 
@@ -63,12 +81,11 @@ export class Book {
 
   does(verb, row) {
     return this.act(async () => {
-      const terms = `${row.seller} owes ${row.buyer} ${grouped(row.amount)} of ${row.product}.`;
-      if (verb === "end" && !(await isSure(`End trade ${row.trade}?`, terms, "End it"))) return;
+      if (verb === "end" && !(await isSure(`End trade ${row.trade}?`, told(row), "End it"))) return;
       try {
-        const told = await call("POST", `/api/trades/${row.trade}/${verb}`, {});
-        const [trade] = read(told.reply).words;
-        tell(told.kind === "ending" ? `Trade ${trade} ends once the other party asks for it, too.` : `Trade ${trade} is ${told.kind}.`);
+        const { reply, kind } = await call("POST", `/api/trades/${row.trade}/${verb}`, {});
+        const [trade] = read(reply).words;
+        tell(kind === "ending" ? `Trade ${trade} ends once the other party asks for it, too.` : `Trade ${trade} is ${kind}.`);
       } catch (problem) {
         if (verb !== "affirm" || problem.content?.number !== NOT_PARTY) throw problem;
         this.notes.addOwn(row.trade);
@@ -80,6 +97,7 @@ export class Book {
   /** Shows the trades; while somebody looks at a row of them, none moves. */
   update(trades) {
     const alleged = trades.filter((row) => row.state === "alleged" && !this.isOwn(row));
+    this.rows = trades;
     settle("book", () => this.draw(trades, alleged), () => {
       this.trades.mark(trades);
       this.alleged.mark(alleged);
@@ -89,6 +107,18 @@ export class Book {
   draw(trades, alleged) {
     this.trades.update(trades);
     this.alleged.update(alleged);
+    this.whose.textContent = this.whoseText(trades.filter((row) => row.state === "alleged").length - alleged.length, alleged.length);
+    this.positions(trades);
+  }
+
+  /** Of which alleged trades it is known who has to affirm them. */
+  whoseText(own, others) {
+    const waits = own ? `${own === 1 ? "1 trade" : `${own} trades`} alleged in this browser ${own === 1 ? "waits" : "wait"} for the other party, under My trades.` : "";
+    if (!others) return waits;
+    return `${waits} Of those below this page does not know who alleged them: the other party, or you, by another program or browser. To affirm one's own is refused, and does no harm.`;
+  }
+
+  positions(trades) {
     const nets = new Map();
     for (const { product, seller, amount, state } of trades) {
       const [out, into] = nets.get(product) || [0n, 0n];
@@ -96,7 +126,14 @@ export class Book {
       nets.set(product, seller === this.name ? [out + value, into] : [out, into + value]);
     }
     this.none.hidden = nets.size > 0;
-    this.nets.replaceChildren(...[...nets].sort().map(([product, [out, into]]) => make("div", { class: "card" }, make("dt", {}, product),
-      make("dd", {}, make("b", {}, grouped(out - into)), `owes ${grouped(out)}, is owed ${grouped(into)}`))));
+    this.nets.replaceChildren(...[...nets].sort().map(([product, sums]) => this.card(product, ...sums)));
+  }
+
+  /** A position, in words: who sold more than it bought owes, and is short. */
+  card(product, out, into) {
+    const currency = this.roster.currencies[product] ? ` ${this.roster.currencies[product]}` : "";
+    const net = out - into;
+    const text = net === 0n ? "Flat: you owe nothing, and are owed nothing" : net > 0n ? `You owe ${grouped(net)}${currency}: short` : `You are owed ${grouped(-net)}${currency}: long`;
+    return make("div", { class: "card" }, make("dt", {}, product), make("dd", {}, make("b", {}, text), `as the seller you owe ${grouped(out)}, as the buyer you are owed ${grouped(into)}`));
   }
 }

@@ -18,7 +18,7 @@ export class Refused extends Error {
 function words(status, content) {
   switch (content.error) {
     case "refused": return `Refused: ${content.name} ${content.value}`.trim();
-    case "bad-field": return `This field can't be: ${content.field}.`;
+    case "bad-field": return `This can't be: ${content.field}.`;
     case "unknown": {
       const why = content.number ? "The service's disk may have failed: look whether this was done, after a new start." : "The reply was lost: look whether it was done.";
       return `${why} To send it again ${content.again}.`;

@@ -1,5 +1,8 @@
 // Elements of the page. Texts go in as texts, never as markup.
 
+import { amountOf } from "/page/amounts.js";
+import { grouped } from "/page/replies.js";
+
 const PICTURE = "http://www.w3.org/2000/svg";
 
 function filled(element, attributes, children) {
@@ -24,24 +27,73 @@ export function show(id, isShown) {
 
 let count = 0;
 
-/** A labelled field: an input, or a choice where there are options. */
+/** A labelled field: an input, or a choice where there are options. What is wrong with it stands below it. */
 export function field(label, attributes = {}, options = null) {
   const id = `field-${++count}`;
+  const told = { id, "aria-describedby": `${id}-fault` };
   const input = options === null
-    ? make("input", { id, spellcheck: "false", autocomplete: "off", ...attributes })
-    : make("select", { id, ...attributes }, options.map(([value, text]) => make("option", { value }, text)));
-  return { input, element: make("p", {}, make("label", { for: id }, label), input) };
+    ? make("input", { ...told, spellcheck: "false", autocomplete: "off", ...attributes })
+    : make("select", { ...told, ...attributes }, options.map(([value, text]) => make("option", { value }, text)));
+  const name = make("label", { for: id }, label);
+  const wrong = make("span", { id: `${id}-fault`, class: "fault" });
+  const fault = (text) => {
+    wrong.textContent = text;
+    input.setAttribute("aria-invalid", String(text !== ""));
+  };
+  input.addEventListener("input", () => fault(""));
+  return { input, label: name, fault, value: () => input.value.trim(), element: make("p", {}, name, input, wrong) };
+}
+
+/** A field for an amount, which shows in full what it is read as. */
+export function amountField(label, attributes = {}) {
+  const it = field(label, { inputmode: "text", ...attributes });
+  const full = make("output", { for: it.input.id, class: "soft" });
+  const read = () => amountOf(it.input.value);
+  const show = () => {
+    const isPlain = /^\d{0,3}$/.test(it.input.value.trim());
+    full.textContent = isPlain || read() === null ? "" : `= ${grouped(read())}`;
+  };
+  it.input.addEventListener("input", show);
+  it.element.append(full);
+  const check = () => (it.input.value.trim() && read() === null ? "This is no whole number, as 25000000, 25,000,000 or 25m." : "");
+  return { ...it, value: () => read() || "", check, clear: show };
 }
 
 export const button = (text, click, attributes = {}) => make("button", { type: "button", click, ...attributes }, text);
 
-/** A form whose fields stand side by side; `send` is called in place of the browser's own sending. */
+/** Whether the fields of a form can be sent. Those that can't say why, and the first of them is gone to. */
+function areFilled(fields) {
+  const wrong = fields.filter((it) => {
+    const isMissing = it.input.required && !it.input.value.trim();
+    const text = isMissing ? "This is missing." : it.check ? it.check() : "";
+    it.fault(text);
+    return text !== "";
+  });
+  if (wrong.length) {
+    warn(wrong.map((it) => `${it.label.textContent}: ${it.input.nextSibling.textContent}`).join(" "));
+    wrong[0].input.focus();
+  }
+  return wrong.length === 0;
+}
+
+/** A form whose fields stand side by side; `send` is called in place of the browser's own sending, one at a time, and where it gives true,
+  * the fields are emptied. */
 export function form(label, fields, text, send) {
-  const sent = (event) => {
+  let isBusy = false;
+  const sent = async (event) => {
     event.preventDefault();
-    send();
+    if (isBusy || !areFilled(fields)) return;
+    isBusy = true;
+    try {
+      if ((await send()) !== true) return;
+      element.reset();
+      for (const it of fields) if (it.clear) it.clear();
+    } finally {
+      isBusy = false;
+    }
   };
-  return make("form", { method: "post", class: "line", "aria-label": label, submit: sent }, fields.map((it) => it.element), make("p", {}, make("button", {}, text)));
+  const element = make("form", { method: "post", class: "line", novalidate: true, "aria-label": label, submit: sent }, fields.map((it) => it.element), make("p", {}, make("button", {}, text)));
+  return element;
 }
 
 /** What was done, or what was wrong, in words for everybody. */

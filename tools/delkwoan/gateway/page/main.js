@@ -10,7 +10,7 @@ import { Notes } from "/page/notes.js";
 import { Proposal } from "/page/proposal.js";
 import { Roster } from "/page/roster.js";
 import { Tolerances } from "/page/tolerances.js";
-import { read, tradesOf } from "/page/replies.js";
+import { Trades } from "/page/trades.js";
 
 const OPEN = ["frozen", "solving", "proposed"];
 const LOOK = 5000;
@@ -19,27 +19,31 @@ const PHASES = {
   proposed: "a proposal waits for votes", broken: "broken by the end of a frozen trade: it is to be cancelled",
 };
 
+const ENDED = { executed: "was carried out", cancelled: "was cancelled", nothing: "touched nobody, and ended so" };
+
 let desk = null;
 
-/** Does what was asked for; what goes wrong is told. Then the page is brought up to date. */
+/** Does what was asked for, and gives what came of it; what goes wrong is told. Then the page is brought up to date. */
 async function act(does) {
+  let done;
   try {
-    await does();
+    done = await does();
   } catch (problem) {
     warn(problem.message);
   }
   await refresh();
+  return done;
 }
 
 function memberParts(common) {
   const [book, tolerances, proposal] = [new Book(common), new Tolerances(common), new Proposal(common)];
+  const trades = new Trades();
   const empty = make("p", {}, "Nothing is proposed. A proposal comes here by itself.");
   const update = async (stands) => {
-    const { reply } = await call("GET", "/api/statement");
-    const { lines } = read(reply);
-    if (OPEN.includes(stands.phase)) common.notes.freeze(stands.cycle, lines);
+    await trades.ask();
+    if (OPEN.includes(stands.phase)) common.notes.freeze(stands.cycle, trades.lines());
     common.notes.read();
-    book.update(tradesOf(reply));
+    book.update(trades.rows());
     tolerances.update();
     const isProposed = stands.phase === "proposed";
     empty.hidden = isProposed;
@@ -61,9 +65,9 @@ function operatorParts(common) {
 /** Where the last cycle stands, with its numbers as texts. */
 async function stand() {
   const { fields } = await call("GET", "/api/cycle");
-  const { cycle, phase, version, trade } = fields;
+  const { cycle, phase, version, trade, ended } = fields;
   const more = `${version === undefined ? "" : `, version ${version}`}${trade === undefined ? "" : `, trade ${trade}`}`;
-  const last = cycle ? `No cycle is open; the last was ${cycle}.` : "No cycle is open.";
+  const last = cycle ? `No cycle is open. ${ENDED[ended] ? `Cycle ${cycle} ${ENDED[ended]}.` : `The last was ${cycle}; how it ended did not come through this gateway.`}` : "No cycle is open.";
   by("stands").textContent = phase === "none" ? last : `Cycle ${cycle}: ${PHASES[phase] || phase}${more}.`;
   return { cycle: String(cycle), phase, version: version === undefined ? "" : String(version) };
 }

@@ -125,7 +125,20 @@ export class Operation {
       this.plan.update(rows.map(stepOf));
       this.version = wanted;
     }
-    this.votes.textContent = votesText(await call("GET", "/api/votes"));
+    const votes = await call("GET", "/api/votes");
+    this.votes.textContent = votesText(votes);
+    this.fallen({ cycle, phase }, votes);
+    this.before = { cycle, phase, version };
+  }
+
+  /** Tells of a proposal that was declined since the last look: by whom, where that came through this gateway. */
+  fallen({ cycle, phase }, votes) {
+    const { cycle: cycleBefore, phase: phaseBefore, version } = this.before || {};
+    if (phaseBefore !== "proposed" || phase !== "frozen" || cycle !== cycleBefore) return;
+    const isKnown = votes.declined && `${votes.cycle} ${votes.version}` === `${cycle} ${version}`;
+    const text = `Version ${version} was declined${isKnown ? ` by ${votes.declined}` : "; by whom did not come through this gateway"}.`;
+    this.told.prepend(make("li", {}, text));
+    warn(text);
   }
 }
 

@@ -13,7 +13,8 @@ function named(names, words) {
   return Object.fromEntries(names.map((name, at) => [name, words[at]]));
 }
 
-export const tradesOf = (text) => read(text).rows.map((words) => named(TRADE, words.slice(1)));
+/** A trade's line of a STATEMENT. */
+export const tradeOf = (line) => named(TRADE, line.split(" ").slice(1));
 
 export const pairsOf = (text) => read(text).rows.filter((words) => words[0] === "pair").map((words) => named(PAIR, words.slice(1)));
 

@@ -9,13 +9,16 @@ export class Roster {
     this.isOwn = false;
     this.members = [];
     this.products = [];
+    this.currencies = {};
     this.lists = [make("datalist", { id: "members" }), make("datalist", { id: "products" })];
     document.body.append(...this.lists);
   }
 
   async ask() {
     try {
-      this.take((await call("GET", "/api/roster")).roster);
+      const { roster, currencies } = await call("GET", "/api/roster");
+      this.take(roster);
+      this.currencies = currencies;
     } catch (problem) {
       if (problem.status !== 404) throw problem;
     }

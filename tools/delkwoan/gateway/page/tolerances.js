@@ -1,7 +1,9 @@
 // A member's tolerances, as this browser noted them.
 
-import { button, field, form, make, tell } from "/page/elements.js";
+import { amountField, button, field, form, make, tell } from "/page/elements.js";
 import { call } from "/page/calls.js";
+import { blame } from "/page/faults.js";
+import { grouped } from "/page/replies.js";
 import { save } from "/page/notes.js";
 import { Table } from "/page/table.js";
 
@@ -25,17 +27,25 @@ export class Tolerances {
     const other = field("Other member", { list: "members", required: true });
     const product = field("Product", { list: "products", required: true });
     const side = field("Side", {}, [["out", "out: I am the seller"], ["in", "in: I am the buyer"]]);
-    const floor = field("Floor", { inputmode: "numeric", pattern: "[0-9]+", value: "0", required: true });
-    const ceiling = field("Ceiling, or none", { inputmode: "numeric", pattern: "[0-9]*" });
-    return form("A tolerance", [other, product, side, floor, ceiling], "Set", () => this.set([other, product, side, floor, ceiling].map((it) => it.input.value)));
+    const floor = amountField("Floor", { value: "0", required: true });
+    const ceiling = amountField("Ceiling, or none");
+    const fields = { other, product, side, floor, ceiling };
+    return form("A tolerance", Object.values(fields), "Set", () => this.set(Object.values(fields).map((it) => it.value()), fields));
   }
 
-  set([other, product, side, floor, ceiling]) {
+  /** Sets a tolerance, and gives true where it is done. */
+  set(words, fields) {
+    const [other, product, side, floor, ceiling] = words;
     return this.act(async () => {
-      const path = [other, product, side].map(encodeURIComponent).join("/");
-      const told = await call("PUT", `/api/tolerances/${path}`, { floor, ceiling: ceiling || null });
-      this.notes.addTolerance(told.reply.split(" ")[1], [other, product, side, floor, ceiling || "-"]);
-      tell("It is set. It counts from the next version of a proposal on.");
+      try {
+        const path = [other, product, side].map(encodeURIComponent).join("/");
+        const { reply } = await call("PUT", `/api/tolerances/${path}`, { floor, ceiling: ceiling || null });
+        this.notes.addTolerance(reply.split(" ")[1], [other, product, side, floor, ceiling || "-"]);
+        tell(`It is set. ${side === "out" ? "Your amount owed to" : "What you are owed by"} ${other} in ${product} falls to ${grouped(floor)} at least, and grows to ${ceiling ? grouped(ceiling) : "any amount"}. It counts from the next version of a proposal on.`);
+        return true;
+      } catch (problem) {
+        return blame(problem, fields, ["TOL", ...words], ["", "other", "product", "side", "floor", "ceiling"]);
+      }
     });
   }
 
