@@ -1,9 +1,10 @@
 """What has changed of a member's trades since its page asked last, so that a page is not sent the whole STATEMENT each time.
 
-The service is asked for the whole still, but where nothing has changed since it was. What was answered is kept in memory, of each member
-the last few, and of all no more than a bound: who asks for more than is kept is answered the whole.
+The service is asked for the whole still, each time. What was answered is kept in memory, of each member the last few, and of all no more
+than a bound: a page whose statement is kept no more is answered the whole.
 """
 
+import asyncio
 from collections import OrderedDict
 from typing import NamedTuple
 
@@ -59,9 +60,15 @@ class Books:
         return self.kept.get((name, position))
 
 
+def numbers_of(book: Book) -> set[str]:
+    """The numbers of a statement's trades."""
+    return {line.split(" ", 2)[1] for line in book.lines}
+
+
 def changed(old: Book | None, new: Book) -> tuple[str, ...] | None:
-    """The lines that a page lacks which has the old statement; none where it has to have the whole. No trade ever leaves a statement."""
-    if old is None or len(new.lines) < len(old.lines):
+    """The lines that a page lacks which has the old statement. A page takes each in the place of the one with its number, so it has to have
+    the whole, and there are none, where a trade of the old is none any more: over another journal."""
+    if old is None or not numbers_of(old) <= numbers_of(new):
         return None
     has = set(old.lines)
     return tuple(line for line in new.lines if line not in has)
@@ -79,15 +86,12 @@ async def book(parts: Parts, request: Request) -> Response:
     """The lines of a member's STATEMENT, or those that have changed since a position."""
     session = session_of(request, parts.sessions)
     since = since_of(request)
-    last = max(parts.desk.seats.position, parts.watch.position or 0)
-    new = parts.books.find(session.name, last)
-    if new is None:
-        reply = await parts.desk.question(session, "STATEMENT")
-        if refusal_of(reply.text) is not None:
-            return refused(reply, {})
-        new = Book(reply.position, tuple(reply.text.split("\n")[1:]), len(reply.text))
+    reply = await parts.desk.question(session, "STATEMENT")
+    if refusal_of(reply.text) is not None:
+        return refused(reply, {})
+    new = Book(reply.position, tuple(reply.text.split("\n")[1:]), len(reply.text))
     old = None if since is None else parts.books.find(session.name, since)
     parts.books.keep(session.name, new)
-    lines = changed(old, new)
+    lines = await asyncio.to_thread(changed, old, new)
     is_whole = lines is None
     return answer({"position": new.position, "since": None if is_whole else since, "lines": new.lines if is_whole else lines})

@@ -39,11 +39,11 @@ export class Book {
     const amount = amountField("Amount", { required: true });
     const day = field("Day", { type: "date", required: true });
     day.input.defaultValue = new Date().toISOString().slice(0, 10);
-    return form("A new trade", [side, other, product, amount, day], "Allege", () => {
+    return form("A new trade", [side, other, product, amount, day], "Allege", (empty) => {
       const isSeller = side.value() === "seller";
       const [seller, buyer] = isSeller ? [this.name, other.value()] : [other.value(), this.name];
       const terms = { seller, buyer, product: product.value(), amount: amount.value(), day: day.value() };
-      return this.allege(terms, { other, [isSeller ? "buyer" : "seller"]: other, product, amount, day });
+      return this.allege(terms, { other, [isSeller ? "buyer" : "seller"]: other, product, amount, day }, empty);
     });
   }
 
@@ -53,17 +53,17 @@ export class Book {
     return !twin || isSure("The same trade once more?", `Trade ${twin.trade} has the same terms, and is ${twin.state}: ${told(twin)}`, "Allege another");
   }
 
-  /** Alleges a trade, and gives true where it is done. */
-  allege(terms, fields) {
+  /** Alleges a trade, after which the fields are emptied. */
+  allege(terms, fields, empty) {
     return this.act(async () => {
-      if (!(await this.isWanted(terms))) return false;
+      if (!(await this.isWanted(terms))) return;
       try {
         const { fields: { trade } } = await call("POST", "/api/trades", terms);
         this.notes.addOwn(String(trade));
         tell(`Trade ${trade} is alleged: ${told(terms)} ${terms.seller === this.name ? terms.buyer : terms.seller} has to affirm it.`);
-        return true;
+        empty();
       } catch (problem) {
-        return blame(problem, fields, ["TRADE", ...TERMS.map((it) => terms[it])], ["", ...TERMS]);
+        blame(problem, fields, ["TRADE", ...TERMS.map((it) => terms[it])], ["", ...TERMS]);
       }
     });
   }
@@ -133,7 +133,7 @@ export class Book {
   card(product, out, into) {
     const currency = this.roster.currencies[product] ? ` ${this.roster.currencies[product]}` : "";
     const net = out - into;
-    const text = net === 0n ? "Flat: you owe nothing, and are owed nothing" : net > 0n ? `You owe ${grouped(net)}${currency}: short` : `You are owed ${grouped(-net)}${currency}: long`;
+    const text = net === 0n ? "Nothing either way: flat" : net > 0n ? `You owe ${grouped(net)}${currency}: short` : `You are owed ${grouped(-net)}${currency}: long`;
     return make("div", { class: "card" }, make("dt", {}, product), make("dd", {}, make("b", {}, text), `as the seller you owe ${grouped(out)}, as the buyer you are owed ${grouped(into)}`));
   }
 }

@@ -76,18 +76,19 @@ function areFilled(fields) {
   return wrong.length === 0;
 }
 
-/** A form whose fields stand side by side; `send` is called in place of the browser's own sending, one at a time, and where it gives true,
-  * the fields are emptied. */
+/** A form whose fields stand side by side. `send` is called in place of the browser's own sending, one at a time, with what empties them. */
 export function form(label, fields, text, send) {
   let isBusy = false;
+  const empty = () => {
+    element.reset();
+    for (const it of fields) if (it.clear) it.clear();
+  };
   const sent = async (event) => {
     event.preventDefault();
     if (isBusy || !areFilled(fields)) return;
     isBusy = true;
     try {
-      if ((await send()) !== true) return;
-      element.reset();
-      for (const it of fields) if (it.clear) it.clear();
+      await send(empty);
     } finally {
       isBusy = false;
     }

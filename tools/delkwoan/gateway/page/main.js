@@ -23,16 +23,14 @@ const ENDED = { executed: "was carried out", cancelled: "was cancelled", nothing
 
 let desk = null;
 
-/** Does what was asked for, and gives what came of it; what goes wrong is told. Then the page is brought up to date. */
+/** Does what was asked for; what goes wrong is told. Then the page is brought up to date. */
 async function act(does) {
-  let done;
   try {
-    done = await does();
+    await does();
   } catch (problem) {
     warn(problem.message);
   }
   await refresh();
-  return done;
 }
 
 function memberParts(common) {

@@ -42,10 +42,11 @@ export class Table {
     this.only = this.choice && field(this.choice[1], { change: anew }, [["", "all"], ...this.choice[2].map((it) => [it, it])]);
     const line = make("div", { class: "line", role: "search", "aria-label": `Filter of ${this.label}` }, this.text.element, this.only && this.only.element);
     this.line = filters ? line : null;
-    const turn = (by) => () => {
+    const turn = (by) => (event) => {
       this.page += by;
       this.fill();
-      (this.turns.find((it) => !it.disabled) || this.wide).focus();
+      const [other] = this.turns.filter((it) => it !== event.currentTarget);
+      if (event.currentTarget.disabled) other.focus();
     };
     this.turns = [button("Previous", turn(-1), { "aria-label": `Previous page of ${this.label}` }), button("Next", turn(1), { "aria-label": `Next page of ${this.label}` })];
     this.pages = make("p", { class: "buttons" }, this.turns);

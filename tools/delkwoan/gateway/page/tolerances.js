@@ -30,11 +30,11 @@ export class Tolerances {
     const floor = amountField("Floor", { value: "0", required: true });
     const ceiling = amountField("Ceiling, or none");
     const fields = { other, product, side, floor, ceiling };
-    return form("A tolerance", Object.values(fields), "Set", () => this.set(Object.values(fields).map((it) => it.value()), fields));
+    return form("A tolerance", Object.values(fields), "Set", (empty) => this.set(Object.values(fields).map((it) => it.value()), fields, empty));
   }
 
-  /** Sets a tolerance, and gives true where it is done. */
-  set(words, fields) {
+  /** Sets a tolerance, after which the fields are emptied. */
+  set(words, fields, empty) {
     const [other, product, side, floor, ceiling] = words;
     return this.act(async () => {
       try {
@@ -42,9 +42,9 @@ export class Tolerances {
         const { reply } = await call("PUT", `/api/tolerances/${path}`, { floor, ceiling: ceiling || null });
         this.notes.addTolerance(reply.split(" ")[1], [other, product, side, floor, ceiling || "-"]);
         tell(`It is set. ${side === "out" ? "Your amount owed to" : "What you are owed by"} ${other} in ${product} falls to ${grouped(floor)} at least, and grows to ${ceiling ? grouped(ceiling) : "any amount"}. It counts from the next version of a proposal on.`);
-        return true;
+        empty();
       } catch (problem) {
-        return blame(problem, fields, ["TOL", ...words], ["", "other", "product", "side", "floor", "ceiling"]);
+        blame(problem, fields, ["TOL", ...words], ["", "other", "product", "side", "floor", "ceiling"]);
       }
     });
   }
