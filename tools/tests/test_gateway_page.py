@@ -97,7 +97,7 @@ class Day(InBrowser):
         page.shows("not sure — nothing speaks against it, but not all could be compared.")
         self.picture(page, name)
         page.shown("main input", self.vouched(page)).click()
-        page.shows("yes — by check_mine it is right, where these are all the tolerances that you have set.")
+        page.shows("yes — by check_mine it is right, if these are all the tolerances that you have set.")
 
     def vouched(self, page: Page) -> str:
         """The words of the box by which a member says that it has set no more than its browser noted."""
@@ -264,7 +264,7 @@ class Served(InGateway):
 
 
     def test_what_has_changed(self) -> None:
-        """A page is sent the lines that it lacks, and the whole where the gateway has not kept what it knows."""
+        """A page is sent the lines that it lacks, and the whole if the gateway has not kept what it knows."""
         self.start("--seats", "5")
         self.open("--roster", ROSTER)
         first, second, third = (self.caller(name) for name in ("A", "B", "C"))

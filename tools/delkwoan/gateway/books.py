@@ -46,7 +46,7 @@ class Books:
         self.size -= self.kept.pop(key).size
 
     def keep(self, name: str, book: Book) -> None:
-        """Keeps a statement; the oldest go, of this member's and of all, where there are too many."""
+        """Keeps a statement; the oldest go, of this member's and of all, if there are too many."""
         if (name, book.position) in self.kept:
             self.drop((name, book.position))
         self.kept[name, book.position] = book
@@ -66,8 +66,8 @@ def numbers_of(book: Book) -> set[str]:
 
 
 def changed(old: Book | None, new: Book) -> tuple[str, ...] | None:
-    """The lines that a page lacks which has the old statement. A page takes each in the place of the one with its number, so it has to have
-    the whole, and there are none, where a trade of the old is none any more: over another journal."""
+    """The lines that a page lacks which has the old statement. A page puts each in the place of the one with its number. If a trade of
+    the old is gone, which happens over another journal, there are none, and the page has to have the whole."""
     if old is None or not numbers_of(old) <= numbers_of(new):
         return None
     has = set(old.lines)
@@ -75,7 +75,7 @@ def changed(old: Book | None, new: Book) -> tuple[str, ...] | None:
 
 
 def since_of(request: Request) -> int | None:
-    """The position that a page has the trades of, where it has them."""
+    """The position of the trades that a page has, if it has any."""
     since = request.query_params.get("since")
     if since is not None and not (since.isascii() and since.isdigit() and len(since) < 20):
         raise BadWord("since")

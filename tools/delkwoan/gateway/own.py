@@ -76,7 +76,7 @@ async def sign_out(parts: Parts, request: Request) -> Response:
 
 async def cycle(parts: Parts, request: Request) -> Response:
     """Where the last cycle stands: its number, its phase, and the version that is proposed, the trade that broke it,
-    or how it ended where that came through this gateway."""
+    or how it ended, if that came through this gateway."""
     session = session_of(request, parts.sessions)
     reply = await parts.desk.question(session, "PLAN 0")
     refusal = refusal_of(reply.text)

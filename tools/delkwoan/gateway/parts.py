@@ -31,4 +31,4 @@ class Parts(NamedTuple):
     books: "Books"
     """The statements that pages were answered last."""
     currencies: dict[str, str]
-    """The products' currencies, where the roster's side file tells them."""
+    """The products' currencies, if the roster's side file has them."""

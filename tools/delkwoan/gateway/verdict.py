@@ -41,14 +41,14 @@ def part_by(member: str, given: Mapping[str, Any]) -> own_part.Part:
 
 
 def lacks_of(compared: own_part.Compared, proof: own_part.Proof, is_complete: bool) -> list[str]:
-    """What could not be compared: tolerances that the notes may lack, and trades where they have none."""
+    """What could not be compared: tolerances that the notes may lack, and trades if they have none."""
     has_amounts = any(pair.now for pair in proof.pairs)
     return [*([] if is_complete else ["tolerances"]), *(["trades"] if has_amounts and not compared.trades else [])]
 
 
 def verdict(member: str, given: Mapping[str, Any], is_complete: bool) -> dict[str, Any]:
-    """`no` with a clash that no tolerance and no trade can explain. Else `yes` where all was compared and nothing clashes, by the member's
-    word that the notes have all that it set; else it is `unsure`, with what the notes clash with, and what could not be compared."""
+    """`no` with a clash that no tolerance and no trade can explain. Else `yes` if all was compared and nothing clashes, by the member's
+    word that the notes have all that it set; else `unsure`, with what the notes clash with, and what could not be compared."""
     part = part_by(member, given)
     doubt: own_part.Clash | None = None
     for clash in own_part.clashes(part):
@@ -82,7 +82,7 @@ async def check(parts: Parts, busy: asyncio.Lock, request: Request) -> Response:
 
 
 async def roster(parts: Parts, request: Request) -> Response:
-    """The roster without keys, where the gateway was given one, and the currencies of its side file."""
+    """The roster without keys, if the gateway was given one, and the currencies of its side file."""
     session_of(request, parts.sessions)
     if parts.roster is None:
         raise Problem(404, "no-roster")

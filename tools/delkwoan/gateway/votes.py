@@ -23,7 +23,7 @@ class Votes:
         self.left: int | None = None
 
     def is_on(self, cycle: int, version: int) -> bool:
-        """Whether a vote is on the last version that had one, which it is made to be where it is later."""
+        """Whether a vote is on the last version that had one, which it becomes if it is later."""
         if (cycle, version) > (self.cycle, self.version):
             self.begin(cycle, version)
         return (cycle, version) == (self.cycle, self.version)
@@ -53,11 +53,11 @@ class Votes:
             self.accepted.append(name)
 
     def ended(self, cycle: int) -> str | None:
-        """How a cycle ended, where that came through this gateway."""
+        """How a cycle ended, if that came through this gateway."""
         return self.end[1] if self.end[0] == cycle else None
 
     def vote_of(self, name: str) -> str | None:
-        """What a member voted on the version, where that came through this gateway; a proposal that it declined stands no more."""
+        """What a member voted on the version, if that came through this gateway; a proposal that it declined stands no more."""
         return "declined" if name == self.declined else "accepted" if name in self.accepted else None
 
     def told(self) -> dict[str, Any]:

@@ -3,7 +3,7 @@
 const FORM = /^(\d+|\d{1,3}(?:([ ,'_\u00a0\u202f])\d{3})(?:\2\d{3})*)(?:\.(\d+))?\s*(k|m|mn|b|bn)?$/;
 const ZEROS = { k: 3, m: 6, mn: 6, b: 9, bn: 9 };
 
-/** The whole number that a text is, as digits, or null where it is none. */
+/** The whole number that a text is, as digits, or null if it is none. */
 export function amountOf(text) {
   const found = FORM.exec(text.trim().toLowerCase());
   if (!found) return null;

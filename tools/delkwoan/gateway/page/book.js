@@ -15,7 +15,7 @@ const NOT_PARTY = 7;
 const TERMS = ["seller", "buyer", "product", "amount", "day"];
 
 /** A trade in words. */
-const told = ({ seller, buyer, product, amount, day }) => `${seller} owes ${buyer} ${grouped(amount)} of ${product}, ${day}.`;
+const termsText = ({ seller, buyer, product, amount, day }) => `${seller} owes ${buyer} ${grouped(amount)} of ${product}, ${day}.`;
 
 export class Book {
   constructor({ name, notes, roster, act }) {
@@ -50,7 +50,7 @@ export class Book {
   /** Whether a trade is to be alleged though one with the same terms is there. */
   isWanted(terms) {
     const twin = this.rows.find((row) => row.state !== "ended" && TERMS.every((it) => row[it] === terms[it]));
-    return !twin || isSure("The same trade once more?", `Trade ${twin.trade} has the same terms, and is ${twin.state}: ${told(twin)}`, "Allege another");
+    return !twin || isSure("The same trade once more?", `Trade ${twin.trade} has the same terms, and is ${twin.state}: ${termsText(twin)}`, "Allege another");
   }
 
   /** Alleges a trade, after which the fields are emptied. */
@@ -60,7 +60,7 @@ export class Book {
       try {
         const { fields: { trade } } = await call("POST", "/api/trades", terms);
         this.notes.addOwn(String(trade));
-        tell(`Trade ${trade} is alleged: ${told(terms)} ${terms.seller === this.name ? terms.buyer : terms.seller} has to affirm it.`);
+        tell(`Trade ${trade} is alleged: ${termsText(terms)} ${terms.seller === this.name ? terms.buyer : terms.seller} has to affirm it.`);
         empty();
       } catch (problem) {
         blame(problem, fields, ["TRADE", ...TERMS.map((it) => terms[it])], ["", ...TERMS]);
@@ -81,7 +81,7 @@ export class Book {
 
   does(verb, row) {
     return this.act(async () => {
-      if (verb === "end" && !(await isSure(`End trade ${row.trade}?`, told(row), "End it"))) return;
+      if (verb === "end" && !(await isSure(`End trade ${row.trade}?`, termsText(row), "End it"))) return;
       try {
         const { reply, kind } = await call("POST", `/api/trades/${row.trade}/${verb}`, {});
         const [trade] = read(reply).words;

@@ -27,13 +27,13 @@ export function show(id, isShown) {
 
 let count = 0;
 
-/** A labelled field: an input, or a choice where there are options. What is wrong with it stands below it. */
+/** A labelled field: an input, or a choice if there are options. What is wrong with it stands below it. */
 export function field(label, attributes = {}, options = null) {
   const id = `field-${++count}`;
-  const told = { id, "aria-describedby": `${id}-fault` };
+  const common = { id, "aria-describedby": `${id}-fault` };
   const input = options === null
-    ? make("input", { ...told, spellcheck: "false", autocomplete: "off", ...attributes })
-    : make("select", { ...told, ...attributes }, options.map(([value, text]) => make("option", { value }, text)));
+    ? make("input", { ...common, spellcheck: "false", autocomplete: "off", ...attributes })
+    : make("select", { ...common, ...attributes }, options.map(([value, text]) => make("option", { value }, text)));
   const name = make("label", { for: id }, label);
   const wrong = make("span", { id: `${id}-fault`, class: "fault" });
   const fault = (text) => {

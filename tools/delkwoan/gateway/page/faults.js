@@ -13,7 +13,7 @@ const OF = {
   23: ["ceiling", () => "below the floor"],
 };
 
-/** The name of the word at an offset of a line, where the words have these names. */
+/** The name of the word at an offset of a line; the words have these names. */
 function nameAt(offset, words, names) {
   let end = 0;
   return names.find((_, at) => (end += words[at].length + 1) > offset);

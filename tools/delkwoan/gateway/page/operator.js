@@ -131,7 +131,7 @@ export class Operation {
     this.before = { cycle, phase, version };
   }
 
-  /** Tells of a proposal that was declined since the last look: by whom, where that came through this gateway. */
+  /** Says that a proposal was declined since the last look, and by whom, if that came through this gateway. */
   fallen({ cycle, phase }, votes) {
     const { cycle: cycleBefore, phase: phaseBefore, version } = this.before || {};
     if (phaseBefore !== "proposed" || phase !== "frozen" || cycle !== cycleBefore) return;

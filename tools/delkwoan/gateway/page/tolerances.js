@@ -41,7 +41,7 @@ export class Tolerances {
         const path = [other, product, side].map(encodeURIComponent).join("/");
         const { reply } = await call("PUT", `/api/tolerances/${path}`, { floor, ceiling: ceiling || null });
         this.notes.addTolerance(reply.split(" ")[1], [other, product, side, floor, ceiling || "-"]);
-        tell(`It is set. ${side === "out" ? "Your amount owed to" : "What you are owed by"} ${other} in ${product} falls to ${grouped(floor)} at least, and grows to ${ceiling ? grouped(ceiling) : "any amount"}. It counts from the next version of a proposal on.`);
+        tell(`It is set. ${side === "out" ? "Your amount owed to" : "What you are owed by"} ${other} in ${product} may fall to ${grouped(floor)}, and may grow to ${ceiling ? grouped(ceiling) : "any amount"}. It counts from the next version of a proposal on.`);
         empty();
       } catch (problem) {
         blame(problem, fields, ["TOL", ...words], ["", "other", "product", "side", "floor", "ceiling"]);

@@ -16,7 +16,7 @@ function comparedText({ pairs, tolerances, later, untold, trades }) {
 }
 
 const LACKS = {
-  tolerances: "Tolerances that you set by another program, or in another browser, could not be compared: this browser does not know of them.",
+  tolerances: "A tolerance set by another program, or in another browser, could not be compared: this browser does not know of any.",
   trades: "Your trades could not be compared: this browser has noted none.",
 };
 
@@ -34,7 +34,7 @@ export function shown(told) {
   }
   const compared = make("p", { class: "soft" }, comparedText(told.compared));
   const hash = make("p", { class: "soft" }, `all ${told.all}`);
-  if (told.verdict === "yes") return [headed("yes", "by check_mine it is right, where these are all the tolerances that you have set."), compared, hash];
+  if (told.verdict === "yes") return [headed("yes", "by check_mine it is right, if these are all the tolerances that you have set."), compared, hash];
   const lacks = told.lacks.map((it) => make("p", {}, LACKS[it]));
   const head = told.clash ? headed("not sure", "the proposal does not fit these notes.") : headed("not sure", "nothing speaks against it, but not all could be compared.");
   return [head, ...(told.clash ? doubted(told) : lacks), compared, hash].filter((it) => it);
