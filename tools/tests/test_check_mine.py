@@ -7,6 +7,7 @@ import sys
 import tempfile
 import unittest
 from pathlib import Path
+from typing import Iterator
 
 from running import ROOT, TOOLS, Ran, run
 
@@ -236,6 +237,24 @@ def clashes_of(case: Case) -> list[own_part.Clash]:
     return [clash for clash in found if clash is not None]
 
 
+def lacking(chance: random.Random, part: own_part.Part) -> own_part.Notes:
+    """A member's notes with some settings and trades gone, some of another value, and some too many."""
+    notes, me = part.notes, part.member
+    settings = {key: [it._replace(floor=chance.randrange(9)) if chance.random() < 0.3 else it for it in own] for key, own in notes.settings.items()}
+    live = {key: [it for it in own if chance.random() < 0.7] for key, own in notes.live.items()}
+    for product, other in itertools.product(part.roster.products, part.roster.members):
+        if other != me and chance.random() < 0.2:
+            key = (product, *chance.choice(((me, other), (other, me))))
+            live.setdefault(key, []).append(own_part.Trade(9_000 + chance.randrange(999), 1 + chance.randrange(9), chance.random() < 0.5))
+            settings[product, other, chance.choice(own_part.SIDES)] = [own_part.Setting(0, chance.randrange(9), chance.choice((None, 9, 20)))]
+    return notes._replace(settings={key: own for key, own in settings.items() if chance.random() < 0.7}, live=live)
+
+
+def certain_of(part: own_part.Part) -> Iterator[own_part.Clash]:
+    """The first clash that no notes can explain, if there is one."""
+    return itertools.islice((clash for clash in own_part.clashes(part) if not clash.is_by_notes), 1)
+
+
 class RandomProposals(unittest.TestCase):
     def test_all_members_say_yes_exactly_where_a_proposal_is_certified(self) -> None:
         chance = random.Random(47)
@@ -250,6 +269,36 @@ class RandomProposals(unittest.TestCase):
                     self.assertNotEqual(len(found), 1)  # no clash is found by one member alone
                 counts[is_right] += 1
         self.assertGreater(min(counts.values()), CASES // 3)
+
+    def test_no_lack_of_the_notes_makes_a_right_proposal_wrong(self) -> None:
+        """Whatever tolerances and trades a member's notes lack or have too much, all that clashes with a right proposal does so by them."""
+        chance = random.Random(50)
+        doubts = 0
+        for number in range(CASES):
+            case = proven.case_of(chance)
+            if first_clash(case.problem, case.new, case.prices) is not None:
+                continue
+            for place in range(len(case.dealers)):
+                part = part_of(case, place)
+                with self.subTest(number=number, place=place):
+                    found = list(own_part.clashes(part._replace(notes=lacking(chance, part))))
+                    self.assertEqual([it for it in found if not it.is_by_notes], [])
+                doubts += bool(found)
+        self.assertGreater(doubts, CASES // 4)
+
+    def test_what_is_wrong_by_itself_is_found_without_notes(self) -> None:
+        """A spoilt proposal is found by most without their notes."""
+        chance = random.Random(51)
+        found = wrong = 0
+        for _ in range(CASES):
+            case = proven.spoilt(chance, proven.case_of(chance))
+            if first_clash(case.problem, case.new, case.prices) is None:
+                continue
+            parts = [part_of(case, place)._replace(notes=own_part.Notes({}, set(), {})) for place in range(len(case.dealers))]
+            found += any(True for part in parts for _ in certain_of(part))
+            wrong += 1
+        self.assertGreater(wrong, CASES // 3)
+        self.assertGreater(found, wrong // 2)
 
     def test_two_hashes_are_equal_exactly_where_two_members_are_told_alike(self) -> None:
         """Also of two members that are not near, of whom neither is told the other's potential."""
