@@ -12,6 +12,7 @@ from ..address import Address, named_address
 from ..ending import Stop, run
 from ..wait_ready import MOST_SEATS, seconds_of
 from ..words import Once, Words, plain
+from .logs import Sparing
 
 PACKAGES = {"starlette": "starlette", "uvicorn": "uvicorn", "prometheus_client": "prometheus-client"}
 """The modules that are wanted, and their packages."""
@@ -88,6 +89,8 @@ def main(line: list[str]) -> int:
     given = read_words(line)
     need()
     logging.basicConfig(format="%(asctime)s %(levelname)s %(message)s", level=logging.WARNING)
+    for handler in logging.getLogger().handlers:
+        handler.addFilter(Sparing())
     os.umask(0o077)
     many_files()
     bound = listener(given.address)

@@ -8,7 +8,7 @@ from typing import BinaryIO, NamedTuple
 
 from ..bases import base_of
 from ..book import MOST_SUBMITTED
-from ..frames import LIMIT, PLAIN, SELECTOR, SLOTS, SLOTTED
+from ..frames import FIRST_BODY, LIMIT, PLAIN, SELECTOR, SLOTS, SLOTTED
 from ..records import DATED_MARK, TURN, BadField
 
 TRADE = 1
@@ -63,16 +63,24 @@ class Follower:
     def begin(self, file: BinaryIO, head: bytes) -> None:
         """Reads what stands before the first gate: nothing, or the base that the selected slot leads to."""
         self.head, self.gate, self.is_dated, self.trades = head, len(PLAIN), False, 0
-        if head.startswith(SLOTTED):
+        if head.startswith(SLOTTED) and len(head) == HEAD:
             slot = SLOTS[head[SELECTOR] == 1]
-            offset = int.from_bytes(head[slot : slot + 8], "little")
-            file.seek(offset)
-            base = file.read(int.from_bytes(file.read(4), "little"))
-            self.gate = offset + 4 + len(base)
+            base = self.base(file, int.from_bytes(head[slot : slot + 8], "little"))
             self.is_dated = base.startswith(DATED_MARK)
             self.trades = sum(trade.submitter is not None for trade in base_of(base).trades) if base else 0
         elif not head.startswith(PLAIN):
             raise OSError("no journal")
+
+    def base(self, file: BinaryIO, offset: int) -> bytes:
+        """The base at an offset; the first gate stands after it. A slot may lead anywhere if the file is damaged."""
+        size = os.fstat(file.fileno()).st_size
+        if not FIRST_BODY <= offset <= size - 4:
+            raise OSError("no journal")
+        file.seek(offset)
+        self.gate = offset + 4 + int.from_bytes(file.read(4), "little")
+        if self.gate >= LIMIT or self.gate > size:
+            raise OSError("no journal")
+        return file.read(self.gate - offset - 4)
 
     def go_on(self, file: BinaryIO) -> None:
         """Reads the open gates and their records from where they were read to."""
@@ -81,6 +89,8 @@ class Follower:
         at = 0
         while bytes[at : at + 1] == b"\1":
             end = at + 5 + int.from_bytes(bytes[at + 1 : at + 5], "little")
+            if self.gate + end - at >= LIMIT:
+                raise OSError("no journal")
             if end + 1 > len(bytes):
                 more = file.read(max(PIECE, end + 1 - len(bytes)))
                 if not more:

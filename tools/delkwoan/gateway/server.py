@@ -15,7 +15,7 @@ from starlette.routing import BaseRoute, Route, WebSocketRoute
 from starlette.websockets import WebSocket
 
 from . import document, page, verdict
-from .answers import answer_to, problem_of, told
+from .answers import Problem, answer_to, problem_of, told
 from .books import book
 from .calls import CALLS, POSTING, POTENTIAL, ROW, BadWord, Call
 from .compressed import Compressed
@@ -39,16 +39,26 @@ log = logging.getLogger("delkwoan.gateway")
 Endpoint = Callable[[Request], Awaitable[Response]]
 
 
+def problem_with(parts: Parts, verb: str, call: Call | None, fault: Exception, request: Request) -> Problem:
+    """What a fault is to who asked: one that nobody has foreseen is the gateway's own, and its place goes into the log."""
+    try:
+        if isinstance(fault, BadKey) and verb != "HELLO":
+            parts.sessions.close_all(*session_of(request, parts.sessions).speaker)
+        return problem_of(fault, call)
+    except Problem as problem:
+        return problem
+    except Exception as unforeseen:
+        log.error("a fault of the gateway: %s", verb, exc_info=unforeseen)
+        return Problem(500, "internal")
+
+
 async def served(parts: Parts, verb: str, call: Call | None, serve: Endpoint, request: Request) -> Response:
     """The answer to a request, which is timed; a fault is answered as what it is to who asked."""
     begun = time.monotonic()
     try:
         return await serve(request)
     except Exception as fault:
-        if isinstance(fault, BadKey) and verb != "HELLO":
-            session = session_of(request, parts.sessions)
-            parts.sessions.close_all(*session.speaker)
-        problem = problem_of(fault, call)
+        problem = problem_with(parts, verb, call, fault, request)
         parts.figures.faults.labels(problem.error).inc()
         return told(problem)
     finally:
