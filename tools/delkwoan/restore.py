@@ -114,6 +114,14 @@ def put(part: str, place: Path, moment: str) -> Path | None:
         return aside
 
 
+def make_folder(folder: Path, rights: int) -> None:
+    """Makes a folder that is not there, and keeps its name on the disk."""
+    if not folder.exists():
+        make_folder(folder.parent, 0o777)
+        folder.mkdir(mode=rights, exist_ok=True)
+        sync_folder(folder.parent)
+
+
 class Restore:
     """A copy that is put in place: what is given, and what was found."""
 
@@ -128,14 +136,14 @@ class Restore:
         """The copy, which is its folder's owner's alone. If there is no folder yet, it is made, and the unit makes it its own."""
         folder = self.journal.parent
         with about(folder):
-            folder.mkdir(mode=0o700, parents=True, exist_ok=True)
+            make_folder(folder, 0o700)
             status = folder.stat()
         return Placed(self.place_of_copy, content, status.st_uid, status.st_gid, 0o600)
 
     def roster_file(self, content: bytes) -> Placed:
         """The roster, which is as that was in its place, or root's alone."""
         with about(self.roster.parent):
-            self.roster.parent.mkdir(mode=0o755, parents=True, exist_ok=True)
+            make_folder(self.roster.parent, 0o755)
             status = self.roster.stat() if self.roster.exists() else None
         if status is None:
             return Placed(self.roster, content, os.geteuid(), os.getegid(), 0o600)

@@ -225,6 +225,14 @@ class Created(Settled, WithStandby):
         self.assert_kept(new, table)
         self.assertIn(f"sync {table}", self.called.read_text().splitlines())
 
+    def test_a_copy_that_is_restored(self) -> None:
+        """With folders that are not there yet."""
+        copy, state, settings = self.folder / "copy", self.folder / "far/state", self.folder / "settings"
+        copy.write_bytes(SLOTTED)
+        ran = self.noted([TOOLS / "restore", "--program", self.program, "--roster", ROSTER, "--state", state, "--settings", settings, copy])
+        self.assertEqual((ran.status, ran.errors), (0, b""))
+        self.assert_kept(state / "journal", settings / "roster.csv", state, state.parent, settings)
+
     def test_new_keys(self) -> None:
         new = self.folder / "new.csv"
         self.assertEqual(self.noted([TOOLS / "keys", ROSTER, new]).status, 0)
