@@ -1,4 +1,4 @@
-"""The gateway's parts by themselves: pauses after wrong keys, sessions, connections and seats, and replies as fields."""
+"""The gateway's parts by themselves: sessions, connections and seats, and replies as fields."""
 
 import asyncio
 import sys
@@ -14,44 +14,7 @@ from delkwoan.gateway import sessions
 from delkwoan.gateway.connection import BadKey, Connection, Lost
 from delkwoan.gateway.fields import fields_of, kind_of, refusal_of
 from delkwoan.gateway.seats import NoSeat, Seats
-from delkwoan.gateway.sessions import Sessions, Slowing
-
-
-class Pauses(unittest.TestCase):
-    def pauses(self, slowing: Slowing, *who: tuple[str, str]) -> list[float]:
-        return [round(slowing.pause(*it)) for it in who]
-
-    def test_they_double_and_end(self) -> None:
-        slowing = Slowing()
-        with mock.patch("time.monotonic", return_value=1_000.0) as clock:
-            told = []
-            for _ in range(8):
-                slowing.wrong("A", "here")
-                told += self.pauses(slowing, ("A", "here"))
-            self.assertEqual(told, [1, 2, 4, 8, 16, 32, 60, 60])
-            self.assertEqual(self.pauses(slowing, ("B", "here"), ("A", "there"), ("B", "there")), [60, 60, 0])
-            clock.return_value += 30
-            self.assertEqual(self.pauses(slowing, ("A", "here")), [30])
-            clock.return_value += sessions.FORGET
-            slowing.wrong("A", "here")
-            self.assertEqual(self.pauses(slowing, ("A", "here")), [1])
-
-    def test_nobody_locks_a_name_out_elsewhere(self) -> None:
-        slowing = Slowing()
-        slowing.right("A", "home")
-        for _ in range(9):
-            slowing.wrong("A", "away")
-        self.assertEqual(self.pauses(slowing, ("A", "home"), ("A", "away"), ("A", "third")), [0, 60, 60])
-        slowing.right("A", "home")
-        self.assertEqual(self.pauses(slowing, ("A", "third")), [0])
-
-    def test_they_are_few(self) -> None:
-        slowing = Slowing()
-        with mock.patch.object(sessions, "MOST_SLOWED", 10):
-            for place in range(100):
-                slowing.wrong(f"N{place}", "here")
-                slowing.right(f"M{place}", f"at {place}")
-        self.assertLessEqual(max(len(slowing.slowed), len(slowing.known)), 10)
+from delkwoan.gateway.sessions import Sessions
 
 
 class SignedIn(unittest.TestCase):
@@ -77,12 +40,19 @@ class SignedIn(unittest.TestCase):
             self.assertEqual((open.find(idle.token), open.count("B")), (None, 0))
             self.assertIsNotNone(open.find(used.token))
 
-    def test_they_are_few(self) -> None:
+    def test_one_more_ends_the_names_own(self) -> None:
+        """The one that was used longest ago, and none of another name."""
         open = Sessions(100)
-        with mock.patch.object(sessions, "MOST_SESSIONS", 3):
+        with mock.patch("time.monotonic", return_value=0.0) as clock:
+            other = open.open("OPS", "KO", True)
+            mine = [open.open("A", "KA", False) for _ in range(sessions.MOST_EACH)]
+            clock.return_value = 1.0
+            open.find(mine[0].token)
             for _ in range(3):
-                open.open("A", "KA", False)
-            self.assertRaises(sessions.Full, open.open, "A", "KA", False)
+                mine.append(open.open("A", "KA", False))
+            self.assertEqual([open.find(it.token) for it in mine[1:4]], [None] * 3)
+            self.assertEqual([open.find(it.token) for it in (other, mine[0], *mine[4:])], [other, mine[0], *mine[4:]])
+            self.assertEqual((open.count("A"), len(open)), (sessions.MOST_EACH, sessions.MOST_EACH + 1))
 
     def test_nothing_shows_the_key(self) -> None:
         self.assertNotRegex(str(Sessions(1).open("A", "SECRET", False)), "SECRET|token")

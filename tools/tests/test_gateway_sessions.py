@@ -1,14 +1,11 @@
 """Sign-in and sign-out at the gateway, keys that are wrong or were changed, want of a seat, and the figures."""
 
 import re
-import time
 import unittest
 
-from gateways import Caller, InGateway
+from gateways import InGateway
 from running import EXAMPLES, ROOT
 
-MOST_WRONG = 6
-"""How many wrong keys are tried until a machine is faster than the pause behind them."""
 
 
 class SignIn(InGateway):
@@ -22,30 +19,9 @@ class SignIn(InGateway):
         self.assertEqual(caller.ask("GET", "/api/session").content, {"name": "OPS", "role": "operator"})
         self.assertEqual(caller.ask("DELETE", "/api/session").status, 204)
         self.assertEqual(caller.ask("GET", "/api/session").status, 401)
-        self.slowed(caller)
+        self.assertEqual([caller.sign_in("A", "SECRET-KEY").status for _ in range(2)], [401, 401])
         self.assertRegex(self.logged(), r"^(2\d{3}-\d\d-\d\d \d\d:\d\d:\d\d,\d+ WARNING wrong key: name A, address 127\.0\.0\.1\n)+$")
         self.assertEqual([caller.sign_in(*words).status for words in (("A\n", "K"), ("A", "K K"))], [422, 422])
-
-    def slowed(self, caller: Caller) -> None:
-        """Behind a wrong key the right one waits for a second, behind the next for two, and so on: as many as this machine is faster than."""
-        for count in range(1, MOST_WRONG + 1):
-            begun = [self.wrong(caller) for _ in range(count)][-1]
-            answered, pause = caller.sign_in("A", "KA"), 2 ** (count - 1)
-            if time.monotonic() < begun + pause:
-                self.assertEqual((answered.status, answered.content.get("error")), (429, "slowed"))
-                self.assertIn(int(answered.headers["Retry-After"]), range(1, pause + 1))
-                return
-        self.fail("this machine is too slow")
-
-    def wrong(self, caller: Caller) -> float:
-        """Signs in with a wrong key as soon as that is let, and tells when it did."""
-        while True:
-            begun = time.monotonic()
-            answered = caller.sign_in("A", "SECRET-KEY")
-            if answered.status != 429:
-                self.assertEqual((answered.status, answered.error), (401, "bad-key"))
-                return begun
-            time.sleep(int(answered.headers["Retry-After"]))
 
     def test_an_idle_session_ends(self) -> None:
         self.start("--seats", "5")

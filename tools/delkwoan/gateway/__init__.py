@@ -5,7 +5,8 @@
     delkwoan.gateway.document    the calls as an OpenAPI document, and as a page
     delkwoan.gateway.connection  a connection that has a seat, and lines that go ahead over it
     delkwoan.gateway.seats       the connections, and who gets which
-    delkwoan.gateway.sessions    who is signed in, and how wrong keys are slowed
+    delkwoan.gateway.sessions    who is signed in
+    delkwoan.gateway.guesses     how many keys of a name are tried
     delkwoan.gateway.kept        calls with an Idempotency-Key, in SQLite
     delkwoan.gateway.doubt       which refusals leave open whether a change was made
     delkwoan.gateway.desk        a call's lines: sent once, or looked for where their replies were lost

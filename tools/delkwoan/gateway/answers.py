@@ -2,6 +2,7 @@
 
 import asyncio
 import json
+import math
 from typing import Any, Mapping
 
 from starlette.responses import Response
@@ -10,9 +11,9 @@ from .calls import AGAIN, BadWord, Call
 from .connection import BadKey
 from .desk import Found, InDoubt, NoteRefused, OtherLine, Outcome, Running, Unknown
 from .fields import Reply, fields_of, kind_of, refusal_of
+from .guesses import Slowed
 from .kept import Faulty
 from .seats import NoSeat
-from .sessions import Full
 
 BAD_LINE = 3
 RETRY = "2"
@@ -76,8 +77,8 @@ def problem_of(fault: Exception, call: Call | None) -> Problem:
         return fault
     if isinstance(fault, NoSeat):
         return Problem(503, "no-seat", headers={"Retry-After": RETRY})
-    if isinstance(fault, Full):
-        return Problem(503, "sessions-full", headers={"Retry-After": RETRY})
+    if isinstance(fault, Slowed):
+        return Problem(429, "slowed", headers={"Retry-After": str(math.ceil(fault.seconds))})
     if isinstance(fault, Faulty):
         return Problem(503, "calls-file")
     if isinstance(fault, BadKey):

@@ -98,7 +98,7 @@ def own_paths() -> dict[str, Any]:
     who = object_of({"name": NAME, "role": {"type": "string", "enum": ["member", "operator"]}})
     fields = object_of({"cycle": TYPES[int], "phase": TYPES[str], "version": TYPES[int], "trade": TYPES[int], "ended": ENDED}, ["cycle", "phase"])
     secured: dict[str, Any] = {"security": [{"token": []}]}
-    wrong = {"401": {"description": "The key is not the name's."}, "429": {"description": "Too soon behind a wrong key; Retry-After says when."}}
+    wrong = {"401": {"description": "The key is not the name's."}, "429": {"description": "Too many keys of this name are being tried; Retry-After says when to try again."}}
     sign_in = {
         "summary": "Signs in, and gives the token that the other calls want.",
         "requestBody": {"required": True, **content(object_of({"name": NAME, "key": NAME}))},

@@ -11,8 +11,10 @@ from .answers import Problem, answer
 from .calls import WORD, BadWord
 from .connection import BadKey, Lost, Unsent
 from .fields import refusal_of
+from .guesses import place_of
 from .parts import Parts
 from .requests import HERE, address_of, given_by, session_of
+from .seats import NoSeat
 from .sessions import SignedIn
 
 LOCAL = (HERE, "::1")
@@ -30,16 +32,19 @@ async def sign_in(parts: Parts, request: Request) -> Response:
             raise BadWord(field)
     assert isinstance(name, str) and isinstance(key, str)
     address = address_of(request)
-    if pause := parts.slowing.pause(name, address):
-        raise Problem(429, "slowed", headers={"Retry-After": str(int(pause) + 1)})
+    place = place_of(address)
+    lane = await parts.guesses.turn(name, place)
     try:
         is_operator, position = await role_of(parts, name, key)
     except BadKey:
-        parts.slowing.wrong(name, address)
         parts.figures.wrong_keys.inc()
         log.warning("wrong key: name %s, address %s", name, address)
         raise
-    parts.slowing.right(name, address)
+    except NoSeat:
+        lane.give_back()
+        raise
+    lane.give_back()
+    parts.guesses.right(name, place)
     if parts.sessions.count(name):
         await parts.desk.kept.spoil_member(name)
     session = parts.sessions.open(name, key, is_operator)

@@ -3,8 +3,9 @@
 from typing import TYPE_CHECKING, NamedTuple
 
 from .desk import Desk
+from .guesses import Guesses
 from .metrics import Figures
-from .sessions import Sessions, Slowing
+from .sessions import Sessions
 from .stage import Stage
 from .votes import Votes
 from .watch import Watch
@@ -18,7 +19,7 @@ class Parts(NamedTuple):
 
     desk: Desk
     sessions: Sessions
-    slowing: Slowing
+    guesses: Guesses
     figures: Figures
     patience: float
     """The seconds that the body of a request may take."""

@@ -16,13 +16,14 @@ from ..keys import public_roster
 from .books import Books
 from .desk import Desk
 from .follower import Follower
+from .guesses import Guesses
 from .kept import Faulty, Kept
 from .metrics import Figures
 from .parts import Parts
 from .reading import protocol
 from .seats import Seats
 from .server import application
-from .sessions import Sessions, Slowing
+from .sessions import Sessions
 from .silence import SLACK, Silence
 from .stage import Stage
 from .votes import Votes
@@ -68,7 +69,7 @@ def parts_of(given: Namespace) -> Parts:
     sessions = Sessions(or_else(given.idle, IDLE))
     figures = Figures(seats, sessions, None if given.journal is None else Follower(given.journal))
     desk, watch = Desk(seats, sessions, kept), Watch(seats)
-    return Parts(desk, sessions, Slowing(), figures, or_else(given.patience, PATIENCE), watch, Votes(), roster, stage_of(given), Books(), currencies)
+    return Parts(desk, sessions, Guesses(seats.wait), figures, or_else(given.patience, PATIENCE), watch, Votes(), roster, stage_of(given), Books(), currencies)
 
 
 def secured(given: Namespace) -> dict[str, Any]:
