@@ -60,6 +60,7 @@ class Client:
     async def ask(self, method: str, path: str, body: object = None) -> tuple[int, bytes]:
         content = b"" if body is None else json.dumps(body).encode()
         head = f"{method} {path} HTTP/1.1\r\nHost: x\r\nAuthorization: Bearer {self.token}\r\nContent-Length: {len(content)}\r\n"
+        head += "Content-Type: application/json\r\n" if content else ""
         if self.load.has_keys and method != "GET":
             self.count += 1
             head += f"Idempotency-Key: {self.count}\r\n"

@@ -61,6 +61,7 @@ class Caller:
     def ask(self, method: str, path: str, body: Any = None, key: str = "") -> Answered:
         headers = {"Authorization": f"Bearer {self.token}"} if self.token else {}
         headers |= {"Idempotency-Key": key} if key else {}
+        headers |= {} if body is None else {"Content-Type": "application/json"}
         sent = body if isinstance(body, bytes) or body is None else json.dumps(body).encode()
         try:
             self.http.request(method, path, sent, headers)

@@ -14,7 +14,7 @@ from test_packaging import python_with
 SILENT = 1_000
 PATIENT = 2
 """The seconds of a gateway's patience: more than a busy machine takes for what is not silent."""
-HALVES = [b"G", b"GET /healthz HTTP/1.1\r\nHost: x\r\n", b"POST /api/session HTTP/1.1\r\nHost: x\r\nContent-Length: 40\r\n\r\n{"]
+HALVES = [b"G", b"GET /healthz HTTP/1.1\r\nHost: x\r\n", b"POST /api/session HTTP/1.1\r\nHost: x\r\nContent-Type: application/json\r\nContent-Length: 40\r\n\r\n{"]
 """What is sent of a request: its first byte, a part of its head, and its head with a part of its body."""
 UPGRADE = b"GET /api/follow HTTP/1.1\r\nHost: x\r\nUpgrade: websocket\r\nConnection: Upgrade\r\n"
 UPGRADE += b"Sec-WebSocket-Version: 13\r\nSec-WebSocket-Key: dGhlIHNhbXBsZSBub25jZQ==\r\n\r\n"

@@ -131,7 +131,7 @@ class Proxied(Secured):
         self.open()
         caller = Caller(self.proxy(), self.certificates.context("client"))
         self.addCleanup(caller.close)
-        caller.http.request("POST", "/api/session", b'{"name": "A", "key": "WRONG"}', {"X-Forwarded-For": "10.1.2.3"})
+        caller.http.request("POST", "/api/session", b'{"name": "A", "key": "WRONG"}', {"X-Forwarded-For": "10.1.2.3", "Content-Type": "application/json"})
         self.assertEqual(caller.http.getresponse().status, 401)
         self.assertNotIn("10.1.2.3", self.logged())
 

@@ -7,6 +7,7 @@
     delkwoan.gateway.seats       the connections, and who gets which
     delkwoan.gateway.sessions    who is signed in
     delkwoan.gateway.guesses     how many keys of a name are tried
+    delkwoan.gateway.origin      what pages of other origins may do, and the headers of each answer
     delkwoan.gateway.kept        calls with an Idempotency-Key, in SQLite
     delkwoan.gateway.doubt       which refusals leave open whether a change was made
     delkwoan.gateway.desk        a call's lines: sent once, or looked for where their replies were lost

@@ -142,6 +142,18 @@ class Desk:
                 continue
         raise NoSeat
 
+    async def confirm(self, session: SignedIn) -> None:
+        """Finds out whether the service still takes a session's key: a BadKey if it does not."""
+        for _ in range(TRIES):
+            if self.seats.knows(session.speaker):
+                return
+            try:
+                async with self.seats.seat() as connection:
+                    await connection.greet(*session.speaker)
+            except Unsent:
+                continue
+        raise NoSeat
+
     async def change(self, asked: Asked) -> Told:
         """The reply to a line, which is sent once."""
         is_slow = asked.call.verb in SLOW

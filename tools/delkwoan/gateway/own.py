@@ -113,8 +113,11 @@ async def health(parts: Parts, _: Request) -> Response:
 
 async def metrics(parts: Parts, reading: asyncio.Lock, request: Request) -> Response:
     """The figures, for this machine and for the operator."""
-    if address_of(request) not in LOCAL and not session_of(request, parts.sessions).is_operator:
-        raise Problem(403, "wrong-role")
+    if address_of(request) not in LOCAL:
+        session = session_of(request, parts.sessions)
+        if not session.is_operator:
+            raise Problem(403, "wrong-role")
+        await parts.desk.confirm(session)
     async with reading:
         await asyncio.to_thread(parts.figures.look)
     return Response(parts.figures.text(), media_type="text/plain; version=0.0.4")

@@ -18,13 +18,8 @@ POLICY = "; ".join(
     ]
 )
 """Nothing from other hosts, nothing inline, no text as markup, no form that is sent by the browser itself."""
-HEADERS = {
-    "Content-Security-Policy": POLICY,
-    "X-Content-Type-Options": "nosniff",
-    "Referrer-Policy": "no-referrer",
-    "Cross-Origin-Opener-Policy": "same-origin",
-    "Cache-Control": "no-cache",
-}
+HEADERS = {"Content-Security-Policy": POLICY, "Cross-Origin-Opener-Policy": "same-origin"}
+"""Beside those of each answer."""
 
 
 def route(path: str, file: Path) -> Route:

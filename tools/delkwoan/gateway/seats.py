@@ -59,6 +59,10 @@ class Seats:
         """How many connections have a call."""
         return sum(connection.taken > 0 for connection in self.ready)
 
+    def knows(self, speaker: tuple[str, str]) -> bool:
+        """Whether the service has taken this name and key over a connection that still stands, which leads to one process of it."""
+        return any(speaker in connection.greeted and connection.is_open for connection in self.ready)
+
     @property
     def is_stopped(self) -> bool:
         """Whether a connection that still stands was told that the service makes no more changes."""

@@ -23,6 +23,7 @@ from .connection import BadKey
 from .desk import Asked
 from .fields import kind_of
 from .kept import Faulty
+from .origin import App, guarded
 from .own import cycle, health, metrics, sign_in, sign_out, who
 from .parts import Parts
 from .rehearsal import rehearse
@@ -97,6 +98,12 @@ async def call_of(parts: Parts, call: Call, request: Request) -> Response:
     return await answer_to(call, outcome)
 
 
+async def confirmed(parts: Parts, serve: Endpoint, request: Request) -> Response:
+    """The answer to a call that is no line, if the service still takes the session's key: it may have been started again with another."""
+    await parts.desk.confirm(session_of(request, parts.sessions))
+    return await serve(request)
+
+
 def fixed(content: str, kind: str) -> Callable[[Request], Response]:
     """An endpoint that always answers the same."""
 
@@ -112,15 +119,15 @@ def routes_of(parts: Parts) -> list[BaseRoute]:
 
     own: list[tuple[str, str, str, Endpoint]] = [
         ("/api/session", "POST", "HELLO", partial(sign_in, parts)),
-        ("/api/session", "GET", "who", partial(who, parts)),
+        ("/api/session", "GET", "who", partial(confirmed, parts, partial(who, parts))),
         ("/api/session", "DELETE", "sign-out", partial(sign_out, parts)),
         ("/api/cycle", "GET", "cycle", partial(cycle, parts)),
-        ("/api/rehearsal", "POST", "rehearsal", partial(rehearse, parts, asyncio.Lock())),
+        ("/api/rehearsal", "POST", "rehearsal", partial(confirmed, parts, partial(rehearse, parts, asyncio.Lock()))),
         ("/api/book", "GET", "book", partial(book, parts)),
-        ("/api/votes", "GET", "votes", partial(verdict.votes, parts)),
-        ("/api/votes/mine", "GET", "votes", partial(verdict.vote, parts)),
-        ("/api/roster", "GET", "roster", partial(verdict.roster, parts)),
-        ("/api/check", "POST", "check", partial(verdict.check, parts, asyncio.Lock())),
+        ("/api/votes", "GET", "votes", partial(confirmed, parts, partial(verdict.votes, parts))),
+        ("/api/votes/mine", "GET", "votes", partial(confirmed, parts, partial(verdict.vote, parts))),
+        ("/api/roster", "GET", "roster", partial(confirmed, parts, partial(verdict.roster, parts))),
+        ("/api/check", "POST", "check", partial(confirmed, parts, partial(verdict.check, parts, asyncio.Lock()))),
         ("/healthz", "GET", "health", partial(health, parts)),
         ("/metrics", "GET", "metrics", partial(metrics, parts, asyncio.Lock())),
     ]
@@ -133,7 +140,7 @@ def routes_of(parts: Parts) -> list[BaseRoute]:
 
 def follower(parts: Parts) -> Callable[[WebSocket], Awaitable[None]]:
     async def endpoint(socket: WebSocket) -> None:
-        await follow(parts.watch, parts.sessions, parts.patience, socket)
+        await follow(parts.watch, parts.desk, parts.patience, socket)
 
     return endpoint
 
@@ -152,7 +159,7 @@ async def tend(parts: Parts) -> None:
             await asyncio.sleep(MINUTE)
 
 
-def application(parts: Parts) -> Starlette:
+def application(parts: Parts) -> App:
     @asynccontextmanager
     async def lifespan(_: Starlette) -> AsyncIterator[None]:
         parts.desk.seats.start()
@@ -163,4 +170,4 @@ def application(parts: Parts) -> Starlette:
         await parts.desk.seats.stop()
         parts.desk.kept.close()
 
-    return Starlette(routes=routes_of(parts), lifespan=lifespan, middleware=[Middleware(Compressed)])
+    return guarded(Starlette(routes=routes_of(parts), lifespan=lifespan, middleware=[Middleware(Compressed)]))

@@ -11,9 +11,10 @@ from typing import Iterator
 
 from starlette.websockets import WebSocket, WebSocketDisconnect
 
-from .connection import Lost, Unsent
+from .connection import BadKey, Lost, Unsent
+from .desk import Desk
 from .seats import NoSeat, Seats
-from .sessions import Sessions, SignedIn
+from .sessions import SignedIn
 
 PERIOD = 0.5
 """The seconds between two looks, while anybody listens."""
@@ -71,13 +72,25 @@ class Watch:
                 del self.pages[session.token]
 
 
-async def tell(watch: Watch, sessions: Sessions, session: SignedIn, socket: WebSocket) -> None:
+async def is_in(watch: Watch, desk: Desk, session: SignedIn) -> bool:
+    """Whether a session is open, and the service, if it answers, still takes its key."""
+    if watch.position is not None:
+        try:
+            await desk.confirm(session)
+        except BadKey:
+            desk.sessions.close_all(*session.speaker)
+        except NoSeat:
+            pass
+    return desk.sessions.has(session)
+
+
+async def tell(watch: Watch, desk: Desk, session: SignedIn, socket: WebSocket) -> None:
     """Tells a page the length, until its session ends."""
     with watch.page(session) as moved:
-        while sessions.has(session):
+        while await is_in(watch, desk, session):
             await socket.send_json({"position": watch.position})
             moved.clear()
-            while sessions.has(session) and not moved.is_set():
+            while not moved.is_set() and await is_in(watch, desk, session):
                 try:
                     await asyncio.wait_for(moved.wait(), LOOK)
                 except asyncio.TimeoutError:
@@ -93,19 +106,19 @@ async def token_of(socket: WebSocket, patience: float) -> str:
         raise WebSocketDisconnect from None
 
 
-async def follow(watch: Watch, sessions: Sessions, patience: float, socket: WebSocket) -> None:
+async def follow(watch: Watch, desk: Desk, patience: float, socket: WebSocket) -> None:
     """A page that follows the history."""
     await socket.accept()
     try:
         token = await token_of(socket, patience)
-        session = sessions.find(token)
+        session = desk.sessions.find(token)
         if session is None:
             await socket.close(NOT_SIGNED_IN)
             return
         if watch.pages.get(token, 0) >= MOST_PAGES:
             await socket.close(TOO_MANY)
             return
-        telling = asyncio.create_task(tell(watch, sessions, session, socket))
+        telling = asyncio.create_task(tell(watch, desk, session, socket))
         ending = asyncio.create_task(socket.receive())
         try:
             await asyncio.wait([telling, ending], return_when=asyncio.FIRST_COMPLETED)

@@ -25,7 +25,7 @@ function words(status, content) {
     }
     case "no-seat": return "The service has no seat free, or does not answer. Nothing was sent: try again.";
     case "bad-key": return "This name and key are not known.";
-    case "slowed": return "Too soon behind a wrong key: wait a while.";
+    case "slowed": return "Too many keys of this name are being tried: wait a while, and try again.";
     case "no-stage": return "This gateway can not rehearse: it was given no --journal, no --roster, or finds no program.";
     case "no-rehearsal": return "Not rehearsed: the journal or the roster can not be read, or its keys are others.";
     case "fault": return content.told;
@@ -54,6 +54,7 @@ async function sent(path, options) {
 export async function call(method, path, body = null) {
   const headers = token ? { Authorization: `Bearer ${token}` } : {};
   if (method !== "GET" && token) headers["Idempotency-Key"] = fresh();
+  if (body !== null) headers["Content-Type"] = "application/json";
   const options = { method, headers, cache: "no-store", credentials: "omit", referrerPolicy: "no-referrer" };
   const response = await sent(path, body === null ? options : { ...options, body: JSON.stringify(body) });
   const content = response.status === 204 ? {} : await response.json().catch(() => ({}));
