@@ -22,7 +22,8 @@ MOST_OPEN = 32
 
 
 def request(method: str, more: str = "", body: str = "") -> bytes:
-    return f"{method} /api/session HTTP/1.1\r\nHost: x\r\n{more}\r\n{body}".encode()
+    kind = "Content-Type: application/json\r\n" if body else ""
+    return f"{method} /api/session HTTP/1.1\r\nHost: x\r\n{kind}{more}\r\n{body}".encode()
 
 
 class Flood(threading.Thread):
