@@ -11,15 +11,16 @@ import os
 import tempfile
 import time
 from argparse import Namespace
-from contextlib import ExitStack, contextmanager
+from contextlib import ExitStack
 from pathlib import Path
-from typing import Iterator, NamedTuple, NoReturn
+from typing import NamedTuple, NoReturn
 
 from . import checker
-from .audit import Audit, names_of
+from .audit import names_of
 from .client import found_program
+from .copies import JOURNAL, ROSTER, SUMS, about, backup_in, bytes_of, position_of, replayed
 from .ending import Stop, run
-from .frames import MOST_BYTES, Damaged, Form, lead_of
+from .frames import MOST_BYTES, Damaged
 from .history import Moved
 from .placing import give_name, locked, sync_folder
 from .roll import written_by
@@ -38,39 +39,6 @@ class Placed(NamedTuple):
     user: int
     group: int
     rights: int
-
-
-@contextmanager
-def about(name: str | Path) -> Iterator[None]:
-    """Has each fault say which file it is of, and why."""
-    try:
-        yield
-    except Stop as stop:
-        raise Stop(stop.status, f"{name}: {stop.line}") from None
-    except Damaged as damaged:
-        raise Stop(7, f"{name}: damaged at {damaged}") from None
-    except Moved as moved:
-        raise Stop(1, f"{name}: {moved}") from None
-    except (OSError, ValueError) as fault:
-        raise Stop(11, f"{name}: {getattr(fault, 'strerror', None) or fault}") from None
-
-
-def bytes_of(name: str | Path, most: int) -> bytes:
-    with about(name), open(name, "rb") as file:
-        return file.read(most)
-
-
-def replayed(roster: bytes, journal: bytes) -> list[str]:
-    """What the tools replay of a journal, which has to encode a history of the roster."""
-    if lead_of(journal).form in (Form.SHORT, Form.SHORT_SLOTTED):
-        raise Stop(7, "no journal: it has no change")
-    audit = Audit(names_of(roster), journal)
-    audit.run()
-    return [f"{line}\n" for line in audit.history.lines()]
-
-
-def position_of(lines: list[str]) -> int:
-    return int(lines[-1].removeprefix("end "))
 
 
 def report_of(roster: Path, journal: Path) -> str:
@@ -213,12 +181,21 @@ def words() -> Words:
     parser.add_argument("--state", metavar="FOLDER", action=Once, type=text, default=STATE, help=f"the folder of the journal; if it is absent, {STATE}")
     parser.add_argument("--settings", metavar="FOLDER", action=Once, type=text, default=SETTINGS, help=f"the folder of roster.csv; if it is absent, {SETTINGS}")
     parser.add_argument("--program", metavar="FILE", action=Once, help="the program that replays the copy")
-    parser.add_argument("copy", metavar="COPY", type=text, help="the copy of a journal")
+    parser.add_argument("copy", metavar="COPY", type=text, help="the copy of a journal, or a backup with its roster")
     return parser
 
 
+def without_backup(given: Namespace) -> Namespace:
+    """The words with a backup's own files in its place, if a backup is given. Each has to have its SHA-256."""
+    folder = Path(given.copy)
+    if (folder / SUMS).exists():
+        backup_in(folder)
+        given.copy, given.roster = str(folder / JOURNAL), given.roster or str(folder / ROSTER)
+    return given
+
+
 def main(line: list[str]) -> int:
-    for report in Restore(words().parse_args(line)).run():
+    for report in Restore(without_backup(words().parse_args(line))).run():
         print(report)
     return 0
 

@@ -187,7 +187,7 @@ class InProcess(InService):
         parts = serving.parts_of(Namespace(**words, **absent))._replace(stage=None)
 
         async def run() -> None:
-            application = server.application(parts)
+            application = server.routed(parts)
             async with application.router.lifespan_context(application):
                 await scene(parts, application)
 

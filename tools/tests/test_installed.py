@@ -209,6 +209,19 @@ class Restored(Installed):
         before = printed.split("before: ")[1].split(",")[0]
         self.assertTrue(machine.output_of("compress_cli", "replay", "/etc/delkwoan/roster.csv", before).endswith("end 3"))
 
+    def test_a_backup(self) -> None:
+        """It is made beside the service that runs, is good, and is put in place with its roster."""
+        machine = self.market()
+        before = replay(machine)
+        made = machine.output_of("compress-backup", "/var/backups/delkwoan").removesuffix(": position 2")
+        self.assertEqual(machine.output_of("compress-verify", "/var/backups/delkwoan"), f"{made}: position 2")
+        self.assertTrue(said(machine, b"HELLO A KA\nTRADE A B P 5 2026-03-02\n").endswith(b"ok 3 trade 2\n"))
+        machine.output_of("systemctl", "stop", "delkwoan")
+        machine.output_of("rm", "/etc/delkwoan/roster.csv")
+        machine.output_of("compress-restore", made)
+        machine.output_of("systemctl", "start", "delkwoan")
+        self.assertEqual((said(machine, ASKED), replay(machine)), (ANSWERED, before))
+
     def test_on_another_machine(self) -> None:
         """If nothing was started there yet: as the service, and then as a standby of the first."""
         first = self.market()

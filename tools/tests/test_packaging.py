@@ -23,9 +23,9 @@ from delkwoan import __version__
 
 PACKAGING = ROOT / "packaging"
 HUB = [str(EXAMPLES / "hub-roster.csv"), str(EXAMPLES / "hub-trades.csv"), "hybrid", str(EXAMPLES / "hub-proposal.txt")]
-TOOL_FILES = ["audit", "check_mine", "check_proposal", "client", "compress_many", "follow", "gateway", "journal", "keys", "public_roster", "report", "restore", "roll", "wait-ready"]
-COMMANDS = ["compress-audit", "compress-check-mine", "compress-check-proposal", "compress-client", "compress-follow", "compress-gateway"]
-COMMANDS += ["compress-journal", "compress-keys", "compress-many", "compress-public-roster", "compress-report", "compress-restore", "compress-roll", "compress-wait-ready", "compress_cli"]
+TOOL_FILES = ["audit", "backup", "check_mine", "check_proposal", "client", "compress_many", "follow", "gateway", "journal", "keys", "public_roster", "report", "restore", "roll", "verify", "wait-ready"]
+COMMANDS = ["compress-audit", "compress-backup", "compress-check-mine", "compress-check-proposal", "compress-client", "compress-follow", "compress-gateway"]
+COMMANDS += ["compress-journal", "compress-keys", "compress-many", "compress-public-roster", "compress-report", "compress-restore", "compress-roll", "compress-verify", "compress-wait-ready", "compress_cli"]
 
 TYPED: list[tuple[list[str], list[str]]] = [
     (["compress_cli", ""], ["check", "follow", "gen", "replay", "roll", "script", "serve", "solve"]),
@@ -62,6 +62,8 @@ TYPED: list[tuple[list[str], list[str]]] = [
     (["compress-client", "--program", "x", "--raw", "hub-r"], ["hub-roster.csv"]),
     (["compress-report", "--product", "P", "hub-r"], ["hub-roster.csv"]),
     (["compress-report", "--re"], ["--replay"]),
+    (["compress-backup", "-"], ["--journal", "--keep", "--program", "--roster"]),
+    (["compress-verify", "hub-r"], ["hub-roster.csv"]),
     (["compress-restore", "-"], ["--program", "--roster", "--seed", "--settings", "--state"]),
     (["compress-restore", "--seed", "hub-r"], ["hub-roster.csv"]),
     (["compress-roll", "a", "b", "hub-r"], ["hub-roster.csv"]),
@@ -163,7 +165,7 @@ class Pages(Made):
             for option in set(re.findall(r"^  --(\w+)", shown.output.decode(), re.MULTILINE)) - {"version"}:
                 self.assertRegex(page, rf"(?m)^\.It Fl -{option}\b")
                 told += 1
-        self.assertGreaterEqual(told, 42)  # that the helps were read: more options may come
+        self.assertGreaterEqual(told, 47)  # that the helps were read: more options may come
 
     def test_the_programs_forms_are_those_of_its_page(self) -> None:
         page = (PACKAGING / "man/compress_cli.1").read_text()

@@ -159,7 +159,9 @@ async def tend(parts: Parts) -> None:
             await asyncio.sleep(MINUTE)
 
 
-def application(parts: Parts) -> App:
+def routed(parts: Parts) -> Starlette:
+    """The calls and pages, without the guard against other origins."""
+
     @asynccontextmanager
     async def lifespan(_: Starlette) -> AsyncIterator[None]:
         parts.desk.seats.start()
@@ -170,4 +172,8 @@ def application(parts: Parts) -> App:
         await parts.desk.seats.stop()
         parts.desk.kept.close()
 
-    return guarded(Starlette(routes=routes_of(parts), lifespan=lifespan, middleware=[Middleware(Compressed)]))
+    return Starlette(routes=routes_of(parts), lifespan=lifespan, middleware=[Middleware(Compressed)])
+
+
+def application(parts: Parts) -> App:
+    return guarded(routed(parts))
