@@ -10,6 +10,8 @@ from running import PATIENCE, TOOLS, Ran, run
 from serving import free_port
 
 WAIT = TOOLS / "wait-ready"
+ENOUGH = 12
+"""Seconds in which a busy machine answers each connection that is answered at all."""
 
 BAD: list[list[str]] = [[], ["127.0.0.1:1", "1", "1"], ["127.0.0.1"], [":1"], ["127.0.0.1:"], ["127.0.0.1:65536"]]
 BAD += [["127.0.0.1:x"], ["::1:7000"], ["127.0.0.1:1", "x"], ["127.0.0.1:1", "-1"], ["127.0.0.1:1", "nan"]]
@@ -64,9 +66,9 @@ class Waiting(unittest.TestCase):
         servers[0].close()
 
     def test_seats(self) -> None:
-        """A server that answers so many connections, all open, and lets the others wait."""
+        """A server that answers this many connections, all open, and lets the others wait."""
         lacking = Ran(1, b"2 of 3 answered\n", b"")
-        for answered, asked, seconds, told in ((3, 3, PATIENCE, Ran(0, b"", b"")), (2, 3, 5, lacking)):
+        for answered, asked, seconds, told in ((3, 3, PATIENCE, Ran(0, b"", b"")), (2, 3, ENOUGH, lacking)):
             with self.subTest(answered=answered), socket.create_server(("127.0.0.1", 0)) as server:
                 thread = threading.Thread(target=answer, args=(server, answered, asked))
                 thread.start()
@@ -77,7 +79,7 @@ class Waiting(unittest.TestCase):
     def test_seats_that_others_have(self) -> None:
         """A server of two seats: one that another has counts as answered, and one that waits for a seat does not."""
         short = b"1 of 3 answered, and others have 1\n"
-        for asked, seconds, told in ((2, PATIENCE, Ran(0, b"", b"")), (3, 2, Ran(1, short, b""))):
+        for asked, seconds, told in ((2, PATIENCE, Ran(0, b"", b"")), (3, ENOUGH, Ran(1, short, b""))):
             with self.subTest(asked=asked), socket.create_server(("127.0.0.1", 0)) as server, socket.socket() as other, socket.socket() as waits:
                 other.connect(server.getsockname())
                 taken = server.accept()[0]
