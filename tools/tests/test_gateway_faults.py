@@ -211,9 +211,14 @@ class InProcess(InService):
                 refused = chance.random() < 0.3
                 return [Reply(chance.choice(REFUSED if refused else REPLIED.get(line.split(" ")[0], REFUSED)), 7) for line in lines]
 
-            async def say(self, speaker: tuple[str, str], lines: list[str], seconds: float | None = None) -> list[Reply]:
-                if speaker[1] not in (f"K{speaker[0]}", "KO"):
+            async def greet(self, name: str, key: str) -> None:
+                if key not in (f"K{name}", "KO"):
                     raise BadKey
+                if chance.random() < 0.02:
+                    raise Unsent
+
+            async def say(self, speaker: tuple[str, str], lines: list[str], seconds: float | None = None) -> list[Reply]:
+                await self.greet(*speaker)
                 return await self.ask(lines, seconds)
 
             async def probe(self) -> None:
@@ -290,7 +295,8 @@ class InProcess(InService):
                 statuses[status] += 1
                 for session in sessions:
                     parts.sessions.close(session)
-                parts.slowing.slowed.clear()
+                parts.guesses.rest.clear()
+                parts.guesses.homes.clear()
 
         self.play(scene)
         self.assertEqual(sum(statuses.values()), count)

@@ -34,6 +34,7 @@ CASES = [
     Case("http://HERE.evil.example", TYPE, 403, "other-origin"),
     Case("http://127.0.0.1:1", TYPE, 403, "other-origin"),
     Case("null", TYPE, 403, "other-origin"),
+    Case("http://[", TYPE, 403, "other-origin"),
     Case("http://evil.example", "text/plain", 403, "other-origin"),
     Case("", "text/plain", 415, "not-json"),
     Case("", "application/x-www-form-urlencoded", 415, "not-json"),

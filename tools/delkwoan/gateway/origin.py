@@ -31,7 +31,13 @@ App = Callable[[Scope, Receive, Send], Awaitable[None]]
 def is_own(headers: Headers) -> bool:
     """Whether a request comes from a page of this gateway, or from no page."""
     origin = headers.get("origin")
-    return origin is None or (urlsplit(origin).netloc or origin).lower() == headers.get("host", "").lower()
+    if origin is None:
+        return True
+    try:
+        own: str = headers.get("host", "").lower()
+        return own != "" and urlsplit(origin).netloc.lower() == own
+    except ValueError:
+        return False
 
 
 def fault_of(method: str, headers: Headers) -> Problem | None:
