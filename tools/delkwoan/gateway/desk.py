@@ -144,12 +144,13 @@ class Desk:
 
     async def confirm(self, session: SignedIn) -> None:
         """Finds out whether the service still takes a session's key: a BadKey if it does not."""
+        if self.seats.knows(session.speaker):
+            return
         for _ in range(TRIES):
-            if self.seats.knows(session.speaker):
-                return
             try:
                 async with self.seats.seat() as connection:
                     await connection.greet(*session.speaker)
+                    return
             except Unsent:
                 continue
         raise NoSeat
