@@ -25,7 +25,7 @@ MEMBERS, EACH = 8, 2
 """How many allege trades at once, and how many each."""
 SLOW = 50
 """The milliseconds that a sync takes, so that the changes of many share one."""
-NUMBERS = range(18, 22)
+NUMBERS = range(19, 23)
 """The calls to the file that fail, each in a run: those of the third append, which has the changes that came during the second."""
 MOST_TURNS = 6
 """How often a run is tried, each time with a disk that is twice as slow, until two members' changes share a sync."""
