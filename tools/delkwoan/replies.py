@@ -6,9 +6,9 @@ Every answer begins with its position, the history's length after the command. A
 from typing import Any, Callable, NamedTuple, TypeVar, get_type_hints, overload
 
 MOST_RECORD = 268_435_456
+"""The bytes of an entry."""
 MOST_DIGITS = 19
 """Of a number on a line, which is 10^18 at most."""
-"""The bytes of an entry."""
 
 
 class BadReply(Exception):
@@ -374,7 +374,7 @@ def size_of(head: str) -> int | None:
     words = head.split(" ")
     if words[0] != "ok" or words[2:3] != ["entry"]:
         return None
-    if len(words) != 5 or not is_number(words[4]) or int(words[4]) > MOST_RECORD:
+    if len(words) != 5 or not is_number(words[4]) or len(words[4]) > len(str(MOST_RECORD)) or int(words[4]) > MOST_RECORD:
         raise BadReply(head)
     return int(words[4])
 
