@@ -131,6 +131,7 @@ class Labels(InBrowser):
         page.shows("Trade 1 is live.")
         self.say(self.caller("B"), "TRADE B C P 7 2026-03-02")
         self.say(third, "AFFIRM 3")
+        page.go("Book")  # off the table, which keeps still as long as the focus is in it
         page.shows("You are owed 3: long")
         self.judge(page, "a book")
         page.press("End trade 1")
