@@ -42,7 +42,9 @@ class Aim(InBrowser):
         first = self.caller("A")
         for place in range(count):
             self.assertEqual(first.say(f"TRADE A B P {place + 1} 2026-03-02").status, 200)
-        return self.caller("B"), self.page("B")
+        page = self.page("B")
+        page.shown("button", f"Affirm trade {count}")
+        return self.caller("B"), page
 
     def mouse(self, page: Page, kind: str, place: tuple[int, int]) -> None:
         """A way of the mouse at a place: mouseMoved, mousePressed or mouseReleased."""
